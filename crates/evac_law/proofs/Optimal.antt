@@ -1,0 +1,272 @@
+-- A certified plan is best at every moment, and a model with a shortfall is not clearable.
+use Rattle.std.proofs.Common.{◌≡◌, ℕ, zero, suc, ◌+◌, ◌<◌, ◌≤◌, Bool, true, false, cond, ◌&&◌, eqb, leb, List, get_or, ap, sym, ◌∙◌, arith, inl, inr, ◌⊎◌, ◌*◌, add-one, [], ◌∷◌, length, refl, ap₂, subst, pos, ◌-ℤ◌, ◌≤ℤ◌}
+use Rattle.std.specs.List.{sum_by, All, Any}
+use Rattle.std.proofs.lemmas.List.Sums.{sum_by-cons}
+use Rattle.std.proofs.lemmas.Bool.{cases_lt, cases_order, le-leb, lt-leb}
+use Rattle.std.proofs.lemmas.Bool.Decides.{nat_tests}
+use Rattle.evac_law.specs.declared.model.Model.{Model}
+use Rattle.evac_law.specs.declared.plan.Move.{Move}
+use Rattle.evac_law.specs.LabelTable.{LabelTable}
+use Rattle.evac_law.specs.Sums.{below, moments_to, places}
+use Rattle.evac_law.specs.Laws.{SomeoneArrivesFrom}
+use Rattle.evac_law.specs.Building.{capacity, rate, tail, IsValid, node_at, no_node, is_exit_at, head, arrival, entry, people}
+use Rattle.evac_law.specs.Certificates.{IsCertified, IsShortfall, IsClearable, label_cut}
+use Rattle.evac_law.specs.Cuts.{Cut, cut_value}
+use Rattle.evac_law.specs.Plans.{moved, came, left, held, IsFeasible, out_by, person_periods}
+use Rattle.evac_law.proofs.SumLemmas.{sum_by-add, sum_by-exchange, sum_by-same, sum_by-same_all, sum_by-nothing, sum_below-suc, sum_by-le_all, sum_moments-zero, sum_moments-suc, sum_places, sum_by-times, times_cond, All-below}
+use Rattle.evac_law.proofs.WeakDuality.{value_is, out_le_value}
+
+-- ---- the cut of no pair
+
+start_only : (m : Model) (n t : ℕ) → sum_by (entry m n) (moments_to t) ≡ (node_at m n).start
+start_only m n zero = sum_moments-zero (entry m n)
+start_only m n (suc t) = sum_moments-suc (entry m n) t ∙ add_none (start_only m n t)
+  where
+    add_none : {a b : ℕ} → a ≡ b → a + entry m n (suc t) ≡ b
+    add_none e = grind (arith, nat_tests)
+
+unless_zero : (p : ℕ) → cond (eqb p 0) 0 p ≡ p
+unless_zero p = grind (arith, nat_tests)
+
+pub empty_cut_is : (m : Model) (k : ℕ) → cut_value m (λ _ _. false) k ≡ people m
+unfolding people
+empty_cut_is m k =
+    let entries : sum_by (λ n. sum_by (λ t. cond (eqb (entry m n t) 0) 0 (entry m n t)) (moments_to k)) (places m.nodes) ≡ sum_by (λ n. n.start) m.nodes =
+    sum_by-same _ _ (places m.nodes) (λ n. sum_by-same _ _ (moments_to k) (λ t. unless_zero (entry m n t)) ∙ start_only m n k)
+    ∙ sum_places (λ n. n.start) m.nodes no_node in
+    let holds : sum_by (λ n. sum_by {X = ℕ} (λ t. 0) (below k)) (places m.nodes) ≡ 0 =
+    sum_by-same _ _ (places m.nodes) (λ n. sum_by-nothing (below k)) ∙ sum_by-nothing (places m.nodes) in
+    let arcs : sum_by (λ t. sum_by {X = ℕ} (λ a. 0) (places m.arcs)) (moments_to k) ≡ 0 =
+    sum_by-same _ _ (moments_to k) (λ t. sum_by-nothing (places m.arcs)) ∙ sum_by-nothing (moments_to k) in
+    omega (arith, value_is m (λ _ _. false) k, entries, holds, arcs)
+
+-- ---- good plans
+
+pub out_le_people : (m : Model) (q : List Move) (k : ℕ) → IsValid m → IsFeasible m q k → out_by m q k ≤ people m
+out_le_people m q k valid feasible = omega (arith, out_le_value m (λ _ _. false) q k valid feasible, empty_cut_is m k)
+
+later : (e : Bool) (r b c p : ℕ) → b ≤ c → cond (e && leb r b) p 0 ≤ cond (e && leb r c) p 0
+later e r b c p l = grind (arith, nat_tests)
+
+pub out_le_out : (m : Model) (p : List Move) (b c : ℕ) → b ≤ c → out_by m p b ≤ out_by m p c
+unfolding out_by
+out_le_out m p b c l =
+    sum_by-le_all _ _ p (λ i d h. let v = get_or p i d in later (is_exit_at m (head m v.arc)) (arrival m v.arc v.moment) b c v.people l)
+
+pub certified_is_best : (m : Model) (p : List Move) (l : LabelTable) (c : ℕ) → IsValid m → IsCertified m p l c
+    → (q : List Move) (k : ℕ) → IsFeasible m q k → out_by m q k ≤ out_by m p k
+certified_is_best m p l c valid good q k feasible = elim (cases_lt k c) [
+  | inl before ↦ omega (arith, good.cuts k before, out_le_value m (label_cut m l k) q k valid feasible)
+  | inr after ↦ omega (arith, good.all_out, out_le_people m q k valid feasible, out_le_out m p c k after)
+]
+
+pub shortfall_bars_clearing : (m : Model) (x : Cut) (v : ℕ) → IsValid m → IsShortfall m x v → ¬ IsClearable m
+shortfall_bars_clearing m x v valid short plan =
+    omega (arith, short.worth, short.below_people, plan.2, out_le_value m x plan.0 m.horizon valid plan.1)
+
+-- ---- all good plans are alike
+
+pub lawful_down : (m : Model) (p : List Move) (b c : ℕ) → b ≤ c → IsFeasible m p c → IsFeasible m p b
+lawful_down m p b c l h = record {
+  arcs = h.arcs;
+  rates = λ a t i s. h.rates a t i (omega arith);
+  holds = λ n t i e s. h.holds n t i e (omega arith);
+}
+
+all_in_time : (e : Bool) (r c k p : ℕ) → r ≤ c → c ≤ k → cond (e && leb r k) p 0 ≡ cond (e && leb r c) p 0
+all_in_time e r c k p i j = grind (arith, nat_tests)
+
+-- nobody gets out_by later than the last arrival
+pub out_stays : (m : Model) (p : List Move) (c k : ℕ) → c ≤ k → All (λ v. arrival m v.arc v.moment ≤ c) p → out_by m p k ≡ out_by m p c
+unfolding out_by
+out_stays m p c k l a =
+    sum_by-same_all _ _ p
+    (λ i d h. let v = get_or p i d in all_in_time (is_exit_at m (head m v.arc)) (arrival m v.arc v.moment) c k v.people (a i d h) l)
+
+-- a good plan has everybody out by each moment from its last on
+good_out : (m : Model) (p : List Move) (l : LabelTable) (c k : ℕ) → IsCertified m p l c → c ≤ k → out_by m p k ≡ people m
+good_out m p l c k good i = out_stays m p c k i good.arrives ∙ good.all_out
+
+-- before its last moment a good plan has somebody inside, and so has any feasible plan
+still_inside : (m : Model) (p q : List Move) (l : LabelTable) (c b : ℕ) → IsValid m → IsCertified m p l c → b < c → IsFeasible m q b
+    → out_by m q b < people m
+still_inside m p q l (suc c) b valid good i feasible =
+    omega (arith, good.least c (add-one c), out_le_out m p b c (omega arith), certified_is_best m p l (suc c) valid good q b feasible)
+still_inside m p q l zero b valid good i feasible = absurd (omega arith)
+
+not_later : (m : Model) (p q : List Move) (l i : LabelTable) (c d : ℕ) → IsValid m → IsCertified m p l c → IsCertified m q i d → c ≤ d
+not_later m p q l i c d valid good other = elim (cases_lt d c) [
+  | inl less ↦ absurd (omega (arith, still_inside m p q l c d valid good less other.feasible, other.all_out))
+  | inr done ↦ done
+]
+
+pub certified_plans_agree : (m : Model) (p q : List Move) (l i : LabelTable) (c d : ℕ) → IsValid m → IsCertified m p l c → IsCertified m q i d
+    → (c ≡ d) × ((k : ℕ) → out_by m p k ≡ out_by m q k)
+certified_plans_agree m p q l i c d valid good other =
+    let first = not_later m p q l i c d valid good other in
+    let second = not_later m q p i l d c valid other good in
+    let curve = λ (k : ℕ). same_out first second k (cases_lt k c) in
+    (omega arith, curve)
+  where
+    same_out : c ≤ d → d ≤ c → (k : ℕ) → (k < c) ⊎ (c ≤ k) → out_by m p k ≡ out_by m q k
+    same_out x y k (inl less) =
+        omega (
+          arith,
+          certified_is_best m p l c valid good q k (lawful_down m q k d (omega arith) other.feasible),
+          certified_is_best m q i d valid other p k (lawful_down m p k c (omega arith) good.feasible),
+        )
+    same_out x y k (inr more) = good_out m p l c k good more ∙ sym (good_out m q i d k other (omega arith))
+
+-- ---- person-periods
+
+-- one term of the sum below, where the arrival is h + 1, before it or after it
+tail_more : (e : Bool) (r w h s : ℕ) → cond (e && leb r h) (w * r) 0 + s ≡ cond (e && leb r h) (h * w) 0
+    → cond (e && leb r (suc h)) (w * r) 0 + (s + cond (e && leb r h) w 0) ≡ cond (e && leb r (suc h)) (suc h * w) 0
+tail_more false r w h s i = omega arith
+tail_more true r w h s i = elim (cases_order r (suc h)) [
+  | inl same ↦
+      let now = le-leb r (suc h) (omega arith) in
+      let not_yet = lt-leb r h (omega arith) in
+      let product = ap (λ z. w * z) same in
+      rw now (rw not_yet (omega (arith, product, rw not_yet at i)))
+  | inr (inl less) ↦
+      let now = le-leb r (suc h) (omega arith) in
+      let before = le-leb r h (omega arith) in
+      rw now (rw before (omega (arith, rw before at i)))
+  | inr (inr more) ↦
+      let not_now = lt-leb r (suc h) (omega arith) in
+      let not_yet = lt-leb r h (omega arith) in
+      rw not_now (rw not_yet (omega (arith, rw not_yet at i)))
+]
+
+tail_none : (e : Bool) (r w : ℕ) → cond (e && leb r 0) (w * r) 0 + 0 ≡ cond (e && leb r 0) (0 * w) 0
+tail_none e r w = grind (arith, nat_tests)
+
+-- at each moment before h the people who are not out yet, added up
+tail_sum : (e : Bool) (r w h : ℕ)
+    → cond (e && leb r h) (w * r) 0 + sum_by (λ k. cond (e && leb r k) w 0) (below h) ≡ cond (e && leb r h) (h * w) 0
+tail_sum e r w zero = tail_none e r w
+tail_sum e r w (suc h) =
+    ap (λ z. cond (e && leb r (suc h)) (w * r) 0 + z) (sum_below-suc (λ k. cond (e && leb r k) w 0) h)
+    ∙ tail_more e r w h (sum_by (λ k. cond (e && leb r k) w 0) (below h)) (tail_sum e r w h)
+
+periods_and_outs : (m : Model) (p : List Move)
+    → person_periods m p + sum_by (λ k. out_by m p k) (below m.horizon) ≡ m.horizon * out_by m p m.horizon
+unfolding person_periods out_by
+periods_and_outs m p =
+    let h = m.horizon in
+    let e = λ (v : Move). is_exit_at m (head m v.arc) in
+    let r = λ (v : Move). arrival m v.arc v.moment in
+    let late = λ (v : Move). cond (e v && leb (r v) h) (v.people * r v) 0 in
+    let outs = λ (v : Move). sum_by (λ k. cond (e v && leb (r v) k) v.people 0) (below h) in
+    let all = λ (v : Move). cond (e v && leb (r v) h) v.people 0 in
+    let times = sum_by-times h all p in
+    let each = λ (v : Move). tail_sum (e v) (r v) v.people h ∙ times_cond (e v && leb (r v) h) h v.people in
+    ap (λ z. sum_by late p + z) (sum_by-exchange (λ k (v : Move). cond (e v && leb (r v) k) v.people 0) (below h) p)
+    ∙ sym (sum_by-add late outs p)
+    ∙ sum_by-same (λ v. late v + outs v) (λ v. h * all v) p each
+    ∙ times
+
+-- where a sum is greater, one of its terms is
+some_more : {X : Type 0} (f g : X → ℕ) (xs : List X) → sum_by f xs < sum_by g xs → Any (λ x. f x < g x) xs
+some_more f g [] h = absurd (omega (arith, h))
+some_more f g (x ∷ xs) h = elim (cases_lt (f x) (g x)) [
+  | inl less ↦ (0, x, omega arith, refl, less)
+  | inr more ↦ further (some_more f g xs (omega (arith, h, more, sum_by-cons f x xs, sum_by-cons g x xs)))
+]
+  where
+    further : Any (λ x. f x < g x) xs → Any (λ x. f x < g x) (x ∷ xs)
+    further (k, y, l, e, p) = (suc k, y, omega (arith, l), e, p)
+
+at_most : (b : Bool) (w : ℕ) → cond b w 0 ≤ w
+at_most true w = omega arith
+at_most false w = omega arith
+
+-- whom a later moment counts and an earlier one doesn't, arrives in between
+in_between : (e : Bool) (r b h w : ℕ) → cond (e && leb r b) w 0 < cond (e && leb r h) w 0 → (0 < w) × (e ≡ true) × (b + 1 ≤ r) × (r ≤ h)
+in_between false r b h w l = absurd (omega arith)
+in_between true r b h w l = elim (cases_lt b r) [
+  | inl before ↦ elim (cases_lt h r) [
+    | inl never ↦ absurd (omega (arith, rw (lt-leb r h never) at l))
+    | inr by_then ↦ (omega (arith, rw (le-leb r h by_then, lt-leb r b before) at l), refl, omega arith, by_then)
+  ]
+  | inr already ↦ absurd (omega (arith, rw (le-leb r b already) at l, at_most (leb r h) w))
+]
+
+someone_arrives : (m : Model) (q : List Move) (b : ℕ) → out_by m q b < out_by m q m.horizon → SomeoneArrivesFrom m q (b + 1)
+unfolding out_by
+someone_arrives m q b less = named (some_more _ _ q less)
+  where
+    e : Move → Bool
+    e v = is_exit_at m (head m v.arc)
+    r : Move → ℕ
+    r v = arrival m v.arc v.moment
+    named : Any (λ v. cond (e v && leb (r v) b) v.people 0 < cond (e v && leb (r v) m.horizon) v.people 0) q → SomeoneArrivesFrom m q (b + 1)
+    named (k, v, l, s, p) = (k, v, l, s, in_between (e v) (r v) b m.horizon v.people p)
+
+pub certified_is_quickest : (m : Model) (p q : List Move) (l : LabelTable) (c : ℕ) → IsValid m → IsCertified m p l c → IsFeasible m q m.horizon
+    → out_by m q m.horizon ≡ people m
+    → (0 < c → SomeoneArrivesFrom m q c) × (person_periods m p ≤ person_periods m q)
+certified_is_quickest m p q l c valid good feasible everybody =
+    let h = m.horizon in
+    let down = λ (k : ℕ) (i : k ≤ h). lawful_down m q k h i feasible in
+    let fewer = sum_by-le_all (λ k. out_by m q k) (λ k. out_by m p k) (below h)
+    (All-below (λ k. out_by m q k ≤ out_by m p k) h (λ k i. certified_is_best m p l c valid good q k (down k (omega arith)))) in
+    let in_time = good_out m p l c h good good.in_horizon in
+    let same : h * out_by m p h ≡ h * out_by m q h = ap (λ z. h * z) (in_time ∙ sym everybody) in (
+      λ some. last c some good.in_horizon (λ b i. still_inside m p q l c b valid good i (down b (omega (arith, good.in_horizon)))),
+      omega (arith, periods_and_outs m p, periods_and_outs m q, fewer, same),
+    )
+  where
+    last : (c : ℕ) → 0 < c → c ≤ m.horizon → ((b : ℕ) → b < c → out_by m q b < people m) → SomeoneArrivesFrom m q c
+    last zero some i inside = absurd (omega arith)
+    last (suc b) some i inside = subst (λ (k : ℕ). SomeoneArrivesFrom m q k) (add-one b) (someone_arrives m q b (omega (arith, inside b (omega arith), everybody)))
+
+-- ---- a certified plan clears the model
+
+-- a sum over moves that are over by c counts them all from c on
+stays : (e : Bool) (r c t w : ℕ) → r ≤ c → c ≤ t → cond (e && leb r t) w 0 ≡ cond (e && leb r c) w 0
+stays e r c t w i j = grind (arith, nat_tests)
+
+came_stays : (m : Model) (p : List Move) (n c t : ℕ) → c ≤ t → All (λ v. arrival m v.arc v.moment ≤ c) p → came m p n t ≡ came m p n c
+unfolding came
+came_stays m p n c t l a =
+    ap₂ (λ x y. x + y) (start_only m n t ∙ sym (start_only m n c))
+    (sum_by-same_all _ _ p (λ i d h. let v = get_or p i d in stays (eqb (head m v.arc) n) (arrival m v.arc v.moment) c t v.people (a i d h) l))
+
+left_stays : (m : Model) (p : List Move) (n c t : ℕ) → c ≤ t → All (λ v. arrival m v.arc v.moment ≤ c) p → left m p n t ≡ left m p n c
+unfolding left
+left_stays m p n c t l a =
+    sum_by-same_all _ _ p (λ i d h. let v = get_or p i d in stays (eqb (tail m v.arc) n) v.moment c t v.people (omega (arith, a i d h)) l)
+
+held_stays : (m : Model) (p : List Move) (n c t : ℕ) → c ≤ t → All (λ v. arrival m v.arc v.moment ≤ c) p → held m p n t ≡ held m p n c
+unfolding held
+held_stays m p n c t l a = ap₂ (λ x y. pos x -ℤ pos y) (came_stays m p n c t l a) (left_stays m p n c t l a)
+
+over : (e : Bool) (s c t w : ℕ) → s ≤ c → c < t → cond (e && eqb s t) w 0 ≡ 0
+over e s c t w i j = grind (arith, nat_tests)
+
+nobody_moves : (m : Model) (p : List Move) (a c t : ℕ) → c < t → All (λ v. arrival m v.arc v.moment ≤ c) p → moved p a t ≡ 0
+unfolding moved
+nobody_moves m p a c t l all =
+    sum_by-same_all _ (λ _. 0) p (λ i d h. let v = get_or p i d in over (eqb v.arc a) v.moment c t v.people (omega (arith, all i d h)) l)
+    ∙ sum_by-nothing p
+
+pub certified_is_feasible : (m : Model) (p : List Move) (l : LabelTable) (c k : ℕ) → IsCertified m p l c → IsFeasible m p k
+certified_is_feasible m p l c k good = record {
+  arcs = good.feasible.arcs;
+  rates = λ a t i j. by_rate a t i (cases_lt c t);
+  holds = λ n t i e j. by_hold n t i e (cases_lt c t);
+}
+  where
+    by_rate : (a t : ℕ) → a < length m.arcs → (c < t) ⊎ (t ≤ c) → moved p a t ≤ rate m a t
+    by_rate a t i (inl late) = omega (arith, nobody_moves m p a c t late good.arrives)
+    by_rate a t i (inr soon) = good.feasible.rates a t i soon
+    by_hold : (n t : ℕ) → n < length m.nodes → is_exit_at m n ≡ false → (c < t) ⊎ (t ≤ c)
+        → (pos 0 ≤ℤ held m p n t) × (held m p n t ≤ℤ pos (capacity m n))
+    by_hold n t i e (inl late) = rw (held_stays m p n c t (omega arith) good.arrives) (good.feasible.holds n c i e (omega arith))
+    by_hold n t i e (inr soon) = good.feasible.holds n t i e soon
+
+pub certified_is_clearable : (m : Model) (p : List Move) (l : LabelTable) (c : ℕ) → IsValid m → IsCertified m p l c → IsClearable m
+certified_is_clearable m p l c valid good =
+    (p, certified_is_feasible m p l c m.horizon good, good_out m p l c m.horizon good good.in_horizon)

@@ -1,0 +1,98 @@
+-- What an edit does to a model, when it is refused, and which edit undoes it.
+use Rattle.std.specs.Prelude.{ℕ, ◌+◌, ◌-◌, ◌<◌, Bool, true, false, not, ◌||◌, if◌then◌else◌, ◌==◌, nat_lt, List, [], ◌∷◌, length, slice_set, Result, Ok, Err}
+use Rattle.evac_law.specs.declared.model.NodeRow.{NodeRow}
+use Rattle.evac_law.specs.declared.model.ArcRow.{ArcRow}
+use Rattle.evac_law.specs.declared.model.Model.{Model}
+use Rattle.evac_law.specs.declared.edit.Edit.{Edit}
+use Rattle.evac_law.specs.declared.edit.Edit.TheVariants.{Shut, Reopen, ShutExit, ReopenExit, Rate, Room, Shift, Enter, Leave}
+use Rattle.evac_law.specs.declared.edit.EditFault.{EditFault}
+use Rattle.evac_law.specs.declared.edit.EditFault.TheVariants.{OutOfRange, OverFull, SameNode, TooMany, AlreadyShut, AlreadyOpen, NotExit, ExitNamed, TooFew}
+use Rattle.evac_law.specs.Building.{node_at, arc_at, is_exit_at, capacity, start, people}
+use Rattle.evac_law.specs.Limits.{rate_limit, capacity_limit, people_limit}
+
+-- the places that an edit names are places of the model
+abbrev pub IsEditOf : Model → Edit → Type 0
+IsEditOf m (Shut a) = a < length m.arcs
+IsEditOf m (Reopen a) = a < length m.arcs
+IsEditOf m (ShutExit n) = n < length m.nodes
+IsEditOf m (ReopenExit n) = n < length m.nodes
+IsEditOf m (Rate a r) = a < length m.arcs
+IsEditOf m (Room n c) = n < length m.nodes
+IsEditOf m (Shift a b p) = (a < length m.nodes) × (b < length m.nodes)
+IsEditOf m (Enter n p) = n < length m.nodes
+IsEditOf m (Leave n p) = n < length m.nodes
+
+-- whether a number can't be the people of an edit: 0, or above the limit of a node
+abbrev pub is_no_count : ℕ → Bool
+is_no_count p = (p == 0) || nat_lt capacity_limit p
+
+-- the checks of an edit in their order, each with its fault
+abbrev pub checks : Model → Edit → List (Bool × EditFault)
+checks m (Shut a) = ((arc_at m a).shut, AlreadyShut) ∷ []
+checks m (Reopen a) = (not (arc_at m a).shut, AlreadyOpen) ∷ []
+checks m (ShutExit n) = (not (is_exit_at m n), NotExit) ∷ ((node_at m n).shut, AlreadyShut) ∷ []
+checks m (ReopenExit n) = (not (is_exit_at m n), NotExit) ∷ (not (node_at m n).shut, AlreadyOpen) ∷ []
+checks m (Rate a r) = (nat_lt rate_limit r, OutOfRange) ∷ []
+checks m (Room n c) = (is_exit_at m n, ExitNamed) ∷ (nat_lt capacity_limit c, OutOfRange) ∷ (nat_lt c (start m n), OverFull) ∷ []
+checks m (Shift a b p) =
+    (a == b, SameNode) ∷ (is_exit_at m a || is_exit_at m b, ExitNamed) ∷ (is_no_count p, OutOfRange)
+    ∷ (nat_lt (start m a) p, TooFew) ∷ (nat_lt (capacity m b) (start m b + p), OverFull) ∷ []
+checks m (Enter n p) =
+    (is_exit_at m n, ExitNamed) ∷ (is_no_count p, OutOfRange) ∷ (nat_lt people_limit (people m + p), TooMany)
+    ∷ (nat_lt (capacity m n) (start m n + p), OverFull) ∷ []
+checks m (Leave n p) = (is_exit_at m n, ExitNamed) ∷ (is_no_count p, OutOfRange) ∷ (nat_lt (start m n) p, TooFew) ∷ []
+
+-- x, or the fault of the first check that holds
+abbrev pub unless : {A : Type 0} → List (Bool × EditFault) → A → Result A EditFault
+unless [] x = Ok x
+unless (c ∷ cs) x = if c.0 then Err c.1 else unless cs x
+
+-- the model with another arc at a place, with another node, and with another start in a node
+abbrev pub with_arc : Model → ℕ → ArcRow → Model
+with_arc m a row = record m { arcs = slice_set m.arcs a row }
+
+abbrev pub with_node : Model → ℕ → NodeRow → Model
+with_node m n row = record m { nodes = slice_set m.nodes n row }
+
+abbrev pub with_start : Model → ℕ → ℕ → Model
+with_start m n s = with_node m n (record (node_at m n) { start = s })
+
+-- the model after an edit that is not refused
+abbrev pub edited : Model → Edit → Model
+edited m (Shut a) = with_arc m a (record (arc_at m a) { shut = true })
+edited m (Reopen a) = with_arc m a (record (arc_at m a) { shut = false })
+edited m (ShutExit n) = with_node m n (record (node_at m n) { shut = true })
+edited m (ReopenExit n) = with_node m n (record (node_at m n) { shut = false })
+edited m (Rate a r) = with_arc m a (record (arc_at m a) { rate = r })
+edited m (Room n c) = with_node m n (record (node_at m n) { capacity = c })
+edited m (Shift a b p) = with_start (with_start m a (start m a - p)) b (start m b + p)
+edited m (Enter n p) = with_start m n (start m n + p)
+edited m (Leave n p) = with_start m n (start m n - p)
+
+-- the edit that gives the old model back
+abbrev pub inverse_of : Model → Edit → Edit
+inverse_of m (Shut a) = Reopen a
+inverse_of m (Reopen a) = Shut a
+inverse_of m (ShutExit n) = ReopenExit n
+inverse_of m (ReopenExit n) = ShutExit n
+inverse_of m (Rate a r) = Rate a (arc_at m a).rate
+inverse_of m (Room n c) = Room n (capacity m n)
+inverse_of m (Shift a b p) = Shift b a p
+inverse_of m (Enter n p) = Leave n p
+inverse_of m (Leave n p) = Enter n p
+
+-- the edited model and the edit that undoes the edit, or the first fault
+abbrev pub applied : Model → Edit → Result (Model × Edit) EditFault
+applied m e = unless (checks m e) (edited m e, inverse_of m e)
+
+-- the number by which a refusal names a fault
+abbrev pub fault_code : EditFault → ℕ
+fault_code OutOfRange = 7
+fault_code OverFull = 12
+fault_code SameNode = 14
+fault_code TooMany = 17
+fault_code AlreadyShut = 34
+fault_code AlreadyOpen = 35
+fault_code NotExit = 36
+fault_code ExitNamed = 37
+fault_code TooFew = 38

@@ -1,0 +1,12 @@
+pub mod Building
+pub mod Certificates
+pub mod Cuts
+pub mod Edits
+pub mod LabelTable
+pub mod Laws
+pub mod Limits
+pub mod Moves
+pub mod Names
+pub mod Plans
+pub mod Stands
+pub mod Sums

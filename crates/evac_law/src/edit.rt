@@ -1,0 +1,311 @@
+// Edits of a model.
+ghost use Rattle.std.specs.Prelude.{◌≡◌, ◌<◌, length, IfOk, IfErr, OnErr, OnOk};
+ghost use Rattle.evac_law.specs.Building.{IsValid};
+ghost use Rattle.evac_law.specs.Edits.{IsEditOf, applied, fault_code};
+
+use crate::limits::{CAPACITY_LIMIT, PEOPLE_LIMIT, RATE_LIMIT};
+use crate::model::{ArcRow, Model, NodeRow};
+use thiserror::Error;
+
+/// A change of a model.
+#[derive(Clone, Copy, PartialEq, Eq, Debug)]
+pub enum Edit {
+    Shut { arc: u32 },
+    Reopen { arc: u32 },
+    ShutExit { node: u32 },
+    ReopenExit { node: u32 },
+    Rate { arc: u32, rate: u32 },
+    Room { node: u32, capacity: u32 },
+    Shift { from: u32, to: u32, people: u32 },
+    Enter { node: u32, people: u32 },
+    Leave { node: u32, people: u32 },
+}
+
+/// Why an edit is refused.
+#[derive(Clone, Copy, PartialEq, Eq, Debug, Error)]
+pub enum EditFault {
+    #[error("a number is outside its range")]
+    OutOfRange,
+    #[error("the start would pass the capacity")]
+    OverFull,
+    #[error("both nodes are the same")]
+    SameNode,
+    #[error("there would be too many people")]
+    TooMany,
+    #[error("it is shut already")]
+    AlreadyShut,
+    #[error("it is not shut")]
+    AlreadyOpen,
+    #[error("the node is no exit")]
+    NotExit,
+    #[error("the node is an exit")]
+    ExitNamed,
+    #[error("too few people start there")]
+    TooFew,
+}
+
+impl EditFault {
+    /// The number by which a refusal names the fault.
+    pub fn code(self) -> u8
+        ensures { result ≡ fault_code self }
+    {
+        match self {
+            EditFault::OutOfRange => 7,
+            EditFault::OverFull => 12,
+            EditFault::SameNode => 14,
+            EditFault::TooMany => 17,
+            EditFault::AlreadyShut => 34,
+            EditFault::AlreadyOpen => 35,
+            EditFault::NotExit => 36,
+            EditFault::ExitNamed => 37,
+            EditFault::TooFew => 38,
+        }
+    }
+}
+
+fn shut(model: &mut Model, arc: u32) -> Result<Edit, EditFault>
+    requires valid { IsValid model.old }
+    requires in_range { arc < length model.old.arcs }
+    ensures ok { IfOk result (λ inverse. applied model.old (Edit.Shut arc) ≡ Ok (model.new, inverse)) }
+    ensures fault { IfErr result (λ fault. applied model.old (Edit.Shut arc) ≡ Err fault) }
+    ensures unchanged { OnErr result (model.new ≡ model.old) }
+{
+    let row = model.arc(arc);
+    if row.shut {
+        return Err(EditFault::AlreadyShut);
+    }
+    model.set_arc(arc, ArcRow { shut: true, ..row });
+    Ok(Edit::Reopen { arc })
+}
+
+fn reopen(model: &mut Model, arc: u32) -> Result<Edit, EditFault>
+    requires valid { IsValid model.old }
+    requires in_range { arc < length model.old.arcs }
+    ensures ok { IfOk result (λ inverse. applied model.old (Edit.Reopen arc) ≡ Ok (model.new, inverse)) }
+    ensures fault { IfErr result (λ fault. applied model.old (Edit.Reopen arc) ≡ Err fault) }
+    ensures unchanged { OnErr result (model.new ≡ model.old) }
+{
+    let row = model.arc(arc);
+    if !row.shut {
+        return Err(EditFault::AlreadyOpen);
+    }
+    model.set_arc(arc, ArcRow { shut: false, ..row });
+    Ok(Edit::Shut { arc })
+}
+
+fn shut_exit(model: &mut Model, node: u32) -> Result<Edit, EditFault>
+    requires valid { IsValid model.old }
+    requires in_range { node < length model.old.nodes }
+    ensures ok { IfOk result (λ inverse. applied model.old (Edit.ShutExit node) ≡ Ok (model.new, inverse)) }
+    ensures fault { IfErr result (λ fault. applied model.old (Edit.ShutExit node) ≡ Err fault) }
+    ensures unchanged { OnErr result (model.new ≡ model.old) }
+{
+    let row = model.node(node);
+    if !row.name.kind.is_exit() {
+        return Err(EditFault::NotExit);
+    }
+    if row.shut {
+        return Err(EditFault::AlreadyShut);
+    }
+    model.set_node(node, NodeRow { shut: true, ..row });
+    Ok(Edit::ReopenExit { node })
+}
+
+fn reopen_exit(model: &mut Model, node: u32) -> Result<Edit, EditFault>
+    requires valid { IsValid model.old }
+    requires in_range { node < length model.old.nodes }
+    ensures ok { IfOk result (λ inverse. applied model.old (Edit.ReopenExit node) ≡ Ok (model.new, inverse)) }
+    ensures fault { IfErr result (λ fault. applied model.old (Edit.ReopenExit node) ≡ Err fault) }
+    ensures unchanged { OnErr result (model.new ≡ model.old) }
+{
+    let row = model.node(node);
+    if !row.name.kind.is_exit() {
+        return Err(EditFault::NotExit);
+    }
+    if !row.shut {
+        return Err(EditFault::AlreadyOpen);
+    }
+    model.set_node(node, NodeRow { shut: false, ..row });
+    Ok(Edit::ShutExit { node })
+}
+
+#[tactic(auto, unfolding(crate::specs::Limits::rate_limit))]
+fn set_rate(model: &mut Model, arc: u32, rate: u32) -> Result<Edit, EditFault>
+    requires valid { IsValid model.old }
+    requires in_range { arc < length model.old.arcs }
+    ensures ok { IfOk result (λ inverse. applied model.old (Edit.Rate arc rate) ≡ Ok (model.new, inverse)) }
+    ensures fault { IfErr result (λ fault. applied model.old (Edit.Rate arc rate) ≡ Err fault) }
+    ensures unchanged { OnErr result (model.new ≡ model.old) }
+{
+    if rate > RATE_LIMIT {
+        return Err(EditFault::OutOfRange);
+    }
+    let row = model.arc(arc);
+    model.set_arc(arc, ArcRow { rate, ..row });
+    Ok(Edit::Rate {
+        arc,
+        rate: row.rate,
+    })
+}
+
+#[tactic(auto, unfolding(crate::specs::Limits::capacity_limit))]
+fn set_room(model: &mut Model, node: u32, capacity: u32) -> Result<Edit, EditFault>
+    requires valid { IsValid model.old }
+    requires in_range { node < length model.old.nodes }
+    ensures ok { IfOk result (λ inverse. applied model.old (Edit.Room node capacity) ≡ Ok (model.new, inverse)) }
+    ensures fault { IfErr result (λ fault. applied model.old (Edit.Room node capacity) ≡ Err fault) }
+    ensures unchanged { OnErr result (model.new ≡ model.old) }
+{
+    let row = model.node(node);
+    if row.name.kind.is_exit() {
+        return Err(EditFault::ExitNamed);
+    }
+    if capacity > CAPACITY_LIMIT {
+        return Err(EditFault::OutOfRange);
+    }
+    if capacity < row.start {
+        return Err(EditFault::OverFull);
+    }
+    model.set_node(node, NodeRow { capacity, ..row });
+    Ok(Edit::Room {
+        node,
+        capacity: row.capacity,
+    })
+}
+
+#[tactic(auto, unfolding(crate::specs::Limits::capacity_limit))]
+fn shift(model: &mut Model, from: u32, to: u32, people: u32) -> Result<Edit, EditFault>
+    requires valid { IsValid model.old }
+    requires in_range { (from < length model.old.nodes) × (to < length model.old.nodes) }
+    ensures ok { IfOk result (λ inverse. applied model.old (Edit.Shift from to people) ≡ Ok (model.new, inverse)) }
+    ensures fault { IfErr result (λ fault. applied model.old (Edit.Shift from to people) ≡ Err fault) }
+    ensures unchanged { OnErr result (model.new ≡ model.old) }
+{
+    if from == to {
+        return Err(EditFault::SameNode);
+    }
+    let left = model.node(from);
+    let entered = model.node(to);
+    if left.name.kind.is_exit() || entered.name.kind.is_exit() {
+        return Err(EditFault::ExitNamed);
+    }
+    if people == 0 || people > CAPACITY_LIMIT {
+        return Err(EditFault::OutOfRange);
+    }
+    if left.start < people {
+        return Err(EditFault::TooFew);
+    }
+    if entered.capacity - entered.start < people {
+        return Err(EditFault::OverFull);
+    }
+    model.set_node(
+        from,
+        NodeRow {
+            start: left.start - people,
+            ..left
+        },
+    );
+    model.set_node(
+        to,
+        NodeRow {
+            start: entered.start + people,
+            ..entered
+        },
+    );
+    Ok(Edit::Shift {
+        from: to,
+        to: from,
+        people,
+    })
+}
+
+#[tactic(auto, unfolding(crate::specs::Limits::capacity_limit, crate::specs::Limits::people_limit))]
+fn enter(model: &mut Model, node: u32, people: u32) -> Result<Edit, EditFault>
+    requires valid { IsValid model.old }
+    requires in_range { node < length model.old.nodes }
+    ensures ok { IfOk result (λ inverse. applied model.old (Edit.Enter node people) ≡ Ok (model.new, inverse)) }
+    ensures fault { IfErr result (λ fault. applied model.old (Edit.Enter node people) ≡ Err fault) }
+    ensures unchanged { OnErr result (model.new ≡ model.old) }
+{
+    let row = model.node(node);
+    if row.name.kind.is_exit() {
+        return Err(EditFault::ExitNamed);
+    }
+    if people == 0 || people > CAPACITY_LIMIT {
+        return Err(EditFault::OutOfRange);
+    }
+    if model.people() + people > PEOPLE_LIMIT {
+        return Err(EditFault::TooMany);
+    }
+    if row.capacity - row.start < people {
+        return Err(EditFault::OverFull);
+    }
+    model.set_node(
+        node,
+        NodeRow {
+            start: row.start + people,
+            ..row
+        },
+    );
+    Ok(Edit::Leave { node, people })
+}
+
+#[tactic(auto, unfolding(crate::specs::Limits::capacity_limit))]
+fn leave(model: &mut Model, node: u32, people: u32) -> Result<Edit, EditFault>
+    requires valid { IsValid model.old }
+    requires in_range { node < length model.old.nodes }
+    ensures ok { IfOk result (λ inverse. applied model.old (Edit.Leave node people) ≡ Ok (model.new, inverse)) }
+    ensures fault { IfErr result (λ fault. applied model.old (Edit.Leave node people) ≡ Err fault) }
+    ensures unchanged { OnErr result (model.new ≡ model.old) }
+{
+    let row = model.node(node);
+    if row.name.kind.is_exit() {
+        return Err(EditFault::ExitNamed);
+    }
+    if people == 0 || people > CAPACITY_LIMIT {
+        return Err(EditFault::OutOfRange);
+    }
+    if row.start < people {
+        return Err(EditFault::TooFew);
+    }
+    model.set_node(
+        node,
+        NodeRow {
+            start: row.start - people,
+            ..row
+        },
+    );
+    Ok(Edit::Enter { node, people })
+}
+
+fn dispatch(model: &mut Model, edit: Edit) -> Result<Edit, EditFault>
+    requires valid { IsValid model.old }
+    requires in_range { IsEditOf model.old edit }
+    ensures ok { IfOk result (λ inverse. applied model.old edit ≡ Ok (model.new, inverse)) }
+    ensures fault { IfErr result (λ fault. applied model.old edit ≡ Err fault) }
+    ensures unchanged { OnErr result (model.new ≡ model.old) }
+{
+    match edit {
+        Edit::Shut { arc } => shut(model, arc),
+        Edit::Reopen { arc } => reopen(model, arc),
+        Edit::ShutExit { node } => shut_exit(model, node),
+        Edit::ReopenExit { node } => reopen_exit(model, node),
+        Edit::Rate { arc, rate } => set_rate(model, arc, rate),
+        Edit::Room { node, capacity } => set_room(model, node, capacity),
+        Edit::Shift { from, to, people } => shift(model, from, to, people),
+        Edit::Enter { node, people } => enter(model, node, people),
+        Edit::Leave { node, people } => leave(model, node, people),
+    }
+}
+
+/// Makes an edit, and answers the edit that undoes it.
+pub fn apply(model: &mut Model, edit: Edit) -> Result<Edit, EditFault>
+    requires valid { IsValid model.old }
+    requires in_range { IsEditOf model.old edit }
+    ensures ok { IfOk result (λ inverse. applied model.old edit ≡ Ok (model.new, inverse)) }
+    ensures fault { IfErr result (λ fault. applied model.old edit ≡ Err fault) }
+    ensures unchanged { OnErr result (model.new ≡ model.old) }
+    ensures valid { OnOk result (IsValid model.new) }
+{
+    dispatch(model, edit)
+}

@@ -1,0 +1,32 @@
+//! The law of evacuation plans: what a model, a plan, a cut and an edit are, when a plan is feasible, and what proves it best.
+//!
+//! The definitions stand in `specs/`, the laws over them are the contracts of the functions of `laws`, and everything above this
+//! crate speaks of buildings and plans by these definitions alone.
+#![tactic(auto)]
+
+mod cut;
+mod edit;
+mod labels;
+mod laws;
+pub mod limits;
+mod model;
+mod name;
+mod plan;
+mod rows;
+mod standing;
+mod steps;
+
+pub use cut::CutItem;
+pub use edit::{Edit, EditFault, apply};
+pub use labels::Labels;
+pub use laws::{
+    certified_is_best, certified_is_clearable, certified_is_quickest, certified_plans_agree,
+    empty_cut, inverse_undoes, moves_of_table, shortfall_bars_clearing, tight_is_equal,
+    weak_duality,
+};
+pub use model::{ArcRow, Model, NodeRow};
+pub use name::{Kind, NodeName};
+pub use plan::Move;
+pub use rows::Rows;
+pub use standing::Standing;
+pub use steps::Steps;

@@ -1,0 +1,110 @@
+// The model of a building.
+ghost use Rattle.std.specs.Prelude.{◌≡◌, ◌<◌, ◌≤◌, length};
+ghost use Rattle.evac_law.specs.Building.{IsValid, arc_at, entry, node_at, people, rate};
+ghost use Rattle.evac_law.specs.Edits.{with_arc, with_node};
+
+use crate::name::NodeName;
+use crate::rows::Rows;
+
+/// A node: its name, the most people who may be in it, and the people in it at moment 0.
+#[derive(Clone, Copy, PartialEq, Eq, Debug)]
+pub struct NodeRow {
+    pub name: NodeName,
+    pub capacity: u32,
+    pub start: u32,
+    pub shut: bool,
+}
+
+/// An arc from one node to another, each named by its place. The traversal time is in periods, the rate in people per period.
+#[derive(Clone, Copy, PartialEq, Eq, Debug)]
+pub struct ArcRow {
+    pub from: u32,
+    pub to: u32,
+    pub travel: u16,
+    pub rate: u32,
+    pub shut: bool,
+}
+
+/// A building: the seconds of a period, the last moment, and its nodes and arcs in file order.
+#[derive(Drop)]
+pub struct Model {
+    pub seconds: u16,
+    pub horizon: u16,
+    pub nodes: Rows<NodeRow>,
+    pub arcs: Rows<ArcRow>,
+}
+
+impl Model {
+    /// The node at a place.
+    pub fn node(&self, node: u32) -> NodeRow
+        requires { node < length self.now.nodes }
+        ensures { result ≡ node_at self.now node }
+    {
+        self.nodes[node as usize]
+    }
+
+    /// The arc at a place.
+    pub fn arc(&self, arc: u32) -> ArcRow
+        requires { arc < length self.now.arcs }
+        ensures { result ≡ arc_at self.now arc }
+    {
+        self.arcs.at(arc as usize)
+    }
+
+    /// The people of the model.
+    #[tactic(auto, unfolding(crate::specs::Building::people, crate::specs::Limits::people_limit))]
+    pub fn people(&self) -> u32
+        requires { IsValid self.now }
+        ensures { result ≡ people self.now }
+    {
+        let mut all = 0;
+        for row in self.nodes.as_slice() {
+            all += row.start;
+        }
+        all
+    }
+
+    /// The most people who may enter an arc at a moment.
+    pub fn rate(&self, arc: u32, moment: u16) -> u32
+        requires valid { IsValid self.now }
+        requires arc_in { arc < length self.now.arcs }
+        requires moment_in { moment ≤ self.now.horizon }
+        ensures { result ≡ rate self.now arc moment }
+    {
+        let row = self.arc(arc);
+        if row.shut || self.node(row.to).shut {
+            0
+        } else {
+            row.rate
+        }
+    }
+
+    /// The people who come into a node at a moment from nowhere.
+    pub fn entry(&self, node: u32, moment: u16) -> u32
+        requires node_in { node < length self.now.nodes }
+        requires moment_in { moment ≤ self.now.horizon }
+        ensures { result ≡ entry self.now node moment }
+    {
+        if moment == 0 {
+            self.node(node).start
+        } else {
+            0
+        }
+    }
+
+    /// Puts a node in the place of another.
+    pub(crate) fn set_node(&mut self, node: u32, row: NodeRow)
+        requires { node < length self.old.nodes }
+        ensures { self.new ≡ with_node self.old node row }
+    {
+        self.nodes.put(node as usize, row);
+    }
+
+    /// Puts an arc in the place of another.
+    pub(crate) fn set_arc(&mut self, arc: u32, row: ArcRow)
+        requires { arc < length self.old.arcs }
+        ensures { self.new ≡ with_arc self.old arc row }
+    {
+        self.arcs.put(arc as usize, row);
+    }
+}
