@@ -199,8 +199,10 @@ someone_arrives m q b less = named (some_more _ _ q less)
   where
     e : Move → Bool
     e v = is_exit_at m (head m v.arc)
+
     r : Move → ℕ
     r v = arrival m v.arc v.moment
+
     named : Any (λ v. cond (e v && leb (r v) b) v.people 0 < cond (e v && leb (r v) m.horizon) v.people 0) q → SomeoneArrivesFrom m q (b + 1)
     named (k, v, l, s, p) = (k, v, l, s, in_between (e v) (r v) b m.horizon v.people p)
 
@@ -262,6 +264,7 @@ certified_is_feasible m p l c k good = record {
     by_rate : (a t : ℕ) → a < length m.arcs → (c < t) ⊎ (t ≤ c) → moved p a t ≤ rate m a t
     by_rate a t i (inl late) = omega (arith, nobody_moves m p a c t late good.arrives)
     by_rate a t i (inr soon) = good.feasible.rates a t i soon
+
     by_hold : (n t : ℕ) → n < length m.nodes → is_exit_at m n ≡ false → (c < t) ⊎ (t ≤ c)
         → (pos 0 ≤ℤ held m p n t) × (held m p n t ≤ℤ pos (capacity m n))
     by_hold n t i e (inl late) = rw (held_stays m p n c t (omega arith) good.arrives) (good.feasible.holds n c i e (omega arith))

@@ -1,5 +1,5 @@
 -- The names of nodes, and their text.
-use Rattle.std.specs.Prelude.{ℕ, ◌≤◌, Bool, true, false, List, [], ◌∷◌, ◌++◌, codes, decimal}
+use Rattle.std.specs.Prelude.{ℕ, ◌≤◌, Bool, true, false, List, ◌++◌, codes, decimal}
 use Rattle.evac_law.specs.Limits.{number_limit, floor_number_limit}
 use Rattle.evac_law.specs.declared.name.Kind.{Kind}
 use Rattle.evac_law.specs.declared.name.Kind.TheVariants.{Work, Hall, Stair, Lobby, Exit}
