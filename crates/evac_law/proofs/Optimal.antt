@@ -18,7 +18,7 @@ use Rattle.evac_law.proofs.WeakDuality.{value_is, out_le_value}
 
 -- ---- the cut of no pair
 
-start_only : (m : Model) (n t : ℕ) → sum_by (entry m n) (moments_to t) ≡ (node_at m n).start
+pub start_only : (m : Model) (n t : ℕ) → sum_by (entry m n) (moments_to t) ≡ (node_at m n).start
 start_only m n zero = sum_moments-zero (entry m n)
 start_only m n (suc t) = sum_moments-suc (entry m n) t ∙ add_none (start_only m n t)
   where

@@ -2,6 +2,7 @@
 ghost use Rattle.std.specs.Prelude.{◌≡◌, ◌<◌, ◌≤◌, length};
 ghost use Rattle.evac_law.specs.Building.{IsValid, arc_at, entry, node_at, people, rate};
 ghost use Rattle.evac_law.specs.Edits.{with_arc, with_node};
+ghost use Rattle.evac_law.specs.Limits.{arc_limit, node_limit};
 
 use crate::name::NodeName;
 use crate::rows::Rows;
@@ -35,6 +36,26 @@ pub struct Model {
 }
 
 impl Model {
+    /// The number of the nodes.
+    #[tactic(auto, unfolding(crate::specs::Limits::node_limit))]
+    pub fn node_count(&self) -> u32
+        requires { IsValid self.now }
+        ensures count { result ≡ length self.now.nodes }
+        ensures few { result ≤ node_limit }
+    {
+        self.nodes.len() as u32
+    }
+
+    /// The number of the arcs.
+    #[tactic(auto, unfolding(crate::specs::Limits::arc_limit))]
+    pub fn arc_count(&self) -> u32
+        requires { IsValid self.now }
+        ensures count { result ≡ length self.now.arcs }
+        ensures few { result ≤ arc_limit }
+    {
+        self.arcs.len() as u32
+    }
+
     /// The node at a place.
     pub fn node(&self, node: u32) -> NodeRow
         requires { node < length self.now.nodes }
