@@ -1,7 +1,10 @@
+pub mod Curve
 pub mod EditLemmas
 pub mod MoveLemmas
 pub mod NameLemmas
 pub mod Optimal
+pub mod PartLemmas
 pub mod SumLemmas
 pub mod Tight
+pub mod ValidLemmas
 pub mod WeakDuality

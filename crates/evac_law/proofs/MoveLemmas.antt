@@ -12,7 +12,8 @@ use Rattle.evac_law.specs.Moves.{moves_of, move_of}
 use Rattle.evac_law.specs.Plans.{moved}
 use Rattle.evac_law.specs.Stands.{Before, IsOrdered}
 use Rattle.evac_law.specs.Sums.{below, moments_to}
-use Rattle.evac_law.proofs.SumLemmas.{sum2, sum_by-same, sum_by-flat_map, sum_by-exchange, sum_by-cond, sum_below-pick, All-below, below-suc}
+use Rattle.evac_law.proofs.PartLemmas.{flat_map-suc}
+use Rattle.evac_law.proofs.SumLemmas.{sum2, sum_by-same, sum_by-flat_map, sum_by-exchange, sum_by-cond, sum_below-pick, All-below}
 
 one_move : (f : ℕ → ℕ → ℕ) (b : ℕ → ℕ → Bool) (t a : ℕ)
     → sum_by (λ (v : Move). cond (b v.arc v.moment) v.people 0) (move_of f t a) ≡ cond (b a t) (f a t) 0
@@ -75,10 +76,6 @@ pairs-append R (x ∷ xs) ys p q c =
     (All-append (R x) xs ys (λ i d l. p 0 (suc i) d (omega arith) (omega (arith, l))) (All-head (λ x. All (R x) ys) x xs c))
     (pairs-append R xs ys (λ i j d l h. p (suc i) (suc j) d (omega (arith, l)) (omega (arith, h))) q (All-tail (λ x. All (R x) ys) x xs c))
 
-joined-suc : {X : Type 0} (g : ℕ → List X) (n : ℕ) → flat_map g (below (suc n)) ≡ flat_map g (below n) ++ g n
-joined-suc g n =
-    ap (flat_map g) (below-suc n) ∙ flat_map-append g (below n) (n ∷ []) ∙ ap (λ l. flat_map g (below n) ++ l) (append-nil (g n))
-
 -- lists that are in order, each before the next ones, are in order one after another
 pub pairs-flat_map : {X : Type 0} (R : X → X → Type 0) (g : ℕ → List X) (n : ℕ) → ((i : ℕ) → i < n → AllPairs R (g i))
     → ((i j : ℕ) → i < j → j < n → All (λ x. All (R x) (g j)) (g i)) → AllPairs R (flat_map g (below n))
@@ -87,7 +84,7 @@ pairs-flat_map {X} R g (suc n) p c =
     let before : AllPairs R (flat_map g (below n)) = pairs-flat_map R g n (λ i l. p i (omega arith)) (λ i j l h. c i j l (omega arith)) in
     let cross : All (λ x. All (R x) (g n)) (flat_map g (below n)) =
     All-flat_map_at (λ x. All (R x) (g n)) g (below n) (All-below _ n (λ i l. c i n l (omega arith))) in
-    subst (λ (l : List X). AllPairs R l) (sym (joined-suc g n)) (pairs-append R (flat_map g (below n)) (g n) before (p n (omega arith)) cross)
+    subst (λ (l : List X). AllPairs R l) (sym (flat_map-suc g n)) (pairs-append R (flat_map g (below n)) (g n) before (p n (omega arith)) cross)
 
 -- what holds of the one move of an arc at a moment
 record IsMoveOf (t a : ℕ) (v : Move) : Type 0 where

@@ -23,7 +23,7 @@ fn in_cut(model: &Model, labels: &Labels, k: u16, node: u32, moment: u64) -> boo
 }
 
 // The entries of a node outside the cut.
-#[tactic(auto, using(crate::proofs::PartLemmas::parts_more))]
+#[tactic(auto, using(evac_law::proofs::PartLemmas::parts_more))]
 fn push_entries(
     items: &mut Vec<CutItem>,
     model: &Model,
@@ -48,7 +48,7 @@ fn push_entries(
 }
 
 // The holds of a node that lead out of the cut.
-#[tactic(auto, using(crate::proofs::PartLemmas::parts_more))]
+#[tactic(auto, using(evac_law::proofs::PartLemmas::parts_more))]
 fn push_holds(
     items: &mut Vec<CutItem>,
     model: &Model,
@@ -95,7 +95,7 @@ fn leaves_cut(model: &Model, labels: &Labels, k: u16, moment: u16, arc: u32) -> 
 }
 
 // The arcs that lead out of the cut when they are entered at a moment.
-#[tactic(auto, using(crate::proofs::PartLemmas::parts_more))]
+#[tactic(auto, using(evac_law::proofs::PartLemmas::parts_more))]
 fn push_arcs(
     items: &mut Vec<CutItem>,
     model: &Model,
@@ -119,7 +119,7 @@ fn push_arcs(
 }
 
 /// The items of the cut that labels make at moment k, in their order.
-#[tactic(auto, using(crate::proofs::PartLemmas::parts_more), unfolding(evac_law::specs::Cuts::cut_items))]
+#[tactic(auto, using(evac_law::proofs::PartLemmas::parts_more), unfolding(evac_law::specs::Cuts::cut_items))]
 pub fn cut_items(
     alloc: Global,
     model: &Model,

@@ -1,0 +1,81 @@
+-- The arrival curve, period by period.
+use Rattle.std.proofs.Common.{◌≡◌, ℕ, zero, suc, ◌+◌, ◌-◌, ◌<◌, ◌≤◌, Bool, true, false, cond, ◌&&◌, eqb, ltb, leb, List, [], ◌∷◌, length, refl, ap, ap₂, sym, ◌∙◌, arith}
+use Rattle.std.specs.List.{sum_by, All}
+use Rattle.std.proofs.lemmas.List.Sums.{sum_by-cons}
+use Rattle.std.proofs.lemmas.List.Elements.{All-head, All-tail}
+use Rattle.std.proofs.lemmas.Bool.{lt-ltb}
+use Rattle.std.proofs.lemmas.Bool.Decides.{nat_tests}
+use Rattle.evac_law.specs.Building.{arc_at, arrival, head, is_exit_at}
+use Rattle.evac_law.specs.Plans.{moved, out_by}
+use Rattle.evac_law.specs.Sums.{below, moments_to, places}
+use Rattle.evac_law.specs.declared.model.Model.{Model}
+use Rattle.evac_law.specs.declared.plan.Move.{Move}
+use Rattle.evac_law.proofs.SumLemmas.{sum_by-add, sum_by-nothing, sum_by-same, sum_below-pick, sum_moments-suc, sum_moments-zero}
+
+-- the people who arrive at exits at a moment, by the moves and by the arcs
+unfoldable pub arriving : Model → List Move → ℕ → ℕ
+arriving m p k = sum_by (λ v. cond (is_exit_at m (head m v.arc) && eqb (arrival m v.arc v.moment) k) v.people 0) p
+
+unfoldable pub arriving_by : Model → List Move → ℕ → ℕ → ℕ
+arriving_by m p k a = cond (leb (arc_at m a).travel k && is_exit_at m (head m a)) (moved p a (k - (arc_at m a).travel)) 0
+
+by_zero : (e : Bool) (r w : ℕ) → cond (e && leb r 0) w 0 ≡ cond (e && eqb r 0) w 0
+by_zero e r w = grind (arith, nat_tests)
+
+by_suc : (e : Bool) (r t w : ℕ) → cond (e && leb r (suc t)) w 0 ≡ cond (e && leb r t) w 0 + cond (e && eqb r (suc t)) w 0
+by_suc e r t w = grind (arith, nat_tests)
+
+-- whoever is out by a moment arrived at one of the moments up to it
+pub out_is_sum : (m : Model) (p : List Move) (k : ℕ) → out_by m p k ≡ sum_by (arriving m p) (moments_to k)
+unfolding out_by arriving
+out_is_sum m p zero =
+    sum_by-same _ _ p (λ v. by_zero (is_exit_at m (head m v.arc)) (arrival m v.arc v.moment) v.people) ∙ sym (sum_moments-zero (arriving m p))
+out_is_sum m p (suc k) =
+    sum_by-same _ _ p (λ v. by_suc (is_exit_at m (head m v.arc)) (arrival m v.arc v.moment) k v.people)
+    ∙ sum_by-add (λ v. cond (is_exit_at m (head m v.arc) && leb (arrival m v.arc v.moment) k) v.people 0)
+    (λ v. cond (is_exit_at m (head m v.arc) && eqb (arrival m v.arc v.moment) (suc k)) v.people 0) p
+    ∙ ap (λ z. z + arriving m p (suc k)) (out_is_sum m p k)
+    ∙ sym (sum_moments-suc (arriving m p) k)
+
+regroup : (b s t : Bool) (w : ℕ) → cond b (cond (s && t) w 0) 0 ≡ cond s (cond (b && t) w 0) 0
+regroup b s t w = grind arith
+
+split_cond : (b : Bool) (u v : ℕ) → cond b (u + v) 0 ≡ cond b u 0 + cond b v 0
+split_cond b u v = grind arith
+
+cond_nothing : (b : Bool) → ◌≡◌ {A = ℕ} (cond b 0 0) 0
+cond_nothing b = grind arith
+
+one_arc : (b : ℕ → Bool) (s : ℕ → ℕ) (p t w n : ℕ) → p < n
+    → sum_by (λ a. cond (b a) (cond (eqb p a && eqb t (s a)) w 0) 0) (below n) ≡ cond (b p && eqb t (s p)) w 0
+one_arc b s p t w n l =
+    sum_by-same _ (λ a. cond (eqb p a) (cond (b a && eqb t (s a)) w 0) 0) (below n) (λ a. regroup (b a) (eqb p a) (eqb t (s a)) w)
+    ∙ sum_below-pick (λ a. cond (b a && eqb t (s a)) w 0) n p
+    ∙ ap (λ z. cond z (cond (b p && eqb t (s p)) w 0) 0) (lt-ltb p n l)
+
+-- moves gathered by arc, each arc at one moment
+by_arc : (b : ℕ → Bool) (s : ℕ → ℕ) (n : ℕ) (xs : List Move) → All (λ v. v.arc < n) xs
+    → sum_by (λ a. cond (b a) (sum_by (λ (v : Move). cond (eqb v.arc a && eqb v.moment (s a)) v.people 0) xs) 0) (below n)
+    ≡ sum_by (λ (v : Move). cond (b v.arc && eqb v.moment (s v.arc)) v.people 0) xs
+by_arc b s n [] h = sum_by-same _ (λ _. 0) (below n) (λ a. cond_nothing (b a)) ∙ sum_by-nothing (below n)
+by_arc b s n (x ∷ xs) h =
+    let f = λ (a : ℕ) (v : Move). cond (eqb v.arc a && eqb v.moment (s a)) v.people 0 in
+    sum_by-same _ (λ a. cond (b a) (f a x) 0 + cond (b a) (sum_by (f a) xs) 0) (below n)
+    (λ a. ap (λ z. cond (b a) z 0) (sum_by-cons (f a) x xs) ∙ split_cond (b a) (f a x) (sum_by (f a) xs))
+    ∙ sum_by-add (λ a. cond (b a) (f a x) 0) (λ a. cond (b a) (sum_by (f a) xs) 0) (below n)
+    ∙ ap₂ (λ u v. u + v) (one_arc b s x.arc x.moment x.people n (All-head (λ v. v.arc < n) x xs h)) (by_arc b s n xs (All-tail (λ v. v.arc < n) x xs h))
+    ∙ sym (sum_by-cons (λ v. cond (b v.arc && eqb v.moment (s v.arc)) v.people 0) x xs)
+
+in_time : (e : Bool) (t d k w : ℕ) → cond ((leb d k && e) && eqb t (k - d)) w 0 ≡ cond (e && eqb (t + d) k) w 0
+in_time e t d k w = grind (arith, nat_tests)
+
+pub arriving_is : (m : Model) (p : List Move) (k : ℕ) → All (λ v. v.arc < length m.arcs) p
+    → arriving m p k ≡ sum_by (arriving_by m p k) (places m.arcs)
+unfolding arriving arriving_by moved
+arriving_is m p k h =
+    let b = λ (a : ℕ). leb (arc_at m a).travel k && is_exit_at m (head m a) in
+    let s = λ (a : ℕ). k - (arc_at m a).travel in
+    sym (
+      by_arc b s (length m.arcs) p h
+      ∙ sum_by-same _ _ p (λ v. in_time (is_exit_at m (head m v.arc)) v.moment (arc_at m v.arc).travel k v.people)
+    )
