@@ -87,57 +87,63 @@ pairs-flat_map {X} R g (suc n) p c =
     subst (λ (l : List X). AllPairs R l) (sym (flat_map-suc g n)) (pairs-append R (flat_map g (below n)) (g n) before (p n (omega arith)) cross)
 
 -- what holds of the one move of an arc at a moment
-record IsMoveOf (t a : ℕ) (v : Move) : Type 0 where
+record IsMoveOf (f : ℕ → ℕ → ℕ) (t a : ℕ) (v : Move) : Type 0 where
   moment : v.moment ≡ t
   arc : v.arc ≡ a
+  people : v.people ≡ f v.arc v.moment
   somebody : 0 < v.people
 
-one_of : (f : ℕ → ℕ → ℕ) (t a : ℕ) → All (IsMoveOf t a) (move_of f t a)
+one_of : (f : ℕ → ℕ → ℕ) (t a : ℕ) → All (IsMoveOf f t a) (move_of f t a)
 one_of f t a = elim (cases_Bool (eqb (f a t) 0)) [
   | inl e ↦ rw e (λ i d h. absurd (omega (arith, h)))
   | inr e ↦ rw e (λ i d h. only i d h e)
 ]
   where
-    only : (i : ℕ) (d : Move) → i < 1 → eqb (f a t) 0 ≡ false → IsMoveOf t a (get_or (record { moment = t; arc = a; people = f a t } ∷ []) i d)
-    only zero d h e = record { moment = refl; arc = refl; somebody = grind (arith, nat_tests) }
+    only : (i : ℕ) (d : Move) → i < 1 → eqb (f a t) 0 ≡ false → IsMoveOf f t a (get_or (record { moment = t; arc = a; people = f a t } ∷ []) i d)
+    only zero d h e = record { moment = refl; arc = refl; people = refl; somebody = grind (arith, nat_tests) }
     only (suc i) d h e = absurd (omega (arith, h))
 
 -- what holds of the moves of a moment
-record IsMoveAt (n t : ℕ) (v : Move) : Type 0 where
+record IsMoveAt (f : ℕ → ℕ → ℕ) (n t : ℕ) (v : Move) : Type 0 where
   moment : v.moment ≡ t
   arc : v.arc < n
+  people : v.people ≡ f v.arc v.moment
   somebody : 0 < v.people
 
-row_of : (f : ℕ → ℕ → ℕ) (n t : ℕ) → All (IsMoveAt n t) (flat_map (λ a. move_of f t a) (below n))
+row_of : (f : ℕ → ℕ → ℕ) (n t : ℕ) → All (IsMoveAt f n t) (flat_map (λ a. move_of f t a) (below n))
 row_of f n t =
-    All-flat_map_at (IsMoveAt n t) (λ a. move_of f t a) (below n)
-    (All-below _ n (λ a l. All-weaker (IsMoveOf t a) (IsMoveAt n t) (λ v h. record { moment = h.moment; arc = omega (arith, h.arc); somebody = h.somebody }) (move_of f t a) (one_of f t a)))
+    All-flat_map_at (IsMoveAt f n t) (λ a. move_of f t a) (below n)
+    (All-below _ n (λ a l. All-weaker (IsMoveOf f t a) (IsMoveAt f n t) (λ v h. record { moment = h.moment; arc = omega (arith, h.arc); people = h.people; somebody = h.somebody }) (move_of f t a) (one_of f t a)))
 
 row_sorted : (f : ℕ → ℕ → ℕ) (n t : ℕ) → AllPairs Before (flat_map (λ a. move_of f t a) (below n))
 row_sorted f n t =
     pairs-flat_map Before (λ a. move_of f t a) n (λ a l. pairs_one Before (eqb (f a t) 0) (record { moment = t; arc = a; people = f a t }))
-    (λ a b l h. All-weaker (IsMoveOf t a) (λ v. All (Before v) (move_of f t b))
-    (λ v p. All-weaker (IsMoveOf t b) (Before v) (λ w q. inr (p.moment ∙ sym q.moment, omega (arith, p.arc, q.arc))) (move_of f t b) (one_of f t b))
+    (λ a b l h. All-weaker (IsMoveOf f t a) (λ v. All (Before v) (move_of f t b))
+    (λ v p. All-weaker (IsMoveOf f t b) (Before v) (λ w q. inr (p.moment ∙ sym q.moment, omega (arith, p.arc, q.arc))) (move_of f t b) (one_of f t b))
     (move_of f t a) (one_of f t a))
 
 -- what holds of all moves
-all_of : (P : Move → Type 0) (f : ℕ → ℕ → ℕ) (n k : ℕ) → ((t : ℕ) (v : Move) → t ≤ k → IsMoveAt n t v → P v) → All P (moves_of n k f)
+all_of : (P : Move → Type 0) (f : ℕ → ℕ → ℕ) (n k : ℕ) → ((t : ℕ) (v : Move) → t ≤ k → IsMoveAt f n t v → P v) → All P (moves_of n k f)
 unfolding moves_of
 all_of P f n k w =
     All-flat_map_at P (λ t. flat_map (λ a. move_of f t a) (below n)) (moments_to k)
-    (All-below _ (k + 1) (λ t h. All-weaker (IsMoveAt n t) P (λ v p. w t v (omega arith) p) (flat_map (λ a. move_of f t a) (below n)) (row_of f n t)))
+    (All-below _ (k + 1) (λ t h. All-weaker (IsMoveAt f n t) P (λ v p. w t v (omega arith) p) (flat_map (λ a. move_of f t a) (below n)) (row_of f n t)))
 
 pub sorted-moves_of : (f : ℕ → ℕ → ℕ) (n k : ℕ) → AllPairs Before (moves_of n k f)
 unfolding moves_of
 sorted-moves_of f n k =
     pairs-flat_map Before (λ t. flat_map (λ a. move_of f t a) (below n)) (k + 1) (λ t l. row_sorted f n t)
-    (λ t s l h. All-weaker (IsMoveAt n t) (λ v. All (Before v) (flat_map (λ a. move_of f s a) (below n)))
-    (λ v p. All-weaker (IsMoveAt n s) (Before v) (λ w q. inl (omega (arith, p.moment, q.moment))) (flat_map (λ a. move_of f s a) (below n)) (row_of f n s))
+    (λ t s l h. All-weaker (IsMoveAt f n t) (λ v. All (Before v) (flat_map (λ a. move_of f s a) (below n)))
+    (λ v p. All-weaker (IsMoveAt f n s) (Before v) (λ w q. inl (omega (arith, p.moment, q.moment))) (flat_map (λ a. move_of f s a) (below n)) (row_of f n s))
     (flat_map (λ a. move_of f t a) (below n)) (row_of f n t))
 
 -- the moves name arcs of the table
 pub arcs-moves_of : (n k : ℕ) (f : ℕ → ℕ → ℕ) → All (λ (v : Move). v.arc < n) (moves_of n k f)
 arcs-moves_of n k f = all_of (λ (v : Move). v.arc < n) f n k (λ t v l p. p.arc)
+
+-- each move has the people of the table
+pub table-moves_of : (n k : ℕ) (f : ℕ → ℕ → ℕ) → All (λ (v : Move). v.people ≡ f v.arc v.moment) (moves_of n k f)
+table-moves_of n k f = all_of (λ (v : Move). v.people ≡ f v.arc v.moment) f n k (λ t v l p. p.people)
 
 pub ordered-moves_of : (n k : ℕ) (f : ℕ → ℕ → ℕ) → IsOrdered n k (moves_of n k f)
 ordered-moves_of n k f = record {

@@ -12,7 +12,8 @@ use Rattle.evac_law.specs.Laws.{SomeoneArrivesFrom}
 use Rattle.evac_law.specs.Building.{capacity, rate, tail, IsValid, node_at, no_node, is_exit_at, head, arrival, entry, people}
 use Rattle.evac_law.specs.Certificates.{IsCertified, IsShortfall, IsClearable, label_cut}
 use Rattle.evac_law.specs.Cuts.{Cut, cut_value}
-use Rattle.evac_law.specs.Plans.{moved, came, left, held, IsFeasible, out_by, person_periods}
+use Rattle.std.proofs.lemmas.List.Elements.{All-head, All-tail}
+use Rattle.evac_law.specs.Plans.{last_arrival, moved, came, left, held, IsFeasible, out_by, person_periods}
 use Rattle.evac_law.proofs.SumLemmas.{sum_by-add, sum_by-exchange, sum_by-same, sum_by-same_all, sum_by-nothing, sum_below-suc, sum_by-le_all, sum_moments-zero, sum_moments-suc, sum_places, sum_by-times, times_cond, All-below}
 use Rattle.evac_law.proofs.WeakDuality.{value_is, out_le_value}
 
@@ -193,7 +194,7 @@ in_between true r b h w l = elim (cases_lt b r) [
   | inr already ↦ absurd (omega (arith, rw (le-leb r b already) at l, at_most (leb r h) w))
 ]
 
-someone_arrives : (m : Model) (q : List Move) (b : ℕ) → out_by m q b < out_by m q m.horizon → SomeoneArrivesFrom m q (b + 1)
+pub someone_arrives : (m : Model) (q : List Move) (b : ℕ) → out_by m q b < out_by m q m.horizon → SomeoneArrivesFrom m q (b + 1)
 unfolding out_by
 someone_arrives m q b less = named (some_more _ _ q less)
   where
@@ -273,3 +274,31 @@ certified_is_feasible m p l c k good = record {
 pub certified_is_clearable : (m : Model) (p : List Move) (l : LabelTable) (c : ℕ) → IsValid m → IsCertified m p l c → IsClearable m
 certified_is_clearable m p l c valid good =
     (p, certified_is_feasible m p l c m.horizon good, good_out m p l c m.horizon good good.in_horizon)
+
+-- ---- the last arrival of a certified plan
+
+last_by : (m : Model) (c : ℕ) (p : List Move) → All (λ v. arrival m v.arc v.moment ≤ c) p → last_arrival m p ≤ c
+unfolding last_arrival
+last_by m c [] all = omega arith
+last_by m c (v ∷ p) all =
+    let first = All-head (λ v. arrival m v.arc v.moment ≤ c) v p all in
+    omega (arith, first, last_by m c p (All-tail (λ v. arrival m v.arc v.moment ≤ c) v p all))
+
+at_most_last : (m : Model) (p : List Move) (i : ℕ) (e : Move) → i < length p → arrival m (get_or p i e).arc (get_or p i e).moment ≤ last_arrival m p
+unfolding last_arrival
+at_most_last m [] i e l = absurd (omega (arith, l))
+at_most_last m (v ∷ p) zero e l = omega arith
+at_most_last m (v ∷ p) (suc i) e l = omega (arith, at_most_last m p i e (omega (arith, l)))
+
+-- a plan that is over by c and has somebody inside a period before has its last arrival at c
+pub last_is : (m : Model) (p : List Move) (c : ℕ) → c ≤ m.horizon → All (λ v. arrival m v.arc v.moment ≤ c) p
+    → ((b : ℕ) → b + 1 ≡ c → out_by m p b < out_by m p m.horizon) → last_arrival m p ≡ c
+last_is m p zero l all before = omega (arith, last_by m 0 p all)
+last_is m p (suc b) l all before = omega (arith, last_by m (suc b) p all, reached (someone_arrives m p b (before b (add-one b))))
+  where
+    reached : SomeoneArrivesFrom m p (b + 1) → suc b ≤ last_arrival m p
+    reached (i, v, j, same, found) = omega (arith, found.2, ap (λ w. arrival m w.arc w.moment) same, at_most_last m p i v j)
+
+pub certified_last : (m : Model) (p : List Move) (l : LabelTable) (c : ℕ) → IsCertified m p l c → last_arrival m p ≡ c
+certified_last m p l c good =
+    last_is m p c good.in_horizon good.arrives (λ b e. omega (arith, good.least b e, good_out m p l c m.horizon good good.in_horizon))
