@@ -76,6 +76,6 @@ arriving_is m p k h =
     let b = λ (a : ℕ). leb (arc_at m a).travel k && is_exit_at m (head m a) in
     let s = λ (a : ℕ). k - (arc_at m a).travel in
     sym (
-      by_arc b s (length m.arcs) p h
-      ∙ sum_by-same _ _ p (λ v. in_time (is_exit_at m (head m v.arc)) v.moment (arc_at m v.arc).travel k v.people)
+    by_arc b s (length m.arcs) p h
+    ∙ sum_by-same _ _ p (λ v. in_time (is_exit_at m (head m v.arc)) v.moment (arc_at m v.arc).travel k v.people)
     )

@@ -31,6 +31,7 @@ rest_more {X} g i n l before = split (cases_lt i n)
       behind = r.behind ++ g n;
       whole = flat_map-suc g n ∙ ap (λ z. z ++ g n) r.whole ∙ append_assoc (flat_map g (below i) ++ g i) r.behind (g n);
     }
+
     split : (i < n) ⊎ (n ≤ i) → Rest g i (suc n)
     split (inl less) = longer (before less)
     split (inr last) =

@@ -1,0 +1,13 @@
+-- The texts so far were put.
+use Rattle.std.proofs.Common.{◌≡◌}
+use Rattle.std.specs.List.{flat_map}
+use Rattle.evac_law.specs.Sums.{below}
+use Rattle.line_io.specs.Writer.{Puts}
+use Rattle.certificate_text.specs.BlockText.{node_labels}
+use Rattle.certificate_text.proofs.answer.write_labels.Given as goal
+
+abbrev pub invariant-loop-node : goal.invariant-loop-node
+invariant-loop-node g l = record {
+  text : Puts (g.K.Sink.held l.initial.sink) l.initial.out (flat_map (node_labels l.model l.labels l.cleared) (below l.node)) (g.K.Sink.held l.sink) l.out;
+  faults : g.K.Sink.faults l.sink ≡ g.K.Sink.faults l.initial.sink;
+}

@@ -1,0 +1,137 @@
+// The lines of a block, each put whole or not at all.
+ghost use Rattle.std.specs.Prelude.{◌≡◌, ◌+◌, ◌++◌, ◌≤◌, ◌<◌, ◌^◌, ◌∷◌, length};
+ghost use Rattle.evac_law.specs.Names.{IsName, name_text};
+ghost use Rattle.line_io.specs.Causes.{HasCause};
+ghost use Rattle.line_io.specs.Writer.{PutsText};
+ghost use Rattle.certificate_text.specs.BlockText.{answer_line, cleared_line, end_line, label_line, move_line, out_line, people_line, refusal_line};
+
+use evac_law::NodeName;
+use line_io::{Out, Sink, TextLine, WriteFault};
+
+// Puts a space and a name behind.
+fn put_name(line: &mut TextLine, name: NodeName)
+    requires name { IsName name }
+    requires room { length line.old ≤ 100 }
+    ensures value { line.new ≡ line.old ++ (32 ∷ name_text name) }
+    ensures few { length line.new ≤ length line.old + 11 }
+{
+    let mut text = [0u8; NodeName::TEXT_LIMIT];
+    let count = name.print(&mut text);
+    line.field(&text[..count]);
+}
+
+pub(crate) fn write_index<K: Sink>(
+    out: &mut Out,
+    sink: &mut K,
+    index: u32,
+) -> Result<(), WriteFault>
+    ensures text { PutsText (K.held sink.old) out.old (answer_line index) (K.held sink.new) out.new result }
+    ensures cause { HasCause (K.faults sink.old) (K.faults sink.new) result }
+{
+    let mut line = TextLine::new(b"answer");
+    line.number(u64::from(index));
+    line.put(out, sink)
+}
+
+pub(crate) fn write_people<K: Sink>(
+    out: &mut Out,
+    sink: &mut K,
+    people: u32,
+) -> Result<(), WriteFault>
+    ensures text { PutsText (K.held sink.old) out.old (people_line people) (K.held sink.new) out.new result }
+    ensures cause { HasCause (K.faults sink.old) (K.faults sink.new) result }
+{
+    let mut line = TextLine::new(b"people");
+    line.number(u64::from(people));
+    line.put(out, sink)
+}
+
+pub(crate) fn write_cleared<K: Sink>(
+    out: &mut Out,
+    sink: &mut K,
+    moment: u16,
+) -> Result<(), WriteFault>
+    ensures text { PutsText (K.held sink.old) out.old (cleared_line moment) (K.held sink.new) out.new result }
+    ensures cause { HasCause (K.faults sink.old) (K.faults sink.new) result }
+{
+    let mut line = TextLine::new(b"cleared");
+    line.number(u64::from(moment));
+    line.put(out, sink)
+}
+
+pub(crate) fn write_out<K: Sink>(
+    out: &mut Out,
+    sink: &mut K,
+    period: u16,
+    people: u64,
+) -> Result<(), WriteFault>
+    ensures text { PutsText (K.held sink.old) out.old (out_line period people) (K.held sink.new) out.new result }
+    ensures cause { HasCause (K.faults sink.old) (K.faults sink.new) result }
+{
+    let mut line = TextLine::new(b"out");
+    line.number(u64::from(period));
+    line.number(people);
+    line.put(out, sink)
+}
+
+pub(crate) fn write_label<K: Sink>(
+    out: &mut Out,
+    sink: &mut K,
+    name: NodeName,
+    moment: u16,
+    label: u16,
+) -> Result<(), WriteFault>
+    requires { IsName name }
+    ensures text { PutsText (K.held sink.old) out.old (label_line (name_text name) moment label) (K.held sink.new) out.new result }
+    ensures cause { HasCause (K.faults sink.old) (K.faults sink.new) result }
+{
+    let mut line = TextLine::new(b"label");
+    put_name(&mut line, name);
+    line.number(u64::from(moment));
+    line.number(u64::from(label));
+    line.put(out, sink)
+}
+
+pub(crate) fn write_move<K: Sink>(
+    out: &mut Out,
+    sink: &mut K,
+    moment: u16,
+    from: NodeName,
+    to: NodeName,
+    people: u32,
+) -> Result<(), WriteFault>
+    requires from { IsName from }
+    requires to { IsName to }
+    ensures text { PutsText (K.held sink.old) out.old (move_line moment (name_text from) (name_text to) people) (K.held sink.new) out.new result }
+    ensures cause { HasCause (K.faults sink.old) (K.faults sink.new) result }
+{
+    let mut line = TextLine::new(b"move");
+    line.number(u64::from(moment));
+    put_name(&mut line, from);
+    put_name(&mut line, to);
+    line.number(u64::from(people));
+    line.put(out, sink)
+}
+
+pub(crate) fn write_end<K: Sink>(out: &mut Out, sink: &mut K) -> Result<(), WriteFault>
+    ensures text { PutsText (K.held sink.old) out.old end_line (K.held sink.new) out.new result }
+    ensures cause { HasCause (K.faults sink.old) (K.faults sink.new) result }
+{
+    TextLine::new(b"end").put(out, sink)
+}
+
+/// Puts a refusal by its code, at a line of the input.
+pub fn write_refusal<K: Sink>(
+    out: &mut Out,
+    sink: &mut K,
+    code: u8,
+    line: u32,
+) -> Result<(), WriteFault>
+    ensures text { PutsText (K.held sink.old) out.old (refusal_line code line) (K.held sink.new) out.new result }
+    ensures cause { HasCause (K.faults sink.old) (K.faults sink.new) result }
+{
+    let mut text = TextLine::new(b"refused");
+    text.number(u64::from(code));
+    text.number(u64::from(line));
+    text.put(out, sink)
+}

@@ -1,0 +1,169 @@
+-- Lines of bytes that are put together: what callers need who read line after line.
+use Rattle.std.proofs.Common.{◌≡◌, ℕ, suc, ◌+◌, ◌<◌, true, false, cond, nat_eq, nat_le, ◌||◌, List, [], ◌∷◌, ◌++◌, length, sum_by, Ok, Err, refl, sym, ap, ◌∙◌, arith, append-nil}
+use Rattle.std.proofs.lemmas.Bool.{or_parts, leb-false}
+use Rattle.std.proofs.lemmas.List.Sums.{sum_by-cons}
+use Rattle.std.specs.List.{list_any}
+use Rattle.line_io.specs.Line.{Line, is_lf, pieces, onto_first, IsPiece, line_of, then_lines, lines_after, lines_of, text_lines, whole_part, onto_whole, IsWhole, line_limit}
+use Rattle.line_io.specs.Reader.{IsGiven, is_settled, answer_at, settled_answer, fault_of}
+use Rattle.line_io.specs.View.{Reader}
+use Rattle.line_io.specs.declared.lines.LineFault.TheVariants.{ReadFault, LineTooLong, InputTooLong}
+
+-- ---- whole bytes
+
+whole-behind : (b : ℕ) (bs w : List ℕ) → onto_whole b w ≡ b ∷ bs → w ≡ bs
+whole-behind b bs [] h = elim (nat_eq b 10) as (λ t. cond t (b ∷ []) [] ≡ b ∷ bs → [] ≡ bs) [ true ↦ λ g. cc | false ↦ λ g. cc ] h
+whole-behind b bs (c ∷ cs) h = cc
+
+-- what is behind the first byte of whole bytes is whole
+pub IsWhole-tail : (b : ℕ) (bs : List ℕ) → IsWhole (b ∷ bs) → IsWhole bs
+unfolding whole_part
+IsWhole-tail b bs h = whole-behind b bs (whole_part bs) h
+
+pub IsWhole-nil : IsWhole []
+unfolding whole_part
+IsWhole-nil = refl
+
+-- a whole part before what follows it
+onto-more : (b : ℕ) (bs w : List ℕ) → onto_whole b bs ≡ b ∷ bs → onto_whole b (bs ++ w) ≡ b ∷ (bs ++ w)
+onto-more b [] [] h = h
+onto-more b [] (c ∷ cs) h = refl
+onto-more b (c ∷ cs) w h = refl
+
+pub whole_part-append : (gone rest : List ℕ) → IsWhole gone → whole_part (gone ++ rest) ≡ gone ++ whole_part rest
+unfolding whole_part
+whole_part-append [] rest h = refl
+whole_part-append (b ∷ bs) rest h =
+    let behind : whole_part bs ≡ bs = IsWhole-tail b bs h in
+    ap (onto_whole b) (whole_part-append bs rest behind) ∙ onto-more b bs (whole_part rest) (ap (onto_whole b) (sym behind) ∙ h)
+
+pub IsWhole-append : (xs ys : List ℕ) → IsWhole xs → IsWhole ys → IsWhole (xs ++ ys)
+IsWhole-append xs ys h g = whole_part-append xs ys h ∙ ap (λ l. xs ++ l) g
+
+-- bytes without a LF have no whole part
+pub whole_part-none : (bs : List ℕ) → list_any is_lf bs ≡ false → whole_part bs ≡ []
+unfolding whole_part
+whole_part-none [] h = refl
+whole_part-none (b ∷ bs) h =
+    let parts = or_parts (nat_eq b 10) (list_any is_lf bs) h in
+    ap (onto_whole b) (whole_part-none bs parts.1) ∙ ap (λ t. cond t (b ∷ []) []) parts.0
+
+-- whole bytes, and then an unfinished line
+pub whole_part-front : (gone pending : List ℕ) → IsWhole gone → list_any is_lf pending ≡ false → whole_part (gone ++ pending) ≡ gone
+whole_part-front gone pending h none = whole_part-append gone pending h ∙ ap (λ l. gone ++ l) (whole_part-none pending none) ∙ append-nil gone
+
+-- a reader whose next line isn't settled has no LF pending, and its source hasn't ended
+pub unsettled-open : (r : Reader) → is_settled r ≡ false → (r.ended ≡ false) × (list_any is_lf r.pending ≡ false)
+unsettled-open r h =
+    let parts = or_parts r.ended (nat_le (line_limit + 2) (length r.pending) || list_any is_lf r.pending) h in
+    (parts.0, (or_parts (nat_le (line_limit + 2) (length r.pending)) (list_any is_lf r.pending) parts.1).1)
+
+-- and no more bytes than a line may have
+pub unsettled-few : (r : Reader) → is_settled r ≡ false → length r.pending < line_limit + 2
+unsettled-few r h =
+    let parts = or_parts r.ended (nat_le (line_limit + 2) (length r.pending) || list_any is_lf r.pending) h in
+    leb-false (line_limit + 2) (length r.pending) (or_parts (nat_le (line_limit + 2) (length r.pending)) (list_any is_lf r.pending) parts.1).0
+
+pub whole_part-unsettled : (gone : List ℕ) (r : Reader) → IsWhole gone → is_settled r ≡ false → whole_part (gone ++ r.pending) ≡ gone
+whole_part-unsettled gone r h unsettled = whole_part-front gone r.pending h (unsettled-open r unsettled).1
+
+-- ---- pieces
+
+onto-some : (b : ℕ) (p : List ℕ) (ps qs : List (List ℕ)) → onto_first b ((p ∷ ps) ++ qs) ≡ onto_first b (p ∷ ps) ++ qs
+onto-some b p ps qs = refl
+
+-- a byte in front of whole bytes that isn't LF has a piece behind it
+onto-append : (b : ℕ) (bs : List ℕ) (qs : List (List ℕ)) → IsWhole (b ∷ bs) → nat_eq b 10 ≡ false → onto_first b (pieces bs ++ qs) ≡ onto_first b (pieces bs) ++ qs
+unfolding whole_part pieces
+onto-append b [] qs h off = let e : cond (nat_eq b 10) (b ∷ []) [] ≡ b ∷ [] = h in let n : [] ≡ b ∷ [] = rw off at e in cc
+onto-append b (c ∷ cs) qs h off =
+    elim (nat_eq c 10) as (λ t. onto_first b (cond t ((c ∷ []) ∷ pieces cs) (onto_first c (pieces cs)) ++ qs) ≡ onto_first b (cond t ((c ∷ []) ∷ pieces cs) (onto_first c (pieces cs))) ++ qs)
+    [ true ↦ refl | false ↦ elim (pieces cs) as (λ l. onto_first b (onto_first c l ++ qs) ≡ onto_first b (onto_first c l) ++ qs) [ [] ↦ refl | p ∷ ps ↦ refl ] ]
+
+pub pieces-append : (gone rest : List ℕ) → IsWhole gone → pieces (gone ++ rest) ≡ pieces gone ++ pieces rest
+unfolding pieces
+pieces-append [] rest h = refl
+pieces-append (b ∷ bs) rest h =
+    let ih = pieces-append bs rest (IsWhole-tail b bs h) in
+    elim (nat_eq b 10) as (λ t. nat_eq b 10 ≡ t → cond t ((b ∷ []) ∷ pieces (bs ++ rest)) (onto_first b (pieces (bs ++ rest))) ≡ cond t ((b ∷ []) ∷ pieces bs) (onto_first b (pieces bs)) ++ pieces rest)
+    [ true ↦ λ _. ap (λ l. (b ∷ []) ∷ l) ih | false ↦ λ off. ap (onto_first b) ih ∙ onto-append b bs (pieces rest) h off ] refl
+
+size-onto : (b : ℕ) (ps : List (List ℕ)) → sum_by length (onto_first b ps) ≡ suc (sum_by length ps)
+size-onto b [] = refl
+size-onto b (p ∷ ps) = sum_by-cons length (b ∷ p) ps ∙ (let e : suc (length p) + sum_by length ps ≡ suc (sum_by length (p ∷ ps)) = omega (arith, sum_by-cons length p ps) in e)
+
+-- no byte is lost in the cut
+pub pieces-size : (bs : List ℕ) → sum_by length (pieces bs) ≡ length bs
+unfolding pieces
+pieces-size [] = refl
+pieces-size (b ∷ bs) =
+    let ih = pieces-size bs in
+    elim (nat_eq b 10) as (λ t. sum_by length (cond t ((b ∷ []) ∷ pieces bs) (onto_first b (pieces bs))) ≡ suc (length bs))
+    [ true ↦ sum_by-cons length (b ∷ []) (pieces bs) ∙ (let e : 1 + sum_by length (pieces bs) ≡ suc (length bs) = omega (arith, ih) in e) | false ↦ size-onto b (pieces bs) ∙ ap suc ih ]
+
+-- ---- lines
+
+first-text : (line : Line) (lines : List Line) (text : List ℕ) (others : List Line) → then_lines line lines ≡ Ok text ∷ others → (line ≡ Ok text) × (lines ≡ others)
+first-text (Ok t) lines text others h = (cc, cc)
+first-text (Err c) lines text others h = cc
+
+some-line : (line : Line) (lines : List Line) → then_lines line lines ≡ [] → ⊥
+some-line (Ok t) lines h = cc
+some-line (Err c) lines h = cc
+
+-- lines without a fault, and then those of further pieces
+pub lines_after-append : (before : ℕ) (ps qs : List (List ℕ)) (texts : List (List ℕ)) → lines_after before ps ≡ text_lines texts
+    → lines_after before (ps ++ qs) ≡ text_lines texts ++ lines_after (before + sum_by length ps) qs
+unfolding lines_after
+lines_after-append before [] qs [] h = ap (λ n. lines_after n qs) (let e : before ≡ before + 0 = omega arith in e)
+lines_after-append before [] qs (t ∷ ts) h = cc
+lines_after-append before (p ∷ ps) qs [] h = absurd (some-line _ _ h)
+lines_after-append before (p ∷ ps) qs (t ∷ ts) h =
+    let n = before + length p in
+    let parts = first-text (line_of n p) (lines_after n ps) t (text_lines ts) h in
+    ap (λ l. then_lines l (lines_after n (ps ++ qs))) parts.0
+    ∙ ap (λ l. Ok t ∷ l) (lines_after-append n ps qs ts parts.1)
+    ∙ ap (λ m. Ok t ∷ (text_lines ts ++ lines_after m qs)) (let e : n + sum_by length ps ≡ before + sum_by length (p ∷ ps) = omega (arith, sum_by-cons length p ps) in e)
+
+-- the lines of whole bytes, none with a fault, and then those of what follows
+pub lines_after-whole : (before : ℕ) (gone rest : List ℕ) (texts : List (List ℕ)) → IsWhole gone → lines_after before (pieces gone) ≡ text_lines texts
+    → lines_after before (pieces (gone ++ rest)) ≡ text_lines texts ++ lines_after (before + length gone) (pieces rest)
+lines_after-whole before gone rest texts whole h =
+    ap (lines_after before) (pieces-append gone rest whole)
+    ∙ lines_after-append before (pieces gone) (pieces rest) texts h
+    ∙ ap (λ n. text_lines texts ++ lines_after (before + n) (pieces rest)) (pieces-size gone)
+
+pub text_lines-push : (texts : List (List ℕ)) (text : List ℕ) → text_lines (texts ++ text ∷ []) ≡ text_lines texts ++ Ok text ∷ []
+text_lines-push [] text = refl
+text_lines-push (t ∷ ts) text = ap (λ l. Ok t ∷ l) (text_lines-push ts text)
+
+-- one more line behind whole bytes
+pub lines_of-push : (gone piece : List ℕ) (texts : List (List ℕ)) (text : List ℕ) → IsWhole gone → lines_of gone ≡ text_lines texts
+    → IsPiece piece → line_of (length gone + length piece) piece ≡ Ok text → lines_of (gone ++ piece) ≡ text_lines (texts ++ text ∷ [])
+unfolding lines_after
+lines_of-push gone piece texts text whole lines single good =
+    let start : 0 + length gone ≡ length gone = omega arith in
+    lines_after-whole 0 gone piece texts whole lines
+    ∙ ap (λ n. text_lines texts ++ lines_after n (pieces piece)) start
+    ∙ ap (λ ps. text_lines texts ++ lines_after (length gone) ps) single
+    ∙ ap (λ l. text_lines texts ++ then_lines l []) good
+    ∙ sym (text_lines-push texts text)
+
+-- the line given last, behind those given before it
+pub lines_of-given : (gone piece : List ℕ) (texts : List (List ℕ)) (after : Reader) → IsWhole gone → lines_of gone ≡ text_lines texts
+    → IsGiven after piece → after.given ≡ length gone + length piece → lines_of (gone ++ piece) ≡ text_lines (texts ++ after.text ∷ [])
+lines_of-given gone piece texts after whole lines given count =
+    lines_of-push gone piece texts after.text whole lines given.single (ap (λ n. line_of n piece) (sym count) ∙ given.right)
+
+-- ---- answers
+
+not_read : (code : ℕ) → fault_of code ≡ ReadFault → ⊥
+not_read code h = elim (nat_eq code 2) as (λ t. cond t LineTooLong InputTooLong ≡ ReadFault → ⊥) [ true ↦ λ g. cc | false ↦ λ g. cc ] h
+
+read-at : (lines : List Line) → answer_at lines ≡ Err ReadFault → ⊥
+read-at [] h = cc
+read-at (Ok text ∷ lines) h = cc
+read-at (Err code ∷ lines) h = let e : fault_of code ≡ ReadFault = cc in not_read code e
+
+-- a settled reader answers no read fault
+pub settled_answer-read : (r : Reader) → settled_answer r ≡ Err ReadFault → ⊥
+settled_answer-read r h = read-at _ h

@@ -1,0 +1,45 @@
+-- What a call of a source or a sink in memory answers, and what is then left and held.
+use Rattle.std.specs.Prelude.{ℕ, ◌+◌, ◌-◌, Bool, ◌==◌, nat_le, ◌||◌, List, ◌++◌, length, drop, min}
+use Rattle.std.specs.List.{list_any}
+use Rattle.line_io.specs.Causes.{last_count}
+use Rattle.line_io.specs.View.{MemorySource, MemorySink}
+
+-- one more, up to a 64-bit counter's last value
+abbrev pub counted : ℕ → ℕ
+counted n = min (n + 1) last_count
+
+-- whether the call of this number is one that fails
+abbrev pub is_failing : List ℕ → ℕ → Bool
+is_failing failing number = list_any (λ n. n == number) failing
+
+-- whether the next call fails: its number is listed
+abbrev pub source_fails : MemorySource → Bool
+source_fails s = is_failing s.failing (counted s.calls)
+
+-- how many bytes the next call gives into so much room: all that the piece, the room and what is left allow
+abbrev pub given_count : MemorySource → ℕ → ℕ
+given_count s room = min (min s.piece room) (length s.left)
+
+-- the source after a call that failed
+abbrev pub source_failed : MemorySource → MemorySource
+source_failed s = record s { calls = counted s.calls; faults = counted s.faults }
+
+-- the source after a call that gave n bytes
+abbrev pub source_gave : MemorySource → ℕ → MemorySource
+source_gave s n = record s { left = drop n s.left; calls = counted s.calls }
+
+-- whether the next call fails: its number is listed, or the room is used up
+abbrev pub sink_fails : MemorySink → Bool
+sink_fails s = is_failing s.failing (counted s.calls) || nat_le s.room (length s.held)
+
+-- how many of so many bytes the next call takes: all that the piece and the room allow
+abbrev pub taken_count : MemorySink → ℕ → ℕ
+taken_count s count = min (min s.piece count) (s.room - length s.held)
+
+-- the sink after a call that failed
+abbrev pub sink_failed : MemorySink → MemorySink
+sink_failed s = record s { calls = counted s.calls; faults = counted s.faults }
+
+-- the sink after a call that took these bytes
+abbrev pub sink_took : MemorySink → List ℕ → MemorySink
+sink_took s bytes = record s { held = s.held ++ bytes; calls = counted s.calls }

@@ -1,0 +1,59 @@
+// Parts of a buffer.
+ghost use Rattle.std.specs.Prelude.{◌≡◌, ◌<◌, ◌≤◌, ◌+◌, ◌-◌, ◌++◌, ℕ, List, length, take, drop, IfOk};
+ghost use Rattle.std.specs.Io.KnownBytes.{Appends, IsAtEnd, ReadConsumes};
+ghost use Rattle.line_io.specs.Causes.{HasCause, Rose};
+
+use crate::limits::LEAST_OFFER;
+use crate::outside::{Failed, Sink, Source};
+
+// Moves a part to the front.
+pub(crate) fn shift(buffer: &mut [u8], from: usize, to: usize)
+    requires order { from ≤ to }
+    requires within { to ≤ length buffer.old }
+    ensures { take (to - from) buffer.new ≡ take (to - from) (drop from buffer.old) }
+{
+    buffer.copy_within(from..to, 0);
+}
+
+// Writes bytes at a place.
+pub(crate) fn write_at(buffer: &mut [u8], at: usize, bytes: &[u8])
+    requires { at + length bytes.now ≤ length buffer.old }
+    ensures { buffer.new ≡ take at buffer.old ++ bytes.now ++ drop (at + length bytes.now) buffer.old }
+{
+    let end = at + bytes.len();
+    buffer[at..end].copy_from_slice(bytes);
+}
+
+// Takes bytes of a source behind those in front of a place. No other function asks a source, so that each time it is offered enough room.
+pub(crate) fn take_behind<S: Source>(
+    source: &mut S,
+    buffer: &mut [u8],
+    at: usize,
+) -> Result<usize, Failed>
+    requires { at + LEAST_OFFER ≤ length buffer.old }
+    ensures front { take at buffer.new ≡ take at buffer.old }
+    ensures bound { IfOk result (λ n. at + n ≤ length buffer.new) }
+    ensures bytes { ReadConsumes (S.left source.old) (S.left source.new) result (drop at buffer.new) }
+    ensures end { IfOk result (λ n. n ≡ 0 → IsAtEnd (S.left source.new)) }
+    ensures cause { HasCause (S.faults source.old) (S.faults source.new) result }
+{
+    source.take(&mut buffer[at..])
+}
+
+// Sends bytes until the sink fails, and answers how many it took.
+pub(crate) fn send<K: Sink>(sink: &mut K, bytes: &[u8]) -> usize
+    ensures within { result ≤ length bytes.now }
+    ensures sent { Appends (K.held sink.old) (K.held sink.new) (take result bytes.now) }
+    ensures all { result ≡ length bytes.now → K.faults sink.new ≡ K.faults sink.old }
+    ensures failed { result < length bytes.now → Rose (K.faults sink.old) (K.faults sink.new) }
+    ensures untouched { length bytes.now ≡ 0 → sink.new ≡ sink.old }
+{
+    let mut start = 0;
+    while start < bytes.len() {
+        match sink.put(&bytes[start..]) {
+            Ok(count) => start += count,
+            Err(Failed) => return start,
+        }
+    }
+    start
+}

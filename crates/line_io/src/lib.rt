@@ -1,0 +1,31 @@
+//! Lines read from a source of bytes, and text written to a sink.
+//!
+//! - `Source` and `Sink` are where bytes come from and go to. They say which bytes, where they tell them, and count their faults: a call
+//!   fails only where the count rose. Some of both stand here: in memory, with calls that fail as told; clean ones; and over std's readers
+//!   and writers.
+//! - `Lines` finds the lines of a source. Which bytes are a line is said in `specs/Line.antt`, without a buffer. No byte is lost, a fault of
+//!   a line stays, and a read fault leaves all as it was.
+//! - `Out` puts text into a buffer on its way to a sink. What the sink holds and what is pending grow by exactly the text that was put.
+//! - `TextLine` makes one line of fields, which is put whole or not at all.
+#![tactic(auto)]
+
+mod adapters;
+mod buffer;
+mod clean;
+mod limits;
+mod lines;
+mod memory;
+mod out;
+mod outside;
+#[cfg(test)]
+mod tests;
+mod text_line;
+
+pub use adapters::{StdSink, StdSource};
+pub use clean::{CleanSink, CleanSource};
+pub use limits::{BUFFER_SIZE, INPUT_LIMIT, LEAST_OFFER, LINE_LIMIT, PUT_LIMIT, TEXT_LINE_LIMIT};
+pub use lines::{Found, LineFault, Lines};
+pub use memory::{MemSink, MemSource};
+pub use out::{Out, WriteFault};
+pub use outside::{Failed, Sink, Source};
+pub use text_line::TextLine;

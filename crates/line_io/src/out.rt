@@ -1,0 +1,120 @@
+// Text on its way to a sink.
+ghost use Rattle.std.specs.Prelude.{◌≡◌, ◌<◌, ◌≤◌, ◌+◌, ◌++◌, ◌^◌, ℕ, List, [], length, take, drop, decimal, IfOk, IsOk, OnOk, OnErr};
+ghost use Rattle.line_io.specs.Causes.{HasCause};
+ghost use Rattle.line_io.specs.Writer.{Puts};
+
+use crate::buffer::{send, shift, write_at};
+use crate::limits::{BUFFER_SIZE, PUT_LIMIT};
+use crate::outside::Sink;
+use itoa::Buffer;
+use std::alloc::{AllocError, Global};
+use std::marker::Model;
+
+/// The sink failed.
+#[derive(Clone, Copy, PartialEq, Eq, Debug)]
+pub struct WriteFault;
+
+/// A buffer of bytes that the sink doesn't hold yet. Contracts see it as these bytes.
+#[derive(Drop)]
+pub struct Out {
+    buffer: Vec<u8>,
+    len: usize,
+}
+
+impl Model for Out {
+    ghost use Rattle.std.specs.Prelude.{ℕ, List, take};
+    ghost use Rattle.line_io.specs.View.{IsWriter};
+
+    ghost Value = { List ℕ };
+
+    ghost view = { λ o. take o.len o.buffer.items };
+
+    ghost invariant = { λ o. IsWriter o.buffer.items o.len };
+}
+
+impl Out {
+    /// A buffer with nothing in it.
+    pub fn new(alloc: Global) -> Result<Out, AllocError>
+        ensures { IfOk result (λ out. out ≡ []) }
+    {
+        let buffer = vec![in alloc; 0u8; BUFFER_SIZE]?;
+        Ok(Out { buffer, len: 0 })
+    }
+
+    fn len(&self) -> usize
+        ensures len { result ≡ length self.now }
+        ensures small { result ≤ BUFFER_SIZE }
+    {
+        self.len
+    }
+
+    // Takes the first of the pending bytes away.
+    fn discard(&mut self, count: usize)
+        requires { count ≤ length self.old }
+        ensures { self.new ≡ drop count self.old }
+    {
+        let len = self.len;
+        shift(self.buffer.as_mut_slice(), count, len);
+        self.len = len - count;
+    }
+
+    fn append(&mut self, bytes: &[u8])
+        requires { length self.old + length bytes.now ≤ BUFFER_SIZE }
+        ensures { self.new ≡ self.old ++ bytes.now }
+    {
+        write_at(self.buffer.as_mut_slice(), self.len, bytes);
+        self.len += bytes.len();
+    }
+
+    fn pending(&self) -> &[u8]
+        ensures { result.now ≡ self.now }
+    {
+        &self.buffer[..self.len]
+    }
+
+    /// Puts bytes behind the pending ones. On `Err` none of them was taken in, and what the sink didn't take of the pending ones is still
+    /// pending.
+    pub fn put<K: Sink>(&mut self, sink: &mut K, bytes: &[u8]) -> Result<(), WriteFault>
+        requires { length bytes.now ≤ PUT_LIMIT }
+        ensures ok { OnOk result (Puts (K.held sink.old) self.old bytes.now (K.held sink.new) self.new) }
+        ensures err { OnErr result (Puts (K.held sink.old) self.old [] (K.held sink.new) self.new) }
+        ensures room { length self.old + length bytes.now ≤ BUFFER_SIZE → IsOk result × (sink.new ≡ sink.old) }
+        ensures bounds { length self.new ≤ BUFFER_SIZE }
+        ensures cause { HasCause (K.faults sink.old) (K.faults sink.new) result }
+    {
+        if bytes.len() > BUFFER_SIZE - self.len() {
+            self.flush(sink)?;
+        }
+        self.append(bytes);
+        Ok(())
+    }
+
+    /// Puts a number in decimal digits.
+    pub fn number<K: Sink>(&mut self, sink: &mut K, value: u64) -> Result<(), WriteFault>
+        ensures ok { OnOk result (Puts (K.held sink.old) self.old (decimal value) (K.held sink.new) self.new) }
+        ensures err { OnErr result (Puts (K.held sink.old) self.old [] (K.held sink.new) self.new) }
+        ensures room { length self.old + length (decimal value) ≤ BUFFER_SIZE → IsOk result × (sink.new ≡ sink.old) }
+        ensures bounds { length self.new ≤ BUFFER_SIZE }
+        ensures cause { HasCause (K.faults sink.old) (K.faults sink.new) result }
+    {
+        let mut digits = Buffer::new();
+        self.put(sink, digits.format(value).as_bytes())
+    }
+
+    /// Brings all pending bytes to the sink.
+    pub fn flush<K: Sink>(&mut self, sink: &mut K) -> Result<(), WriteFault>
+        ensures both { Puts (K.held sink.old) self.old [] (K.held sink.new) self.new }
+        ensures ok { OnOk result (self.new ≡ []) }
+        ensures bounds { length self.new ≤ BUFFER_SIZE }
+        ensures cause { HasCause (K.faults sink.old) (K.faults sink.new) result }
+    {
+        let count = self.len();
+        let sent = send(sink, self.pending());
+        self.discard(sent);
+        if sent < count {
+            Err(WriteFault)
+        } else {
+            Ok(())
+        }
+    }
+}

@@ -1,0 +1,301 @@
+-- What lines say keeps its ranges, and which faults a line may have.
+use Rattle.std.proofs.Common.{◌≡◌, ◌≢◌, ℕ, ◌<◌, ◌≤◌, Bool, true, false, cond, ◌||◌, nat_lt, IfOk, IfErr, List, [], ◌∷◌, length, Result, Ok, Err, Some, None, refl, sym, subst, arith, codes}
+use Rattle.std.specs.declared.option.Option.{Option}
+use Rattle.std.specs.Str.{bytes_eq}
+use Rattle.std.proofs.lemmas.Bool.{ltb-false}
+use Rattle.evac_law.specs.Limits.{seconds_limit, horizon_limit, floor_number_limit, capacity_limit, travel_limit, rate_limit}
+use Rattle.evac_law.specs.Names.{IsName, is_exit}
+use Rattle.evac_law.specs.declared.name.NodeName.{NodeName}
+use Rattle.model_text.specs.declared.command.Command.{Command}
+use Rattle.model_text.specs.declared.command.Command.TheVariants as commands
+use Rattle.model_text.specs.declared.fault.TextFault.{TextFault}
+use Rattle.model_text.specs.declared.fault.TextFault.TheVariants.{UnknownWord, FieldCount, BadNumber, OutOfRange, BadName, UnknownCommand}
+use Rattle.model_text.specs.Commands.{alone, with_number, with_name, two_names, with_names, name_number, with_name_number, names_number, with_names_number, edit_by_word, request_by_word, command_by_word}
+use Rattle.model_text.specs.Fields.{fields_of, behind_field, text_of}
+use Rattle.model_text.specs.Grammar.{◌>>=◌, or_fault, number_field, ranged, name_field, text_field, no_field, one_field, two_fields, three_fields, four_fields, Said, IsSaid, Blank, Exit, End, header, title, period, horizon, floor, exit_fields, node_fields, node, arc, end, is_comment, by_word, of_fields, statement_of}
+use Rattle.model_text.specs.Reads.{Reads, said}
+use Rattle.model_text.specs.declared.statement.Statement.{Statement}
+use Rattle.model_text.specs.NameFields.{name_of}
+use Rattle.model_text.specs.Numbers.{number_of}
+use Rattle.model_text.proofs.NameLaws.{reads-right}
+
+-- an answer whose value is of one kind, or whose fault is of another
+abbrev pub Good : {A : Type 0} → (TextFault → Type 0) → (A → Type 0) → Result A TextFault → Type 0
+Good F P (Ok x) = P x
+Good F P (Err e) = F e
+
+good-bind : {A B : Type 0} (F : TextFault → Type 0) (P : A → Type 0) (Q : B → Type 0) (r : Result A TextFault) (f : A → Result B TextFault)
+    → Good F P r → ((x : A) → P x → Good F Q (f x)) → Good F Q (r >>= f)
+good-bind F P Q (Ok x) f h k = k x h
+good-bind F P Q (Err e) f h k = h
+
+-- either answer of a test
+pick : {A : Type 0} (F : TextFault → Type 0) (P : A → Type 0) (t : Bool) (a b : Result A TextFault) → Good F P a → Good F P b → Good F P (cond t a b)
+pick F P true a b h k = h
+pick F P false a b h k = k
+
+good-or : {A : Type 0} (F : TextFault → Type 0) (P : A → Type 0) (fault : TextFault) (o : Option A) → F fault → ((x : A) → o ≡ Some x → P x) → Good F P (or_fault fault o)
+good-or F P fault (Some x) f h = h x refl
+good-or F P fault None f h = f
+
+abbrev Any-value : {A : Type 0} → A → Type 0
+Any-value x = Unit {0}
+
+good-number : (F : TextFault → Type 0) (field : List ℕ) → F BadNumber → Good F Any-value (number_field field)
+good-number F field bad = good-or F Any-value BadNumber (number_of field) bad (λ x e. tt)
+
+good-name : (F : TextFault → Type 0) (field : List ℕ) → F BadName → Good F IsName (name_field field)
+good-name F field bad = good-or F IsName BadName (name_of field) bad (reads-right field)
+
+abbrev IsWithin : ℕ → ℕ → ℕ → Type 0
+IsWithin low high n = (low ≤ n) × (n ≤ high)
+
+range-by : (F : TextFault → Type 0) (low high n : ℕ) (a b : Bool) → F OutOfRange → nat_lt n low ≡ a → nat_lt high n ≡ b → Good F (IsWithin low high) (cond (a || b) (Err OutOfRange) (Ok n))
+range-by F low high n true b out e f = out
+range-by F low high n false true out e f = out
+range-by F low high n false false out e f = (ltb-false n low e, ltb-false high n f)
+
+good-ranged : (F : TextFault → Type 0) (low high : ℕ) (field : List ℕ) → F BadNumber → F OutOfRange → Good F (IsWithin low high) (ranged low high field)
+good-ranged F low high field bad out =
+    good-bind F Any-value (IsWithin low high) (number_field field) _ (good-number F field bad) (λ n h. range-by F low high n (nat_lt n low) (nat_lt high n) out refl refl)
+
+good-text : (F : TextFault → Type 0) (text : List ℕ) → F FieldCount → Good F (λ t. 0 < length t) (text_field text)
+good-text F [] count = count
+good-text F (b ∷ bs) count = omega arith
+
+good-none : {A : Type 0} (F : TextFault → Type 0) (P : A → Type 0) (value : A) (fields : List (List ℕ)) → F FieldCount → P value → Good F P (no_field value fields)
+good-none F P value [] count h = h
+good-none F P value (a ∷ more) count h = count
+
+good-one : (F : TextFault → Type 0) (fields : List (List ℕ)) → F FieldCount → Good F Any-value (one_field fields)
+good-one F [] count = count
+good-one F (a ∷ []) count = tt
+good-one F (a ∷ b ∷ more) count = count
+
+good-two : (F : TextFault → Type 0) (fields : List (List ℕ)) → F FieldCount → Good F Any-value (two_fields fields)
+good-two F [] count = count
+good-two F (a ∷ []) count = count
+good-two F (a ∷ b ∷ []) count = tt
+good-two F (a ∷ b ∷ c ∷ more) count = count
+
+good-three : (F : TextFault → Type 0) (fields : List (List ℕ)) → F FieldCount → Good F Any-value (three_fields fields)
+good-three F [] count = count
+good-three F (a ∷ []) count = count
+good-three F (a ∷ b ∷ []) count = count
+good-three F (a ∷ b ∷ c ∷ []) count = tt
+good-three F (a ∷ b ∷ c ∷ d ∷ more) count = count
+
+good-four : (F : TextFault → Type 0) (fields : List (List ℕ)) → F FieldCount → Good F Any-value (four_fields fields)
+good-four F [] count = count
+good-four F (a ∷ []) count = count
+good-four F (a ∷ b ∷ []) count = count
+good-four F (a ∷ b ∷ c ∷ []) count = count
+good-four F (a ∷ b ∷ c ∷ d ∷ []) count = tt
+good-four F (a ∷ b ∷ c ∷ d ∷ e ∷ more) count = count
+
+-- ---- statements
+
+-- no fault of a statement
+abbrev pub NoCommand : TextFault → Type 0
+NoCommand e = e ≢ UnknownCommand
+
+abbrev pub GoodSaid : Result Said TextFault → Type 0
+GoodSaid r = Good NoCommand IsSaid r
+
+count : NoCommand FieldCount
+count = λ e. cc
+
+number : NoCommand BadNumber
+number = λ e. cc
+
+name : NoCommand BadName
+name = λ e. cc
+
+range : NoCommand OutOfRange
+range = λ e. cc
+
+good-header : (fields : List (List ℕ)) → GoodSaid (header fields)
+good-header fields =
+    good-bind NoCommand Any-value IsSaid (one_field fields) _ (good-one NoCommand fields count) (λ f h.
+    good-bind NoCommand Any-value IsSaid (number_field f) _ (good-number NoCommand f number) (λ v i. tt))
+
+good-title : (text : List ℕ) → GoodSaid (title text)
+good-title text = good-bind NoCommand (λ t. 0 < length t) IsSaid (text_field text) _ (good-text NoCommand text count) (λ t h. h)
+
+good-period : (fields : List (List ℕ)) → GoodSaid (period fields)
+good-period fields =
+    good-bind NoCommand Any-value IsSaid (one_field fields) _ (good-one NoCommand fields count) (λ f h.
+    good-bind NoCommand (IsWithin 1 seconds_limit) IsSaid (ranged 1 seconds_limit f) _ (good-ranged NoCommand 1 seconds_limit f number range) (λ s i. i))
+
+good-horizon : (fields : List (List ℕ)) → GoodSaid (horizon fields)
+good-horizon fields =
+    good-bind NoCommand Any-value IsSaid (one_field fields) _ (good-one NoCommand fields count) (λ f h.
+    good-bind NoCommand (IsWithin 0 horizon_limit) IsSaid (ranged 0 horizon_limit f) _ (good-ranged NoCommand 0 horizon_limit f number range) (λ s i. i.1))
+
+good-floor : (fields : List (List ℕ)) (text : List ℕ) → GoodSaid (floor fields text)
+good-floor [] text = count
+good-floor (f ∷ more) text =
+    good-bind NoCommand (λ t. 0 < length t) IsSaid (text_field text) _ (good-text NoCommand text count) (λ t h.
+    good-bind NoCommand (IsWithin 0 floor_number_limit) IsSaid (ranged 0 floor_number_limit f) _ (good-ranged NoCommand 0 floor_number_limit f number range) (λ s i. (i.1, h)))
+
+good-room : (n : NodeName) (fields : List (List ℕ)) → IsName n → is_exit n.kind ≡ false → GoodSaid (node_fields n fields)
+good-room n fields is room =
+    good-bind NoCommand Any-value IsSaid (two_fields fields) _ (good-two NoCommand fields count) (λ f h.
+    good-bind NoCommand (IsWithin 0 capacity_limit) IsSaid (ranged 0 capacity_limit f.0) _ (good-ranged NoCommand 0 capacity_limit f.0 number range) (λ c i.
+    good-bind NoCommand (IsWithin 0 capacity_limit) IsSaid (ranged 0 capacity_limit f.1) _ (good-ranged NoCommand 0 capacity_limit f.1 number range) (λ s j.
+    (is, room, i.1, j.1))))
+
+good-exit : (n : NodeName) (fields : List (List ℕ)) → IsName n → is_exit n.kind ≡ true → GoodSaid (exit_fields n fields)
+good-exit n fields is out = good-none NoCommand IsSaid (Exit n) fields count (is, out)
+
+kind-by : (n : NodeName) (fields : List (List ℕ)) (t : Bool) → is_exit n.kind ≡ t → IsName n → GoodSaid (cond t (exit_fields n fields) (node_fields n fields))
+kind-by n fields true e is = good-exit n fields is e
+kind-by n fields false e is = good-room n fields is e
+
+good-node : (fields : List (List ℕ)) → GoodSaid (node fields)
+good-node [] = count
+good-node (f ∷ more) = good-bind NoCommand IsName IsSaid (name_field f) _ (good-name NoCommand f name) (λ n is. kind-by n more (is_exit n.kind) refl is)
+
+good-arc : (fields : List (List ℕ)) → GoodSaid (arc fields)
+good-arc fields =
+    good-bind NoCommand Any-value IsSaid (four_fields fields) _ (good-four NoCommand fields count) (λ f h.
+    good-bind NoCommand IsName IsSaid (name_field f.0) _ (good-name NoCommand f.0 name) (λ a i.
+    good-bind NoCommand IsName IsSaid (name_field f.1) _ (good-name NoCommand f.1 name) (λ b j.
+    good-bind NoCommand (IsWithin 1 travel_limit) IsSaid (ranged 1 travel_limit f.2) _ (good-ranged NoCommand 1 travel_limit f.2 number range) (λ t k.
+    good-bind NoCommand (IsWithin 0 rate_limit) IsSaid (ranged 0 rate_limit f.3) _ (good-ranged NoCommand 0 rate_limit f.3 number range) (λ r l.
+    (i, j, k.0, k.1, l.1))))))
+
+good-end : (fields : List (List ℕ)) → GoodSaid (end fields)
+good-end fields = good-none NoCommand IsSaid End fields count tt
+
+word-by : (t : Bool) (a b : Result Said TextFault) → GoodSaid a → GoodSaid b → GoodSaid (cond t a b)
+word-by t a b h k = pick NoCommand IsSaid t a b h k
+
+pub good-word : (word rest : List ℕ) → GoodSaid (by_word word rest)
+good-word word rest =
+    word-by (is_comment word) (Ok Blank) _ tt
+    (word-by (bytes_eq word (codes "evacplan")) (header (fields_of rest)) _ (good-header (fields_of rest))
+    (word-by (bytes_eq word (codes "title")) (title (text_of rest)) _ (good-title (text_of rest))
+    (word-by (bytes_eq word (codes "period")) (period (fields_of rest)) _ (good-period (fields_of rest))
+    (word-by (bytes_eq word (codes "horizon")) (horizon (fields_of rest)) _ (good-horizon (fields_of rest))
+    (word-by (bytes_eq word (codes "floor")) (floor (fields_of rest) (text_of (behind_field rest))) _ (good-floor (fields_of rest) (text_of (behind_field rest)))
+    (word-by (bytes_eq word (codes "node")) (node (fields_of rest)) _ (good-node (fields_of rest))
+    (word-by (bytes_eq word (codes "arc")) (arc (fields_of rest)) _ (good-arc (fields_of rest))
+    (word-by (bytes_eq word (codes "end")) (end (fields_of rest)) (Err UnknownWord) (good-end (fields_of rest)) (λ e. cc)))))))))
+
+good-fields : (fields : List (List ℕ)) (rest : List ℕ) → GoodSaid (of_fields fields rest)
+good-fields [] rest = tt
+good-fields (word ∷ more) rest = good-word word rest
+
+-- what a line says keeps its ranges, and its fault is no command's
+pub good-statement : (line : List ℕ) → GoodSaid (statement_of line)
+unfolding statement_of
+good-statement line = good-fields (fields_of line) (behind_field line)
+
+-- the same of an answer that reads a line
+pub read-within : (r : Result Statement TextFault) (read : Result Said TextFault) → Reads r read → GoodSaid read → IfOk r (λ s. IsSaid (said s))
+read-within (Ok s) read e h = subst GoodSaid e h
+read-within (Err f) read e h = tt
+
+pub read-fault : (r : Result Statement TextFault) (read : Result Said TextFault) → Reads r read → GoodSaid read → IfErr r NoCommand
+read-fault (Ok s) read e h = tt
+read-fault (Err f) read e h = subst GoodSaid e h
+
+-- ---- commands
+
+-- no fault of a command
+abbrev pub NoStatement : TextFault → Type 0
+NoStatement e = (e ≢ UnknownWord) × (e ≢ OutOfRange)
+
+abbrev pub GoodCommand : Result Command TextFault → Type 0
+GoodCommand r = Good NoStatement Any-value r
+
+count' : NoStatement FieldCount
+count' = ((λ e. cc), (λ e. cc))
+
+number' : NoStatement BadNumber
+number' = ((λ e. cc), (λ e. cc))
+
+name' : NoStatement BadName
+name' = ((λ e. cc), (λ e. cc))
+
+unknown' : NoStatement UnknownCommand
+unknown' = ((λ e. cc), (λ e. cc))
+
+then-any : {A B : Type 0} (P : A → Type 0) (r : Result A TextFault) (f : A → Result B TextFault) → Good NoStatement P r → ((x : A) → Good NoStatement Any-value (f x)) → Good NoStatement Any-value (r >>= f)
+then-any P r f h k = good-bind NoStatement P Any-value r f h (λ x p. k x)
+
+one' : {B : Type 0} (fields : List (List ℕ)) (f : List ℕ → Result B TextFault) → ((x : List ℕ) → Good NoStatement Any-value (f x)) → Good NoStatement Any-value (one_field fields >>= f)
+one' fields f k = then-any Any-value (one_field fields) f (good-one NoStatement fields count') k
+
+field-name : {B : Type 0} (field : List ℕ) (f : NodeName → Result B TextFault) → ((x : NodeName) → Good NoStatement Any-value (f x)) → Good NoStatement Any-value (name_field field >>= f)
+field-name field f k = then-any IsName (name_field field) f (good-name NoStatement field name') k
+
+field-number : {B : Type 0} (field : List ℕ) (f : ℕ → Result B TextFault) → ((x : ℕ) → Good NoStatement Any-value (f x)) → Good NoStatement Any-value (number_field field >>= f)
+field-number field f k = then-any Any-value (number_field field) f (good-number NoStatement field number') k
+
+good-alone : (c : Command) (fields : List (List ℕ)) → GoodCommand (alone c fields)
+good-alone c fields = good-none NoStatement Any-value c fields count' tt
+
+good-with_number : (c : ℕ → Command) (fields : List (List ℕ)) → GoodCommand (with_number c fields)
+good-with_number c fields = one' fields _ (λ f. field-number f _ (λ n. tt))
+
+good-with_name : (c : NodeName → Command) (fields : List (List ℕ)) → GoodCommand (with_name c fields)
+good-with_name c fields = one' fields _ (λ f. field-name f _ (λ n. tt))
+
+good-with_names : (c : NodeName → NodeName → Command) (fields : List (List ℕ)) → GoodCommand (with_names c fields)
+good-with_names c fields =
+    then-any Any-value (two_names fields) _
+    (then-any Any-value (two_fields fields) _ (good-two NoStatement fields count') (λ f. field-name f.0 _ (λ a. field-name f.1 _ (λ b. tt)))) (λ p. tt)
+
+good-with_name_number : (c : NodeName → ℕ → Command) (fields : List (List ℕ)) → GoodCommand (with_name_number c fields)
+good-with_name_number c fields =
+    then-any Any-value (name_number fields) _
+    (then-any Any-value (two_fields fields) _ (good-two NoStatement fields count') (λ f. field-name f.0 _ (λ a. field-number f.1 _ (λ b. tt)))) (λ p. tt)
+
+good-with_names_number : (c : NodeName → NodeName → ℕ → Command) (fields : List (List ℕ)) → GoodCommand (with_names_number c fields)
+good-with_names_number c fields =
+    then-any Any-value (names_number fields) _
+    (then-any Any-value (three_fields fields) _ (good-three NoStatement fields count') (λ f. field-name f.0 _ (λ a. field-name f.1 _ (λ b. field-number f.2 _ (λ n. tt))))) (λ p. tt)
+
+or-else : (t : Bool) (a b : Result Command TextFault) → GoodCommand a → GoodCommand b → GoodCommand (cond t a b)
+or-else t a b h k = pick NoStatement Any-value t a b h k
+
+good-request : (word : List ℕ) (fields : List (List ℕ)) → GoodCommand (request_by_word word fields)
+good-request word fields =
+    or-else (bytes_eq word (codes "undo")) _ _ (good-alone commands.Undo fields)
+    (or-else (bytes_eq word (codes "cut")) _ _ (good-with_number commands.Cut fields)
+    (or-else (bytes_eq word (codes "routes")) _ _ (good-alone commands.Routes fields)
+    (or-else (bytes_eq word (codes "clearing")) _ _ (good-alone commands.Clearing fields)
+    (or-else (bytes_eq word (codes "bottlenecks")) _ _ (good-alone commands.Bottlenecks fields)
+    (or-else (bytes_eq word (codes "summary")) _ _ (good-alone commands.Summary fields)
+    (or-else (bytes_eq word (codes "work")) _ _ (good-alone commands.Work fields)
+    (or-else (bytes_eq word (codes "quit")) _ _ (good-alone commands.Quit fields) unknown')))))))
+
+good-edit : (word : List ℕ) (fields : List (List ℕ)) (other : Result Command TextFault) → GoodCommand other → GoodCommand (edit_by_word word fields other)
+good-edit word fields other h =
+    or-else (bytes_eq word (codes "shut")) _ _ (good-with_names commands.Shut fields)
+    (or-else (bytes_eq word (codes "reopen")) _ _ (good-with_names commands.Reopen fields)
+    (or-else (bytes_eq word (codes "shutexit")) _ _ (good-with_name commands.ShutExit fields)
+    (or-else (bytes_eq word (codes "openexit")) _ _ (good-with_name commands.OpenExit fields)
+    (or-else (bytes_eq word (codes "rate")) _ _ (good-with_names_number commands.Rate fields)
+    (or-else (bytes_eq word (codes "room")) _ _ (good-with_name_number commands.Room fields)
+    (or-else (bytes_eq word (codes "shift")) _ _ (good-with_names_number commands.Shift fields)
+    (or-else (bytes_eq word (codes "enter")) _ _ (good-with_name_number commands.Enter fields)
+    (or-else (bytes_eq word (codes "leave")) _ _ (good-with_name_number commands.Leave fields) h))))))))
+
+-- the fault of a command is none of a statement's own
+pub good-command : (word : List ℕ) (fields : List (List ℕ)) → GoodCommand (command_by_word word fields)
+good-command word fields = or-else (is_comment word) _ _ tt (good-edit word fields (request_by_word word fields) (good-request word fields))
+
+pub command-fault : (r read : Result Command TextFault) → r ≡ read → GoodCommand read → IfErr r NoStatement
+command-fault (Ok x) read e h = tt
+command-fault (Err f) read e h = subst GoodCommand (sym e) h
+
+pub command-no_word : (r : Result Command TextFault) → IfErr r NoStatement → IfErr r (λ f. f ≢ UnknownWord)
+command-no_word (Ok x) h = tt
+command-no_word (Err f) h = h.0
+
+pub command-no_range : (r : Result Command TextFault) → IfErr r NoStatement → IfErr r (λ f. f ≢ OutOfRange)
+command-no_range (Ok x) h = tt
+command-no_range (Err f) h = h.1

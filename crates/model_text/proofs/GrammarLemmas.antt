@@ -1,0 +1,22 @@
+-- What a line says or commands, by its first field and what stands behind it.
+use Rattle.std.proofs.Common.{◌≡◌, ℕ, List, [], ◌∷◌, Ok, ap}
+use Rattle.model_text.specs.declared.command.Command.TheVariants as commands
+use Rattle.model_text.specs.Commands.{command_of, command_of_fields, command_by_word}
+use Rattle.model_text.specs.Fields.{fields_of, behind_field}
+use Rattle.model_text.specs.Grammar.{Blank, by_word, of_fields, statement_of}
+
+pub statement-none : (line : List ℕ) → fields_of line ≡ [] → statement_of line ≡ Ok Blank
+unfolding statement_of
+statement-none line none = ap (λ fs. of_fields fs (behind_field line)) none
+
+pub statement-some : (line word rest : List ℕ) (more : List (List ℕ)) → fields_of line ≡ word ∷ more → rest ≡ behind_field line → statement_of line ≡ by_word word rest
+unfolding statement_of
+statement-some line word rest more some e = rw e (ap (λ fs. of_fields fs (behind_field line)) some)
+
+pub command-none : (line : List ℕ) → fields_of line ≡ [] → command_of line ≡ Ok commands.Blank
+unfolding command_of
+command-none line none = ap (λ fs. command_of_fields fs (fields_of (behind_field line))) none
+
+pub command-some : (line word rest : List ℕ) (more : List (List ℕ)) → fields_of line ≡ word ∷ more → rest ≡ behind_field line → command_of line ≡ command_by_word word (fields_of rest)
+unfolding command_of
+command-some line word rest more some e = rw e (ap (λ fs. command_of_fields fs (fields_of (behind_field line))) some)

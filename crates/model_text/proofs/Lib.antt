@@ -1,0 +1,9 @@
+pub mod FieldLemmas
+pub mod GrammarLemmas
+pub mod NumberLemmas
+pub mod ReadingLemmas
+pub mod SoundLemmas
+pub mod TrimLemmas
+pub mod ListFacts
+pub mod NameLaws
+pub mod GoodLemmas

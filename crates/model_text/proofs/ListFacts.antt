@@ -1,0 +1,97 @@
+-- Lists that grow at their end, and tests of names.
+use Rattle.std.proofs.Common.{◌≡◌, ℕ, ◌+◌, ◌<◌, Bool, true, false, cond, not, ◌||◌, ◌&&◌, ◌==◌, nat_lt, List, [], ◌∷◌, ◌++◌, length, get_or, refl, ap, ◌∙◌, arith, ◌⊎◌, inl, inr, eq-eqb}
+use Rattle.std.specs.List.{list_any, position_or_len}
+use Rattle.std.proofs.Math.Seq.{get_or-append_seam}
+use Rattle.std.proofs.lemmas.Bool.{eqb-true, ltb-true, ltb-false}
+use Rattle.std.proofs.lemmas.List.{get_or_append_left, length-append}
+use Rattle.std.proofs.lemmas.List.Folds.{list_any_at}
+use Rattle.evac_law.specs.declared.name.Kind.{Kind}
+use Rattle.evac_law.specs.declared.name.Kind.TheVariants.{Work, Hall, Stair, Lobby, Exit}
+use Rattle.evac_law.specs.declared.name.NodeName.{NodeName}
+use Rattle.model_text.specs.Taken.{same_kind, same_name}
+
+-- ---- tests
+
+pub and-true : (a b : Bool) → a && b ≡ true → (a ≡ true) × (b ≡ true)
+and-true true b h = (refl, h)
+and-true false b h = cc
+
+pub not-false : (a : Bool) → not a ≡ false → a ≡ true
+not-false true h = refl
+not-false false h = cc
+
+same-kind-is : (a b : Kind) → same_kind a b ≡ true → a ≡ b
+same-kind-is Work Work h = refl
+same-kind-is Hall Hall h = refl
+same-kind-is Stair Stair h = refl
+same-kind-is Lobby Lobby h = refl
+same-kind-is Exit Exit h = refl
+same-kind-is a b h = cc
+
+same-kind-self : (a : Kind) → same_kind a a ≡ true
+same-kind-self Work = refl
+same-kind-self Hall = refl
+same-kind-self Stair = refl
+same-kind-self Lobby = refl
+same-kind-self Exit = refl
+
+abbrev make-name : Kind → ℕ → ℕ → NodeName
+make-name k n f = record { kind = k; number = n; floor = f }
+
+-- the test of names tells whether they are equal
+pub same-name-is : (a b : NodeName) → same_name a b ≡ true → a ≡ b
+same-name-is a b h =
+    let k = and-true (same_kind a.kind b.kind) _ h in
+    let n = and-true (a.number == b.number) (a.floor == b.floor) k.1 in
+    ap (λ x. make-name x a.number a.floor) (same-kind-is a.kind b.kind k.0)
+    ∙ ap (λ x. make-name b.kind x a.floor) (eqb-true a.number b.number n.0)
+    ∙ ap (λ x. make-name b.kind b.number x) (eqb-true a.floor b.floor n.1)
+
+pub same-name-self : (a : NodeName) → same_name a a ≡ true
+same-name-self a = rw (same-kind-self a.kind, eq-eqb a.number a.number refl, eq-eqb a.floor a.floor refl) refl
+
+-- ---- look-ups
+
+found-by : {X : Type 0} (p : X → Bool) (x : X) (xs : List X) (t : Bool) → p x ≡ t → (list_any p xs ≡ true → position_or_len p xs < length xs) → t || list_any p xs ≡ true
+    → cond (not t) (1 + position_or_len p xs) 0 < length (x ∷ xs)
+found-by p x xs true e ih h = omega arith
+found-by p x xs false e ih h = let i = ih h in omega arith
+
+-- where some element passes, the first that does has a place
+pub found : {X : Type 0} (p : X → Bool) (xs : List X) → list_any p xs ≡ true → position_or_len p xs < length xs
+found p [] h = cc
+found p (x ∷ xs) h = found-by p x xs (p x) refl (found p xs) h
+
+-- where none passes, one that passes has no place
+pub missing : {X : Type 0} (p : X → Bool) (xs : List X) (i : ℕ) (d : X) → list_any p xs ≡ false → i < length xs → p (get_or xs i d) ≡ true → ⊥
+missing p xs i d none within pass = let h = list_any_at p xs i d within pass in cc
+
+-- ---- lists that grow
+
+pub length-push : {X : Type 0} (xs : List X) (x : X) → length (xs ++ (x ∷ [])) ≡ length xs + 1
+length-push xs x = length-append xs (x ∷ [])
+
+-- what holds of each two elements, and of each with a new one, holds of each two of the longer list
+push-by : {X : Type 0} (P : X → X → Type 0) (xs : List X) (x d : X) (i j : ℕ)
+    → (i < j → j < length xs → P (get_or xs i d) (get_or xs j d)) → (i < length xs → P (get_or xs i d) x)
+    → i < j → (j < length xs) ⊎ (j ≡ length xs) → P (get_or (xs ++ (x ∷ [])) i d) (get_or (xs ++ (x ∷ [])) j d)
+push-by P xs x d i j pairs new before (inl h) =
+    let e : get_or (xs ++ (x ∷ [])) i d ≡ get_or xs i d = get_or_append_left xs (x ∷ []) d i (omega arith) in
+    let f : get_or (xs ++ (x ∷ [])) j d ≡ get_or xs j d = get_or_append_left xs (x ∷ []) d j h in
+    rw (e, f) (pairs before h)
+push-by P xs x d i j pairs new before (inr h) =
+    let e : get_or (xs ++ (x ∷ [])) i d ≡ get_or xs i d = get_or_append_left xs (x ∷ []) d i (omega arith) in
+    let f : get_or (xs ++ (x ∷ [])) j d ≡ x = ap (λ k. get_or (xs ++ (x ∷ [])) k d) h ∙ get_or-append_seam xs x [] d in
+    rw (e, f) (new (omega arith))
+
+split-by : (j n : ℕ) (t : Bool) → nat_lt j n ≡ t → j < n + 1 → (j < n) ⊎ (j ≡ n)
+split-by j n true e h = inl (ltb-true j n e)
+split-by j n false e h = let above = ltb-false j n e in inr (omega arith)
+
+split-last : (j n : ℕ) → j < n + 1 → (j < n) ⊎ (j ≡ n)
+split-last j n h = split-by j n (nat_lt j n) refl h
+
+pub push-pairs : {X : Type 0} (P : X → X → Type 0) (xs : List X) (x d : X)
+    → ((i j : ℕ) → i < j → j < length xs → P (get_or xs i d) (get_or xs j d)) → ((i : ℕ) → i < length xs → P (get_or xs i d) x)
+    → (i j : ℕ) → i < j → j < length (xs ++ (x ∷ [])) → P (get_or (xs ++ (x ∷ [])) i d) (get_or (xs ++ (x ∷ [])) j d)
+push-pairs P xs x d pairs new i j before within = push-by P xs x d i j (pairs i j) (new i) before (split-last j (length xs) (let e = length-push xs x in omega arith))

@@ -1,0 +1,247 @@
+-- Statements that were taken describe a valid model.
+use Rattle.std.proofs.Common.{◌≡◌, ◌≢◌, ℕ, ◌+◌, ◌<◌, ◌≤◌, Bool, true, false, not, ◌||◌, ◌&&◌, ◌==◌, nat_lt, nat_le, IsTrue, IsFalse, List, [], ◌∷◌, ◌++◌, length, get_or, Some, None, is_none, unwrap_or, refl, sym, ap, subst, ◌∙◌, arith, eq-eqb}
+use Rattle.std.specs.declared.option.Option.{Option}
+use Rattle.std.specs.List.{list_any, sum_by, All}
+use Rattle.std.proofs.lemmas.Bool.{ltb-false, leb-false}
+use Rattle.std.proofs.lemmas.List.{get_or_append_left}
+use Rattle.std.proofs.lemmas.List.Sums.{passes_at_first, sum_by-append}
+use Rattle.std.proofs.lemmas.List.Elements.{All-nil, All-push, All-weaker}
+use Rattle.evac_law.specs.Building.{IsNode, IsArc, IsValid, no_node, no_arc, people}
+use Rattle.evac_law.specs.Limits.{seconds_limit, horizon_limit, node_limit, arc_limit, travel_limit, rate_limit, capacity_limit, people_limit, cell_limit}
+use Rattle.evac_law.specs.Names.{IsName, is_exit}
+use Rattle.evac_law.specs.declared.name.NodeName.{NodeName}
+use Rattle.evac_law.specs.declared.model.NodeRow.{NodeRow}
+use Rattle.evac_law.specs.declared.model.ArcRow.{ArcRow}
+use Rattle.model_text.specs.Codes.{unknown_floor, repeated_node, over_full, unknown_node, self_arc, from_exit, repeated_arc, too_many, missing_setting, no_exit, too_large}
+use Rattle.model_text.specs.Grammar.{Said, Blank, Header, Title, Period, Horizon, Floor, Node, Exit, Arc, End}
+use Rattle.model_text.specs.Taken.{same_name, seconds_of, horizon_of, nodes_of, place_of, arcs_of, has_floor, has_node, has_arc, people_of, first_code, statement_fault, cells_of, end_fault, model_taken, AreTaken}
+use Rattle.model_text.proofs.ListFacts.{not-false, same-name-is, same-name-self, found, missing, length-push, push-pairs}
+
+-- no code: the first check didn't hold, and neither did one of the others
+first-none : (t : Bool) (code : ℕ) (cs : List (Bool × ℕ)) → first_code ((t, code) ∷ cs) ≡ None → (t ≡ false) × (first_code cs ≡ None)
+first-none true code cs h = cc
+first-none false code cs h = (refl, h)
+
+none-three : (a b c : Bool) (p q r : ℕ) → first_code ((a, p) ∷ (b, q) ∷ (c, r) ∷ []) ≡ None → (a ≡ false) × (b ≡ false) × (c ≡ false)
+none-three a b c p q r h =
+    let x = first-none a p ((b, q) ∷ (c, r) ∷ []) h in
+    let y = first-none b q ((c, r) ∷ []) x.1 in
+    let z = first-none c r [] y.1 in
+    (x.0, y.0, z.0)
+
+none-four : (a b c d : Bool) (p q r s : ℕ) → first_code ((a, p) ∷ (b, q) ∷ (c, r) ∷ (d, s) ∷ []) ≡ None → (a ≡ false) × (b ≡ false) × (c ≡ false) × (d ≡ false)
+none-four a b c d p q r s h =
+    let x = first-none a p ((b, q) ∷ (c, r) ∷ (d, s) ∷ []) h in
+    let y = none-three b c d q r s x.1 in
+    (x.0, y.0, y.1, y.2)
+
+none-six : (a b c d e f : Bool) (p q r s t u : ℕ) → first_code ((a, p) ∷ (b, q) ∷ (c, r) ∷ (d, s) ∷ (e, t) ∷ (f, u) ∷ []) ≡ None
+    → (a ≡ false) × (b ≡ false) × (c ≡ false) × (d ≡ false) × (e ≡ false) × (f ≡ false)
+none-six a b c d e f p q r s t u h =
+    let x = first-none a p ((b, q) ∷ (c, r) ∷ (d, s) ∷ (e, t) ∷ (f, u) ∷ []) h in
+    let y = first-none b q ((c, r) ∷ (d, s) ∷ (e, t) ∷ (f, u) ∷ []) x.1 in
+    let z = none-four c d e f r s t u y.1 in
+    (x.0, y.0, z.0, z.1, z.2, z.3)
+
+or-false : (a b : Bool) → a || b ≡ false → (a ≡ false) × (b ≡ false)
+or-false true b h = cc
+or-false false b h = (refl, h)
+
+-- ---- settings
+
+-- the seconds and the horizon keep their ranges
+seconds-within : (taken : List Said) (s : ℕ) → AreTaken taken → seconds_of taken ≡ Some s → (1 ≤ s) × (s ≤ seconds_limit)
+seconds-within [] s are h = cc
+seconds-within (Period n ∷ before) s are h = let e : n ≡ s = cc in let P : ℕ → Type 0 = λ k. (1 ≤ k) × (k ≤ seconds_limit) in subst P e are.0
+seconds-within (Blank ∷ before) s are h = seconds-within before s are.2 h
+seconds-within (Header v ∷ before) s are h = seconds-within before s are.2 h
+seconds-within (Title t ∷ before) s are h = seconds-within before s are.2 h
+seconds-within (Horizon n ∷ before) s are h = seconds-within before s are.2 h
+seconds-within (Floor f t ∷ before) s are h = seconds-within before s are.2 h
+seconds-within (Node n c r ∷ before) s are h = seconds-within before s are.2 h
+seconds-within (Exit n ∷ before) s are h = seconds-within before s are.2 h
+seconds-within (Arc a b t r ∷ before) s are h = seconds-within before s are.2 h
+seconds-within (End ∷ before) s are h = seconds-within before s are.2 h
+
+horizon-within : (taken : List Said) (s : ℕ) → AreTaken taken → horizon_of taken ≡ Some s → s ≤ horizon_limit
+horizon-within [] s are h = cc
+horizon-within (Horizon n ∷ before) s are h = let e : n ≡ s = cc in let P : ℕ → Type 0 = λ k. k ≤ horizon_limit in subst P e are.0
+horizon-within (Blank ∷ before) s are h = horizon-within before s are.2 h
+horizon-within (Header v ∷ before) s are h = horizon-within before s are.2 h
+horizon-within (Title t ∷ before) s are h = horizon-within before s are.2 h
+horizon-within (Period n ∷ before) s are h = horizon-within before s are.2 h
+horizon-within (Floor f t ∷ before) s are h = horizon-within before s are.2 h
+horizon-within (Node n c r ∷ before) s are h = horizon-within before s are.2 h
+horizon-within (Exit n ∷ before) s are h = horizon-within before s are.2 h
+horizon-within (Arc a b t r ∷ before) s are h = horizon-within before s are.2 h
+horizon-within (End ∷ before) s are h = horizon-within before s are.2 h
+
+-- ---- nodes and arcs
+
+abbrev NamesDiffer : NodeRow → NodeRow → Type 0
+NamesDiffer a b = a.name ≢ b.name
+
+abbrev EndsDiffer : ArcRow → ArcRow → Type 0
+EndsDiffer a b = a.from ≡ b.from → a.to ≢ b.to
+
+-- nodes and arcs as a valid model has them
+pub record IsSound (ns : List NodeRow) (as' : List ArcRow) : Type 0 where
+  pub nodes_fit : length ns ≤ node_limit
+  pub arcs_fit : length as' ≤ arc_limit
+  pub people_fit : sum_by (λ n. n.start) ns ≤ people_limit
+  pub nodes : All IsNode ns
+  pub names_differ : (i j : ℕ) → i < j → j < length ns → NamesDiffer (get_or ns i no_node) (get_or ns j no_node)
+  pub arcs : All (IsArc ns) as'
+  pub ends_differ : (i j : ℕ) → i < j → j < length as' → EndsDiffer (get_or as' i no_arc) (get_or as' j no_arc)
+
+sound-none : IsSound [] []
+sound-none = record {
+  nodes_fit = omega arith;
+  arcs_fit = omega arith;
+  people_fit = omega arith;
+  nodes = All-nil IsNode;
+  names_differ = λ i j before within. absurd (omega arith);
+  arcs = All-nil (IsArc []);
+  ends_differ = λ i j before within. absurd (omega arith);
+}
+
+-- an arc stays right where a node follows
+arc-kept : (nodes : List NodeRow) (row : NodeRow) (a : ArcRow) → IsArc nodes a → IsArc (nodes ++ (row ∷ [])) a
+arc-kept nodes row a is =
+    let longer = length-push nodes row in
+    record {
+      from_in = let h = is.from_in in omega arith;
+      to_in = let h = is.to_in in omega arith;
+      apart = is.apart;
+      from_no_exit = let e : get_or (nodes ++ (row ∷ [])) a.from no_node ≡ get_or nodes a.from no_node = get_or_append_left nodes (row ∷ []) no_node a.from is.from_in in
+          let P : NodeRow → Type 0 = λ n. IsFalse (is_exit n.name.kind) in subst P (sym e) is.from_no_exit;
+      travel_fits = is.travel_fits;
+      rate_fits = is.rate_fits;
+    }
+
+-- one more node
+sound-node : (nodes : List NodeRow) (arcs : List ArcRow) (row : NodeRow) → IsSound nodes arcs → IsNode row → list_any (λ n. same_name n.name row.name) nodes ≡ false
+    → length nodes < node_limit → sum_by (λ n. n.start) nodes + row.start ≤ people_limit → IsSound (nodes ++ (row ∷ [])) arcs
+sound-node nodes arcs row sound is new fits people-fit =
+    record {
+      nodes_fit = let longer = length-push nodes row in omega arith;
+      arcs_fit = sound.arcs_fit;
+      people_fit = let e = sum_by-append (λ (n : NodeRow). n.start) nodes (row ∷ []) in omega arith;
+      nodes = All-push IsNode nodes row sound.nodes is;
+      names_differ = push-pairs NamesDiffer nodes row no_node sound.names_differ (λ i within same.
+          missing (λ n. same_name n.name row.name) nodes i no_node new within (ap (λ n. same_name n row.name) same ∙ same-name-self row.name));
+      arcs = All-weaker (IsArc nodes) (IsArc (nodes ++ (row ∷ []))) (arc-kept nodes row) arcs sound.arcs;
+      ends_differ = sound.ends_differ;
+    }
+
+-- one more arc
+sound-arc : (nodes : List NodeRow) (arcs : List ArcRow) (row : ArcRow) → IsSound nodes arcs → IsArc nodes row
+    → list_any (λ a. a.from == row.from && a.to == row.to) arcs ≡ false → length arcs < arc_limit → IsSound nodes (arcs ++ (row ∷ []))
+sound-arc nodes arcs row sound is new fits =
+    record {
+      nodes_fit = sound.nodes_fit;
+      arcs_fit = let longer = length-push arcs row in omega arith;
+      people_fit = sound.people_fit;
+      nodes = sound.nodes;
+      names_differ = sound.names_differ;
+      arcs = All-push (IsArc nodes) arcs row sound.arcs is;
+      ends_differ = push-pairs EndsDiffer arcs row no_arc sound.ends_differ (λ i within starts finishes.
+          missing (λ a. a.from == row.from && a.to == row.to) arcs i no_arc new within (rw (eq-eqb _ row.from starts, eq-eqb _ row.to finishes) refl));
+    }
+
+-- the node at the place of a name has that name
+place-name : (nodes : List NodeRow) (name : NodeName) → place_of nodes name < length nodes → (get_or nodes (place_of nodes name) no_node).name ≡ name
+place-name nodes name within = same-name-is _ name (passes_at_first (λ n. same_name n.name name) nodes no_node within)
+
+-- an arc between two known, different names
+arc-between : (nodes : List NodeRow) (start finish : NodeName) (t r : ℕ) → list_any (λ n. same_name n.name start) nodes ≡ true → list_any (λ n. same_name n.name finish) nodes ≡ true
+    → same_name start finish ≡ false → is_exit start.kind ≡ false → (1 ≤ t) × (t ≤ travel_limit) → r ≤ rate_limit
+    → IsArc nodes (record { from = place_of nodes start; to = place_of nodes finish; travel = t; rate = r; shut = false })
+arc-between nodes start finish t r has-start has-finish apart inside travel rate =
+    let from-in = found (λ n. same_name n.name start) nodes has-start in
+    let to-in = found (λ n. same_name n.name finish) nodes has-finish in
+    let from-name = place-name nodes start from-in in
+    let to-name = place-name nodes finish to-in in
+    record {
+      from_in = from-in;
+      to_in = to-in;
+      apart = λ same.
+          let e : start ≡ finish = sym from-name ∙ ap (λ i. (get_or nodes i no_node).name) same ∙ to-name in
+          let yes' : same_name start finish ≡ true = ap (same_name start) (sym e) ∙ same-name-self start in cc;
+      from_no_exit = ap (λ n. is_exit n.kind) from-name ∙ inside;
+      travel_fits = travel;
+      rate_fits = rate;
+    }
+
+below-limit : (limit n : ℕ) → nat_le limit n ≡ false → n < limit
+below-limit limit n h = leb-false limit n h
+
+room-sound : (before : List Said) (name : NodeName) (capacity start : ℕ) → IsSound (nodes_of before) (arcs_of before) → IsName name → IsFalse (is_exit name.kind) → capacity ≤ capacity_limit
+    → has_node before name ≡ false → start ≤ capacity → length (nodes_of before) < node_limit → people_of before + start ≤ people_limit
+    → IsSound (nodes_of (Node name capacity start ∷ before)) (arcs_of before)
+room-sound before name capacity start sound is room fits new start-fits few people-fit =
+    sound-node (nodes_of before) (arcs_of before) (record { name = name; capacity = capacity; start = start; shut = false }) sound
+    (record { name = is; start_fits = start-fits; capacity_fits = fits; exit_is_empty = λ exit. cc; only_exits_shut = λ shut. cc }) new few people-fit
+
+exit-sound : (before : List Said) (name : NodeName) → IsSound (nodes_of before) (arcs_of before) → IsName name → IsTrue (is_exit name.kind)
+    → has_node before name ≡ false → length (nodes_of before) < node_limit → IsSound (nodes_of (Exit name ∷ before)) (arcs_of before)
+exit-sound before name sound is exit new few =
+    sound-node (nodes_of before) (arcs_of before) (record { name = name; capacity = 0; start = 0; shut = false }) sound
+    (record { name = is; start_fits = omega arith; capacity_fits = omega arith; exit_is_empty = λ out. refl; only_exits_shut = λ shut. exit }) new few
+    (let h = sound.people_fit in omega arith)
+
+-- what was taken is sound
+pub sound-of : (taken : List Said) → AreTaken taken → IsSound (nodes_of taken) (arcs_of taken)
+unfolding statement_fault
+sound-of [] are = sound-none
+sound-of (Node name capacity start ∷ before) are =
+    let full = nat_le node_limit (length (nodes_of before)) in
+    let crowded = nat_lt people_limit (people_of before + start) in
+    let h = none-four (not (has_floor before name.floor)) (has_node before name) (nat_lt capacity start) (full || crowded) unknown_floor repeated_node over_full too_many are.1 in
+    let fits = or-false full crowded h.3 in
+    room-sound before name capacity start (sound-of before are.2) are.0.0 are.0.1 are.0.2 h.1 (ltb-false capacity start h.2)
+    (below-limit node_limit (length (nodes_of before)) fits.0) (ltb-false people_limit (people_of before + start) fits.1)
+sound-of (Exit name ∷ before) are =
+    let full = nat_le node_limit (length (nodes_of before)) in
+    let h = none-three (not (has_floor before name.floor)) (has_node before name) full unknown_floor repeated_node too_many are.1 in
+    exit-sound before name (sound-of before are.2) are.0.0 are.0.1 h.1 (below-limit node_limit (length (nodes_of before)) h.2)
+sound-of (Arc start finish travel rate ∷ before) are =
+    let full = nat_le arc_limit (length (arcs_of before)) in
+    let h = none-six (not (has_node before start)) (not (has_node before finish)) (same_name start finish) (is_exit start.kind) (has_arc before start finish) full
+    unknown_node unknown_node self_arc from_exit repeated_arc too_many are.1 in
+    sound-arc (nodes_of before) (arcs_of before) _ (sound-of before are.2)
+    (arc-between (nodes_of before) start finish travel rate (not-false _ h.0) (not-false _ h.1) h.2 h.3 (are.0.2, are.0.3) are.0.4)
+    h.4 (below-limit arc_limit (length (arcs_of before)) h.5)
+sound-of (Blank ∷ before) are = sound-of before are.2
+sound-of (Header v ∷ before) are = sound-of before are.2
+sound-of (Title t ∷ before) are = sound-of before are.2
+sound-of (Period n ∷ before) are = sound-of before are.2
+sound-of (Horizon n ∷ before) are = sound-of before are.2
+sound-of (Floor f t ∷ before) are = sound-of before are.2
+sound-of (End ∷ before) are = sound-of before are.2
+
+some-of : (o : Option ℕ) → is_none o ≡ false → o ≡ Some (unwrap_or o 0)
+some-of (Some x) h = refl
+some-of None h = cc
+
+-- statements that were taken and may end describe a valid model
+pub taken-valid : (taken : List Said) → AreTaken taken → end_fault taken ≡ None → IsValid (model_taken taken)
+unfolding end_fault model_taken people
+taken-valid taken are h =
+    let unset = is_none (seconds_of taken) || is_none (horizon_of taken) in
+    let closed = not (list_any (λ n. is_exit n.name.kind) (nodes_of taken)) in
+    let n = none-three unset closed (nat_lt cell_limit (cells_of taken)) missing_setting no_exit too_large h in
+    let settings = or-false (is_none (seconds_of taken)) (is_none (horizon_of taken)) n.0 in
+    let sound = sound-of taken are in
+    record {
+      seconds = seconds-within taken _ are (some-of (seconds_of taken) settings.0);
+      horizon = horizon-within taken _ are (some-of (horizon_of taken) settings.1);
+      nodes_fit = sound.nodes_fit;
+      arcs_fit = sound.arcs_fit;
+      cells_fit = ltb-false cell_limit (cells_of taken) n.2;
+      people_fit = sound.people_fit;
+      nodes = sound.nodes;
+      names_differ = sound.names_differ;
+      arcs = sound.arcs;
+      ends_differ = sound.ends_differ;
+    }

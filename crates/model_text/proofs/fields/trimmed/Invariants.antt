@@ -1,0 +1,13 @@
+-- The bytes in front have the same text, and the end is one of theirs.
+use Rattle.std.proofs.Common.{◌≡◌, ◌≤◌, length, take}
+use Rattle.model_text.specs.Fields.{trimmed}
+use Rattle.model_text.proofs.fields.trimmed.Given as goal
+
+abbrev pub invariant-loop-end : goal.invariant-loop-end
+invariant-loop-end l = record {
+  within : l.end ≤ length l.bytes;
+  same : trimmed (take l.end l.bytes) ≡ trimmed l.bytes;
+}
+
+abbrev pub decreases-loop-end : goal.decreases-loop-end
+decreases-loop-end l = l.end

@@ -1,0 +1,10 @@
+pub mod Codes
+pub mod Commands
+pub mod Fields
+pub mod Grammar
+pub mod Laws
+pub mod NameFields
+pub mod Numbers
+pub mod Readings
+pub mod Reads
+pub mod Taken

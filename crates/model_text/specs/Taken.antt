@@ -1,0 +1,154 @@
+-- What statements have described so far, and when one more is refused. They stand in a list with the last one first.
+use Rattle.std.specs.Prelude.{◌≡◌, ℕ, ◌+◌, ◌*◌, Bool, true, false, not, ◌&&◌, ◌||◌, ◌==◌, nat_lt, nat_le, if◌then◌else◌, List, [], ◌∷◌, ◌++◌, length, is_some, is_none, unwrap_or, map, Some, None}
+use Rattle.std.specs.declared.option.Option.{Option}
+use Rattle.std.specs.List.{list_any, position_or_len, sum_by}
+use Rattle.evac_law.specs.Limits.{floor_limit, node_limit, arc_limit, people_limit, cell_limit}
+use Rattle.evac_law.specs.Names.{is_exit}
+use Rattle.evac_law.specs.declared.name.Kind.{Kind}
+use Rattle.evac_law.specs.declared.name.Kind.TheVariants as kinds
+use Rattle.evac_law.specs.declared.name.NodeName.{NodeName}
+use Rattle.evac_law.specs.declared.model.NodeRow.{NodeRow}
+use Rattle.evac_law.specs.declared.model.ArcRow.{ArcRow}
+use Rattle.evac_law.specs.declared.model.Model.{Model}
+use Rattle.model_text.specs.Codes.{repeated_setting, unknown_floor, repeated_node, over_full, unknown_node, self_arc, from_exit, repeated_arc, too_many, missing_setting, no_exit, too_large}
+use Rattle.model_text.specs.Grammar.{Said, IsSaid, Title, Period, Horizon, Floor, Node, Exit, Arc}
+
+-- ---- names
+
+-- whether two kinds, or two names, are the same
+abbrev pub same_kind : Kind → Kind → Bool
+same_kind kinds.Work kinds.Work = true
+same_kind kinds.Hall kinds.Hall = true
+same_kind kinds.Stair kinds.Stair = true
+same_kind kinds.Lobby kinds.Lobby = true
+same_kind kinds.Exit kinds.Exit = true
+same_kind _ _ = false
+
+abbrev pub same_name : NodeName → NodeName → Bool
+same_name a b = same_kind a.kind b.kind && (a.number == b.number && a.floor == b.floor)
+
+-- ---- what statements have described
+
+-- the title's text
+abbrev pub title_of : List Said → Option (List ℕ)
+title_of [] = None
+title_of (Title text ∷ before) = Some text
+title_of (_ ∷ before) = title_of before
+
+-- the seconds of a period
+abbrev pub seconds_of : List Said → Option ℕ
+seconds_of [] = None
+seconds_of (Period seconds ∷ before) = Some seconds
+seconds_of (_ ∷ before) = seconds_of before
+
+-- the last moment
+abbrev pub horizon_of : List Said → Option ℕ
+horizon_of [] = None
+horizon_of (Horizon moments ∷ before) = Some moments
+horizon_of (_ ∷ before) = horizon_of before
+
+-- the floors with their texts, in their order
+abbrev pub floors_of : List Said → List (ℕ × List ℕ)
+floors_of [] = []
+floors_of (Floor floor text ∷ before) = floors_of before ++ ((floor, text) ∷ [])
+floors_of (_ ∷ before) = floors_of before
+
+-- the nodes in their order, none shut; an exit has no capacity and no start
+abbrev pub nodes_of : List Said → List NodeRow
+nodes_of [] = []
+nodes_of (Node name capacity start ∷ before) = nodes_of before ++ (record { name = name; capacity = capacity; start = start; shut = false } ∷ [])
+nodes_of (Exit name ∷ before) = nodes_of before ++ (record { name = name; capacity = 0; start = 0; shut = false } ∷ [])
+nodes_of (_ ∷ before) = nodes_of before
+
+-- the place of the first node of a name, or the number of nodes
+abbrev pub place_of : List NodeRow → NodeName → ℕ
+place_of nodes name = position_or_len (λ n. same_name n.name name) nodes
+
+-- the arcs in their order, none shut, between the places of their names
+abbrev pub arcs_of : List Said → List ArcRow
+arcs_of [] = []
+arcs_of (Arc start finish travel rate ∷ before) =
+    arcs_of before ++ (record {
+      from = place_of (nodes_of before) start;
+      to = place_of (nodes_of before) finish;
+      travel = travel;
+      rate = rate;
+      shut = false;
+    } ∷ [])
+arcs_of (_ ∷ before) = arcs_of before
+
+-- ---- when one more is refused
+
+-- whether there is a floor of a number, a node of a name, an arc between two names
+abbrev pub has_floor : List Said → ℕ → Bool
+has_floor before floor = list_any (λ f. f == floor) (map (λ f. f.0) (floors_of before))
+
+abbrev pub has_node : List Said → NodeName → Bool
+has_node before name = list_any (λ n. same_name n.name name) (nodes_of before)
+
+abbrev pub has_arc : List Said → NodeName → NodeName → Bool
+has_arc before start finish =
+    list_any (λ a. a.from == place_of (nodes_of before) start && a.to == place_of (nodes_of before) finish) (arcs_of before)
+
+-- the people who start somewhere
+abbrev pub people_of : List Said → ℕ
+people_of before = sum_by (λ n. n.start) (nodes_of before)
+
+-- the code of the first check that holds
+abbrev pub first_code : List (Bool × ℕ) → Option ℕ
+first_code [] = None
+first_code (c ∷ cs) = if c.0 then Some c.1 else first_code cs
+
+-- the checks of a statement against those before it, in their order, each with its code
+abbrev pub checks : List Said → Said → List (Bool × ℕ)
+checks before (Title text) = (is_some (title_of before), repeated_setting) ∷ []
+checks before (Period seconds) = (is_some (seconds_of before), repeated_setting) ∷ []
+checks before (Horizon moments) = (is_some (horizon_of before), repeated_setting) ∷ []
+checks before (Floor floor text) =
+    (has_floor before floor, repeated_setting) ∷ (nat_le floor_limit (length (floors_of before)), too_many) ∷ []
+checks before (Node name capacity start) =
+    (not (has_floor before name.floor), unknown_floor) ∷ (has_node before name, repeated_node) ∷ (nat_lt capacity start, over_full)
+    ∷ (nat_le node_limit (length (nodes_of before)) || nat_lt people_limit (people_of before + start), too_many) ∷ []
+checks before (Exit name) =
+    (not (has_floor before name.floor), unknown_floor) ∷ (has_node before name, repeated_node)
+    ∷ (nat_le node_limit (length (nodes_of before)), too_many) ∷ []
+checks before (Arc start finish travel rate) =
+    (not (has_node before start), unknown_node) ∷ (not (has_node before finish), unknown_node) ∷ (same_name start finish, self_arc)
+    ∷ (is_exit start.kind, from_exit) ∷ (has_arc before start finish, repeated_arc)
+    ∷ (nat_le arc_limit (length (arcs_of before)), too_many) ∷ []
+checks before _ = []
+
+-- the fault of a statement, said of those before it
+unfoldable pub statement_fault : List Said → Said → Option ℕ
+statement_fault before statement = first_code (checks before statement)
+
+-- the cells of what is described: each node and each arc at each moment
+abbrev pub cells_of : List Said → ℕ
+cells_of taken = (length (nodes_of taken) + length (arcs_of taken)) * (unwrap_or (horizon_of taken) 0 + 1)
+
+-- the fault of the model's end
+unfoldable pub end_fault : List Said → Option ℕ
+end_fault taken =
+    first_code ((is_none (seconds_of taken) || is_none (horizon_of taken), missing_setting)
+    ∷ (not (list_any (λ n. is_exit n.name.kind) (nodes_of taken)), no_exit)
+    ∷ (nat_lt cell_limit (cells_of taken), too_large) ∷ [])
+
+-- ---- the building that they describe
+
+-- a model, the title where one was given, and the floors with their texts
+pub record Description : Type 0 where
+  pub model : Model
+  pub title : Option (List ℕ)
+  pub floors : List (ℕ × List ℕ)
+
+unfoldable pub model_taken : List Said → Model
+model_taken taken =
+    record { seconds = unwrap_or (seconds_of taken) 0; horizon = unwrap_or (horizon_of taken) 0; nodes = nodes_of taken; arcs = arcs_of taken }
+
+abbrev pub description_of : List Said → Description
+description_of taken = record { model = model_taken taken; title = title_of taken; floors = floors_of taken }
+
+-- statements that lines may say, each without a fault when it came
+abbrev pub AreTaken : List Said → Type 0
+AreTaken [] = Unit {0}
+AreTaken (statement ∷ before) = IsSaid statement × (statement_fault before statement ≡ None) × AreTaken before

@@ -1,0 +1,12 @@
+// The laws of names and of described buildings, each the contract of a function that does nothing.
+ghost use Rattle.model_text.specs.Laws.{DescribedIsValid, NamesReadBack};
+
+/// A field reads as a name exactly where it is the text of that name.
+pub fn names_read_back()
+    ensures { NamesReadBack }
+{}
+
+/// The model that lines describe is valid.
+pub fn described_is_valid()
+    ensures { DescribedIsValid }
+{}

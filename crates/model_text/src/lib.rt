@@ -1,0 +1,24 @@
+//! What the lines of a model and of a session say.
+//!
+//! `specs/` has the grammar by cases on the bytes, and the building that the lines of a model describe or their first fault, blind to any
+//! reader. The readers here answer exactly by it.
+#![tactic(auto)]
+
+mod command;
+mod fault;
+mod fields;
+mod laws;
+mod name;
+mod number;
+mod parts;
+mod statement;
+#[cfg(test)]
+mod tests;
+
+pub use command::{Command, read_command};
+pub use fault::TextFault;
+pub use fields::Fields;
+pub use laws::{described_is_valid, names_read_back};
+pub use name::read_name;
+pub use number::read_number;
+pub use statement::{Statement, read_line};

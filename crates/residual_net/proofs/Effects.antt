@@ -1,0 +1,178 @@
+-- Arrivals after pushes and cancels, everybody sent, and supplies within their limit.
+use Rattle.std.proofs.Common.{◌≡◌, ℕ, ◌+◌, ◌*◌, ◌<◌, ◌≤◌, Bool, true, false, cond, ◌&&◌, eqb, leb, List, length, refl, ap, sym, ◌∙◌, arith, inl, inr, ◌⊎◌, subst}
+use Rattle.std.specs.List.{All}
+use Rattle.std.proofs.lemmas.Bool.{cases_Bool, cases_lt, ltb-false, le-leb}
+use Rattle.evac_law.specs.declared.model.Model.{Model}
+use Rattle.evac_law.specs.Limits.{people_limit}
+use Rattle.evac_law.specs.Building.{IsValid, entry, people}
+use Rattle.evac_law.proofs.SumLemmas as sums
+use Rattle.residual_net.specs.declared.place.Place.{Place}
+use Rattle.residual_net.specs.declared.place.Place.TheVariants.{Arc, Hold, Supply}
+use Rattle.residual_net.specs.declared.place.PathStep.{PathStep}
+use Rattle.time_expansion.specs.Expansion.{to_at}
+use Rattle.residual_net.specs.Limits.{supply_limit}
+use Rattle.residual_net.specs.Site.{Site, End, IsPlace, arcs_of, arrival_at, door_by, exit_at, head_of, is_door, is_source, same_place, sum_places, tail_of}
+use Rattle.residual_net.specs.Site.End.{Source, Pair, Door}
+use Rattle.residual_net.specs.Network.{Network, IsAllSent, IsNet, IsWithinLimits, arrived_by, flow_at, flow_into, flow_out, limit_at, supply_limits, unsent_at}
+use Rattle.residual_net.specs.Route.{IsAugmentingPath, IsPushed, Leads}
+use Rattle.residual_net.specs.Change.{IsCancelled, supply_limits_with}
+use Rattle.residual_net.specs.OfModel.{IsNetOf, model_limit, site_of}
+use Rattle.residual_net.proofs.Begin.{entries_are_people}
+use Rattle.residual_net.proofs.Held.{same_in}
+use Rattle.residual_net.proofs.Places.{place-same, same-place, sum_places-le, sum_places-pick, sum_places-same, sum_places-split}
+use Rattle.residual_net.proofs.Push.{arrived_moved, cancel_arrived}
+use Rattle.residual_net.proofs.Taking.{undone}
+
+pub push_moves : (w v : Network) (path : List PathStep) (x : ℕ) (e : End) (k : ℕ) → IsAugmentingPath w path x e k → IsPushed w v path x
+    → (j : ℕ) → arrived_by v j + cond (door_by j e) x 0 ≡ arrived_by w j + cond (leb k j) x 0
+push_moves w v path x e k p a j = arrived_moved w v path x a p.places e k p.origin p.leads j
+
+at_most : (b : Bool) (x : ℕ) → cond b x 0 ≤ x
+at_most true x = omega arith
+at_most false x = omega arith
+
+pub cancel_lowers : (w v : Network) (p : Place) (path : List PathStep) (x : ℕ) → IsCancelled w v p path x
+    → (j : ℕ) → (arrived_by v j ≤ arrived_by w j) × (arrived_by w j ≤ arrived_by v j + x)
+cancel_lowers w v p path x c j =
+    let k = c.arrives.0 in
+    let flow = c.arrives.1 in
+    let site = c.taken.site in
+    let places : All (λ (r : PathStep). IsPlace v.site r.place) path = λ i d l. subst (λ (s : Site). IsPlace s (Rattle.std.proofs.Common.get_or path i d).place) (sym site) (flow.places i d l) in
+    let leads = subst (λ (s : Site). Leads s Source path (Door k)) (sym site) flow.leads in
+    let fall = cancel_arrived w v path x (undone w v path x c.taken flow.forwards) places k leads j in
+    (omega (arith, fall), omega (arith, fall, at_most (leb k j) x))
+
+-- ---- everybody sent
+
+-- the supplies of a model's net are its people
+supplies_are_people : (m : Model) (w : Network) → IsNetOf m w → supply_limits w ≡ people m
+unfolding supply_limits sum_places
+supplies_are_people m w of =
+    let k = w.site.shape.horizon + 1 in
+    let nodes : w.site.shape.nodes ≡ length m.nodes = ap (λ (s : Site). s.shape.nodes) of.site in
+    let same = same_in w.site.shape.nodes k (λ n t. limit_at w (Supply n t)) (entry m) (λ n t i j. of.limits (Supply n t) (i, omega (arith, j))) in
+    let count : sums.sum2 w.site.shape.nodes k (entry m) ≡ sums.sum2 (length m.nodes) k (entry m) = ap (λ z. sums.sum2 z k (entry m)) nodes in
+    omega (
+      arith,
+      sums.sum2-nothing (arcs_of w.site) k,
+      sums.sum2-nothing w.site.shape.nodes k,
+      same,
+      count,
+      entries_are_people m w.site.shape.horizon,
+    )
+
+-- by the horizon all have arrived who ever do
+all_arrive : (w : Network) → IsNet w → arrived_by w w.site.shape.horizon ≡ flow_into w is_door
+unfolding flow_into
+all_arrive w net = sum_places-same w.site _ _ (λ p i. at_place p i)
+  where
+    at_place : (p : Place) → IsPlace w.site p
+        → cond (door_by w.site.shape.horizon (head_of w.site p)) (flow_at w p) 0 ≡ cond (is_door (head_of w.site p)) (flow_at w p) 0
+    at_place (Arc a t) i = by_exit (exit_at w.site (to_at w.site.shape a)) (cases_lt w.site.shape.horizon (arrival_at w.site a t))
+      where
+        nothing : (b : Bool) → ◌≡◌ {A = ℕ} (cond b 0 0) 0
+        nothing true = refl
+        nothing false = refl
+
+        by_exit : (b : Bool) → (w.site.shape.horizon < arrival_at w.site a t) ⊎ (arrival_at w.site a t ≤ w.site.shape.horizon)
+            → cond (door_by w.site.shape.horizon (cond b (Door (arrival_at w.site a t)) (Pair (to_at w.site.shape a) (arrival_at w.site a t)))) (flow_at w (Arc a t)) 0
+            ≡ cond (is_door (cond b (Door (arrival_at w.site a t)) (Pair (to_at w.site.shape a) (arrival_at w.site a t)))) (flow_at w (Arc a t)) 0
+        by_exit true (inl late) =
+            let none = (net.barred (Arc a t) i (Rattle.std.proofs.lemmas.Bool.lt-ltb w.site.shape.horizon (arrival_at w.site a t) late)).0 in
+            rw none (nothing (leb (arrival_at w.site a t) w.site.shape.horizon))
+        by_exit true (inr early) = ap (λ b. cond b (flow_at w (Arc a t)) 0) (le-leb (arrival_at w.site a t) w.site.shape.horizon early)
+        by_exit false h = refl
+    at_place (Hold n t) i = refl
+    at_place (Supply n t) i = refl
+
+pub all_sent_arrive : (m : Model) (w : Network) → IsNet w → IsNetOf m w → IsWithinLimits w → IsAllSent w → arrived_by w m.horizon ≡ people m
+unfolding flow_out supply_limits
+all_sent_arrive m w net of within all =
+    let horizon : w.site.shape.horizon ≡ m.horizon = ap (λ (s : Site). s.shape.horizon) of.site in
+    let same : flow_out w is_source ≡ supply_limits w = sum_places-same w.site _ _ at_place in
+    ap (arrived_by w) (sym horizon) ∙ all_arrive w net ∙ net.conserved.sent ∙ same ∙ supplies_are_people m w of
+  where
+    at_place : (p : Place) → IsPlace w.site p → cond (is_source (tail_of w.site p)) (flow_at w p) 0 ≡ cond (is_source (tail_of w.site p)) (limit_at w p) 0
+    at_place (Arc a t) i = refl
+    at_place (Hold n t) i = refl
+    at_place (Supply n t) i = omega (arith, within (Supply n t) i, all n t i)
+
+cond_le : (b : Bool) (u r : ℕ) → u ≤ r → cond b u 0 ≤ cond b r 0
+cond_le true u r l = l
+cond_le false u r l = omega arith
+
+-- an unsent person is missing from the sum
+one_missing : (w : Network) → IsWithinLimits w → (n t : ℕ) → IsPlace w.site (Supply n t) → flow_at w (Supply n t) < limit_at w (Supply n t)
+    → flow_out w is_source + 1 ≤ supply_limits w
+unfolding flow_out supply_limits
+one_missing w within n t i less =
+    let q = Supply n t in
+    let b = λ (p : Place). is_source (tail_of w.site p) in
+    let split = sum_places-split w.site b (λ p. flow_at w p) (λ p. cond (same_place q p) 1 0) in
+    let one = sum_places-pick w.site q i b 1 in
+    let le = sum_places-le w.site (λ p. cond (b p) (flow_at w p + cond (same_place q p) 1 0) 0) (λ p. cond (b p) (limit_at w p) 0)
+    (λ p j. cond_le (b p) (flow_at w p + cond (same_place q p) 1 0) (limit_at w p) (at_place p j (cases_Bool (same_place q p)))) in
+    omega (arith, split, one, le)
+  where
+    at_place : (p : Place) → IsPlace w.site p → (same_place (Supply n t) p ≡ true) ⊎ (same_place (Supply n t) p ≡ false)
+        → flow_at w p + cond (same_place (Supply n t) p) 1 0 ≤ limit_at w p
+    at_place p j (inl e) =
+        let same = same-place (Supply n t) p e in
+        let here : flow_at w p < limit_at w p = subst (λ z. flow_at w z < limit_at w z) same less in
+        rw e (omega (arith, here))
+    at_place p j (inr e) = rw e (omega (arith, within p j))
+
+pub arrived_all_sent : (m : Model) (w : Network) → IsNet w → IsNetOf m w → IsWithinLimits w → arrived_by w m.horizon ≡ people m → IsAllSent w
+arrived_all_sent m w net of within e n t i = elim (cases_lt (flow_at w (Supply n t)) (limit_at w (Supply n t))) [
+  | inl less ↦
+      let horizon : w.site.shape.horizon ≡ m.horizon = ap (λ (s : Site). s.shape.horizon) of.site in
+      let missing = one_missing w within n t i less in
+      absurd (omega (
+        arith,
+        missing,
+        supplies_are_people m w of,
+        net.conserved.sent,
+        all_arrive w net,
+        ap (arrived_by w) horizon,
+        e,
+      ))
+  | inr full ↦ omega (arith, full)
+]
+
+-- ---- limits of supplies between those of two models
+
+twice_fits : (a b : ℕ) → a ≤ people_limit → b ≤ people_limit → a + b ≤ supply_limit
+unfolding people_limit supply_limit
+twice_fits a b l h = omega (arith, l, h)
+
+pub supplies_between : (m n : Model) (w : Network) (p : Place) (x : ℕ) → IsValid m → IsValid n → w.site ≡ site_of m → length n.nodes ≡ length m.nodes
+    → n.horizon ≡ m.horizon
+    → ((k t : ℕ) → IsPlace w.site (Supply k t) → limit_at w (Supply k t) ≤ entry m k t + entry n k t)
+    → ((k t : ℕ) → p ≡ Supply k t → x ≤ entry m k t + entry n k t) → supply_limits_with w p x ≤ supply_limit
+unfolding supply_limits_with sum_places
+supplies_between m n w p x valid other site nodes horizon each here =
+    let k = w.site.shape.horizon + 1 in
+    let count : w.site.shape.nodes ≡ length m.nodes = ap (λ (s : Site). s.shape.nodes) site in
+    let le = sums.sum2-le w.site.shape.nodes k (λ i t. cond (same_place p (Supply i t)) x (limit_at w (Supply i t))) (λ i t. entry m i t + entry n i t)
+    (λ i t a b. at_place i t (a, omega (arith, b)) (cases_Bool (same_place p (Supply i t)))) in
+    let add = sums.sum2-add w.site.shape.nodes k (entry m) (entry n) in
+    let first : sums.sum2 w.site.shape.nodes k (entry m) ≡ sums.sum2 (length m.nodes) k (entry m) = ap (λ z. sums.sum2 z k (entry m)) count in
+    let second : sums.sum2 w.site.shape.nodes k (entry n) ≡ sums.sum2 (length n.nodes) k (entry n) = ap (λ z. sums.sum2 z k (entry n)) (count ∙ sym nodes) in
+    let fits = twice_fits (people m) (people n) valid.people_fit other.people_fit in
+    omega (
+      arith,
+      sums.sum2-nothing (arcs_of w.site) k,
+      sums.sum2-nothing w.site.shape.nodes k,
+      le,
+      add,
+      first,
+      second,
+      entries_are_people m w.site.shape.horizon,
+      entries_are_people n w.site.shape.horizon,
+      fits,
+    )
+  where
+    at_place : (i t : ℕ) → IsPlace w.site (Supply i t) → (same_place p (Supply i t) ≡ true) ⊎ (same_place p (Supply i t) ≡ false)
+        → cond (same_place p (Supply i t)) x (limit_at w (Supply i t)) ≤ entry m i t + entry n i t
+    at_place i t a (inl e) = rw e (here i t (same-place p (Supply i t) e))
+    at_place i t a (inr e) = rw e (each i t a)

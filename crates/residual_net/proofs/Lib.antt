@@ -1,0 +1,16 @@
+pub mod Places
+pub mod Push
+pub mod Steps
+pub mod Arrivals
+pub mod Quiet
+pub mod Held
+pub mod Law
+pub mod Survive
+pub mod Kept
+pub mod Fit
+pub mod Begin
+pub mod Last
+pub mod Walks
+pub mod Taking
+pub mod Worked
+pub mod Effects

@@ -1,0 +1,285 @@
+-- Pushes one step after another.
+use Rattle.std.proofs.Common.{◌≡◌, ◌≢◌, ℕ, zero, suc, ◌+◌, ◌-◌, ◌<◌, ◌≤◌, Bool, true, false, cond, not, ◌&&◌, eqb, List, [], ◌∷◌, ◌++◌, length, take, get_or, refl, ap, sym, ◌∙◌, arith, subst, inl, inr, ◌⊎◌}
+use Rattle.std.specs.List.{All, AllPairs}
+use Rattle.std.proofs.lemmas.List.{length-set, get_or-take, get_or_default, length-take, take_more}
+use Rattle.std.proofs.lemmas.List.Sums.{sum_by-cons, sum_by-append}
+use Rattle.std.proofs.lemmas.List.Elements.{All-head, All-tail}
+use Rattle.std.proofs.lemmas.Bool.{cases_Bool}
+use Rattle.residual_net.specs.declared.place.Place.{Place}
+use Rattle.residual_net.specs.declared.place.PathStep.{PathStep}
+use Rattle.residual_net.specs.declared.place.Cell.{Cell}
+use Rattle.residual_net.specs.Limits.{supply_limit}
+use Rattle.residual_net.specs.Site.{Site, IsPlace, End, start_of, stop_of, head_of, tail_of, at, is_source, is_door, is_barred, sum_places, same_place, cell_of}
+use Rattle.residual_net.specs.Site.End.{Source, Pair, Door}
+use Rattle.residual_net.specs.Network.{Network, IsGrid, IsNet, IsWithinLimits, supply_limits, flow_into, flow_out, no_cell, flow_at, limit_at, residual_room, with_cell}
+use Rattle.residual_net.specs.Change.{IsLimitSet}
+use Rattle.residual_net.specs.Route.{IsPushed, IsPushable, IsOrigin, Leads, added, taken}
+use Rattle.residual_net.proofs.Places.{sum_places-same, sum_places-le, cell_below, cell_written, same-place}
+use Rattle.residual_net.proofs.Push.{still_conserved}
+
+pub cell_in : (w : Network) (p : Place) → IsGrid w → IsPlace w.site p → cell_of w.site p < length w.cells
+cell_in w p g i = omega (arith, g.full, cell_below w.site p i)
+
+pub flow-with_cell : (w : Network) (p q : Place) (c : Cell) → IsGrid w → IsPlace w.site p → IsPlace w.site q
+    → flow_at (with_cell w p c) q ≡ cond (same_place p q) c.flow (flow_at w q)
+unfolding flow_at
+flow-with_cell w p q c g i j =
+    ap (λ (z : Cell). z.flow) (cell_written w.site w.cells p q c no_cell g.full i j) ∙ of_cond (same_place p q) c (get_or w.cells (cell_of w.site q) no_cell)
+  where
+    of_cond : (b : Bool) (x y : Cell) → (cond b x y).flow ≡ cond b x.flow y.flow
+    of_cond true x y = refl
+    of_cond false x y = refl
+
+pub limit-with_cell : (w : Network) (p q : Place) (c : Cell) → IsGrid w → IsPlace w.site p → IsPlace w.site q
+    → limit_at (with_cell w p c) q ≡ cond (same_place p q) c.limit (limit_at w q)
+unfolding limit_at
+limit-with_cell w p q c g i j =
+    ap (λ (z : Cell). z.limit) (cell_written w.site w.cells p q c no_cell g.full i j) ∙ of_cond (same_place p q) c (get_or w.cells (cell_of w.site q) no_cell)
+  where
+    of_cond : (b : Bool) (x y : Cell) → (cond b x y).limit ≡ cond b x.limit y.limit
+    of_cond true x y = refl
+    of_cond false x y = refl
+
+pub grid-with_cell : (w : Network) (p : Place) (c : Cell) → IsGrid w → IsGrid (with_cell w p c)
+grid-with_cell w p c g = record { site = g.site; full = length-set w.cells (cell_of w.site p) c ∙ g.full; saved_full = g.saved_full }
+
+one_flow : (b back : Bool) (x flow was now : ℕ) → (b ≡ true → flow ≡ was) → (back ≡ false → now ≡ flow + x) → (back ≡ true → now + x ≡ flow)
+    → cond b now was + cond (back && b) x 0 ≡ was + cond (not back && b) x 0
+one_flow false true x f w n h i j = refl
+one_flow false false x f w n h i j = refl
+one_flow true true x f w n h i j = omega (arith, h refl, j refl)
+one_flow true false x f w n h i j = omega (arith, h refl, i refl)
+
+one_limit : (b : Bool) (old was now : ℕ) → (b ≡ true → old ≡ was) → now ≡ old → cond b now was ≡ was
+one_limit true o w n h e = omega (arith, h refl, e)
+one_limit false o w n h e = refl
+
+-- a push over one step
+pub push_one : (w : Network) (r : PathStep) (x : ℕ) (c : Cell) → IsGrid w → IsPlace w.site r.place
+    → (r.back ≡ false → c.flow ≡ flow_at w r.place + x) → (r.back ≡ true → c.flow + x ≡ flow_at w r.place) → c.limit ≡ limit_at w r.place
+    → IsPushed w (with_cell w r.place c) (r ∷ []) x
+unfolding added taken
+push_one w r x c g i on back limit = record {
+  site = refl;
+  saved = refl;
+  limits = λ p j.
+      limit-with_cell w r.place p c g i j
+      ∙ one_limit (same_place r.place p) (limit_at w r.place) (limit_at w p) c.limit (λ e. ap (limit_at w) (same-place r.place p e)) limit;
+  flows = λ p j.
+      let one = one_flow (same_place r.place p) r.back x (flow_at w r.place) (flow_at w p) c.flow (λ e. ap (flow_at w) (same-place r.place p e)) on back in
+      omega (arith, flow-with_cell w r.place p c g i j, one);
+}
+
+-- another limit at one place
+pub limit_set : (w : Network) (p : Place) (c : Cell) → IsGrid w → IsPlace w.site p → c.flow ≡ flow_at w p → IsLimitSet w (with_cell w p c) p c.limit
+limit_set w p c g i same = record {
+  site = refl;
+  saved = refl;
+  flows = λ q j. flow-with_cell w p q c g i j ∙ one_limit (same_place p q) (flow_at w p) (flow_at w q) c.flow (λ e. ap (flow_at w) (same-place p q e)) same;
+  limits = λ q j. limit-with_cell w p q c g i j;
+}
+
+-- one push and then another
+pub push_then : (w u v : Network) (p q : List PathStep) (x : ℕ) → IsPushed w u p x → IsPushed u v q x → IsPushed w v (p ++ q) x
+unfolding added taken
+push_then w u v p q x a b = record {
+  site = b.site ∙ a.site;
+  saved = b.saved ∙ a.saved;
+  limits = λ r i. b.limits r (subst (λ s. IsPlace s r) (sym a.site) i) ∙ a.limits r i;
+  flows = λ r i.
+      omega (
+        arith,
+        a.flows r i,
+        b.flows r (subst (λ s. IsPlace s r) (sym a.site) i),
+        sum_by-append (λ (y : PathStep). cond (y.back && same_place y.place r) x 0) p q,
+        sum_by-append (λ (y : PathStep). cond (not y.back && same_place y.place r) x 0) p q,
+      );
+}
+
+pub push_none : (w : Network) (x : ℕ) → IsPushed w w [] x
+unfolding added taken
+push_none w x = record { site = refl; saved = refl; limits = λ p i. refl; flows = λ p i. refl }
+
+-- ---- paths that visit no place twice
+
+pub none_of : (b c : Bool) (x : ℕ) → c ≡ false → cond (b && c) x 0 ≡ 0
+none_of b c x e = grind arith
+
+differ : (p q : Place) → p ≢ q → same_place p q ≡ false
+differ p q h = elim (cases_Bool (same_place p q)) [ inl e ↦ absurd (h (same-place p q e)) | inr e ↦ e ]
+
+-- what a path leaves at a place that it doesn't visit
+pub added_none : (rs : List PathStep) (x : ℕ) (p : Place) → All (λ r. r.place ≢ p) rs → added rs x p ≡ 0
+unfolding added
+added_none [] x p a = refl
+added_none (r ∷ rs) x p a =
+    omega (
+      arith,
+      sum_by-cons (λ (y : PathStep). cond (not y.back && same_place y.place p) x 0) r rs,
+      none_of (not r.back) (same_place r.place p) x (differ r.place p (All-head (λ (r : PathStep). r.place ≢ p) r rs a)),
+      added_none rs x p (All-tail (λ (r : PathStep). r.place ≢ p) r rs a),
+    )
+
+pub taken_none : (rs : List PathStep) (x : ℕ) (p : Place) → All (λ r. r.place ≢ p) rs → taken rs x p ≡ 0
+unfolding taken
+taken_none [] x p a = refl
+taken_none (r ∷ rs) x p a =
+    omega (
+      arith,
+      sum_by-cons (λ (y : PathStep). cond (y.back && same_place y.place p) x 0) r rs,
+      none_of r.back (same_place r.place p) x (differ r.place p (All-head (λ (r : PathStep). r.place ≢ p) r rs a)),
+      taken_none rs x p (All-tail (λ (r : PathStep). r.place ≢ p) r rs a),
+    )
+
+pub apart-cons : (r : PathStep) (rs : List PathStep) → AllPairs (λ x y. x.place ≢ y.place) (r ∷ rs)
+    → All (λ y. y.place ≢ r.place) rs × AllPairs (λ x y. x.place ≢ y.place) rs
+apart-cons r rs a = (
+  (λ i d l e. a zero (suc i) d (omega arith) (omega (arith, l)) (sym e)),
+  (λ i j d l h. a (suc i) (suc j) d (omega (arith, l)) (omega (arith, h))),
+)
+
+-- what a path adds to a place is within the room there
+fits_one : (b back : Bool) (x flow limit room rest : ℕ) → flow ≤ limit → room ≡ cond back flow (limit - flow) → x ≤ room → (b ≡ true → rest ≡ 0)
+    → (flow + rest ≤ limit) → flow + (cond (not back && b) x 0 + rest) ≤ limit
+fits_one false true x f l r s h i j k m = omega arith
+fits_one false false x f l r s h i j k m = omega arith
+fits_one true true x f l r s h i j k m = omega arith
+fits_one true false x f l r s h i j k m = omega (arith, k refl)
+
+pub added_fits : (w : Network) (rs : List PathStep) (x : ℕ) (p : Place) → flow_at w p ≤ limit_at w p → All (λ r. x ≤ residual_room w r) rs
+    → AllPairs (λ y z. y.place ≢ z.place) rs → flow_at w p + added rs x p ≤ limit_at w p
+unfolding added
+added_fits w [] x p h a b = omega (arith, h)
+added_fits w (r ∷ rs) x p h a b =
+    let apart = apart-cons r rs b in
+    let rest = added_fits w rs x p h (All-tail (λ (r : PathStep). x ≤ residual_room w r) r rs a) apart.1 in
+    let none : same_place r.place p ≡ true → added rs x p ≡ 0 =
+    λ e. added_none rs x p (subst (λ q. All (λ (y : PathStep). y.place ≢ q) rs) (same-place r.place p e) apart.0) in
+    let room : x ≤ residual_room w r = All-head (λ (r : PathStep). x ≤ residual_room w r) r rs a in
+    omega (
+      arith,
+      sum_by-cons (λ (y : PathStep). cond (not y.back && same_place y.place p) x 0) r rs,
+      at_place (cases_Bool (same_place r.place p)) none rest room,
+    )
+  where
+    at_place : (same_place r.place p ≡ true) ⊎ (same_place r.place p ≡ false) → (same_place r.place p ≡ true → added rs x p ≡ 0)
+        → flow_at w p + added rs x p ≤ limit_at w p → x ≤ residual_room w r
+        → flow_at w p + (cond (not r.back && same_place r.place p) x 0 + added rs x p) ≤ limit_at w p
+    at_place (inl e) none rest room =
+        let same = same-place r.place p e in
+        fits_one (same_place r.place p) r.back x (flow_at w p) (limit_at w p) (residual_room w r) (added rs x p) h
+        (ap (λ q. cond r.back (flow_at w q) (limit_at w q - flow_at w q)) same) room none rest
+    at_place (inr e) none rest room = rw e (omega (arith, rest, none_of (not r.back) false x refl))
+
+-- a step of a path meets what it needs when the steps before it have been gone over
+pub apart_before : (path : List PathStep) (i : ℕ) (d : PathStep) → AllPairs (λ y z. y.place ≢ z.place) path → i < length path
+    → All (λ y. y.place ≢ (get_or path i d).place) (take i path)
+apart_before path i d a l j e h =
+    let short : j < i = omega (arith, h, length-take i path) in
+    let here : get_or (take i path) j e ≡ get_or path j e = get_or-take i path j e short in
+    let there : get_or path i e ≡ get_or path i d = get_or_default path i e d l in
+    rw (here, ← there) (a j i e short l)
+
+pub step_place : (w u : Network) (path : List PathStep) (x i : ℕ) (d : PathStep) → IsPushable w path x → IsPushed w u (take i path) x → i < length path
+    → IsPlace u.site (get_or path i d).place
+step_place w u path x i d p h l = subst (λ s. IsPlace s (get_or path i d).place) (sym h.site) (p.2.places i d l)
+
+pub step_room : (w u : Network) (path : List PathStep) (x i : ℕ) (d : PathStep) → IsPushable w path x → IsPushed w u (take i path) x → i < length path
+    → x ≤ residual_room u (get_or path i d)
+step_room w u path x i d p h l =
+    let r = get_or path i d in
+    let before = apart_before path i d p.2.apart l in
+    let place = p.2.places i d l in
+    let room : x ≤ residual_room w r = p.2.room i d l in
+    let flow : flow_at u r.place ≡ flow_at w r.place =
+    omega (arith, h.flows r.place place, added_none (take i path) x r.place before, taken_none (take i path) x r.place before) in
+    let limit = h.limits r.place place in
+    rw (flow, limit) room
+
+pub push_more : (w u v : Network) (path : List PathStep) (x i : ℕ) (d : PathStep) → IsPushed w u (take i path) x → IsPushed u v (get_or path i d ∷ []) x
+    → i < length path → IsPushed w v (take (i + 1) path) x
+push_more w u v path x i d a b l = rw (take_more path i d l) (push_then w u v (take i path) (get_or path i d ∷ []) x a b)
+
+-- ---- what a push keeps
+
+pub within_pushed : (w v : Network) (path : List PathStep) (x : ℕ) → IsWithinLimits w → IsPushable w path x → IsPushed w v path x → IsWithinLimits v
+within_pushed w v path x h p a q i =
+    let place : IsPlace w.site q = subst (λ s. IsPlace s q) a.site i in
+    omega (arith, a.flows q place, a.limits q place, added_fits w path x q (h q place) p.2.room p.2.apart)
+
+pub same_supplies : (w v : Network) (path : List PathStep) (x : ℕ) → IsPushed w v path x → supply_limits v ≡ supply_limits w
+unfolding supply_limits
+same_supplies w v path x a =
+    ap (λ s. sum_places s (λ p. cond (is_source (tail_of s p)) (limit_at v p) 0)) a.site
+    ∙ sum_places-same w.site _ _ (λ p i. ap (λ z. cond (is_source (tail_of w.site p)) z 0) (a.limits p i))
+
+cond_le : (b : Bool) (u r : ℕ) → u ≤ r → cond b u 0 ≤ cond b r 0
+cond_le true u r l = l
+cond_le false u r l = omega arith
+
+sent_fits : (w : Network) → IsWithinLimits w → flow_out w is_source ≤ supply_limits w
+unfolding flow_out supply_limits
+sent_fits w h = sum_places-le w.site _ _ (λ p i. cond_le (is_source (tail_of w.site p)) (flow_at w p) (limit_at w p) (h p i))
+
+pub net_pushed : (w v : Network) (path : List PathStep) (x : ℕ) → IsNet w → IsWithinLimits w → IsPushable w path x → IsPushed w v path x → IsGrid v
+    → IsNet v
+net_pushed w v path x n h p a g =
+    let within = within_pushed w v path x h p a in
+    let same = same_supplies w v path x a in
+    let sent = sent_fits v within in record {
+      site = g.site;
+      full = g.full;
+      conserved = still_conserved w v path x a p.2.places p.0 p.1 p.2.origin p.2.leads n.conserved;
+      barred = λ q i b.
+          let place : IsPlace w.site q = subst (λ s. IsPlace s q) a.site i in
+          let was = n.barred q place (subst (λ s. is_barred s q ≡ true) a.site b) in
+          let limit = a.limits q place in
+          (omega (arith, within q i, limit, was.1), omega (arith, limit, was.1));
+      supplies = omega (arith, same, n.supplies);
+      few_sent = omega (arith, sent, same, n.supplies);
+    }
+
+door_le : (w : Network) (j : ℕ) → flow_into w (at (Door j)) ≤ flow_into w is_door
+unfolding flow_into
+door_le w j = sum_places-le w.site _ _ (λ p i. less (head_of w.site p) (flow_at w p))
+  where
+    less : (e : End) (f : ℕ) → cond (at (Door j) e) f 0 ≤ cond (is_door e) f 0
+    less Source f = omega arith
+    less (Pair n t) f = omega arith
+    less (Door t) f = at_most (eqb j t) f
+      where
+        at_most : (b : Bool) (f : ℕ) → cond b f 0 ≤ f
+        at_most true f = omega arith
+        at_most false f = omega arith
+
+-- no arrival passes the limit on people
+pub few_arrive : (w : Network) (j : ℕ) → IsNet w → flow_into w (at (Door j)) ≤ supply_limit
+few_arrive w j n = omega (arith, door_le w j, n.conserved.sent, n.few_sent)
+
+-- ---- the ends of a path
+
+pub path_some : (w : Network) (path : List PathStep) (x : ℕ) → IsPushable w path x → 0 < length path
+path_some w [] x p = absurd (no_way p.0 p.1 p.2.origin p.2.leads)
+  where
+    no_way : (e : End) (k : ℕ) → IsOrigin k e → e ≡ Door k → ⊥
+    no_way Source k o h = cc
+    no_way (Pair n t) k o h = o
+    no_way (Door j) k o h = let same = ap door h in omega (arith, o, same)
+      where
+        door : End → ℕ
+        door Source = 0
+        door (Pair n t) = 0
+        door (Door t) = t
+path_some w (r ∷ rs) x p = omega arith
+
+pub first_start : (s : Site) (e f : End) (path : List PathStep) (d : PathStep) → Leads s e path f → 0 < length path → start_of s (get_or path 0 d) ≡ e
+first_start s e f [] d h l = absurd (omega (arith, l))
+first_start s e f (r ∷ rs) d h l = h.0
+
+pub last_stop : (s : Site) (e f : End) (path : List PathStep) (d : PathStep) → Leads s e path f → 0 < length path
+    → stop_of s (get_or path (length path - 1) d) ≡ f
+last_stop s e f [] d h l = absurd (omega (arith, l))
+last_stop s e f (r ∷ []) d h l = h.1
+last_stop s e f (r ∷ (q ∷ rs)) d h l =
+    let more : length (r ∷ (q ∷ rs)) - 1 ≡ suc (length (q ∷ rs) - 1) = omega arith in
+    rw more (last_stop s (stop_of s r) f (q ∷ rs) d h.1 (omega arith))

@@ -1,0 +1,11 @@
+use Rattle.std.proofs.Common.{◌≡◌, ℕ, ◌<◌, get_or}
+use Rattle.time_expansion.specs.Expansion.{arcs_from}
+use Rattle.residual_net.specs.declared.place.Place.TheVariants.{Arc}
+use Rattle.residual_net.specs.Network.{flow_at}
+use Rattle.residual_net.proofs.cancel.place_out.Given as goal
+
+abbrev pub invariant-loop-arc : goal.invariant-loop-arc
+invariant-loop-arc l = record {
+  arcs : l.arcs ≡ arcs_from l.grid.site.shape l.node;
+  none : (i : ℕ) → i < l.arc-index → flow_at l.grid (Arc (get_or l.arcs i 0) l.moment) ≡ 0;
+}

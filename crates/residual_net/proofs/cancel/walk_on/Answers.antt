@@ -1,0 +1,20 @@
+use Rattle.std.proofs.Common.{◌∙◌, ap, subst, sym, List}
+use Rattle.residual_net.specs.declared.place.PathStep.{PathStep}
+use Rattle.residual_net.specs.Route.{Trail}
+use Rattle.residual_net.proofs.Walks.{OnSoFar, on_more, ahead_is}
+use Rattle.residual_net.proofs.cancel.walk_on.Goals as goal
+
+pub place_out-here-requires-clause-some : goal.place_out-here-requires-clause-some
+place_out-here-requires-clause-some c =
+    let on = c.loop-node.invariant.on in
+    (ahead_is c.args.grid.now c.requires.net c.loop-node.here on.place on.some c.in-Some.node c.in-Some.moment c.in-Some.ensures).some
+
+pub loop-node-preserved : goal.loop-node-preserved
+loop-node-preserved c =
+    let w = c.args.grid.now in
+    let more = on_more w c.requires.net c.args.place c.loop-node.here c.place_out-here.result c.loop-node.path.steps c.in-Some.node c.in-Some.moment
+    c.loop-node.invariant.on c.in-Some.ensures c.place_out-here.ensures.place c.place_out-here.ensures.leads c.place_out-here.ensures.some in
+    record {
+      room = ap (λ (z : Trail). z.room) c.add.ensures ∙ c.loop-node.invariant.room;
+      on = subst (λ (z : List PathStep). OnSoFar w c.args.place c.place_out-here.result z) (sym (ap (λ (z : Trail). z.steps) c.add.ensures)) more;
+    }

@@ -1,0 +1,14 @@
+use Rattle.std.proofs.Common.{◌≡◌, ◌-◌}
+use Rattle.residual_net.specs.Change.{end_moment}
+use Rattle.residual_net.specs.Site.{head_of}
+use Rattle.residual_net.proofs.Walks.{OnSoFar}
+use Rattle.residual_net.proofs.cancel.walk_on.Given as goal
+
+abbrev pub invariant-loop-node : goal.invariant-loop-node
+invariant-loop-node l = record {
+  room : l.path.room ≡ l.initial.path.room;
+  on : OnSoFar l.grid l.fn.place l.here l.path.steps;
+}
+
+abbrev pub decreases-loop-node : goal.decreases-loop-node
+decreases-loop-node l = l.grid.site.shape.horizon - end_moment (head_of l.grid.site l.here)

@@ -1,0 +1,7 @@
+use Rattle.std.proofs.Common.{◌≡◌, map, take}
+use Rattle.evac_law.specs.declared.model.ArcRow.{ArcRow}
+use Rattle.residual_net.proofs.Begin.{joined}
+use Rattle.residual_net.proofs.start.ends_of.Given as goal
+
+abbrev pub invariant-loop-arc : goal.invariant-loop-arc
+invariant-loop-arc l = l.ends.items ≡ map (λ (a : ArcRow). joined a) (take l.arc-index l.arc-items)

@@ -1,0 +1,210 @@
+// A flow path through a place: back to its supply, and on to its arrival.
+ghost use Rattle.std.specs.Prelude.{◌≡◌, ℕ, ◌+◌, ◌<◌, ◌≤◌, IsFalse, IsTrue, MatchOption, length};
+ghost use Rattle.std.specs.List.{All};
+ghost use Rattle.residual_net.specs.Site.{IsPlace, at, exit_at, head_of, is_door, tail_of};
+ghost use Rattle.residual_net.specs.Site.End.{Pair, Source};
+ghost use Rattle.residual_net.specs.Network.{IsGrid, IsNet, flow_at, flow_into, flow_out};
+ghost use Rattle.residual_net.specs.Change.{IsArcInto, IsTakeable, IsTaken, IsWalkBack, IsWholeWalk};
+
+use crate::grid::Grid;
+use crate::path::Path;
+use crate::place::{PathStep, Place};
+
+/// The node and moment that a place leads from, where it isn't a supply.
+fn behind(grid: &Grid, place: Place) -> Option<(u32, u16)>
+    requires { IsPlace grid.now.site place }
+    ensures { MatchOption result (tail_of grid.now.site place ≡ Source) (λ p. tail_of grid.now.site place ≡ Pair p.0 p.1) }
+{
+    match place {
+        Place::Arc { arc, moment } => {
+            let ends = grid.shape().ends()[arc as usize];
+            Some((ends.from, moment))
+        }
+        Place::Hold { node, moment } => Some((node, moment)),
+        Place::Supply { .. } => None,
+    }
+}
+
+/// The node and moment that a place leads to, where it isn't a move into an exit.
+fn ahead(grid: &Grid, place: Place) -> Option<(u32, u16)>
+    requires { IsPlace grid.now.site place }
+    ensures { MatchOption result (IsTrue (is_door (head_of grid.now.site place))) (λ p. head_of grid.now.site place ≡ Pair p.0 p.1) }
+{
+    let shape = grid.shape();
+    match place {
+        Place::Arc { arc, moment } => {
+            let ends = shape.ends()[arc as usize];
+            if grid.is_exit(ends.to) {
+                None
+            } else {
+                Some((ends.to, moment + grid.travel(arc)))
+            }
+        }
+        Place::Hold { node, moment } => Some((node, moment + 1)),
+        Place::Supply { node, moment } => Some((node, moment)),
+    }
+}
+
+/// An arc with flow that leads into a node at a moment.
+fn arc_into(grid: &Grid, node: u32, moment: u16) -> Option<Place>
+    requires node { node < grid.now.site.shape.nodes }
+    requires moment { moment ≤ grid.now.site.shape.horizon }
+    ensures { IsArcInto grid.now node moment result }
+{
+    let arcs = grid.shape().entering(node);
+    for arc in arcs {
+        let travel = grid.travel(*arc);
+        if travel <= moment {
+            let place = Place::Arc {
+                arc: *arc,
+                moment: moment - travel,
+            };
+            if grid.get(place).flow > 0 {
+                return Some(place);
+            }
+        }
+    }
+    None
+}
+
+/// A hold or a supply with flow that leads into a node at a moment, where no arc with flow does.
+fn rest_into(grid: &Grid, node: u32, moment: u16) -> Place
+    requires node { node < grid.now.site.shape.nodes }
+    requires moment { moment ≤ grid.now.site.shape.horizon }
+    requires no_arc { IsArcInto grid.now node moment None }
+    requires some { 0 < flow_into grid.now (at (Pair node moment)) }
+    ensures place { IsPlace grid.now.site result }
+    ensures leads { head_of grid.now.site result ≡ Pair node moment }
+    ensures some { 0 < flow_at grid.now result }
+{
+    if moment > 0 {
+        let place = Place::Hold {
+            node,
+            moment: moment - 1,
+        };
+        if grid.get(place).flow > 0 {
+            return place;
+        }
+    }
+    Place::Supply { node, moment }
+}
+
+/// A place with flow that leads into a node at a moment.
+fn place_into(grid: &Grid, node: u32, moment: u16) -> Place
+    requires node { node < grid.now.site.shape.nodes }
+    requires moment { moment ≤ grid.now.site.shape.horizon }
+    requires open { IsFalse (exit_at grid.now.site node) }
+    requires some { 0 < flow_into grid.now (at (Pair node moment)) }
+    ensures place { IsPlace grid.now.site result }
+    ensures leads { head_of grid.now.site result ≡ Pair node moment }
+    ensures some { 0 < flow_at grid.now result }
+{
+    match arc_into(grid, node, moment) {
+        Some(place) => place,
+        None => rest_into(grid, node, moment),
+    }
+}
+
+/// A place with flow that leads out of a node at a moment.
+fn place_out(grid: &Grid, node: u32, moment: u16) -> Place
+    requires node { node < grid.now.site.shape.nodes }
+    requires moment { moment ≤ grid.now.site.shape.horizon }
+    requires some { 0 < flow_out grid.now (at (Pair node moment)) }
+    ensures place { IsPlace grid.now.site result }
+    ensures leads { tail_of grid.now.site result ≡ Pair node moment }
+    ensures some { 0 < flow_at grid.now result }
+{
+    let arcs = grid.shape().leaving(node);
+    for arc in arcs {
+        let place = Place::Arc { arc: *arc, moment };
+        if grid.get(place).flow > 0 {
+            return place;
+        }
+    }
+    Place::Hold { node, moment }
+}
+
+/// Fills a path with the steps from a supply to a place, along flow.
+fn walk_back(grid: &Grid, place: Place, path: &mut Path)
+    requires net { IsNet grid.now }
+    requires place { IsPlace grid.now.site place }
+    requires some { 0 < flow_at grid.now place }
+    requires room { grid.now.site.shape.horizon + 2 ≤ path.old.room }
+    ensures walk { IsWalkBack grid.now place path.new.steps }
+    ensures room { path.new.room ≡ path.old.room }
+{
+    path.clear();
+    path.add(PathStep { place, back: false });
+    let mut here = place;
+    while let Some((node, moment)) = behind(grid, here) {
+        here = place_into(grid, node, moment);
+        path.add(PathStep {
+            place: here,
+            back: false,
+        });
+    }
+    path.turn();
+}
+
+/// Adds to a path the steps from a place to an arrival, along flow.
+fn walk_on(grid: &Grid, place: Place, path: &mut Path)
+    requires net { IsNet grid.now }
+    requires walk { IsWalkBack grid.now place path.old.steps }
+    requires room { grid.now.site.shape.horizon + 2 ≤ path.old.room }
+    ensures walk { IsWholeWalk grid.now place path.new.steps }
+    ensures room { path.new.room ≡ path.old.room }
+{
+    let mut here = place;
+    while let Some((node, moment)) = ahead(grid, here) {
+        here = place_out(grid, node, moment);
+        path.add(PathStep {
+            place: here,
+            back: false,
+        });
+    }
+}
+
+/// Fills a path with a flow path through a place.
+pub fn find_path(grid: &Grid, place: Place, path: &mut Path)
+    requires net { IsNet grid.now }
+    requires place { IsPlace grid.now.site place }
+    requires some { 0 < flow_at grid.now place }
+    requires room { grid.now.site.shape.horizon + 2 ≤ path.old.room }
+    ensures walk { IsWholeWalk grid.now place path.new.steps }
+    ensures room { path.new.room ≡ path.old.room }
+{
+    walk_back(grid, place, path);
+    walk_on(grid, place, path);
+}
+
+/// The least of a number and the flows along a path.
+pub fn least(grid: &Grid, path: &[PathStep], most: u32) -> u32
+    requires places { All (λ x. IsPlace grid.now.site x.place) path.now }
+    requires flows { All (λ x. 0 < flow_at grid.now x.place) path.now }
+    requires some { 0 < most }
+    ensures some { 1 ≤ result }
+    ensures most { result ≤ most }
+    ensures flows { All (λ x. result ≤ flow_at grid.now x.place) path.now }
+{
+    let mut people = most;
+    for step in path {
+        people = people.min(grid.get(step.place).flow);
+    }
+    people
+}
+
+/// Takes people off each place of a path.
+pub fn take_all(grid: &mut Grid, path: &[PathStep], people: u32)
+    requires grid { IsGrid grid.old }
+    requires path { IsTakeable grid.old path.now people }
+    ensures taken { IsTaken grid.old grid.new path.now people }
+    ensures grid { IsGrid grid.new }
+{
+    for step in path {
+        let back = PathStep {
+            place: step.place,
+            back: true,
+        };
+        grid.shift(back, people);
+    }
+}

@@ -1,0 +1,57 @@
+// The laws of nets, each the contract of a function with nothing to do.
+ghost use Rattle.residual_net.specs.NetLaws.{ArrivedIsOut, ArrivedWithinCut, CancelLowersArrivals, ClosedGrows, ClosedIsCut, ClosedSurvivesPush, NetFits, NetIsFeasible, PushMovesArrivals, SentIsArrived, SuppliesBetween};
+
+/// The arrivals of a net are those of its plan.
+pub fn arrived_is_out()
+    ensures { ArrivedIsOut }
+{}
+
+/// At no moment have more people arrived than a cut is worth.
+pub fn arrived_within_cut()
+    ensures { ArrivedWithinCut }
+{}
+
+/// Where no residual step enters the pairs labelled at most k, as many have arrived by k as the cut of the others is worth.
+pub fn closed_is_cut()
+    ensures { ClosedIsCut }
+{}
+
+/// A closed set stays closed under every push along a path that begins outside it.
+pub fn closed_survives_push()
+    ensures { ClosedSurvivesPush }
+{}
+
+/// A closed set and what a search adds to it are closed where every step into something new starts within the two.
+pub fn closed_grows()
+    ensures { ClosedGrows }
+{}
+
+/// A net that isn't Over and has everybody sent stands for its plan.
+pub fn net_fits()
+    ensures { NetFits }
+{}
+
+/// A net that isn't Over and has everybody sent has a feasible plan.
+pub fn net_is_feasible()
+    ensures { NetIsFeasible }
+{}
+
+/// A push brings its people to the last moment of its path, from the source or from a later arrival.
+pub fn push_moves_arrivals()
+    ensures { PushMovesArrivals }
+{}
+
+/// A cancel lowers no moment's arrivals by more than it takes off, and raises none.
+pub fn cancel_lowers_arrivals()
+    ensures { CancelLowersArrivals }
+{}
+
+/// Everybody arrives by the horizon exactly where everybody is sent.
+pub fn sent_is_arrived()
+    ensures { SentIsArrived }
+{}
+
+/// Supplies whose limits are each at most those of two models together may be sent, as on the way from one model to another.
+pub fn supplies_between()
+    ensures { SuppliesBetween }
+{}

@@ -1,0 +1,287 @@
+// A net: its flow keeps conservation.
+ghost use Rattle.std.specs.Prelude.{◌≡◌, ◌+◌, ◌<◌, ◌≤◌, IfOk, IsTrue, length, replicate};
+ghost use Rattle.evac_law.specs.Building.{IsValid};
+ghost use Rattle.residual_net.specs.Limits.{supply_limit};
+ghost use Rattle.residual_net.specs.Site.{IsPlace, arrival_at, exit_at, is_barred};
+ghost use Rattle.residual_net.specs.Network.{IsGrid, IsNet, IsStored, IsWithinLimits, arrived_by, excess_at, flow_at, residual_room, saved_of, unsent_at, with_saved};
+ghost use Rattle.residual_net.specs.Route.{IsPushable, IsPushed, IsUnderway};
+ghost use Rattle.residual_net.specs.Change.{IsCancelled, IsLimitSet, IsLowering, supply_limits_with};
+ghost use Rattle.residual_net.specs.OfModel.{IsNetOf, last_move, plan_of};
+ghost use Rattle.residual_net.specs.declared.place.Place.{Place};
+ghost use Rattle.residual_net.specs.declared.place.Place.TheVariants.{Arc, Hold, Supply};
+
+use crate::cancel::{find_path, least, take_all};
+use crate::grid::Grid;
+use crate::path::Path;
+use crate::place::{PathStep, Place};
+use crate::standing::last_some;
+use crate::start::grid_of;
+use evac_law::Steps;
+use std::alloc::{AllocError, Global};
+use std::marker::Model;
+use std::sync::ledger::Ledger;
+use time_expansion::Shape;
+
+/// A flow over time with its limits, and what was saved of it.
+#[derive(Drop)]
+pub struct Net {
+    grid: Grid,
+    arrivals: Vec<u32>,
+    saved_arrivals: Vec<u32>,
+}
+
+impl Model for Net {
+    ghost use Rattle.residual_net.specs.Network.{IsKept, Network};
+
+    ghost Value = { Network };
+
+    ghost view = { λ n. n.grid };
+
+    ghost invariant = { λ n. IsKept n.grid n.arrivals.items n.saved_arrivals.items };
+}
+
+/// Sends people over each step in turn.
+fn shift_all(grid: &mut Grid, path: &[PathStep], people: u32)
+    requires path { IsPushable grid.old path.now people }
+    requires net { IsNet grid.old }
+    requires grid { IsGrid grid.old }
+    requires within { IsWithinLimits grid.old }
+    ensures pushed { IsPushed grid.old grid.new path.now people }
+    ensures within { IsWithinLimits grid.new }
+    ensures grid { IsGrid grid.new }
+{
+    for step in path {
+        grid.shift(*step, people);
+    }
+}
+
+/// Counts the people of a push at the moment at which the path arrives, and no more at the one where it begins.
+fn move_arrivals(arrivals: &mut [u32], grid: &Grid, path: &[PathStep], people: u32)
+    requires some { 1 ≤ people }
+    requires underway { IsUnderway grid.now arrivals.old path.now people }
+    ensures { IsStored grid.now arrivals.new }
+{
+    let first = path[0];
+    let last = path[path.len() - 1];
+    let to = grid.arrival(last.place) as usize;
+    if first.back {
+        let from = grid.arrival(first.place) as usize;
+        arrivals[from] -= people;
+    }
+    arrivals[to] += people;
+}
+
+/// Counts the people who were taken off a path no more at the moment at which it arrives.
+fn lower_arrivals(arrivals: &mut [u32], grid: &Grid, path: &[PathStep], people: u32)
+    requires { IsLowering grid.now arrivals.old path.now people }
+    ensures { IsStored grid.now arrivals.new }
+{
+    let last = path[path.len() - 1];
+    let at = grid.arrival(last.place) as usize;
+    arrivals[at] -= people;
+}
+
+/// A list of zeros.
+fn zeros(alloc: Global, count: usize) -> Result<Vec<u32>, AllocError>
+    ensures { IfOk result (λ r. r.items ≡ replicate count 0) }
+{
+    vec![in alloc; 0u32; count]
+}
+
+impl Net {
+    /// A net of a model, with no flow and with the limits of the model. All memory that a net needs is taken here.
+    pub fn new(alloc: Global, model: &evac_law::Model) -> Result<Net, AllocError>
+        requires { IsValid model.now }
+        ensures of { IfOk result (IsNetOf model.now) }
+        ensures empty { IfOk result (λ w. (p : Place) → IsPlace w.site p → flow_at w p ≡ 0) }
+        ensures saved { IfOk result (λ w. saved_of w ≡ w) }
+    {
+        let grid = grid_of(alloc, model)?;
+        let moments = model.horizon as usize + 1;
+        let arrivals = zeros(alloc, moments)?;
+        let saved_arrivals = zeros(alloc, moments)?;
+        Ok(Net {
+            grid,
+            arrivals,
+            saved_arrivals,
+        })
+    }
+
+    /// The cells of the network, and the arcs at each node.
+    pub fn shape(&self) -> &Shape
+        ensures shape { result.now ≡ self.now.site.shape }
+        ensures net { IsNet self.now }
+    {
+        self.grid.shape()
+    }
+
+    /// The number of the nodes.
+    pub fn nodes(&self) -> u32
+        ensures { result ≡ self.now.site.shape.nodes }
+    {
+        self.shape().nodes()
+    }
+
+    /// The last moment.
+    pub fn horizon(&self) -> u16
+        ensures { result ≡ self.now.site.shape.horizon }
+    {
+        self.shape().horizon()
+    }
+
+    /// Whether a node is an exit.
+    pub fn is_exit(&self, node: u32) -> bool
+        requires { node < self.now.site.shape.nodes }
+        ensures { result ≡ exit_at self.now.site node }
+    {
+        self.grid.is_exit(node)
+    }
+
+    /// The traversal time of an arc: when those arrive who enter it at moment 0.
+    pub fn travel(&self, arc: u32) -> u16
+        requires { arc < length self.now.site.shape.ends }
+        ensures { arrival_at self.now.site arc 0 ≡ result }
+    {
+        self.grid.travel(arc)
+    }
+
+    /// The people who may go over a step.
+    #[tactic(auto, unfolding(crate::specs::Network::flow_at, crate::specs::Network::limit_at))]
+    pub fn room(&self, step: PathStep) -> u32
+        requires place { IsPlace self.now.site step.place }
+        requires within { IsWithinLimits self.now }
+        ensures { result ≡ residual_room self.now step }
+    {
+        let cell = self.grid.get(step.place);
+        if step.back {
+            cell.flow
+        } else {
+            cell.limit - cell.flow
+        }
+    }
+
+    /// The people who enter an arc at a moment.
+    pub fn moved(&self, arc: u32, moment: u16) -> u32
+        requires { IsPlace self.now.site (Arc arc moment) }
+        ensures { result ≡ flow_at self.now (Arc arc moment) }
+    {
+        let cell = self.grid.get(Place::Arc { arc, moment });
+        cell.flow
+    }
+
+    /// The people in a node at a moment.
+    pub fn held(&self, node: u32, moment: u16) -> u32
+        requires { IsPlace self.now.site (Hold node moment) }
+        ensures { result ≡ flow_at self.now (Hold node moment) }
+    {
+        let cell = self.grid.get(Place::Hold { node, moment });
+        cell.flow
+    }
+
+    /// The people of a node and moment who aren't sent yet.
+    pub fn unsent(&self, node: u32, moment: u16) -> u32
+        requires place { IsPlace self.now.site (Supply node moment) }
+        requires within { IsWithinLimits self.now }
+        ensures { result ≡ unsent_at self.now node moment }
+    {
+        let place = Place::Supply { node, moment };
+        self.room(PathStep { place, back: false })
+    }
+
+    /// The flow less the limit, or 0 where the flow isn't above the limit.
+    pub fn excess(&self, place: Place) -> u32
+        requires { IsPlace self.now.site place }
+        ensures { result ≡ excess_at self.now place }
+    {
+        let cell = self.grid.get(place);
+        cell.flow.saturating_sub(cell.limit)
+    }
+
+    /// The people who arrive by a moment.
+    #[tactic(auto, using(evac_law::proofs::SumLemmas::sum_steps))]
+    pub fn arrived(&self, k: u16) -> u32
+        requires { k ≤ self.now.site.shape.horizon }
+        ensures { result ≡ arrived_by self.now k }
+    {
+        let arrivals = self.arrivals.as_slice();
+        let mut total = 0u32;
+        for moment in 0..k as usize + 1 {
+            total += arrivals[moment];
+        }
+        total
+    }
+
+    /// The last moment at which a move arrives, or 0. Takes time in proportion to the horizon.
+    pub fn last_arrival(&self) -> u16
+        ensures { result ≡ last_move self.now.site (plan_of self.now) }
+    {
+        last_some(self.arrivals.as_slice()) as u16
+    }
+
+    /// Sends people along a path. Takes time in proportion to the path.
+    pub fn push<L: Ledger>(&mut self, path: &Path, people: u32, steps: &mut Steps<L>)
+        requires within { IsWithinLimits self.old }
+        requires some { 1 ≤ people }
+        requires path { IsPushable self.old path.now.steps people }
+        ensures pushed { IsPushed self.old self.new path.now.steps people }
+        ensures within { IsWithinLimits self.new }
+        ensures ticked { steps.new ≡ steps.old + 1 }
+    {
+        let list = path.steps();
+        shift_all(&mut self.grid, list, people);
+        move_arrivals(self.arrivals.as_mut_slice(), &self.grid, list, people);
+        steps.tick();
+    }
+
+    /// Gives a place another limit. The flow stays, and may be above it then.
+    pub fn set_limit(&mut self, place: Place, people: u32)
+        requires place { IsPlace self.old.site place }
+        requires open { IsTrue (is_barred self.old.site place) → people ≡ 0 }
+        requires supplies { supply_limits_with self.old place people ≤ supply_limit }
+        ensures { IsLimitSet self.old self.new place people }
+    {
+        self.grid.set_limit(place, people);
+    }
+
+    /// Takes people off one flow path through a place with too many: at least one, and at most the excess of the place.
+    ///
+    /// The path that is left in `path` goes from a supply over the place to an arrival. Takes time in proportion to the path and
+    /// the arcs at its nodes.
+    pub fn cancel<L: Ledger>(&mut self, place: Place, path: &mut Path, steps: &mut Steps<L>) -> u32
+        requires place { IsPlace self.old.site place }
+        requires over { 0 < excess_at self.old place }
+        requires room { self.old.site.shape.horizon + 2 ≤ path.old.room }
+        ensures cancelled { IsCancelled self.old self.new place path.new.steps result }
+        ensures room { path.new.room ≡ path.old.room }
+        ensures ticked { steps.new ≡ steps.old + 1 }
+    {
+        let excess = self.excess(place);
+        find_path(&self.grid, place, path);
+        let list = path.steps();
+        let people = least(&self.grid, list, excess);
+        take_all(&mut self.grid, list, people);
+        lower_arrivals(self.arrivals.as_mut_slice(), &self.grid, list, people);
+        steps.tick();
+        people
+    }
+
+    /// Keeps the flow and the limits, until the next `save`.
+    pub fn save(&mut self)
+        ensures { self.new ≡ with_saved self.old }
+    {
+        self.grid.save();
+        self.saved_arrivals
+            .as_mut_slice()
+            .copy_from_slice(self.arrivals.as_slice());
+    }
+
+    /// Gives back the flow and the limits that were saved last, and where nothing was saved those of the new net.
+    pub fn restore(&mut self)
+        ensures { self.new ≡ saved_of self.old }
+    {
+        self.grid.restore();
+        self.arrivals
+            .as_mut_slice()
+            .copy_from_slice(self.saved_arrivals.as_slice());
+    }
+}

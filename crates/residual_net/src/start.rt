@@ -1,0 +1,151 @@
+// How a net of a model begins: with no flow, and with the model's limits.
+ghost use Rattle.std.specs.Prelude.{◌≡◌, ℕ, ◌+◌, ◌<◌, ◌≤◌, ◌==◌, ◌&&◌, IfOk, IsTrue, length, map};
+ghost use Rattle.evac_law.specs.Building.{IsValid};
+ghost use Rattle.evac_law.specs.Names.{is_exit};
+ghost use Rattle.residual_net.specs.Site.{IsPlace};
+ghost use Rattle.residual_net.specs.Network.{IsGrid};
+ghost use Rattle.residual_net.specs.OfModel.{model_limit, site_of};
+ghost use Rattle.residual_net.specs.declared.place.Place.{Place};
+ghost use Rattle.residual_net.specs.Start.{SetsLimits, StartsAs, is_kind, number_of, place_of};
+
+use crate::grid::Grid;
+use crate::place::Place;
+use evac_law::Model;
+use std::alloc::{AllocError, Global};
+use time_expansion::{Ends, Shape};
+
+/// The kinds of places.
+#[derive(Clone, Copy, PartialEq, Eq, Debug)]
+pub enum Kind {
+    Arc,
+    Hold,
+    Supply,
+}
+
+/// The ends of the arcs.
+fn ends_of(alloc: Global, model: &Model) -> Result<Vec<Ends>, AllocError>
+    ensures { IfOk result (λ r. r.items ≡ map (λ a. record { from = a.from; to = a.to }) model.now.arcs) }
+{
+    let mut ends = Vec::new(alloc);
+    for arc in model.arcs.as_slice() {
+        ends.push(Ends {
+            from: arc.from,
+            to: arc.to,
+        })?;
+    }
+    Ok(ends)
+}
+
+/// Which nodes are exits.
+fn exits_of(alloc: Global, model: &Model) -> Result<Vec<bool>, AllocError>
+    ensures { IfOk result (λ r. r.items ≡ map (λ n. is_exit n.name.kind) model.now.nodes) }
+{
+    let mut exits = Vec::new(alloc);
+    for node in model.nodes.as_slice() {
+        exits.push(node.name.kind.is_exit())?;
+    }
+    Ok(exits)
+}
+
+/// The traversal times of the arcs.
+fn travels_of(alloc: Global, model: &Model) -> Result<Vec<u16>, AllocError>
+    ensures { IfOk result (λ r. r.items ≡ map (λ a. a.travel) model.now.arcs) }
+{
+    let mut travels = Vec::new(alloc);
+    for arc in model.arcs.as_slice() {
+        travels.push(arc.travel)?;
+    }
+    Ok(travels)
+}
+
+/// The limit that a model gives a place.
+fn limit_of(model: &Model, place: Place) -> u32
+    requires valid { IsValid model.now }
+    requires place { IsPlace (site_of model.now) place }
+    ensures { result ≡ model_limit model.now place }
+{
+    match place {
+        Place::Arc { arc, moment } => {
+            if moment + model.arc(arc).travel > model.horizon {
+                0
+            } else {
+                model.rate(arc, moment)
+            }
+        }
+        Place::Hold { node, moment } => {
+            if moment == model.horizon {
+                0
+            } else {
+                model.node(node).capacity
+            }
+        }
+        Place::Supply { node, moment } => model.entry(node, moment),
+    }
+}
+
+/// The place of a kind with a number at a moment.
+fn place_of(kind: Kind, number: u32, moment: u16) -> Place
+    ensures { result ≡ place_of kind number moment }
+{
+    match kind {
+        Kind::Arc => Place::Arc {
+            arc: number,
+            moment,
+        },
+        Kind::Hold => Place::Hold {
+            node: number,
+            moment,
+        },
+        Kind::Supply => Place::Supply {
+            node: number,
+            moment,
+        },
+    }
+}
+
+/// Gives the places of a kind with a number the model's limits.
+fn limit_row(grid: &mut Grid, model: &Model, kind: Kind, number: u32)
+    requires valid { IsValid model.now }
+    requires site { grid.old.site ≡ site_of model.now }
+    requires grid { IsGrid grid.old }
+    requires number { IsPlace grid.old.site (place_of kind number 0) }
+    ensures { SetsLimits model.now grid.old grid.new (λ p. is_kind kind p && number_of p == number) }
+{
+    for moment in 0..model.horizon + 1 {
+        let place = place_of(kind, number, moment);
+        grid.set_limit(place, limit_of(model, place));
+    }
+}
+
+/// Gives the places of a kind the model's limits.
+fn limit_rows(grid: &mut Grid, model: &Model, kind: Kind, count: u32)
+    requires valid { IsValid model.now }
+    requires site { grid.old.site ≡ site_of model.now }
+    requires grid { IsGrid grid.old }
+    requires numbers { (n : ℕ) → n < count → IsPlace grid.old.site (place_of kind n 0) }
+    requires all { (p : Place) → IsPlace grid.old.site p → IsTrue (is_kind kind p) → number_of p < count }
+    ensures { SetsLimits model.now grid.old grid.new (is_kind kind) }
+{
+    for number in 0..count {
+        limit_row(grid, model, kind, number);
+    }
+}
+
+/// The cells of a net with no flow and the limits of a model, saved as they are.
+pub fn grid_of(alloc: Global, model: &Model) -> Result<Grid, AllocError>
+    requires { IsValid model.now }
+    ensures { IfOk result (StartsAs model.now) }
+{
+    let ends = ends_of(alloc, model)?;
+    let nodes = model.nodes.len() as u32;
+    let arcs = model.arcs.len() as u32;
+    let shape = Shape::new(alloc, nodes, ends.as_slice(), model.horizon)?;
+    let exits = exits_of(alloc, model)?;
+    let travels = travels_of(alloc, model)?;
+    let mut grid = Grid::new(alloc, shape, exits, travels)?;
+    limit_rows(&mut grid, model, Kind::Arc, arcs);
+    limit_rows(&mut grid, model, Kind::Hold, nodes);
+    limit_rows(&mut grid, model, Kind::Supply, nodes);
+    grid.save();
+    Ok(grid)
+}

@@ -1,0 +1,147 @@
+// The cells of a network over time, and the arcs at each node.
+ghost use Rattle.std.specs.Prelude.{◌≡◌, ◌+◌, ◌*◌, ◌<◌, ◌≤◌, IfOk, length};
+ghost use Rattle.time_expansion.specs.Expansion.{IsExpansion, arc_cell, arcs_from, arcs_to, cells, hold_cell};
+
+use crate::ends::Ends;
+use crate::index::{Index, index_of, keys_of, part};
+use std::alloc::{AllocError, Global};
+use std::marker::Model;
+
+/// The cells of a network over time.
+#[derive(Drop)]
+pub struct Shape {
+    nodes: u32,
+    ends: Vec<Ends>,
+    horizon: u16,
+    leaving: Index,
+    entering: Index,
+}
+
+impl Model for Shape {
+    ghost use Rattle.time_expansion.specs.Expansion.{Expansion};
+    ghost use Rattle.time_expansion.specs.Index.{IsShape};
+
+    ghost Value = { Expansion };
+
+    ghost view = { λ s. record { nodes = s.nodes; ends = s.ends.items; horizon = s.horizon } };
+
+    ghost invariant = { λ s. IsShape (record { nodes = s.nodes; ends = s.ends.items; horizon = s.horizon }) s.leaving.starts.items s.leaving.items.items s.entering.starts.items s.entering.items.items };
+}
+
+impl Shape {
+    /// The cells of a network. Takes time in proportion to its nodes and arcs.
+    pub fn new(alloc: Global, nodes: u32, ends: &[Ends], horizon: u16) -> Result<Shape, AllocError>
+        requires { IsExpansion (record { nodes = nodes; ends = ends.now; horizon = horizon }) }
+        ensures { IfOk result (λ s. s ≡ record { nodes = nodes; ends = ends.now; horizon = horizon }) }
+    {
+        let tails = keys_of(alloc, ends, true)?;
+        let heads = keys_of(alloc, ends, false)?;
+        let leaving = index_of(alloc, nodes, tails.as_slice())?;
+        let entering = index_of(alloc, nodes, heads.as_slice())?;
+        let ends = Vec::from_slice(alloc, ends)?;
+        Ok(Shape {
+            nodes,
+            ends,
+            horizon,
+            leaving,
+            entering,
+        })
+    }
+
+    /// The number of the nodes.
+    pub fn nodes(&self) -> u32
+        ensures { result ≡ self.now.nodes }
+    {
+        self.nodes
+    }
+
+    /// The ends of the arcs, in file order.
+    pub fn ends(&self) -> &[Ends]
+        ensures { result.now ≡ self.now.ends }
+    {
+        self.ends.as_slice()
+    }
+
+    /// The last moment.
+    pub fn horizon(&self) -> u16
+        ensures { result ≡ self.now.horizon }
+    {
+        self.horizon
+    }
+
+    /// The number of the cells.
+    #[tactic(auto, unfolding(crate::specs::Expansion::cells, crate::specs::Limits::node_limit, crate::specs::Limits::arc_limit, crate::specs::Limits::horizon_limit, crate::specs::Limits::cell_limit))]
+    pub fn cells(&self) -> u32
+        ensures number { result ≡ cells self.now }
+        ensures shape { IsExpansion self.now }
+    {
+        (self.nodes + self.ends.len() as u32) * (self.horizon as u32 + 1)
+    }
+
+    /// The cell of an arc at a moment.
+    pub fn arc_cell(&self, arc: u32, moment: u16) -> u32
+        requires arc_in { arc < length self.now.ends }
+        requires moment_in { moment ≤ self.now.horizon }
+        ensures cell { result ≡ arc_cell self.now arc moment }
+        ensures within { result < cells self.now }
+    {
+        arc * (self.horizon as u32 + 1) + moment as u32
+    }
+
+    /// The cell of a node at a moment, for whoever waits there.
+    pub fn hold_cell(&self, node: u32, moment: u16) -> u32
+        requires node_in { node < self.now.nodes }
+        requires moment_in { moment ≤ self.now.horizon }
+        ensures cell { result ≡ hold_cell self.now node moment }
+        ensures within { result < cells self.now }
+    {
+        (self.ends.as_slice().len() as u32 + node) * (self.horizon as u32 + 1) + moment as u32
+    }
+
+    /// The arcs that leave a node, in file order.
+    pub fn leaving(&self, node: u32) -> &[u32]
+        requires { node < self.now.nodes }
+        ensures { result.now ≡ arcs_from self.now node }
+    {
+        let starts = self.leaving.starts.as_slice();
+        let items = self.leaving.items.as_slice();
+        part(items, starts[node as usize], starts[node as usize + 1])
+    }
+
+    /// The arcs that enter a node, in file order.
+    pub fn entering(&self, node: u32) -> &[u32]
+        requires { node < self.now.nodes }
+        ensures { result.now ≡ arcs_to self.now node }
+    {
+        let starts = self.entering.starts.as_slice();
+        let items = self.entering.items.as_slice();
+        part(items, starts[node as usize], starts[node as usize + 1])
+    }
+}
+
+#[cfg(test)]
+mod tests {
+    use super::*;
+
+    // Two rooms, a hall and an exit; both rooms lead to the hall and to the exit.
+    const ENDS: [Ends; 4] = [
+        Ends { from: 0, to: 2 },
+        Ends { from: 0, to: 3 },
+        Ends { from: 1, to: 2 },
+        Ends { from: 2, to: 3 },
+    ];
+
+    #[test]
+    fn lends_the_arcs_at_each_node(rt: HostRuntime) -> Result<(), AllocError> {
+        let shape = Shape::new(rt.alloc(), 4, &ENDS, 5)?;
+        let empty: [u32; 0] = [];
+        assert!(rt; shape.leaving(0) == [0u32, 1].as_slice());
+        assert!(rt; shape.leaving(3) == empty.as_slice());
+        assert!(rt; shape.entering(2) == [0u32, 2].as_slice());
+        assert!(rt; shape.entering(3) == [1u32, 3].as_slice());
+        assert_eq!(rt; shape.cells(), 48);
+        assert_eq!(rt; shape.arc_cell(1, 2), 8);
+        assert_eq!(rt; shape.hold_cell(3, 5), 47);
+        Ok(())
+    }
+}
