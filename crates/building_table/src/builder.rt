@@ -1,0 +1,425 @@
+// A building from its statements, one by one.
+ghost use Rattle.std.specs.Prelude.{◌≡◌, ◌≤◌, ◌<◌, ◌+◌, ◌*◌, ◌∷◌, ◌&&◌, ◌==◌, ℕ, List, [], length, position, true, false, nat_le, nat_lt, MatchOption, ◌++◌, IfErr, IfOk, OnErr, OnOk, Some, None};
+ghost use Rattle.std.specs.List.{list_any, sum_by};
+ghost use Rattle.evac_law.specs.Building.{IsValid};
+ghost use Rattle.evac_law.specs.Limits.{arc_limit, capacity_limit, cell_limit, floor_limit, node_limit, people_limit};
+ghost use Rattle.evac_law.specs.Names.{is_exit};
+ghost use Rattle.building_table.specs.Built.{Built, IsBuilding, IsPart, build_code, built_of, end_code};
+ghost use Rattle.building_table.specs.Taking.{Takes, end_checks, holds_node, arc_checks, exit_checks, floor_checks, holds_floor, horizon_checks, period_checks, room_checks, title_checks, with_arc, with_floor, with_node};
+ghost use Rattle.model_text.specs.Grammar.{Said};
+ghost use Rattle.model_text.specs.Reads.{said};
+ghost use Rattle.model_text.specs.Taken.{AreTaken, description_of, end_fault, first_code, place_of, same_name, statement_fault};
+
+use crate::building::Building;
+use crate::faults::{BuildFault, EndFault};
+use crate::names::Names;
+use evac_law::limits::{ARC_LIMIT, CELL_LIMIT, FLOOR_LIMIT, NODE_LIMIT, PEOPLE_LIMIT};
+use evac_law::{ArcRow, NodeName, NodeRow, Rows};
+use model_text::Statement;
+use std::alloc::{AllocError, Global};
+use std::marker::Model;
+
+/// A building that is being described.
+#[derive(Drop)]
+pub struct Builder {
+    seconds: Option<u16>,
+    horizon: Option<u16>,
+    title: Option<Vec<u8>>,
+    floors: Vec<u16>,
+    texts: Vec<Vec<u8>>,
+    nodes: Vec<NodeRow>,
+    arcs: Vec<ArcRow>,
+    people: u32,
+}
+
+impl Model for Builder {
+    ghost use Rattle.std.specs.Prelude.{length, map};
+    ghost use Rattle.std.specs.Option.{option_map};
+    ghost use Rattle.building_table.specs.Built.{Built};
+    ghost use Rattle.building_table.specs.Taking.{IsBuilder};
+
+    ghost Value = { Built };
+
+    ghost view = { λ b. record {
+      seconds = b.seconds;
+      horizon = b.horizon;
+      title = option_map (λ t. t.items) b.title;
+      floors = b.floors.items;
+      texts = map (λ t. t.items) b.texts.items;
+      nodes = b.nodes.items;
+      arcs = b.arcs.items;
+    } };
+
+    ghost invariant = { λ b. IsBuilder b.floors.items (length b.texts.items) b.nodes.items b.arcs.items b.people };
+}
+
+// The place of the first node of a name.
+fn place_in(nodes: &[NodeRow], name: NodeName) -> Option<usize>
+    ensures { result ≡ position (λ n. same_name n.name name) nodes.now }
+{
+    nodes.iter().position(|n| n.name == name)
+}
+
+// Whether there is an arc between two places.
+fn has_arc_in(arcs: &[ArcRow], from: u32, to: u32) -> bool
+    ensures { result ≡ list_any (λ a. a.from == from && a.to == to) arcs.now }
+{
+    arcs.iter().any(|a| a.from == from && a.to == to)
+}
+
+// Whether there is an exit.
+fn has_exit_in(nodes: &[NodeRow]) -> bool
+    ensures { result ≡ list_any (λ n. is_exit n.name.kind) nodes.now }
+{
+    nodes.iter().any(|n| n.name.kind.is_exit())
+}
+
+// Whether two names are the same.
+fn is_same(a: NodeName, b: NodeName) -> bool
+    ensures { result ≡ same_name a b }
+{
+    a == b
+}
+
+impl Builder {
+    /// A builder that has taken nothing.
+    pub fn new(alloc: Global) -> Result<Builder, AllocError>
+        ensures { IfOk result (λ builder. builder ≡ built_of []) }
+    {
+        Ok(Builder {
+            seconds: None,
+            horizon: None,
+            title: None,
+            floors: Vec::new(alloc),
+            texts: Vec::new(alloc),
+            nodes: Vec::new(alloc),
+            arcs: Vec::new(alloc),
+            people: 0,
+        })
+    }
+
+    fn take_title(&mut self, alloc: Global, text: &[u8]) -> Result<(), BuildFault>
+        ensures { Takes result (title_checks self.old) self.old self.new (record self.old { title = Some text.now }) }
+    {
+        if self.title.is_some() {
+            return Err(BuildFault::RepeatedSetting);
+        }
+        let Ok(text) = Vec::from_slice(alloc, text) else {
+            return Err(BuildFault::Memory);
+        };
+        self.title = Some(text);
+        Ok(())
+    }
+
+    fn take_period(&mut self, seconds: u16) -> Result<(), BuildFault>
+        ensures { Takes result (period_checks self.old) self.old self.new (record self.old { seconds = Some seconds }) }
+    {
+        if self.seconds.is_some() {
+            return Err(BuildFault::RepeatedSetting);
+        }
+        self.seconds = Some(seconds);
+        Ok(())
+    }
+
+    fn take_horizon(&mut self, moments: u16) -> Result<(), BuildFault>
+        ensures { Takes result (horizon_checks self.old) self.old self.new (record self.old { horizon = Some moments }) }
+    {
+        if self.horizon.is_some() {
+            return Err(BuildFault::RepeatedSetting);
+        }
+        self.horizon = Some(moments);
+        Ok(())
+    }
+
+    // Puts one more floor behind the others.
+    fn push_floor(&mut self, floor: u16, text: Vec<u8>) -> Result<(), BuildFault>
+        requires { length self.old.floors < floor_limit }
+        ensures made { OnOk result (self.new ≡ with_floor self.old floor text.items) }
+        ensures memory { IfErr result (λ f. f ≡ BuildFault.Memory) }
+        ensures same { OnErr result (self.new ≡ self.old) }
+    {
+        if self.floors.push(floor).is_err() {
+            return Err(BuildFault::Memory);
+        }
+        if self.texts.push(text).is_err() {
+            self.floors.pop();
+            return Err(BuildFault::Memory);
+        }
+        Ok(())
+    }
+
+    fn has_floor(&self, floor: u16) -> bool
+        ensures { result ≡ holds_floor self.now floor }
+    {
+        self.floors.as_slice().contains(&floor)
+    }
+
+    fn node_place(&self, name: NodeName) -> Option<u32>
+        ensures { MatchOption result (holds_node self.now name ≡ false) (λ place. (holds_node self.now name ≡ true) × (place ≡ place_of self.now.nodes name)) }
+    {
+        match place_in(self.nodes.as_slice(), name) {
+            Some(place) => Some(place as u32),
+            None => None,
+        }
+    }
+
+    fn has_node(&self, name: NodeName) -> bool
+        ensures { result ≡ holds_node self.now name }
+    {
+        self.node_place(name).is_some()
+    }
+
+    fn has_arc(&self, from: u32, to: u32) -> bool
+        ensures { result ≡ list_any (λ a. a.from == from && a.to == to) self.now.arcs }
+    {
+        has_arc_in(self.arcs.as_slice(), from, to)
+    }
+
+    #[tactic(auto, unfolding(evac_law::specs::Limits::floor_limit))]
+    fn is_full_of_floors(&self) -> bool
+        ensures { result ≡ nat_le floor_limit (length self.now.floors) }
+    {
+        self.floors.len() >= FLOOR_LIMIT
+    }
+
+    #[tactic(auto, unfolding(evac_law::specs::Limits::node_limit))]
+    fn is_full_of_nodes(&self) -> bool
+        ensures { result ≡ nat_le node_limit (length self.now.nodes) }
+    {
+        self.nodes.len() >= NODE_LIMIT
+    }
+
+    #[tactic(auto, unfolding(evac_law::specs::Limits::arc_limit))]
+    fn is_full_of_arcs(&self) -> bool
+        ensures { result ≡ nat_le arc_limit (length self.now.arcs) }
+    {
+        self.arcs.len() >= ARC_LIMIT
+    }
+
+    #[tactic(auto, unfolding(evac_law::specs::Limits::people_limit))]
+    fn is_crowded(&self, start: u32) -> bool
+        requires { start ≤ 100000 }
+        ensures { result ≡ nat_lt people_limit (sum_by (λ n. n.start) self.now.nodes + start) }
+    {
+        self.people + start > PEOPLE_LIMIT
+    }
+
+    fn has_exit(&self) -> bool
+        ensures { result ≡ list_any (λ n. is_exit n.name.kind) self.now.nodes }
+    {
+        has_exit_in(self.nodes.as_slice())
+    }
+
+    // The seconds and the horizon, where the model may end.
+    fn settings(&self) -> Result<(u16, u16), EndFault>
+        ensures seconds { IfOk result (λ s. self.now.seconds ≡ Some s.0) }
+        ensures horizon { IfOk result (λ s. self.now.horizon ≡ Some s.1) }
+        ensures right { OnOk result (first_code (end_checks self.now) ≡ None) }
+        ensures fault { IfErr result (λ fault. first_code (end_checks self.now) ≡ end_code fault) }
+    {
+        let (Some(seconds), Some(horizon)) = (self.seconds, self.horizon) else {
+            return Err(EndFault::MissingSetting);
+        };
+        if !self.has_exit() {
+            return Err(EndFault::NoExit);
+        }
+        if self.is_too_large(horizon) {
+            return Err(EndFault::TooLarge);
+        }
+        Ok((seconds, horizon))
+    }
+
+    // Whether there are too many cells, with this last moment.
+    #[tactic(auto, unfolding(evac_law::specs::Limits::cell_limit, evac_law::specs::Limits::node_limit, evac_law::specs::Limits::arc_limit))]
+    fn is_too_large(&self, horizon: u16) -> bool
+        ensures { result ≡ nat_lt cell_limit ((length self.now.nodes + length self.now.arcs) * (horizon + 1)) }
+    {
+        (self.nodes.len() + self.arcs.len()) * (usize::from(horizon) + 1) > CELL_LIMIT as usize
+    }
+
+    fn take_floor(&mut self, alloc: Global, floor: u16, text: &[u8]) -> Result<(), BuildFault>
+        ensures { Takes result (floor_checks self.old floor) self.old self.new (with_floor self.old floor text.now) }
+    {
+        if self.has_floor(floor) {
+            return Err(BuildFault::RepeatedSetting);
+        }
+        if self.is_full_of_floors() {
+            return Err(BuildFault::TooMany);
+        }
+        let Ok(text) = Vec::from_slice(alloc, text) else {
+            return Err(BuildFault::Memory);
+        };
+        self.push_floor(floor, text)
+    }
+
+    #[tactic(auto, unfolding(evac_law::specs::Limits::people_limit))]
+    fn push_node(&mut self, name: NodeName, capacity: u32, start: u32) -> Result<(), BuildFault>
+        requires few { length self.old.nodes < node_limit }
+        requires fits { sum_by (λ n. n.start) self.old.nodes + start ≤ people_limit }
+        ensures made { OnOk result (self.new ≡ with_node self.old name capacity start) }
+        ensures memory { IfErr result (λ f. f ≡ BuildFault.Memory) }
+        ensures same { OnErr result (self.new ≡ self.old) }
+    {
+        let row = NodeRow {
+            name,
+            capacity,
+            start,
+            shut: false,
+        };
+        if self.nodes.push(row).is_err() {
+            return Err(BuildFault::Memory);
+        }
+        self.people += start;
+        Ok(())
+    }
+
+    fn take_room(&mut self, name: NodeName, capacity: u32, start: u32) -> Result<(), BuildFault>
+        requires { start ≤ 100000 }
+        ensures { Takes result (room_checks self.old name capacity start) self.old self.new (with_node self.old name capacity start) }
+    {
+        if !self.has_floor(name.floor) {
+            return Err(BuildFault::UnknownFloor);
+        }
+        if self.has_node(name) {
+            return Err(BuildFault::RepeatedNode);
+        }
+        if start > capacity {
+            return Err(BuildFault::OverFull);
+        }
+        if self.is_full_of_nodes() || self.is_crowded(start) {
+            return Err(BuildFault::TooMany);
+        }
+        self.push_node(name, capacity, start)
+    }
+
+    fn take_exit(&mut self, name: NodeName) -> Result<(), BuildFault>
+        ensures { Takes result (exit_checks self.old name) self.old self.new (with_node self.old name 0 0) }
+    {
+        let _ = &self.people;
+        if !self.has_floor(name.floor) {
+            return Err(BuildFault::UnknownFloor);
+        }
+        if self.has_node(name) {
+            return Err(BuildFault::RepeatedNode);
+        }
+        if self.is_full_of_nodes() {
+            return Err(BuildFault::TooMany);
+        }
+        self.push_node(name, 0, 0)
+    }
+
+    fn push_arc(&mut self, row: ArcRow) -> Result<(), BuildFault>
+        requires { length self.old.arcs < arc_limit }
+        ensures made { OnOk result (self.new ≡ record self.old { arcs = self.old.arcs ++ (row ∷ []) }) }
+        ensures memory { IfErr result (λ f. f ≡ BuildFault.Memory) }
+        ensures same { OnErr result (self.new ≡ self.old) }
+    {
+        if self.arcs.push(row).is_err() {
+            return Err(BuildFault::Memory);
+        }
+        Ok(())
+    }
+
+    fn take_arc(
+        &mut self,
+        start: NodeName,
+        finish: NodeName,
+        travel: u16,
+        rate: u32,
+    ) -> Result<(), BuildFault>
+        ensures { Takes result (arc_checks self.old start finish) self.old self.new (with_arc self.old start finish travel rate) }
+    {
+        let Some(from) = self.node_place(start) else {
+            return Err(BuildFault::UnknownNode);
+        };
+        let Some(to) = self.node_place(finish) else {
+            return Err(BuildFault::UnknownNode);
+        };
+        if is_same(start, finish) {
+            return Err(BuildFault::SelfArc);
+        }
+        if start.kind.is_exit() {
+            return Err(BuildFault::FromExit);
+        }
+        if self.has_arc(from, to) {
+            return Err(BuildFault::RepeatedArc);
+        }
+        if self.is_full_of_arcs() {
+            return Err(BuildFault::TooMany);
+        }
+        self.push_arc(ArcRow {
+            from,
+            to,
+            travel,
+            rate,
+            shut: false,
+        })
+    }
+
+    /// Takes one more statement: a title, a period, a horizon, a floor, a node, an exit or an arc.
+    #[tactic(auto, unfolding(evac_law::specs::Limits::capacity_limit))]
+    pub fn take(&mut self, alloc: Global, statement: Statement<'_>) -> Result<(), BuildFault>
+        requires { IsPart (said statement) }
+        ensures taken { OnOk result ((before : List Said) → self.old ≡ built_of before → (statement_fault before (said statement.entry) ≡ None) × (self.new ≡ built_of (said statement.entry ∷ before))) }
+        ensures fault { IfErr result (λ fault. (before : List Said) → self.old ≡ built_of before → statement_fault before (said statement.entry) ≡ build_code fault) }
+        ensures unchanged { OnErr result (self.new ≡ self.old) }
+    {
+        match statement {
+            Statement::Title { text } => self.take_title(alloc, text),
+            Statement::Period { seconds } => self.take_period(seconds),
+            Statement::Horizon { moments } => self.take_horizon(moments),
+            Statement::Floor { floor, text } => self.take_floor(alloc, floor, text),
+            Statement::Node {
+                name,
+                capacity,
+                start,
+            } => self.take_room(name, capacity, start),
+            Statement::Exit { name } => self.take_exit(name),
+            Statement::Arc {
+                from,
+                to,
+                travel,
+                rate,
+            } => self.take_arc(from, to, travel, rate),
+            Statement::Blank | Statement::Header { .. } | Statement::End => unreachable!(),
+        }
+    }
+
+    /// The building of the statements that were taken.
+    pub fn finish(self, alloc: Global) -> Result<Building, EndFault>
+        ensures building { IfOk result (λ b. (taken : List Said) → AreTaken taken → self ≡ built_of taken → (end_fault taken ≡ None) × IsBuilding b (description_of taken)) }
+        ensures valid { IfOk result (λ b. (taken : List Said) → AreTaken taken → self ≡ built_of taken → IsValid b.model) }
+        ensures fault { IfErr result (λ fault. (taken : List Said) → self ≡ built_of taken → end_fault taken ≡ end_code fault) }
+    {
+        let settings = match self.settings() {
+            Ok(settings) => settings,
+            Err(fault) => return Err(fault),
+        };
+        let Builder {
+            title,
+            floors,
+            texts,
+            nodes,
+            arcs,
+            ..
+        } = self;
+        let names = Names::new(
+            alloc,
+            nodes.as_slice(),
+            arcs.as_slice(),
+            floors,
+            texts,
+            title,
+        );
+        let Ok(names) = names else {
+            return Err(EndFault::Memory);
+        };
+        let model = evac_law::Model {
+            seconds: settings.0,
+            horizon: settings.1,
+            nodes: Rows::new(nodes),
+            arcs: Rows::new(arcs),
+        };
+        Ok(Building { model, names })
+    }
+}

@@ -1,0 +1,123 @@
+// One line of a model.
+ghost use Rattle.std.specs.Prelude.{◌≡◌, ℕ, List, IfOk, Ok};
+ghost use Rattle.std.specs.Str.{bytes_eq};
+ghost use Rattle.evac_law.specs.Building.{IsValid};
+ghost use Rattle.building_table.specs.Built.{IsPart, built_of};
+ghost use Rattle.building_table.specs.Reads.{Finishes, Hears, HearsFirst};
+ghost use Rattle.model_text.specs.Fields.{fields_of};
+ghost use Rattle.model_text.specs.Grammar.{IsSaid, Said};
+ghost use Rattle.model_text.specs.Readings.{begins_header, first_step, later_said, later_step};
+ghost use Rattle.model_text.specs.Reads.{said};
+ghost use Rattle.model_text.specs.Taken.{AreTaken};
+
+use crate::builder::Builder;
+use crate::building::Building;
+use crate::faults::ModelFault;
+use model_text::{Fields, Statement, TextFault, read_line};
+use std::alloc::Global;
+
+// Whether the first word is that of the header.
+fn begins_header(text: &[u8]) -> bool
+    ensures { result ≡ begins_header (fields_of text.now) }
+{
+    let mut fields = Fields::new(text);
+    match fields.next() {
+        None => false,
+        Some(word) => is_word(word, b"evacplan"),
+    }
+}
+
+fn is_word(field: &[u8], word: &[u8]) -> bool
+    ensures { result ≡ bytes_eq field.now word.now }
+{
+    field == word
+}
+
+// Takes a statement into a builder; the end of the model is `true`.
+fn hear_statement(
+    alloc: Global,
+    builder: &mut Builder,
+    statement: Statement<'_>,
+    line: u32,
+) -> Result<bool, ModelFault>
+    requires { IsSaid (said statement) }
+    ensures { (taken : List Said) → AreTaken taken → builder.old ≡ built_of taken → Hears result (later_said taken (Ok (said statement.entry))) taken line builder.new }
+{
+    match statement {
+        Statement::Blank => Ok(false),
+        Statement::Header { .. } => Err(ModelFault::Named {
+            code: TextFault::UnknownWord.code(),
+            line,
+        }),
+        Statement::End => Ok(true),
+        part => hear_part(alloc, builder, part, line),
+    }
+}
+
+// Takes a statement that a builder takes.
+fn hear_part(
+    alloc: Global,
+    builder: &mut Builder,
+    part: Statement<'_>,
+    line: u32,
+) -> Result<bool, ModelFault>
+    requires { IsPart (said part) }
+    ensures { (taken : List Said) → AreTaken taken → builder.old ≡ built_of taken → Hears result (later_said taken (Ok (said part.entry))) taken line builder.new }
+{
+    match builder.take(alloc, part) {
+        Ok(()) => Ok(false),
+        Err(fault) => match fault.code() {
+            Some(code) => Err(ModelFault::Named { code, line }),
+            None => Err(ModelFault::Memory),
+        },
+    }
+}
+
+/// Takes a line behind the header into a builder; the end of the model is `true`.
+pub(crate) fn hear(
+    alloc: Global,
+    builder: &mut Builder,
+    text: &[u8],
+    line: u32,
+) -> Result<bool, ModelFault>
+    ensures { (taken : List Said) → AreTaken taken → builder.old ≡ built_of taken → Hears result (later_step taken (Ok text.now)) taken line builder.new }
+{
+    if begins_header(text) {
+        return Err(ModelFault::Named {
+            code: TextFault::UnknownWord.code(),
+            line,
+        });
+    }
+    match read_line(text) {
+        Ok(statement) => hear_statement(alloc, builder, statement, line),
+        Err(fault) => Err(ModelFault::Named {
+            code: fault.code(),
+            line,
+        }),
+    }
+}
+
+/// Whether a line that is the first or stands behind blank lines is the header: else it is blank, or refused.
+pub(crate) fn hear_first(text: &[u8], line: u32) -> Result<bool, ModelFault>
+    ensures { HearsFirst result (first_step (Ok text.now)) line }
+{
+    match read_line(text) {
+        Ok(Statement::Blank) => Ok(false),
+        Ok(Statement::Header { version: 1 }) => Ok(true),
+        _ => Err(ModelFault::Named { code: 1, line }),
+    }
+}
+
+/// The building of a builder, or the fault of the model's end.
+pub(crate) fn finish(alloc: Global, builder: Builder, line: u32) -> Result<Building, ModelFault>
+    ensures finished { (taken : List Said) → AreTaken taken → builder ≡ built_of taken → Finishes result taken line }
+    ensures valid { IfOk result (λ b. (taken : List Said) → AreTaken taken → builder ≡ built_of taken → IsValid b.model) }
+{
+    match builder.finish(alloc) {
+        Ok(building) => Ok(building),
+        Err(fault) => match fault.code() {
+            Some(code) => Err(ModelFault::Named { code, line }),
+            None => Err(ModelFault::Memory),
+        },
+    }
+}
