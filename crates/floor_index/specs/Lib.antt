@@ -1,0 +1,2 @@
+pub use Rattle.evac_law.specs.Building
+pub mod Floors
