@@ -1,7 +1,8 @@
 // Worked cases, computed by the definitions.
 ghost use Rattle.std.specs.Prelude.{◌≡◌, ◌<◌, ◌≤◌, ◌^◌, IfOk, length};
+ghost use Rattle.std.specs.List.{list_all};
 ghost use Rattle.evac_law.specs.Certificates.{IsTableOf};
-ghost use Rattle.plain_plan.specs.Sizes.{IsSmall};
+ghost use Rattle.plain_plan.specs.Sizes.{IsSmall, joins};
 
 use crate::{cut_items, held, moved, out_by, sum_of_items};
 use evac_law::{ArcRow, CutItem, Kind, Labels, Model, Move, NodeName, NodeRow, Rows};
@@ -45,26 +46,37 @@ fn step(moment: u16, arc: u32, people: u32) -> Move {
     }
 }
 
-fn building(alloc: Global, nodes: &[NodeRow], arcs: &[ArcRow]) -> Result<Model, AllocError>
+fn are_joined(arcs: &[ArcRow], nodes: u32) -> bool
+    ensures { result ≡ list_all (joins nodes) arcs.now }
+{
+    arcs.iter().all(|a| a.from < nodes && a.to < nodes)
+}
+
+fn building(
+    rt: &(impl Abort + AllocGlobal),
+    nodes: &[NodeRow],
+    arcs: &[ArcRow],
+) -> Result<Model, AllocError>
     requires nodes { length nodes.now < 10 }
     requires arcs { length arcs.now < 10 }
     ensures sizes { IfOk result IsSmall }
     ensures horizon { IfOk result (λ m. m.horizon ≡ 20) }
 {
+    assert!(rt; are_joined(arcs, nodes.len() as u32));
     Ok(Model {
         seconds: 5,
         horizon: 20,
-        nodes: Rows::new(Vec::from_slice(alloc, nodes)?),
-        arcs: Rows::new(Vec::from_slice(alloc, arcs)?),
+        nodes: Rows::new(Vec::from_slice(rt.alloc(), nodes)?),
+        arcs: Rows::new(Vec::from_slice(rt.alloc(), arcs)?),
     })
 }
 
-// A label of a node from a first moment to a last one.
+// A label of a node from a first moment up to before an end.
 #[derive(Clone, Copy)]
 struct Run {
     node: u32,
     first: u16,
-    last: u16,
+    end: u16,
     label: u16,
 }
 
@@ -83,7 +95,7 @@ fn set_run(labels: &mut Labels, run: &Run)
     ensures nodes { labels.new.nodes ≡ labels.old.nodes }
     ensures horizon { labels.new.horizon ≡ labels.old.horizon }
 {
-    for moment in run.first..run.last + 1 {
+    for moment in run.first..run.end {
         if run.node < labels.nodes() && moment <= labels.horizon() {
             labels.set(run.node, moment, run.label);
         }
@@ -133,7 +145,7 @@ fn value(
 fn one_room_and_one_exit(rt: HostRuntime) -> Result<(), Fail> {
     let alloc = rt.alloc();
     let model = building(
-        alloc,
+        &rt,
         &[room(Kind::Work, 1, 10, 3), exit(1)],
         &[passage(0, 1, 1, 2)],
     )?;
@@ -144,7 +156,7 @@ fn one_room_and_one_exit(rt: HostRuntime) -> Result<(), Fail> {
         &[Run {
             node: 0,
             first: 0,
-            last: 1,
+            end: 2,
             label: 2,
         }],
     )?;
@@ -162,7 +174,7 @@ fn one_room_and_one_exit(rt: HostRuntime) -> Result<(), Fail> {
 fn an_empty_building(rt: HostRuntime) -> Result<(), Fail> {
     let alloc = rt.alloc();
     let model = building(
-        alloc,
+        &rt,
         &[room(Kind::Work, 1, 10, 0), exit(1)],
         &[passage(0, 1, 1, 2)],
     )?;
@@ -178,7 +190,7 @@ fn a_hall_where_nobody_may_stay(rt: HostRuntime) -> Result<(), Fail> {
         room(Kind::Hall, 1, 0, 0),
         exit(1),
     ];
-    let model = building(alloc, &nodes, &[passage(0, 1, 1, 3), passage(1, 2, 1, 1)])?;
+    let model = building(&rt, &nodes, &[passage(0, 1, 1, 3), passage(1, 2, 1, 1)])?;
     let moves = [
         step(0, 0, 1),
         step(1, 0, 1),
@@ -193,19 +205,19 @@ fn a_hall_where_nobody_may_stay(rt: HostRuntime) -> Result<(), Fail> {
         Run {
             node: 0,
             first: 0,
-            last: 4,
+            end: 5,
             label: 5,
         },
         Run {
             node: 1,
             first: 0,
-            last: 0,
+            end: 1,
             label: 1,
         },
         Run {
             node: 1,
             first: 1,
-            last: 4,
+            end: 5,
             label: 5,
         },
     ];
@@ -219,13 +231,13 @@ fn a_hall_where_nobody_may_stay(rt: HostRuntime) -> Result<(), Fail> {
         Run {
             node: 0,
             first: 0,
-            last: 4,
+            end: 5,
             label: 5,
         },
         Run {
             node: 1,
             first: 0,
-            last: 4,
+            end: 5,
             label: 5,
         },
     ];
@@ -238,7 +250,7 @@ fn a_hall_where_nobody_may_stay(rt: HostRuntime) -> Result<(), Fail> {
 fn short_and_narrow_against_long_and_wide(rt: HostRuntime) -> Result<(), Fail> {
     let alloc = rt.alloc();
     let nodes = [room(Kind::Work, 1, 8, 8), exit(1), exit(2)];
-    let model = building(alloc, &nodes, &[passage(0, 1, 1, 1), passage(0, 2, 3, 5)])?;
+    let model = building(&rt, &nodes, &[passage(0, 1, 1, 1), passage(0, 2, 3, 5)])?;
     let moves = [step(0, 0, 1), step(0, 1, 5), step(1, 0, 1), step(2, 0, 1)];
     let labels = labels_of(
         alloc,
@@ -246,7 +258,7 @@ fn short_and_narrow_against_long_and_wide(rt: HostRuntime) -> Result<(), Fail> {
         &[Run {
             node: 0,
             first: 0,
-            last: 2,
+            end: 3,
             label: 3,
         }],
     )?;
@@ -291,31 +303,31 @@ fn two_rooms_and_one_hall(rt: HostRuntime) -> Result<(), Fail> {
         passage(1, 2, 1, 1),
         passage(2, 3, 1, 1),
     ];
-    let model = building(alloc, &nodes, &arcs)?;
+    let model = building(&rt, &nodes, &arcs)?;
     let moves = [step(0, 1, 1), step(0, 2, 1), step(1, 3, 1)];
     let runs = [
         Run {
             node: 0,
             first: 0,
-            last: 1,
+            end: 2,
             label: 2,
         },
         Run {
             node: 1,
             first: 0,
-            last: 1,
+            end: 2,
             label: 2,
         },
         Run {
             node: 2,
             first: 0,
-            last: 0,
+            end: 1,
             label: 1,
         },
         Run {
             node: 2,
             first: 1,
-            last: 1,
+            end: 2,
             label: 2,
         },
     ];
