@@ -1,0 +1,5 @@
+pub mod AnswerLemmas
+pub mod OpenLemmas
+pub mod PassLemmas
+pub mod SendLemmas
+pub mod TailLemmas

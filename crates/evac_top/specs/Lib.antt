@@ -1,0 +1,7 @@
+pub mod Answering
+pub mod Endings
+pub mod Inputs
+pub mod Modes
+pub mod Reads
+pub mod Runs
+pub mod Sends

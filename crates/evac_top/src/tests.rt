@@ -1,0 +1,236 @@
+// Whole runs over sources and sinks in memory.
+ghost use Rattle.std.specs.Prelude.{◌≡◌, ◌<◌, ◌^◌};
+
+use crate::run;
+use evac_law::Steps;
+use line_io::{CleanSource, MemSink, MemSource, Sink, Source};
+use std::alloc::{AllocError, Global};
+use std::marker::Brand;
+use std::process::Abort;
+use std::sync::ledger::{Blank, Ledger};
+use std::test::Fail;
+
+const ONE_ROOM: &str =
+    "evacplan 1\nperiod 5\nhorizon 20\nfloor 1 Ground\nnode WP1.1 10 3\nnode DS1.1\narc WP1.1 DS1.1 1 2\nend\n";
+
+const ONE_ROOM_BLOCK: &str =
+    "answer 0\npeople 3\ncleared 2\nout 0 0\nout 1 2\nout 2 3\nlabel WP1.1 0 2\nmove 0 WP1.1 DS1.1 2\nmove 1 WP1.1 DS1.1 1\nend\n";
+
+const TWO_EXITS: &str =
+    "evacplan 1\nperiod 5\nhorizon 20\nfloor 1 Ground\nnode WP1.1 8 8\nnode DS1.1\nnode DS2.1\narc WP1.1 DS1.1 1 1\narc WP1.1 DS2.1 3 5\nend\n";
+
+// A run with a counter of steps that nobody reads.
+fn run_uncounted<S: Source, K: Sink, L: Ledger>(
+    alloc: Global,
+    words: &[String],
+    source: &mut S,
+    sink: &mut K,
+    blank: Blank,
+) -> u8
+    requires name { blank.name ≡ L.name }
+    requires parts { blank.parts ≡ L.parts }
+    requires one { blank.parts ≡ 1 }
+{
+    let mut steps: Steps<L> = Steps::new(blank);
+    run(alloc, words, source, sink, &mut steps)
+}
+
+// The status of a run with these words.
+fn status_of<S: Source, K: Sink>(
+    alloc: Global,
+    words: &[&str],
+    source: &mut S,
+    sink: &mut K,
+) -> Result<u8, AllocError> {
+    let mut list = Vec::new(alloc);
+    for word in words {
+        list.push(String::from_str(alloc, word)?)?;
+    }
+    Ok(run_uncounted::<_, _, Brand>(alloc, list.as_slice(), source, sink, Blank::new(1)))
+}
+
+// The words give this status and text for this input.
+fn check(
+    rt: &(impl Abort + AllocGlobal),
+    words: &[&str],
+    input: &str,
+    status: u8,
+    text: &str,
+) -> Result<(), Fail> {
+    let alloc = rt.alloc();
+    let mut source = CleanSource::new(alloc, input.as_bytes())?;
+    let mut sink = MemSink::new(alloc, 100_000, 4096, &[])?;
+    assert_eq!(rt;
+        status_of(alloc, words, &mut source, &mut sink)?,
+        status,
+        "{input}"
+    );
+    assert_eq!(rt; sink.bytes(), text.as_bytes(), "{input}");
+    Ok(())
+}
+
+// The model of one room with one line changed; an empty line is left out.
+fn changed(alloc: Global, number: usize, line: &str) -> Result<String, AllocError> {
+    let mut text = String::new(alloc);
+    for (place, old) in ONE_ROOM.lines().enumerate() {
+        let new = if place + 1 == number { line } else { old };
+        if !new.is_empty() {
+            text.push_str(new)?;
+            text.push_str("\n")?;
+        }
+    }
+    Ok(text)
+}
+
+#[test]
+fn one_room_is_answered(rt: HostRuntime) -> Result<(), Fail> {
+    check(&rt, &["solve"], ONE_ROOM, 0, ONE_ROOM_BLOCK)?;
+    let with_ends =
+        "evacplan\t1\r\nperiod 5\r\nhorizon \t 20\r\nfloor 1 Ground \r\nnode WP1.1 10 3\r\n\r\n # x\r\nnode\tDS1.1\r\narc WP1.1 DS1.1 1 2\r\nend\r\n#\r\n";
+    check(&rt, &["solve"], with_ends, 0, ONE_ROOM_BLOCK)?;
+    let empty = changed(rt.alloc(), 5, "node WP1.1 10 0")?;
+    check(
+        &rt,
+        &["solve"],
+        empty.as_str(),
+        0,
+        "answer 0\npeople 0\ncleared 0\nout 0 0\nend\n",
+    )?;
+    let late =
+        "evacplan 1\nperiod 5\nhorizon 10\nfloor 1 Ground\nnode WP1.1 3 3\nnode DS1.1\narc WP1.1 DS1.1 10 3\nend";
+    let block =
+        "answer 0\npeople 3\ncleared 10\nout 0 0\nout 1 0\nout 2 0\nout 3 0\nout 4 0\nout 5 0\nout 6 0\nout 7 0\nout 8 0\nout 9 0\nout 10 3\nlabel WP1.1 0 10\nmove 0 WP1.1 DS1.1 3\nend\n";
+    check(&rt, &["solve"], late, 0, block)
+}
+
+#[test]
+fn other_words_are_refused(rt: HostRuntime) -> Result<(), Fail> {
+    check(&rt, &["fly"], ONE_ROOM, 2, "refused 40 0\n")?;
+    check(&rt, &[], ONE_ROOM, 2, "refused 40 0\n")?;
+    check(&rt, &["solve", "solve"], ONE_ROOM, 2, "refused 40 0\n")?;
+    check(&rt, &["--help"], ONE_ROOM, 2, "refused 40 0\n")
+}
+
+#[test]
+fn other_buildings_are_not_built_yet(rt: HostRuntime) -> Result<(), Fail> {
+    let alloc = rt.alloc();
+    check(&rt, &["solve"], TWO_EXITS, 1, "refused 90 0\n")?;
+    let short = changed(alloc, 3, "horizon 1")?;
+    check(&rt, &["solve"], short.as_str(), 1, "refused 90 0\n")?;
+    let narrow = changed(alloc, 7, "arc WP1.1 DS1.1 1 0")?;
+    check(&rt, &["solve"], narrow.as_str(), 1, "refused 90 0\n")
+}
+
+#[test]
+fn the_first_fault_of_a_model_is_named(rt: HostRuntime) -> Result<(), Fail> {
+    let alloc = rt.alloc();
+    for (number, line, text) in [
+        (1, "evacplan 9", "refused 1 1\n"),
+        (1, "evacplan 1 1", "refused 1 1\n"),
+        (7, "corridor WP1.1 DS1.1 1 2", "refused 4 7\n"),
+        (2, "evacplan 1", "refused 4 2\n"),
+        (7, "arc WP1.1 DS1.1 1", "refused 5 7\n"),
+        (2, "title", "refused 5 2\n"),
+        (5, "node WP1.1", "refused 5 5\n"),
+        (6, "node DS1.1 5 0", "refused 5 6\n"),
+        (8, "end now", "refused 5 8\n"),
+        (7, "arc WP1.1 DS1.1 1 2x", "refused 6 7\n"),
+        (3, "horizon 0000000020", "refused 6 3\n"),
+        (3, "horizon 000000020", ONE_ROOM_BLOCK),
+        (7, "arc WP1.1 DS1.1 0 2", "refused 7 7\n"),
+        (7, "arc WP1.1 DS1.1 1 10001", "refused 7 7\n"),
+        (3, "horizon 601", "refused 7 3\n"),
+        (7, "arc WP1.1 DS01.1 1 2", "refused 8 7\n"),
+        (5, "node WP0.1 10 3", "refused 8 5\n"),
+        (5, "node WP10000.1 10 3", "refused 8 5\n"),
+        (5, "node WP1.1000 10 3", "refused 8 5\n"),
+        (5, "node wp1.1 10 3", "refused 8 5\n"),
+        (3, "period 5", "refused 9 3\n"),
+        (5, "node WP1.2 10 3", "refused 10 5\n"),
+        (6, "node WP1.1 1 1", "refused 11 6\n"),
+        (5, "node WP1.1 2 3", "refused 12 5\n"),
+        (7, "arc WP1.1 DS2.1 1 2", "refused 13 7\n"),
+        (7, "arc WP1.1 WP1.1 1 2", "refused 14 7\n"),
+        (7, "arc DS1.1 WP1.1 1 2", "refused 15 7\n"),
+        (
+            7,
+            "arc WP1.1 DS1.1 1 2\narc WP1.1 DS1.1 1 2",
+            "refused 16 8\n",
+        ),
+        (2, "", "refused 18 7\n"),
+        (6, "", "refused 13 6\n"),
+        (8, "", "refused 21 8\n"),
+        (8, "end\nnode WP2.1 1 1", "refused 23 9\n"),
+    ] {
+        let input = changed(alloc, number, line)?;
+        let status = if text.len() > 20 { 0 } else { 1 };
+        check(&rt, &["solve"], input.as_str(), status, text)?;
+    }
+    check(&rt, &["solve"], "", 1, "refused 21 1\n")?;
+    check(&rt, &["solve"], "# x", 1, "refused 21 2\n")
+}
+
+// A source that fails at its j-th call, for every j of a whole run, gives status 3 and nothing is written.
+fn check_failing_source(rt: &(impl Abort + AllocGlobal), piece: usize) -> Result<(), Fail>
+    requires { 0 < piece }
+{
+    let alloc = rt.alloc();
+    let mut failed = 0;
+    for call in 1..1000 {
+        let mut source = MemSource::new(alloc, ONE_ROOM.as_bytes(), piece, &[call])?;
+        let mut sink = MemSink::new(alloc, 1000, 4096, &[])?;
+        let status = status_of(alloc, &["solve"], &mut source, &mut sink)?;
+        if status == 0 {
+            assert_eq!(rt; sink.bytes(), ONE_ROOM_BLOCK.as_bytes());
+            break;
+        }
+        assert_eq!(rt; status, 3, "at call {call}");
+        assert_eq!(rt; sink.bytes().len(), 0, "at call {call}");
+        failed = call;
+    }
+    assert!(rt;
+        failed as usize >= ONE_ROOM.len() / piece,
+        "pieces of {piece}"
+    );
+    Ok(())
+}
+
+#[test]
+fn a_failing_source_writes_nothing(rt: HostRuntime) -> Result<(), Fail> {
+    check_failing_source(&rt, 1)?;
+    check_failing_source(&rt, 7)?;
+    check_failing_source(&rt, 4096)
+}
+
+// A sink that fails at its j-th call, for every j of a whole run, gives status 4 and has a front of the text.
+fn check_failing_sink(rt: &(impl Abort + AllocGlobal), piece: usize) -> Result<(), Fail>
+    requires some { 0 < piece }
+    requires few { piece < 2 ^ 16 }
+{
+    let alloc = rt.alloc();
+    for call in 1..200u32 {
+        let mut source = CleanSource::new(alloc, ONE_ROOM.as_bytes())?;
+        let mut sink = MemSink::new(alloc, 1000, piece, &[call])?;
+        let status = status_of(alloc, &["solve"], &mut source, &mut sink)?;
+        let count = (call as usize - 1) * piece;
+        if status == 0 {
+            assert!(rt; count >= ONE_ROOM_BLOCK.len());
+            break;
+        }
+        assert_eq!(rt; status, 4, "at call {call}");
+        assert_eq!(rt; Some(sink.bytes()), ONE_ROOM_BLOCK.as_bytes().get(..count));
+    }
+    Ok(())
+}
+
+#[test]
+fn a_failing_sink_has_a_front(rt: HostRuntime) -> Result<(), Fail> {
+    check_failing_sink(&rt, 1)?;
+    check_failing_sink(&rt, 10)?;
+    let alloc = rt.alloc();
+    let mut source = CleanSource::new(alloc, ONE_ROOM.as_bytes())?;
+    let mut sink = MemSink::new(alloc, 12, 5, &[])?;
+    assert_eq!(rt; status_of(alloc, &["solve"], &mut source, &mut sink)?, 4);
+    assert_eq!(rt; sink.bytes(), b"answer 0\npeo".as_slice());
+    Ok(())
+}
