@@ -6,7 +6,7 @@
 //! - `Lines` finds the lines of a source. Which bytes are a line is said in `specs/Line.antt`, without a buffer. No byte is lost, a fault of
 //!   a line stays, and a read fault leaves all as it was.
 //! - `Out` puts text into a buffer on its way to a sink. What the sink holds and what is pending grow by exactly the text that was put.
-//! - `TextLine` makes one line of fields, which is put whole or not at all.
+//! - `TextLine` makes one line of fields, which is then put with its end.
 #![tactic(auto)]
 
 mod adapters;

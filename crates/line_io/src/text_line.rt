@@ -12,7 +12,7 @@ use std::marker::Model;
 // The bytes of the longest line and its end.
 const SIZE: usize = TEXT_LINE_LIMIT + 1;
 
-/// A line of fields without its end, which is then put whole or not at all. Contracts see it as its bytes.
+/// A line of fields without its end. Contracts see it as its bytes.
 #[derive(Drop)]
 pub struct TextLine {
     bytes: [u8; SIZE],
