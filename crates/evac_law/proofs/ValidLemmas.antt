@@ -1,6 +1,5 @@
 -- What a valid model says of the node and the arc at a place.
-use Rattle.std.proofs.Common.{◌≡◌, ℕ, ◌+◌, ◌<◌, ◌≤◌, ◌^◌, length, get_or, arith}
-use Rattle.std.specs.List.{All}
+use Rattle.std.proofs.Common.{ℕ, ◌<◌, ◌^◌, length, arith}
 use Rattle.evac_law.specs.Building.{IsArc, IsNode, IsValid, arc_at, head, no_arc, no_node, node_at, tail}
 use Rattle.evac_law.specs.Limits.{horizon_limit, travel_limit}
 use Rattle.evac_law.specs.Names.{IsName}

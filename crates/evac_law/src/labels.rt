@@ -1,6 +1,6 @@
 // A label for each node and moment.
 ghost use Rattle.std.specs.Prelude.{◌≡◌, ◌+◌, ◌*◌, ◌<◌, ◌≤◌, IfOk, replicate};
-ghost use Rattle.evac_law.specs.LabelTable.{label_at, unset, with_label};
+ghost use Rattle.evac_law.specs.LabelTable.{IsTable, label_at, unset, with_label};
 
 use std::alloc::{AllocError, Global};
 use std::marker::Model;
@@ -42,7 +42,8 @@ impl Labels {
 
     /// The number of the nodes.
     pub fn nodes(&self) -> u32
-        ensures { result ≡ self.now.nodes }
+        ensures number { result ≡ self.now.nodes }
+        ensures table { IsTable self.now.nodes self.now.horizon self.now.list }
     {
         self.nodes
     }

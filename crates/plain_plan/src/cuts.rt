@@ -10,14 +10,15 @@ use crate::parts::{arc_at, entry, node_at, rate};
 use evac_law::{CutItem, Labels, Model};
 use std::alloc::{AllocError, Global};
 
-// Whether a node at a moment is in the cut of moment k.
+// Whether a node at a moment is in the cut of moment k; no place past the last node is.
+#[tactic(auto, using(crate::proofs::Past::past_all))]
 fn in_cut(model: &Model, labels: &Labels, k: u16, node: u32, moment: u64) -> bool
     requires table { IsTableOf model.now labels.now }
     requires k_in { k ≤ model.now.horizon }
-    requires node_in { node < length model.now.nodes }
     ensures { result ≡ label_cut model.now labels.now k node moment }
 {
-    moment <= u64::from(k)
+    node < labels.nodes()
+        && moment <= u64::from(k)
         && !node_at(model, node).name.kind.is_exit()
         && k < labels.get(node, moment as u16)
 }

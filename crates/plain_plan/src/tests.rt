@@ -1,8 +1,7 @@
 // Worked cases, computed by the definitions.
 ghost use Rattle.std.specs.Prelude.{◌≡◌, ◌<◌, ◌≤◌, ◌^◌, IfOk, length};
-ghost use Rattle.std.specs.List.{list_all};
 ghost use Rattle.evac_law.specs.Certificates.{IsTableOf};
-ghost use Rattle.plain_plan.specs.Sizes.{IsSmall, joins};
+ghost use Rattle.plain_plan.specs.Sizes.{IsSmall};
 
 use crate::{cut_items, held, moved, out_by, sum_of_items};
 use evac_law::{ArcRow, CutItem, Kind, Labels, Model, Move, NodeName, NodeRow, Rows};
@@ -46,12 +45,6 @@ fn step(moment: u16, arc: u32, people: u32) -> Move {
     }
 }
 
-fn are_joined(arcs: &[ArcRow], nodes: u32) -> bool
-    ensures { result ≡ list_all (joins nodes) arcs.now }
-{
-    arcs.iter().all(|a| a.from < nodes && a.to < nodes)
-}
-
 fn building(
     rt: &(impl Abort + AllocGlobal),
     nodes: &[NodeRow],
@@ -62,7 +55,6 @@ fn building(
     ensures sizes { IfOk result IsSmall }
     ensures horizon { IfOk result (λ m. m.horizon ≡ 20) }
 {
-    assert!(rt; are_joined(arcs, nodes.len() as u32));
     Ok(Model {
         seconds: 5,
         horizon: 20,
