@@ -23,11 +23,11 @@ use Rattle.model_text.specs.Taken.{Description, description_of, AreTaken}
 -- ---- one line more
 
 -- the lines with one more, and what follows
-line-more : (texts : List (List ℕ)) (t : List ℕ) (rest : List Line) → text_lines (texts ++ (t ∷ [])) ++ rest ≡ text_lines texts ++ (Ok t ∷ rest)
+pub line-more : (texts : List (List ℕ)) (t : List ℕ) (rest : List Line) → text_lines (texts ++ (t ∷ [])) ++ rest ≡ text_lines texts ++ (Ok t ∷ rest)
 line-more texts t rest = ap (λ l. l ++ rest) (text_lines-push texts t) ∙ append_assoc (text_lines texts) (Ok t ∷ []) rest
 
 -- lines went by, and then none
-passes-still : (a b c : Reader) (l m n : Option (List ℕ)) (texts : List (List ℕ)) → Passes a b l m texts → Passes b c m n [] → Passes a c l n texts
+pub passes-still : (a b c : Reader) (l m n : Option (List ℕ)) (texts : List (List ℕ)) → Passes a b l m texts → Passes b c m n [] → Passes a c l n texts
 passes-still a b c l m n texts p q = let P : List (List ℕ) → Type 0 = λ xs. Passes a c l n xs in subst P (append-nil texts) (passes-then a b c l m n texts [] p q)
 
 opening-more : (number : ℕ) (line : Line) (rest : List Line)
@@ -66,7 +66,7 @@ opens-line : (a b c : Reader) (l m n : Option (List ℕ)) (h : Opens a b l m) �
 opens-line a b c l m n h p rest =
     ap (opening_of a.number) (line-more h.texts c.text rest) ∙ h.state (Ok c.text ∷ rest) ∙ opening-more b.number (Ok c.text) rest
 
-number-more : (b c : Reader) (m n : Option (List ℕ)) → Passes b c m n (c.text ∷ []) → b.number + 1 ≡ c.number
+pub number-more : (b c : Reader) (m n : Option (List ℕ)) → Passes b c m n (c.text ∷ []) → b.number + 1 ≡ c.number
 number-more b c m n p = sym p.number
 
 -- a blank line
@@ -92,17 +92,17 @@ opens-header a b c l m n header h p took = record {
 
 -- ---- answers
 
-left-lines : Option (List Line) → List Line
+pub left-lines : Option (List Line) → List Line
 left-lines None = []
 left-lines (Some lines) = lines
 
-left-so : (x y : Option (List Line)) → IsLeft x y (left-lines y)
+pub left-so : (x y : Option (List Line)) → IsLeft x y (left-lines y)
 unfolding left-lines
 left-so None y = tt
 left-so (Some a) None = tt
 left-so (Some a) (Some b) = refl
 
-left-from : (texts : List (List ℕ)) (x y z : Option (List Line)) (rest : List Line) → Follows texts x y → IsLeft y z rest → IsLeft x z rest
+pub left-from : (texts : List (List ℕ)) (x y z : Option (List Line)) (rest : List Line) → Follows texts x y → IsLeft y z rest → IsLeft x z rest
 left-from texts None y z rest f h = tt
 left-from texts (Some a) None z rest f h = absurd f
 left-from texts (Some a) (Some b) None rest f h = tt

@@ -3,5 +3,16 @@ pub use Rattle.evac_law.specs.Certificates
 pub use Rattle.evac_law.specs.LabelTable
 pub use Rattle.evac_law.specs.Stands
 pub use Rattle.line_io.specs.Causes
+pub use Rattle.line_io.specs.Reader
 pub use Rattle.line_io.specs.Writer
+pub use Rattle.building_table.specs.Names
+pub use Rattle.building_table.specs.Passes
+pub mod Block
+pub mod BlockGrammar
+pub mod BlockLaws
+pub mod BlockReads
 pub mod BlockText
+pub mod DraftFacts
+pub mod Drafts
+pub mod Entries
+pub mod Takings

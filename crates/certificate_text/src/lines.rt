@@ -3,13 +3,13 @@ ghost use Rattle.std.specs.Prelude.{◌≡◌, ◌+◌, ◌++◌, ◌≤◌, ◌
 ghost use Rattle.evac_law.specs.Names.{IsName, name_text};
 ghost use Rattle.line_io.specs.Causes.{HasCause};
 ghost use Rattle.line_io.specs.Writer.{PutsText};
-ghost use Rattle.certificate_text.specs.BlockText.{answer_line, cleared_line, end_line, label_line, move_line, out_line, people_line, refusal_line};
+ghost use Rattle.certificate_text.specs.BlockText.{answer_line, cleared_line, end_line, in_line, label_line, most_line, move_line, out_line, people_line, refusal_line};
 
 use evac_law::NodeName;
 use line_io::{Out, Sink, TextLine, WriteFault};
 
-// Puts a space and a name behind.
-fn put_name(line: &mut TextLine, name: NodeName)
+/// Puts a space and a name behind.
+pub fn put_name(line: &mut TextLine, name: NodeName)
     requires name { IsName name }
     requires room { length line.old ≤ 100 }
     ensures value { line.new ≡ line.old ++ (32 ∷ name_text name) }
@@ -110,6 +110,33 @@ pub(crate) fn write_move<K: Sink>(
     put_name(&mut line, from);
     put_name(&mut line, to);
     line.number(u64::from(people));
+    line.put(out, sink)
+}
+
+pub(crate) fn write_most<K: Sink>(out: &mut Out, sink: &mut K, most: u32) -> Result<(), WriteFault>
+    ensures text { PutsText (K.held sink.old) out.old (most_line most) (K.held sink.new) out.new result }
+    ensures cause { HasCause (K.faults sink.old) (K.faults sink.new) result }
+{
+    let mut line = TextLine::new(b"most");
+    line.number(u64::from(most));
+    line.put(out, sink)
+}
+
+pub(crate) fn write_in<K: Sink>(
+    out: &mut Out,
+    sink: &mut K,
+    name: NodeName,
+    first: u16,
+    last: u16,
+) -> Result<(), WriteFault>
+    requires { IsName name }
+    ensures text { PutsText (K.held sink.old) out.old (in_line (name_text name) first last) (K.held sink.new) out.new result }
+    ensures cause { HasCause (K.faults sink.old) (K.faults sink.new) result }
+{
+    let mut line = TextLine::new(b"in");
+    put_name(&mut line, name);
+    line.number(u64::from(first));
+    line.number(u64::from(last));
     line.put(out, sink)
 }
 

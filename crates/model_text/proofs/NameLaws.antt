@@ -128,7 +128,7 @@ decimal-plain zero h = ap has_leading_zero (decimal_digit 0 (lit< tt))
 decimal-plain (suc n) h = no-leading (decimal (suc n)) (first_decimal (suc n) (omega arith) h)
 
 -- the text of a number reads as the number
-plain-reads : (n : ℕ) → n < 10 ^ 9 → n < 2 ^ 64 → plain_number_of (decimal n) ≡ Some n
+pub plain-reads : (n : ℕ) → n < 10 ^ 9 → n < 2 ^ 64 → plain_number_of (decimal n) ≡ Some n
 plain-reads n few small =
     reads-by (decimal n) n (decimal-plain n small) (decimal_nonempty n small) (length-decimal-le 9 n (lit< tt) few small)
     (digits-give 0 (decimal n) (digits_decimal own n small) ∙ ap Some (digits_value-decimal own n small))

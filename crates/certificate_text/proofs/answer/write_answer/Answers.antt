@@ -1,7 +1,7 @@
-use Rattle.std.proofs.Common.{◌≡◌, ◌∙◌, ap}
+use Rattle.std.proofs.Common.{ap}
 use Rattle.line_io.proofs.TextLemmas.{front-is, front-more, front-then, puts-is, puts-then, text-failed, text-last}
 use Rattle.evac_law.specs.Building.{people}
-use Rattle.certificate_text.specs.BlockText.{answer_line, answer_text, cleared_line, end_line, label_lines, move_lines, out_lines, people_line}
+use Rattle.certificate_text.specs.BlockText.{answer_text, cleared_line, end_line, label_lines, move_lines, out_lines, people_line}
 use Rattle.certificate_text.proofs.answer.write_answer.Goals as goal
 
 pub returns-in_err-write_index-clause-text : goal.returns-in_err-write_index-clause-text

@@ -1,4 +1,4 @@
-use Rattle.std.proofs.Common.{◌∙◌, ◌+◌, arith, length}
+use Rattle.std.proofs.Common.{◌∙◌, arith, length}
 use Rattle.line_io.proofs.TextLemmas.{text-failed}
 use Rattle.certificate_text.specs.BlockText.{move_part}
 use Rattle.certificate_text.proofs.TextParts.{front-part, puts-part}

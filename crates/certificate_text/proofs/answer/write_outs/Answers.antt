@@ -1,10 +1,9 @@
-use Rattle.std.proofs.Common.{◌≡◌, ◌∙◌, ◌+◌, ap, sym, subst, arith, List, ℕ}
+use Rattle.std.proofs.Common.{◌≡◌, ◌∙◌, ◌+◌, ap, sym, arith}
 use Rattle.std.specs.List.{sum_by}
 use Rattle.evac_law.specs.Plans.{out_by}
 use Rattle.evac_law.specs.Sums.{below}
 use Rattle.evac_law.proofs.Curve.{arriving, out_is_sum}
 use Rattle.evac_law.proofs.SumLemmas.{sum_below-more}
-use Rattle.line_io.specs.Writer.{Puts, PutsFront}
 use Rattle.line_io.proofs.TextLemmas.{front-is, puts-is, text-failed}
 use Rattle.certificate_text.specs.BlockText.{out_line}
 use Rattle.certificate_text.proofs.TextParts.{front-part, puts-part}

@@ -1,0 +1,34 @@
+-- What reading a block answers.
+use Rattle.std.specs.Prelude.{◌≡◌, ℕ, ◌+◌, List, [], Result, Ok, Err, Some, None, IfOk, ⊤}
+use Rattle.std.specs.declared.option.Option.{Option}
+use Rattle.evac_law.specs.declared.model.Model.{Model}
+use Rattle.line_io.specs.Line.{Line, input_too_long, line_too_long, text_lines}
+use Rattle.line_io.specs.View.{Reader}
+use Rattle.building_table.specs.Passes.{Passes}
+use Rattle.certificate_text.specs.declared.block.Block.{Block}
+use Rattle.certificate_text.specs.declared.fault.BlockFault.{BlockFault}
+use Rattle.certificate_text.specs.declared.fault.BlockFault.TheVariants.{Bad, LineTooLong, InputTooLong, ReadFault, Memory}
+use Rattle.certificate_text.specs.BlockGrammar.{IsStated, Refused, Stated, bad_block, block_of}
+use Rattle.certificate_text.specs.Drafts.{Draft}
+
+-- the block or the first fault of the lines left before, behind `first` lines; `last` is the line of the block's end, with `after` behind it
+abbrev pub IsReading : Model → Result Block BlockFault → ℕ → ℕ → List Line → List Line → Type 0
+IsReading m (Ok block) first last before after = (d : Draft) × (block_of m first before ≡ Stated d last after) × IsStated m d block
+IsReading m (Err (Bad line)) first last before after = block_of m first before ≡ Refused bad_block line
+IsReading m (Err (LineTooLong line)) first last before after = block_of m first before ≡ Refused line_too_long line
+IsReading m (Err (InputTooLong line)) first last before after = block_of m first before ≡ Refused input_too_long line
+IsReading m (Err ReadFault) first last before after = ⊤
+IsReading m (Err Memory) first last before after = ⊤
+
+-- the same, where the source tells its bytes
+abbrev pub ReadsBlock : Model → Result Block BlockFault → ℕ → ℕ → Option (List Line) → Option (List Line) → Type 0
+ReadsBlock m result first last None after = ⊤
+ReadsBlock m result first last (Some before) None = ⊥
+ReadsBlock m result first last (Some before) (Some after) = IsReading m result first last before after
+
+-- a call of `read_block` went on by some lines: those of the block that it answers; where the source failed, they end before the block does and none is refused
+pub record ReadsBlockLines (m : Model) (result : Result Block BlockFault) (before after : Reader) (left left' : Option (List ℕ)) : Type 0 where
+  pub texts : List (List ℕ)
+  pub passes : Passes before after left left' texts
+  pub undecided : result ≡ Err ReadFault → block_of m before.number (text_lines texts) ≡ Refused bad_block (after.number + 1)
+  pub stated : IfOk result (λ block. (d : Draft) × (block_of m before.number (text_lines texts) ≡ Stated d after.number []) × IsStated m d block)

@@ -1,0 +1,13 @@
+// The laws of blocks, each the contract of a function that does nothing.
+ghost use Rattle.certificate_text.specs.BlockLaws.{BlockIsSmall, BlockReadsBack};
+
+/// The block of a certified plan that was written is read back: its numbers, the people out by each period, its labels as they are shown
+/// and its moves.
+pub fn block_reads_back()
+    ensures { BlockReadsBack }
+{}
+
+/// The block of a certified plan has 15,000,000 bytes at most, so that a reader takes it behind a model of a quarter of an input.
+pub fn block_is_small()
+    ensures { BlockIsSmall }
+{}

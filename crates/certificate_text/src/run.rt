@@ -1,0 +1,9 @@
+// Runs of labels.
+
+/// A node's label from a moment on.
+#[derive(Clone, Copy, PartialEq, Eq, Debug)]
+pub(crate) struct Run {
+    pub node: u32,
+    pub moment: u16,
+    pub label: u16,
+}

@@ -1,0 +1,7 @@
+pub mod CrossingLemmas
+pub mod WalkLemmas
+pub mod Spans
+pub mod Nets
+pub mod AllCuts
+pub mod Tested
+pub mod Worked

@@ -1,0 +1,21 @@
+//! What a cut is worth, and the items that it is made of.
+//!
+//! The labels of a plan make a cut for each period. `cut_value` sums one cut, `crossing` gives its items one after another, and
+//! `CutValues` sums the cuts of all periods in one pass over the labels.
+#![tactic(auto)]
+
+mod begin;
+mod differences;
+mod membership;
+mod position;
+mod span;
+#[cfg(test)]
+mod tests;
+mod value;
+mod values;
+mod walk;
+
+pub use begin::crossing;
+pub use value::cut_value;
+pub use values::CutValues;
+pub use walk::Crossing;

@@ -1,0 +1,184 @@
+-- Counts: one person more at a place, and what they say of who came and who left.
+use Rattle.std.proofs.Common.{◌≡◌, ℕ, zero, suc, ◌+◌, ◌*◌, ◌<◌, ◌≤◌, ◌^◌, ◌⊎◌, inl, inr, Bool, true, false, cond, ◌&&◌, eqb, leb, List, length, get_or, take, refl, ap, ap₂, sym, ◌∙◌, arith}
+use Rattle.std.proofs.Math.ListN.{set}
+use Rattle.std.specs.List.{sum_by}
+use Rattle.std.proofs.lemmas.Bool.{cases_Bool}
+use Rattle.std.proofs.lemmas.Bool.Decides.{nat_tests}
+use Rattle.std.proofs.lemmas.Int.{ints}
+use Rattle.std.proofs.lemmas.List.{get_or-set_other, get_or-set_same}
+use Rattle.std.proofs.lemmas.List.Sums.{sum_by_more, sum_by_more_le_part}
+use Rattle.std.proofs.lemmas.Nat.{same_from_place}
+use Rattle.evac_law.specs.declared.model.Model.{Model}
+use Rattle.evac_law.specs.declared.plan.Move.{Move}
+use Rattle.evac_law.specs.Building.{IsValid, arrival, entry, head, is_exit_at, tail}
+use Rattle.evac_law.specs.Limits.{capacity_limit}
+use Rattle.evac_law.specs.Plans.{came, held, left, out_by}
+use Rattle.evac_law.specs.Sums.{moments_to}
+use Rattle.evac_law.proofs.Curve.{arriving, out_is_sum}
+use Rattle.evac_law.proofs.Optimal.{start_only}
+use Rattle.evac_law.proofs.SumLemmas.{All-below, sum_by-le_all, sum_by-same_all, sum_moments-suc, sum_moments-zero}
+use Rattle.evac_law.proofs.ValidLemmas.{node_is}
+use Rattle.evac_law.proofs.WeakDuality.{came-suc, came-zero, coming, leaving, left-suc, left-zero}
+use Rattle.plan_checker.specs.Counts.{Counts, IsCountedWell, all_moved, arriving_at, came_by, coming_at, count, leaving_at, left_by}
+use Rattle.plan_checker.specs.Parts.{IsHeldWell}
+
+-- ---- a place that grows
+
+same_place : (n i t k y s r : ℕ) → (n ≡ i → t ≡ k → s ≡ r + y) → ((n ≡ i → t ≡ k → ⊥) → s ≡ r) → s ≡ r + cond (eqb n i && eqb t k) y 0
+same_place n i t k y s r here there = split (cases_Bool (eqb n i && eqb t k))
+  where
+    row : (eqb n i && eqb t k) ≡ true → n ≡ i
+    row e = grind (arith, nat_tests)
+
+    column : (eqb n i && eqb t k) ≡ true → t ≡ k
+    column e = grind (arith, nat_tests)
+
+    both : (eqb n i && eqb t k) ≡ false → n ≡ i → t ≡ k → ⊥
+    both e f g = grind (arith, nat_tests)
+
+    split : ((eqb n i && eqb t k) ≡ true) ⊎ ((eqb n i && eqb t k) ≡ false) → s ≡ r + cond (eqb n i && eqb t k) y 0
+    split (inl e) = rw e (here (row e) (column e))
+    split (inr e) = rw e (omega (arith, there (both e)))
+
+pub counted : (xs : List ℕ) (w n t i k y : ℕ) → t ≤ w → k ≤ w → n * (w + 1) + t < length xs
+    → get_or (set xs (n * (w + 1) + t) (get_or xs (n * (w + 1) + t) 0 + y)) (i * (w + 1) + k) 0
+    ≡ get_or xs (i * (w + 1) + k) 0 + cond (eqb n i && eqb t k) y 0
+counted xs w n t i k y h g l =
+    same_place n i t k y (get_or (set xs (n * (w + 1) + t) (get_or xs (n * (w + 1) + t) 0 + y)) (i * (w + 1) + k) 0) (get_or xs (i * (w + 1) + k) 0)
+    (λ e f. same (ap₂ (λ a b. a * (w + 1) + b) e f)) (λ apart. get_or-set_other xs (n * (w + 1) + t) (i * (w + 1) + k) (get_or xs (n * (w + 1) + t) 0 + y) 0 (λ e. other apart (sym e)))
+  where
+    same : n * (w + 1) + t ≡ i * (w + 1) + k
+        → get_or (set xs (n * (w + 1) + t) (get_or xs (n * (w + 1) + t) 0 + y)) (i * (w + 1) + k) 0 ≡ get_or xs (i * (w + 1) + k) 0 + y
+    same e =
+        ap (λ z. get_or (set xs (n * (w + 1) + t) (get_or xs (n * (w + 1) + t) 0 + y)) z 0) (sym e)
+        ∙ get_or-set_same xs (n * (w + 1) + t) (get_or xs (n * (w + 1) + t) 0 + y) 0 l
+        ∙ ap (λ z. get_or xs z 0 + y) e
+
+    other : (n ≡ i → t ≡ k → ⊥) → n * (w + 1) + t ≡ i * (w + 1) + k → ⊥
+    other apart e = let both = same_from_place n t i k (w + 1) (omega (arith, h)) (omega (arith, g)) e in apart both.0 both.1
+
+-- ---- what counts say
+
+came_is : (m : Model) (p : List Move) (n t : ℕ) → came m p n t ≡ sum_by (λ s. entry m n s + coming m p n s) (moments_to t)
+came_is m p n zero = came-zero m p n ∙ sym (sum_moments-zero (λ s. entry m n s + coming m p n s))
+came_is m p n (suc t) = omega (arith, came-suc m p n t, came_is m p n t, sum_moments-suc (λ s. entry m n s + coming m p n s) t)
+
+left_is : (m : Model) (p : List Move) (n t : ℕ) → left m p n t ≡ sum_by (leaving m p n) (moments_to t)
+left_is m p n zero = left-zero m p n ∙ sym (sum_moments-zero (leaving m p n))
+left_is m p n (suc t) = omega (arith, left-suc m p n t, left_is m p n t, sum_moments-suc (leaving m p n) t)
+
+coming_same : (m : Model) (p : List Move) (n t : ℕ) → coming m p n t ≡ coming_at m p n t
+unfolding coming
+coming_same m p n t = refl
+
+leaving_same : (m : Model) (p : List Move) (n t : ℕ) → leaving m p n t ≡ leaving_at m p n t
+unfolding leaving
+leaving_same m p n t = refl
+
+pub came_counted : (m : Model) (p : List Move) (c : Counts) (n t : ℕ) → ((s : ℕ) → s ≤ t → count c n s ≡ coming_at m p n s) → came_by m c n t ≡ came m p n t
+came_counted m p c n t h =
+    sum_by-same_all _ _ (moments_to t)
+    (All-below (λ s. entry m n s + count c n s ≡ entry m n s + coming m p n s) (t + 1)
+    (λ s l. ap (λ z. entry m n s + z) (h s (omega (arith, l)) ∙ sym (coming_same m p n s))))
+    ∙ sym (came_is m p n t)
+
+pub left_counted : (m : Model) (p : List Move) (c : Counts) (n t : ℕ) → ((s : ℕ) → s ≤ t → count c n s ≡ leaving_at m p n s) → left_by c n t ≡ left m p n t
+left_counted m p c n t h =
+    sum_by-same_all _ _ (moments_to t)
+    (All-below (λ s. count c n s ≡ leaving m p n s) (t + 1) (λ s l. h s (omega (arith, l)) ∙ sym (leaving_same m p n s)))
+    ∙ sym (left_is m p n t)
+
+-- a node holds well by the counts exactly where it does by the plan
+pub held_from_counted : (m : Model) (p : List Move) (came' left' : Counts) (n t : ℕ) → came_by m came' n t ≡ came m p n t → left_by left' n t ≡ left m p n t
+    → IsCountedWell m came' left' n t → IsHeldWell m p n t
+unfolding held
+held_from_counted m p c d n t e f w = (omega (arith, ints, w.0, w.1, e, f), omega (arith, ints, w.0, w.1, e, f))
+
+pub counted_from_held : (m : Model) (p : List Move) (came' left' : Counts) (n t : ℕ) → came_by m came' n t ≡ came m p n t → left_by left' n t ≡ left m p n t
+    → IsHeldWell m p n t → IsCountedWell m came' left' n t
+unfolding held
+counted_from_held m p c d n t e f w = (omega (arith, ints, w.0, w.1, e, f), omega (arith, ints, w.0, w.1, e, f))
+
+-- ---- bounds
+
+if_le : (b : Bool) (p : ℕ) → cond b p 0 ≤ p
+if_le b p = grind arith
+
+pub came_fits : (m : Model) (p : List Move) (n t : ℕ) → IsValid m → n < length m.nodes → all_moved p < 2 ^ 62 → came m p n t < 2 ^ 63
+unfolding came capacity_limit
+came_fits m p n t valid l few =
+    let node = node_is m n valid l in
+    omega (
+      arith,
+      start_only m n t,
+      node.start_fits,
+      node.capacity_fits,
+      sum_by-le_all (λ (v : Move). cond (eqb (head m v.arc) n && leb (arrival m v.arc v.moment) t) v.people 0) (λ (v : Move). v.people) p
+          (λ i d h. let v = get_or p i d in if_le (eqb (head m v.arc) n && leb (arrival m v.arc v.moment) t) v.people),
+    )
+
+pub left_fits : (m : Model) (p : List Move) (n t : ℕ) → all_moved p < 2 ^ 62 → left m p n t < 2 ^ 63
+unfolding left
+left_fits m p n t few =
+    omega (
+      arith,
+      sum_by-le_all (λ (v : Move). cond (eqb (tail m v.arc) n && leb v.moment t) v.people 0) (λ (v : Move). v.people) p
+          (λ i d h. let v = get_or p i d in if_le (eqb (tail m v.arc) n && leb v.moment t) v.people),
+    )
+
+-- what is counted so far and the next move's people are within all
+pub leaving_room : (m : Model) (p : List Move) (i n t : ℕ) (d : Move) → i < length p → leaving_at m (take i p) n t + (get_or p i d).people ≤ all_moved p
+leaving_room m p i n t d l =
+    sum_by_more_le_part (λ (v : Move). cond (eqb (tail m v.arc) n && eqb v.moment t) v.people 0) (λ (v : Move). v.people) p i d l
+    (λ v. if_le (eqb (tail m v.arc) n && eqb v.moment t) v.people)
+
+pub coming_room : (m : Model) (p : List Move) (i n t : ℕ) (d : Move) → i < length p → coming_at m (take i p) n t + (get_or p i d).people ≤ all_moved p
+coming_room m p i n t d l =
+    sum_by_more_le_part (λ (v : Move). cond (eqb (head m v.arc) n && eqb (arrival m v.arc v.moment) t) v.people 0) (λ (v : Move). v.people) p i d l
+    (λ v. if_le (eqb (head m v.arc) n && eqb (arrival m v.arc v.moment) t) v.people)
+
+pub arriving_room : (m : Model) (p : List Move) (i t : ℕ) (d : Move) → i < length p → arriving_at m (take i p) t + (get_or p i d).people ≤ all_moved p
+arriving_room m p i t d l =
+    sum_by_more_le_part (λ (v : Move). cond (is_exit_at m (head m v.arc) && eqb (arrival m v.arc v.moment) t) v.people 0) (λ (v : Move). v.people) p i d l
+    (λ v. if_le (is_exit_at m (head m v.arc) && eqb (arrival m v.arc v.moment) t) v.people)
+
+-- one move more
+pub leaving_more : (m : Model) (p : List Move) (i n t : ℕ) (d : Move) → i < length p
+    → leaving_at m (take (i + 1) p) n t
+    ≡ leaving_at m (take i p) n t + cond (eqb (tail m (get_or p i d).arc) n && eqb (get_or p i d).moment t) (get_or p i d).people 0
+leaving_more m p i n t d l = sum_by_more (λ (v : Move). cond (eqb (tail m v.arc) n && eqb v.moment t) v.people 0) p i d l
+
+pub coming_more : (m : Model) (p : List Move) (i n t : ℕ) (d : Move) → i < length p
+    → coming_at m (take (i + 1) p) n t
+    ≡ coming_at m (take i p) n t
+    + cond (eqb (head m (get_or p i d).arc) n && eqb (arrival m (get_or p i d).arc (get_or p i d).moment) t) (get_or p i d).people 0
+coming_more m p i n t d l = sum_by_more (λ (v : Move). cond (eqb (head m v.arc) n && eqb (arrival m v.arc v.moment) t) v.people 0) p i d l
+
+pub arriving_more : (m : Model) (p : List Move) (i t : ℕ) (d : Move) → i < length p
+    → arriving_at m (take (i + 1) p) t
+    ≡ arriving_at m (take i p) t
+    + cond (is_exit_at m (head m (get_or p i d).arc) && eqb (arrival m (get_or p i d).arc (get_or p i d).moment) t) (get_or p i d).people 0
+arriving_more m p i t d l = sum_by_more (λ (v : Move). cond (is_exit_at m (head m v.arc) && eqb (arrival m v.arc v.moment) t) v.people 0) p i d l
+
+-- a move past the last moment counts nowhere up to it
+pub past : (b : Bool) (s t h p : ℕ) → t ≤ h → h < s → cond (b && eqb s t) p 0 ≡ 0
+past b s t h p l k = grind (arith, nat_tests)
+
+-- ---- the curve
+
+arriving_same : (m : Model) (p : List Move) (t : ℕ) → arriving m p t ≡ arriving_at m p t
+unfolding arriving
+arriving_same m p t = refl
+
+pub curve_counted : (m : Model) (p : List Move) (xs : List ℕ) (k : ℕ) → ((t : ℕ) → t ≤ k → get_or xs t 0 ≡ arriving_at m p t)
+    → sum_by (λ t. get_or xs t 0) (moments_to k) ≡ out_by m p k
+curve_counted m p xs k h =
+    sum_by-same_all (λ t. get_or xs t 0) (arriving m p) (moments_to k)
+    (All-below (λ t. get_or xs t 0 ≡ arriving m p t) (k + 1) (λ t l. h t (omega (arith, l)) ∙ sym (arriving_same m p t)))
+    ∙ sym (out_is_sum m p k)
+
+pub out_fits : (m : Model) (p : List Move) (k : ℕ) → out_by m p k ≤ all_moved p
+unfolding out_by
+out_fits m p k =
+    sum_by-le_all (λ (v : Move). cond (is_exit_at m (head m v.arc) && leb (arrival m v.arc v.moment) k) v.people 0) (λ (v : Move). v.people) p
+    (λ i d h. let v = get_or p i d in if_le (is_exit_at m (head m v.arc) && leb (arrival m v.arc v.moment) k) v.people)

@@ -1,0 +1,5 @@
+pub mod CountLemmas
+pub mod OrderedMoves
+pub mod LawLemmas
+pub mod HoldLemmas
+pub mod Worked

@@ -1,0 +1,45 @@
+-- People counted by node and moment, as a checker adds them up.
+use Rattle.std.specs.Prelude.{◌≡◌, ℕ, ◌+◌, ◌*◌, ◌≤◌, ◌&&◌, if◌then◌else◌, ◌==◌, List, length, slice_index}
+use Rattle.std.specs.List.{sum_by}
+use Rattle.evac_law.specs.declared.model.Model.{Model}
+use Rattle.evac_law.specs.declared.plan.Move.{Move}
+use Rattle.evac_law.specs.Building.{is_exit_at, capacity, tail, head, arrival, entry}
+use Rattle.evac_law.specs.Sums.{moments_to}
+
+-- a number for each node and each moment up to the last, node by node
+pub record Counts : Type 0 where
+  pub nodes : ℕ
+  pub last : ℕ
+  pub cells : List ℕ
+
+abbrev pub IsCounts : Counts → Type 0
+IsCounts c = length c.cells ≡ c.nodes * (c.last + 1)
+
+-- the number of a node at a moment
+abbrev pub count : Counts → ℕ → ℕ → ℕ
+count c n t = slice_index c.cells (n * (c.last + 1) + t)
+
+-- the people of all moves
+abbrev pub all_moved : List Move → ℕ
+all_moved p = sum_by (λ v. v.people) p
+
+-- the people who leave a node at a moment, who come to it then, and who arrive at exits then
+abbrev pub leaving_at : Model → List Move → ℕ → ℕ → ℕ
+leaving_at m p n t = sum_by (λ v. if tail m v.arc == n && v.moment == t then v.people else 0) p
+
+abbrev pub coming_at : Model → List Move → ℕ → ℕ → ℕ
+coming_at m p n t = sum_by (λ v. if head m v.arc == n && arrival m v.arc v.moment == t then v.people else 0) p
+
+abbrev pub arriving_at : Model → List Move → ℕ → ℕ
+arriving_at m p t = sum_by (λ v. if is_exit_at m (head m v.arc) && arrival m v.arc v.moment == t then v.people else 0) p
+
+-- by counts of who comes and who leaves: the people who came into a node by a moment, and who left it
+abbrev pub came_by : Model → Counts → ℕ → ℕ → ℕ
+came_by m came n t = sum_by (λ s. entry m n s + count came n s) (moments_to t)
+
+abbrev pub left_by : Counts → ℕ → ℕ → ℕ
+left_by left n t = sum_by (count left n) (moments_to t)
+
+-- no more left the node by the moment than came, and what is left fits its capacity
+abbrev pub IsCountedWell : Model → Counts → Counts → ℕ → ℕ → Type 0
+IsCountedWell m came left n t = (left_by left n t ≤ came_by m came n t) × (came_by m came n t ≤ left_by left n t + capacity m n)

@@ -1,0 +1,14 @@
+pub use Rattle.evac_law.specs.Building
+pub use Rattle.evac_law.specs.Certificates
+pub use Rattle.evac_law.specs.Cuts
+pub use Rattle.evac_law.specs.LabelTable
+pub use Rattle.evac_law.specs.Laws
+pub use Rattle.evac_law.specs.Plans
+pub use Rattle.evac_law.specs.Stands
+pub use Rattle.evac_law.specs.Sums
+pub use Rattle.certificate_text.specs.Block
+pub mod Parts
+pub mod Verdicts
+pub mod VerdictLaws
+pub mod Counts
+pub mod Worked
