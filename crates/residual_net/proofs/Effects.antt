@@ -13,13 +13,13 @@ use Rattle.time_expansion.specs.Expansion.{to_at}
 use Rattle.residual_net.specs.Limits.{supply_limit}
 use Rattle.residual_net.specs.Site.{Site, End, IsPlace, arcs_of, arrival_at, door_by, exit_at, head_of, is_door, is_source, same_place, sum_places, tail_of}
 use Rattle.residual_net.specs.Site.End.{Source, Pair, Door}
-use Rattle.residual_net.specs.Network.{Network, IsAllSent, IsNet, IsWithinLimits, arrived_by, flow_at, flow_into, flow_out, limit_at, supply_limits, unsent_at}
+use Rattle.residual_net.specs.Network.{Network, IsAllSent, IsNet, IsWithinLimits, arrived_by, flow_at, flow_into, flow_out, limit_at, supply_limits}
 use Rattle.residual_net.specs.Route.{IsAugmentingPath, IsPushed, Leads}
 use Rattle.residual_net.specs.Change.{IsCancelled, supply_limits_with}
-use Rattle.residual_net.specs.OfModel.{IsNetOf, model_limit, site_of}
+use Rattle.residual_net.specs.OfModel.{IsNetOf, site_of}
 use Rattle.residual_net.proofs.Begin.{entries_are_people}
 use Rattle.residual_net.proofs.Held.{same_in}
-use Rattle.residual_net.proofs.Places.{place-same, same-place, sum_places-le, sum_places-pick, sum_places-same, sum_places-split}
+use Rattle.residual_net.proofs.Places.{same-place, sum_places-le, sum_places-pick, sum_places-same, sum_places-split}
 use Rattle.residual_net.proofs.Push.{arrived_moved, cancel_arrived}
 use Rattle.residual_net.proofs.Taking.{undone}
 

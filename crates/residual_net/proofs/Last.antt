@@ -51,7 +51,7 @@ moved_by_last s (v ∷ p) a t h = by_test (moved_by_last s p a t) (cases_Bool (e
         let rest = more (omega (arith, h, rest_is, none)) in
         omega (arith, rest, max_right (arrival_at s v.arc v.moment) (last_move s p))
 
-last_by : (s : Site) (p : List Move) (k : ℕ) → All (λ (v : Move). arrival_at s v.arc v.moment ≤ k) p → last_move s p ≤ k
+pub last_by : (s : Site) (p : List Move) (k : ℕ) → All (λ (v : Move). arrival_at s v.arc v.moment ≤ k) p → last_move s p ≤ k
 unfolding last_move
 last_by s [] k a = omega arith
 last_by s (v ∷ p) k a =
@@ -132,7 +132,7 @@ module _ (w : Network) (net : IsNet w) (last : ℕ) (quiet : (j : ℕ) → last 
       in_time i d l (inr early) = early
 
 -- an arrival at a moment belongs to a move that arrives then
-arrival_moves : (w : Network) → IsNet w → (j : ℕ) → last_move w.site (plan_of w) < j → flow_into w (at (Door j)) ≡ 0
+pub arrival_moves : (w : Network) → IsNet w → (j : ℕ) → last_move w.site (plan_of w) < j → flow_into w (at (Door j)) ≡ 0
 arrival_moves w net j late = none_into w (Door j) (λ p i e. none p i e)
   where
     by_flow : (a t : ℕ) → IsPlace w.site (Arc a t) → j ≤ arrival_at w.site a t → (0 < flow_at w (Arc a t)) ⊎ (flow_at w (Arc a t) ≤ 0) → flow_at w (Arc a t) ≡ 0

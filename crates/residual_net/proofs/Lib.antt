@@ -10,6 +10,7 @@ pub mod Kept
 pub mod Fit
 pub mod Begin
 pub mod Last
+pub mod LastArrival
 pub mod Walks
 pub mod Taking
 pub mod Worked

@@ -16,7 +16,7 @@ use Rattle.residual_net.specs.Network.{Network, IsAllSent, IsNet, IsWithinLimits
 use Rattle.residual_net.specs.Route.{IsAugmentingPath, IsPushable, IsPushed}
 use Rattle.residual_net.specs.Change.{IsCancelled, supply_limits_with}
 use Rattle.residual_net.specs.Closed.{IsClosed, reached}
-use Rattle.residual_net.specs.OfModel.{IsNetOf, plan_of, site_of, stand_of}
+use Rattle.residual_net.specs.OfModel.{IsNetOf, last_move, plan_of, site_of, stand_of}
 
 -- the net's arrivals are those of its plan
 abbrev pub ArrivedIsOut : Type 0
@@ -84,3 +84,12 @@ SuppliesBetween =
     → n.horizon ≡ m.horizon
     → ((k t : ℕ) → IsPlace w.site (Supply k t) → limit_at w (Supply k t) ≤ entry m k t + entry n k t)
     → ((k t : ℕ) → p ≡ Supply k t → x ≤ entry m k t + entry n k t) → supply_limits_with w p x ≤ supply_limit
+
+-- everybody who ever arrives has arrived by a moment exactly where the last move arrives by then
+abbrev pub LastIsArrival : Type 0
+LastIsArrival =
+    (w : Network) (k : ℕ) → IsNet w → (arrived_by w k ≡ arrived_by w w.site.shape.horizon) ↔ (last_move w.site (plan_of w) ≤ k)
+
+-- no moment has more arrivals than a later one
+abbrev pub ArrivedRises : Type 0
+ArrivedRises = (w : Network) (j k : ℕ) → j ≤ k → arrived_by w j ≤ arrived_by w k

@@ -1,5 +1,5 @@
 // The laws of nets, each the contract of a function with nothing to do.
-ghost use Rattle.residual_net.specs.NetLaws.{ArrivedIsOut, ArrivedWithinCut, CancelLowersArrivals, ClosedGrows, ClosedIsCut, ClosedSurvivesPush, NetFits, NetIsFeasible, PushMovesArrivals, SentIsArrived, SuppliesBetween};
+ghost use Rattle.residual_net.specs.NetLaws.{ArrivedIsOut, ArrivedRises, ArrivedWithinCut, CancelLowersArrivals, ClosedGrows, ClosedIsCut, ClosedSurvivesPush, LastIsArrival, NetFits, NetIsFeasible, PushMovesArrivals, SentIsArrived, SuppliesBetween};
 
 /// The arrivals of a net are those of its plan.
 pub fn arrived_is_out()
@@ -54,4 +54,14 @@ pub fn sent_is_arrived()
 /// Supplies whose limits are each at most those of two models together may be sent, as on the way from one model to another.
 pub fn supplies_between()
     ensures { SuppliesBetween }
+{}
+
+/// Everybody who ever arrives has arrived by a moment exactly where the last move arrives by then.
+pub fn last_is_arrival()
+    ensures { LastIsArrival }
+{}
+
+/// No moment has more arrivals than a later one.
+pub fn arrived_rises()
+    ensures { ArrivedRises }
 {}

@@ -19,9 +19,9 @@ mod start;
 mod tests;
 
 pub use laws::{
-    arrived_is_out, arrived_within_cut, cancel_lowers_arrivals, closed_grows, closed_is_cut,
-    closed_survives_push, net_fits, net_is_feasible, push_moves_arrivals, sent_is_arrived,
-    supplies_between,
+    arrived_is_out, arrived_rises, arrived_within_cut, cancel_lowers_arrivals, closed_grows,
+    closed_is_cut, closed_survives_push, last_is_arrival, net_fits, net_is_feasible,
+    push_moves_arrivals, sent_is_arrived, supplies_between,
 };
 pub use limits::SUPPLY_LIMIT;
 pub use net::Net;

@@ -225,12 +225,14 @@ impl Net {
         requires path { IsPushable self.old path.now.steps people }
         ensures pushed { IsPushed self.old self.new path.now.steps people }
         ensures within { IsWithinLimits self.new }
+        ensures net { IsNet self.new }
         ensures ticked { steps.new ≡ steps.old + 1 }
     {
         let list = path.steps();
         shift_all(&mut self.grid, list, people);
         move_arrivals(self.arrivals.as_mut_slice(), &self.grid, list, people);
         steps.tick();
+        let _ = &self.grid;
     }
 
     /// Gives a place another limit. The flow stays, and may be above it then.

@@ -1,0 +1,3 @@
+pub mod UnsetLemmas
+pub mod SettleLemmas
+pub mod WorkedLemmas

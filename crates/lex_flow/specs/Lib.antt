@@ -1,0 +1,4 @@
+pub use Rattle.terminal_augment.specs.Settled
+pub mod Settling
+pub mod Outcomes
+pub mod Worked

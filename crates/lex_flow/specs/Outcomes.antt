@@ -1,0 +1,44 @@
+-- What settling moment after moment comes to.
+use Rattle.std.specs.Prelude.{◌≡◌, ℕ, ◌+◌, ◌≤◌}
+use Rattle.evac_law.specs.declared.model.Model.{Model}
+use Rattle.evac_law.specs.Building.{people}
+use Rattle.evac_law.specs.Certificates.{IsCertified, IsShortfall, label_cut}
+use Rattle.evac_law.specs.LabelTable.{LabelTable}
+use Rattle.evac_law.specs.Stands.{Fits}
+use Rattle.residual_net.specs.Network.{Network, arrived_by}
+use Rattle.residual_net.specs.OfModel.{last_move, plan_of, stand_of}
+use Rattle.lex_flow.specs.declared.outcome.Outcome.{Outcome}
+use Rattle.lex_flow.specs.declared.outcome.Outcome.TheVariants.{Cleared, Short}
+use Rattle.lex_flow.specs.Settling.{AreStartsSent, arrivals_below}
+
+-- the pushes that it took
+abbrev pub pushes_of : Outcome → ℕ
+pushes_of (Cleared moment pushes) = pushes
+pushes_of (Short most pushes) = pushes
+
+-- the last moment up to which the labels show what can arrive
+abbrev pub last_settled : ℕ → Outcome → ℕ
+last_settled horizon (Cleared moment pushes) = moment
+last_settled horizon (Short most pushes) = horizon
+
+-- everybody arrives, the moment is that of the last arrival, and the net stands for a plan that the labels certify
+pub record IsCleared (m : Model) (w : Network) (l : LabelTable) (moment : ℕ) : Type 0 where
+  pub arrived : arrived_by w m.horizon ≡ people m
+  pub last : moment ≡ last_move w.site (plan_of w)
+  pub fits : Fits m (stand_of w)
+  pub certified : IsCertified m (plan_of w) l moment
+
+-- everybody gets out and the plan is best at every period, or the labels show how many can
+abbrev pub IsAnswer : Model → Network → LabelTable → Outcome → Type 0
+IsAnswer m w l (Cleared moment pushes) = IsCleared m w l moment
+IsAnswer m w l (Short most pushes) = (arrived_by w m.horizon ≡ most) × IsShortfall m (label_cut m l m.horizon) most
+
+-- the pushes are at most what the arrivals by the moments settled rose by, all together
+abbrev pub IsBounded : Network → Network → Outcome → Type 0
+IsBounded w v o =
+    pushes_of o + arrivals_below w (last_settled v.site.shape.horizon o + 1) ≤ arrivals_below v (last_settled v.site.shape.horizon o + 1)
+
+-- everybody who starts is sent and arrives by a moment, or not everybody is sent
+abbrev pub IsOutcome : Network → Outcome → Type 0
+IsOutcome w (Cleared moment pushes) = AreStartsSent w × (moment ≡ last_move w.site (plan_of w))
+IsOutcome w (Short most pushes) = (AreStartsSent w → ⊥) × (most ≡ arrived_by w w.site.shape.horizon)

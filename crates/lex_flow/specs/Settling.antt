@@ -1,0 +1,53 @@
+-- What holds while moment after moment is settled.
+use Rattle.std.specs.Prelude.{◌≡◌, ℕ, ◌+◌, ◌*◌, ◌<◌, ◌≤◌, Bool, ◌&&◌, if◌then◌else◌, length, nat_le}
+use Rattle.std.specs.List.{sum_by}
+use Rattle.evac_law.specs.declared.model.Model.{Model}
+use Rattle.evac_law.specs.Building.{IsValid}
+use Rattle.evac_law.specs.LabelTable.{LabelTable, label_at, unset}
+use Rattle.evac_law.specs.Sums.{below}
+use Rattle.residual_net.specs.Network.{Network, IsNet, IsWithinLimits, arrived_by, unsent_at}
+use Rattle.residual_net.specs.OfModel.{IsNetOf, last_move, plan_of}
+use Rattle.terminal_augment.specs.Settled.{IsClosedBelow, IsUnsetFrom, KeepsLimits}
+
+-- labels below a moment stay as they are
+pub record IsKeptBelow (l m : LabelTable) (from : ℕ) : Type 0 where
+  pub nodes : m.nodes ≡ l.nodes
+  pub horizon : m.horizon ≡ l.horizon
+  pub kept : (n t : ℕ) → n < l.nodes → t ≤ l.horizon → label_at l n t < from → label_at m n t ≡ label_at l n t
+
+-- of the labels at the pairs that pass a test those that aren't below a moment are unset, and nothing else changes
+pub record IsUnset (l m : LabelTable) (from : ℕ) (b : ℕ → ℕ → Bool) : Type 0 where
+  pub nodes : m.nodes ≡ l.nodes
+  pub horizon : m.horizon ≡ l.horizon
+  pub full : length m.list ≡ m.nodes * (m.horizon + 1)
+  pub labels : (n t : ℕ) → n < l.nodes → t ≤ l.horizon
+      → label_at m n t ≡ (if b n t && nat_le from (label_at l n t) then unset else label_at l n t)
+
+-- the arrivals by each moment below n, added up
+unfoldable pub arrivals_below : Network → ℕ → ℕ
+arrivals_below w n = sum_by (λ i. arrived_by w i) (below n)
+
+-- everybody who starts is sent
+abbrev pub AreStartsSent : Network → Type 0
+AreStartsSent w = (n : ℕ) → n < w.site.shape.nodes → unsent_at w n 0 ≡ 0
+
+-- everybody who starts is sent, and the last move arrives before a moment
+pub record IsOver (w : Network) (k : ℕ) : Type 0 where
+  pub sent : AreStartsSent w
+  pub before : last_move w.site (plan_of w) < k
+
+-- the moments from one to another are settled, none of them after everybody had arrived
+pub record IsSettledTo (w v : Network) (l m : LabelTable) (from k pushes : ℕ) : Type 0 where
+  pub since : from ≤ k
+  pub limits : KeepsLimits w v
+  pub within : IsWithinLimits v
+  pub net : IsNet v
+  pub earlier : (i : ℕ) → i < from → arrived_by v i ≡ arrived_by w i
+  pub later : (i : ℕ) → arrived_by w i ≤ arrived_by v i
+  pub bounded : pushes + arrivals_below w k ≤ arrivals_below v k
+  pub idle : pushes ≡ 0 → v ≡ w
+  pub none : k ≡ from → pushes ≡ 0
+  pub labels : IsKeptBelow l m from
+  pub closed : IsClosedBelow v m k
+  pub unset : IsUnsetFrom m k
+  pub needed : (b : Model) (i : ℕ) → IsValid b → IsNetOf b w → from ≤ i → i + 1 ≡ k → IsOver v i → ⊥

@@ -1,0 +1,153 @@
+// All arrival moments, settled one after another.
+ghost use Rattle.std.specs.Prelude.{◌≡◌, ℕ, ◌+◌, ◌<◌, ◌≤◌, ◌*◌, ◌==◌, ◌↔◌, IsTrue, if◌then◌else◌, length, nat_le, true};
+ghost use Rattle.evac_law.specs.declared.model.Model.{Model};
+ghost use Rattle.evac_law.specs.Building.{IsValid};
+ghost use Rattle.evac_law.specs.LabelTable.{label_at, unset, with_label};
+ghost use Rattle.residual_net.specs.Network.{IsWithinLimits, arrived_by};
+ghost use Rattle.residual_net.specs.OfModel.{IsNetOf};
+ghost use Rattle.terminal_augment.specs.Settled.{IsClosedBelow, IsLabelsOf, IsSearchOf, IsUnsetFrom, KeepsLimits};
+ghost use Rattle.lex_flow.specs.Outcomes.{IsAnswer, IsBounded, IsOutcome, last_settled, pushes_of};
+ghost use Rattle.lex_flow.specs.Settling.{AreStartsSent, IsKeptBelow, IsOver, IsSettledTo, IsUnset};
+
+use crate::outcome::Outcome;
+use evac_law::{Labels, Steps};
+use residual_net::Net;
+use std::sync::ledger::Ledger;
+use terminal_augment::{Search, settle};
+
+/// Unsets a label where it isn't below a moment.
+fn unset_late(labels: &mut Labels, node: u32, moment: u16, from: u16)
+    requires node { node < labels.old.nodes }
+    requires moment { moment ≤ labels.old.horizon }
+    ensures { labels.new ≡ (if nat_le from (label_at labels.old node moment) then with_label labels.old node moment unset else labels.old) }
+{
+    if labels.get(node, moment) >= from {
+        labels.set(node, moment, Labels::UNSET);
+    }
+}
+
+/// Unsets the labels of a node that aren't below a moment.
+fn unset_row(labels: &mut Labels, node: u32, from: u16)
+    requires node { node < labels.old.nodes }
+    requires full { length labels.old.list ≡ labels.old.nodes * (labels.old.horizon + 1) }
+    ensures { IsUnset labels.old labels.new from (λ n t. n == node) }
+{
+    for moment in 0..=labels.horizon() {
+        unset_late(labels, node, moment, from);
+    }
+}
+
+/// Unsets the labels that aren't below a moment.
+fn unset_from(labels: &mut Labels, from: u16)
+    ensures { IsUnset labels.old labels.new from (λ _ _. true) }
+{
+    for node in 0..labels.nodes() {
+        unset_row(labels, node, from);
+    }
+}
+
+/// Whether everybody who starts is sent.
+fn is_all_sent(net: &Net) -> bool
+    requires { IsWithinLimits net.now }
+    ensures { IsTrue result ↔ AreStartsSent net.now }
+{
+    for node in 0..net.nodes() {
+        if net.unsent(node, 0) > 0 {
+            return false;
+        }
+    }
+    true
+}
+
+/// Whether everybody is sent and arrives before a moment.
+fn is_over(net: &Net, k: u16) -> bool
+    requires { IsWithinLimits net.now }
+    ensures { IsTrue result ↔ IsOver net.now k }
+{
+    is_all_sent(net) && net.last_arrival() < k
+}
+
+/// How far a net is settled, and after how many pushes.
+#[derive(Clone, Copy)]
+struct Progress {
+    next: u16,
+    pushes: u64,
+}
+
+/// Settles moment after moment until everybody arrives before the next one, or to the horizon.
+fn settle_on<L: Ledger>(
+    net: &mut Net,
+    labels: &mut Labels,
+    search: &mut Search,
+    from: u16,
+    steps: &mut Steps<L>,
+) -> Progress
+    requires labels { IsLabelsOf net.old.site labels.old }
+    requires search { IsSearchOf net.old.site search.old }
+    requires from { from ≤ net.old.site.shape.horizon + 1 }
+    requires begun { IsSettledTo net.old net.old labels.old labels.old from from 0 }
+    ensures settled { IsSettledTo net.old net.new labels.old labels.new from result.next result.pushes }
+    ensures next { result.next ≤ net.new.site.shape.horizon + 1 }
+    ensures over { result.next ≤ net.new.site.shape.horizon → IsOver net.new result.next }
+    ensures search { search.new ≡ search.old }
+    ensures ticked { steps.new ≡ steps.old + result.pushes }
+{
+    let horizon = net.horizon();
+    let mut pushes = 0u64;
+    let mut next = from;
+    while next <= horizon && !is_over(net, next) {
+        pushes += settle(net, labels, search, next, steps) as u64;
+        next += 1;
+    }
+    Progress { next, pushes }
+}
+
+/// What a net comes to whose moments are settled.
+fn outcome_of(net: &Net, pushes: u64) -> Outcome
+    requires { IsWithinLimits net.now }
+    ensures pushes { pushes_of result ≡ pushes }
+    ensures outcome { IsOutcome net.now result }
+{
+    if is_all_sent(net) {
+        let moment = net.last_arrival();
+        Outcome::Cleared { moment, pushes }
+    } else {
+        let most = net.arrived(net.horizon());
+        Outcome::Short { most, pushes }
+    }
+}
+
+/// Unsets the labels that aren't below a moment, and settles moment after moment from that one on until everybody is sent and no
+/// later arrival is left, or to the horizon.
+///
+/// Where everybody gets out, the plan of the net is the best at every period, and the labels prove it; else they show how many can
+/// get out by the horizon.
+pub fn settle_all<L: Ledger>(
+    net: &mut Net,
+    labels: &mut Labels,
+    search: &mut Search,
+    from: u16,
+    steps: &mut Steps<L>,
+) -> Outcome
+    requires labels { IsLabelsOf net.old.site labels.old }
+    requires search { IsSearchOf net.old.site search.old }
+    requires from { from ≤ net.old.site.shape.horizon + 1 }
+    requires within { IsWithinLimits net.old }
+    requires closed { IsClosedBelow net.old labels.old from }
+    ensures limits { KeepsLimits net.old net.new }
+    ensures within { IsWithinLimits net.new }
+    ensures earlier { (i : ℕ) → i < from → arrived_by net.new i ≡ arrived_by net.old i }
+    ensures later { (i : ℕ) → arrived_by net.old i ≤ arrived_by net.new i }
+    ensures idle { pushes_of result ≡ 0 → net.new ≡ net.old }
+    ensures labels { IsKeptBelow labels.old labels.new from }
+    ensures closed { IsClosedBelow net.new labels.new (last_settled net.new.site.shape.horizon result + 1) }
+    ensures answer { (m : Model) → IsValid m → IsNetOf m net.old → IsAnswer m net.new labels.new result }
+    ensures bounded { (m : Model) → IsValid m → IsNetOf m net.old → IsBounded net.old net.new result }
+    ensures search { search.new ≡ search.old }
+    ensures ticked { steps.new ≡ steps.old + pushes_of result }
+{
+    let _ = net.shape();
+    unset_from(labels, from);
+    let progress = settle_on(net, labels, search, from, steps);
+    outcome_of(net, progress.pushes)
+}

@@ -1,0 +1,19 @@
+use Rattle.std.proofs.Common.{◌≡◌, ◌+◌, ◌-◌, []}
+use Rattle.residual_net.specs.Limits.{supply_limit}
+use Rattle.residual_net.specs.Network.{arrived_by}
+use Rattle.residual_net.specs.Site.{arcs_of}
+use Rattle.terminal_augment.specs.Searching.{IsExplored, IsSearching}
+use Rattle.terminal_augment.specs.Settled.{IsPushedOn}
+use Rattle.terminal_augment.proofs.moment.send_all.Given as goal
+
+abbrev pub invariant-loop-last : goal.invariant-loop-last
+invariant-loop-last g l = record {
+  searching : IsSearching l.net.site l.labels l.k l.work;
+  none : l.work.frames.list ≡ [];
+  pushed : IsPushedOn l.fn.net l.net l.k (l.pushes + l.last);
+  explored : l.last ≡ 0 → IsExplored l.net l.labels l.k (arcs_of l.net.site) l.work;
+  ticked : l.steps ≡ l.fn.steps + (l.pushes + l.last);
+}
+
+abbrev pub decreases-loop-last : goal.decreases-loop-last
+decreases-loop-last g l = (supply_limit - arrived_by l.net l.k) + l.last

@@ -1,0 +1,37 @@
+use Rattle.std.proofs.Common.{◌≤◌, List, cond, subst, sym, ap, ◌∙◌, arith}
+use Rattle.evac_law.specs.LabelTable.{label_at}
+use Rattle.residual_net.specs.NetLaws.{labelled}
+use Rattle.residual_net.specs.Site.{Site}
+use Rattle.terminal_augment.specs.declared.spot.Spot.{Spot}
+use Rattle.terminal_augment.specs.Settled.{IsLabelsOf}
+use Rattle.terminal_augment.specs.Spots.{has}
+use Rattle.terminal_augment.proofs.ClosedLemmas.{AreLabelled, closed_after, labelled_after}
+use Rattle.terminal_augment.proofs.moment.settle_with.Goals as goal
+
+pub returns-clause-labels : goal.returns-clause-labels
+returns-clause-labels g c =
+    let x = c.send_all-pushes.new.work in
+    let labels : AreLabelled c.args.labels.now c.label_all.new.labels x.seen.list c.args.k = record {
+      nodes = c.label_all.ensures.nodes;
+      horizon = c.label_all.ensures.horizon;
+      labels = λ n t a b.
+          c.label_all.ensures.labels n t a b ∙ ap (λ (ps : List Spot). cond (has ps n t) c.args.k (label_at c.args.labels.now n t)) c.as_slice.ensures;
+    } in
+    labelled_after c.send_all-pushes.new.net.site c.args.labels.now c.label_all.new.labels c.args.k x c.send_all-pushes.ensures.searching c.requires.unset labels
+
+pub returns-clause-closed : goal.returns-clause-closed
+returns-clause-closed g c =
+    let x = c.send_all-pushes.new.work in
+    let v = c.send_all-pushes.new.net in
+    let done = c.send_all-pushes.ensures in
+    let labels : AreLabelled c.args.labels.now c.label_all.new.labels x.seen.list c.args.k = record {
+      nodes = c.label_all.ensures.nodes;
+      horizon = c.label_all.ensures.horizon;
+      labels = λ n t a b.
+          c.label_all.ensures.labels n t a b ∙ ap (λ (ps : List Spot). cond (has ps n t) c.args.k (label_at c.args.labels.now n t)) c.as_slice.ensures;
+    } in
+    let site = done.pushed.limits.site in
+    let of = subst (λ (s : Site). IsLabelsOf s c.args.labels.now) (sym site) c.requires.labels in
+    let in_time : c.args.k ≤ v.site.shape.horizon = omega (arith, c.requires.moment, ap (λ (s : Site). s.shape.horizon) site) in
+    closed_after v c.args.labels.now c.label_all.new.labels c.args.k x done.pushed.net in_time of c.requires.unset
+    (λ i l. done.pushed.closed (labelled c.args.labels.now i) i l (c.requires.closed i l)) done.searching done.explored done.none labels

@@ -1,0 +1,14 @@
+pub use Rattle.residual_net.specs.Closed
+pub use Rattle.residual_net.specs.NetLaws
+pub use Rattle.residual_net.specs.Network
+pub use Rattle.residual_net.specs.OfModel
+pub use Rattle.residual_net.specs.Route
+pub use Rattle.residual_net.specs.Site
+pub mod Spots
+pub mod Piles
+pub mod Marking
+pub mod Ways
+pub mod Frames
+pub mod Searching
+pub mod Settled
+pub mod Worked

@@ -1,0 +1,33 @@
+-- Marks on nodes at moments, all taken off at once by a new stamp.
+use Rattle.std.specs.Prelude.{◌≡◌, ℕ, ◌+◌, ◌*◌, ◌<◌, ◌≤◌, ◌^◌, Bool, not, ◌==◌, List, length, count_by, slice_index, slice_set}
+use Rattle.std.specs.List.{All}
+
+-- marks as contracts see them: the number of nodes, the horizon, the stamp of a mark that stands, and a stamp for each node and moment
+pub record MarkTable : Type 0 where
+  pub nodes : ℕ
+  pub horizon : ℕ
+  pub stamp : ℕ
+  pub list : List ℕ
+
+-- there is a stamp for each node and moment, and none is later than the one that stands
+pub record IsMarks (m : MarkTable) : Type 0 where
+  pub full : length m.list ≡ m.nodes * (m.horizon + 1)
+  pub some : 1 ≤ m.stamp
+  pub fits : m.stamp < 2 ^ 32
+  pub old : All (λ x. x ≤ m.stamp) m.list
+
+-- the place of a node and moment in the list
+abbrev pub mark_place : MarkTable → ℕ → ℕ → ℕ
+mark_place m n t = n * (m.horizon + 1) + t
+
+-- whether a node is marked at a moment
+abbrev pub is_marked : MarkTable → ℕ → ℕ → Bool
+is_marked m n t = slice_index m.list (mark_place m n t) == m.stamp
+
+-- the marks with another stamp for a node and moment
+abbrev pub with_stamp : MarkTable → ℕ → ℕ → ℕ → MarkTable
+with_stamp m n t stamp = record m { list = slice_set m.list (mark_place m n t) stamp }
+
+-- how many nodes and moments aren't marked
+unfoldable pub open_count : MarkTable → ℕ
+open_count m = count_by (λ x. not (x == m.stamp)) m.list

@@ -1,0 +1,241 @@
+// One arrival moment, settled.
+ghost use Rattle.std.specs.Prelude.{◌≡◌, ℕ, ◌+◌, ◌<◌, ◌≤◌, IfOk, [], if◌then◌else◌};
+ghost use Rattle.std.specs.List.{All};
+ghost use Rattle.evac_law.specs.Building.{IsValid};
+ghost use Rattle.evac_law.specs.LabelTable.{label_at};
+ghost use Rattle.residual_net.specs.Network.{IsNet, IsWithinLimits};
+ghost use Rattle.residual_net.specs.OfModel.{site_of};
+ghost use Rattle.residual_net.specs.Site.{arcs_of};
+ghost use Rattle.terminal_augment.specs.Frames.{HasRoom};
+ghost use Rattle.terminal_augment.specs.Searching.{IsExplored, IsSearching, IsWork};
+ghost use Rattle.terminal_augment.specs.Settled.{IsClosedBelow, IsLabelled, IsLabelsOf, IsPushedOn, IsSearchOf, IsSentOn, IsUnsetFrom, KeepsLimits};
+ghost use Rattle.terminal_augment.specs.Spots.{has};
+ghost use Rattle.terminal_augment.specs.Ways.{IsDoorStep};
+
+use crate::spot::{Spot, Start};
+use crate::walk::send_next;
+use crate::ways::{is_usable, start};
+use crate::work::Work;
+use evac_law::{Labels, Steps};
+use residual_net::{Net, PathStep, Place};
+use std::alloc::{AllocError, Global};
+use std::marker::Model;
+use std::sync::ledger::Ledger;
+
+/// The step over an arc that arrives at an exit at a moment, where there is one.
+fn door_step(net: &Net, arc: u32, k: u16) -> Option<PathStep>
+    requires arc { arc < arcs_of net.now.site }
+    requires moment { k ≤ net.now.site.shape.horizon }
+    ensures { IsDoorStep net.now.site arc k result }
+{
+    let node = net.shape().ends()[arc as usize].to;
+    let travel = net.travel(arc);
+    if net.is_exit(node) && travel <= k {
+        let moment = k - travel;
+        let place = Place::Arc { arc, moment };
+        Some(PathStep { place, back: false })
+    } else {
+        None
+    }
+}
+
+/// Enters the pair from which an arc leads to an arrival at a moment, where a search may take that step.
+fn open_door(net: &Net, labels: &Labels, work: &mut Work, arc: u32, k: u16)
+    requires within { IsWithinLimits net.now }
+    requires labels { IsLabelsOf net.now.site labels.now }
+    requires arc { arc < arcs_of net.now.site }
+    requires moment { k ≤ net.now.site.shape.horizon }
+    requires searching { IsSearching net.now.site labels.now k work.old }
+    requires none { work.old.frames.list ≡ [] }
+    ensures searching { IsSearching net.now.site labels.now k work.new }
+    ensures room { HasRoom net.now work.new.frames.list }
+    ensures explored { IsExplored net.now labels.now k arc work.old → IsExplored net.now labels.now k (arc + 1) work.new }
+{
+    if let Some(step) = door_step(net, arc, k) {
+        if is_usable(net, labels, &work.marks, step, k) {
+            if let Start::At(spot) = start(net, step) {
+                work.enter(spot, step);
+            }
+        }
+    }
+}
+
+/// Sends people over an arc to an arrival at a moment, along as many paths as a search finds.
+fn send_by<L: Ledger>(
+    net: &mut Net,
+    labels: &Labels,
+    work: &mut Work,
+    arc: u32,
+    k: u16,
+    steps: &mut Steps<L>,
+) -> u32
+    requires within { IsWithinLimits net.old }
+    requires net { IsNet net.old }
+    requires labels { IsLabelsOf net.old.site labels.now }
+    requires arc { arc < arcs_of net.old.site }
+    requires moment { k ≤ net.old.site.shape.horizon }
+    requires searching { IsSearching net.old.site labels.now k work.old }
+    requires none { work.old.frames.list ≡ [] }
+    ensures searching { IsSearching net.new.site labels.now k work.new }
+    ensures none { work.new.frames.list ≡ [] }
+    ensures pushed { IsPushedOn net.old net.new k result }
+    ensures explored { result ≡ 0 → IsExplored net.old labels.now k arc work.old → IsExplored net.new labels.now k (arc + 1) work.new }
+    ensures ticked { steps.new ≡ steps.old + result }
+{
+    open_door(net, labels, work, arc, k);
+    let mut pushes = 0;
+    while send_next(net, labels, work, k, steps) {
+        pushes += 1;
+    }
+    pushes
+}
+
+/// Sends people to a moment along the paths of one search.
+fn round<L: Ledger>(
+    net: &mut Net,
+    labels: &Labels,
+    work: &mut Work,
+    k: u16,
+    steps: &mut Steps<L>,
+) -> u32
+    requires within { IsWithinLimits net.old }
+    requires net { IsNet net.old }
+    requires labels { IsLabelsOf net.old.site labels.now }
+    requires moment { k ≤ net.old.site.shape.horizon }
+    requires work { IsWork net.old.site.shape.nodes net.old.site.shape.horizon work.old }
+    ensures searching { IsSearching net.new.site labels.now k work.new }
+    ensures none { work.new.frames.list ≡ [] }
+    ensures pushed { IsPushedOn net.old net.new k result }
+    ensures explored { result ≡ 0 → IsExplored net.new labels.now k (arcs_of net.new.site) work.new }
+    ensures ticked { steps.new ≡ steps.old + result }
+{
+    work.clear();
+    let mut pushes = 0;
+    let arcs = net.shape().ends().len() as u32;
+    for arc in 0..arcs {
+        pushes += send_by(net, labels, work, arc, k, steps);
+    }
+    pushes
+}
+
+/// Sends people to a moment until a search finds no more.
+fn send_all<L: Ledger>(
+    net: &mut Net,
+    labels: &Labels,
+    work: &mut Work,
+    k: u16,
+    steps: &mut Steps<L>,
+) -> u32
+    requires within { IsWithinLimits net.old }
+    requires net { IsNet net.old }
+    requires labels { IsLabelsOf net.old.site labels.now }
+    requires moment { k ≤ net.old.site.shape.horizon }
+    requires work { IsWork net.old.site.shape.nodes net.old.site.shape.horizon work.old }
+    ensures searching { IsSearching net.new.site labels.now k work.new }
+    ensures none { work.new.frames.list ≡ [] }
+    ensures pushed { IsPushedOn net.old net.new k result }
+    ensures explored { IsExplored net.new labels.now k (arcs_of net.new.site) work.new }
+    ensures ticked { steps.new ≡ steps.old + result }
+{
+    let mut pushes = 0;
+    let mut last = round(net, labels, work, k, steps);
+    while last > 0 {
+        pushes += last;
+        last = round(net, labels, work, k, steps);
+    }
+    pushes
+}
+
+/// Gives pairs a label.
+fn label_all(labels: &mut Labels, seen: &[Spot], k: u16)
+    requires { All (λ p. (p.node < labels.old.nodes) × (p.moment ≤ labels.old.horizon)) seen.now }
+    ensures nodes { labels.new.nodes ≡ labels.old.nodes }
+    ensures horizon { labels.new.horizon ≡ labels.old.horizon }
+    ensures labels { (n t : ℕ) → n < labels.old.nodes → t ≤ labels.old.horizon → label_at labels.new n t ≡ (if has seen.now n t then k else label_at labels.old n t) }
+{
+    let _ = labels.nodes();
+    for spot in seen {
+        labels.set(spot.node, spot.moment, k);
+    }
+}
+
+/// Settles a moment with the scratch of a search.
+fn settle_with<L: Ledger>(
+    net: &mut Net,
+    labels: &mut Labels,
+    work: &mut Work,
+    k: u16,
+    steps: &mut Steps<L>,
+) -> u32
+    requires labels { IsLabelsOf net.old.site labels.old }
+    requires work { IsWork net.old.site.shape.nodes net.old.site.shape.horizon work.old }
+    requires moment { k ≤ net.old.site.shape.horizon }
+    requires within { IsWithinLimits net.old }
+    requires closed { IsClosedBelow net.old labels.old k }
+    requires unset { IsUnsetFrom labels.old k }
+    ensures pushed { IsPushedOn net.old net.new k result }
+    ensures labels { IsLabelled labels.old labels.new k }
+    ensures closed { IsClosedBelow net.new labels.new (k + 1) }
+    ensures work { IsWork net.new.site.shape.nodes net.new.site.shape.horizon work.new }
+    ensures ticked { steps.new ≡ steps.old + result }
+{
+    let _ = net.shape();
+    let pushes = send_all(net, labels, work, k, steps);
+    label_all(labels, work.seen.as_slice(), k);
+    pushes
+}
+
+/// The scratch of searches, in memory that is taken once.
+#[derive(Drop)]
+pub struct Search {
+    work: Work,
+}
+
+impl Model for Search {
+    ghost use Rattle.terminal_augment.specs.Searching.{IsWork};
+    ghost use Rattle.terminal_augment.specs.Settled.{SearchSize};
+
+    ghost Value = { SearchSize };
+
+    ghost view = { λ s. record { nodes = s.work.marks.nodes; horizon = s.work.marks.horizon } };
+
+    ghost invariant = { λ s. IsWork s.work.marks.nodes s.work.marks.horizon s.work };
+}
+
+impl Search {
+    /// Scratch for the nets of a model.
+    pub fn new(alloc: Global, model: &evac_law::Model) -> Result<Search, AllocError>
+        requires { IsValid model.now }
+        ensures { IfOk result (IsSearchOf (site_of model.now)) }
+    {
+        let work = Work::new(alloc, model.node_count(), model.horizon)?;
+        Ok(Search { work })
+    }
+}
+
+/// Sends as many people as can arrive by a moment without taking any from earlier arrivals, and then labels the pairs from which
+/// people could still reach an arrival by then. The answer is the number of its pushes.
+pub fn settle<L: Ledger>(
+    net: &mut Net,
+    labels: &mut Labels,
+    search: &mut Search,
+    k: u16,
+    steps: &mut Steps<L>,
+) -> u32
+    requires labels { IsLabelsOf net.old.site labels.old }
+    requires search { IsSearchOf net.old.site search.old }
+    requires moment { k ≤ net.old.site.shape.horizon }
+    requires within { IsWithinLimits net.old }
+    requires closed { IsClosedBelow net.old labels.old k }
+    requires unset { IsUnsetFrom labels.old k }
+    ensures limits { KeepsLimits net.old net.new }
+    ensures within { IsWithinLimits net.new }
+    ensures net { IsNet net.new }
+    ensures sent { IsSentOn net.old net.new k result }
+    ensures labels { IsLabelled labels.old labels.new k }
+    ensures closed { IsClosedBelow net.new labels.new (k + 1) }
+    ensures search { search.new ≡ search.old }
+    ensures ticked { steps.new ≡ steps.old + result }
+{
+    settle_with(net, labels, &mut search.work, k, steps)
+}

@@ -1,0 +1,138 @@
+// A search back from the arrivals at a moment, and the pushes along what it finds.
+ghost use Rattle.std.specs.Prelude.{◌≡◌, ℕ, ◌+◌, ◌*◌, ◌<◌, ◌≤◌, Option, MatchOption, Some, [], ◌∷◌, IsFalse, drop, if◌then◌else◌, length};
+ghost use Rattle.std.specs.List.{All};
+ghost use Rattle.residual_net.specs.Network.{IsNet, IsWithinLimits, residual_room};
+ghost use Rattle.residual_net.specs.Site.{IsPlace};
+ghost use Rattle.terminal_augment.specs.Frames.{HasRoom, IsFound, steps_of};
+ghost use Rattle.terminal_augment.specs.Marking.{open_count};
+ghost use Rattle.terminal_augment.specs.Piles.{top_of};
+ghost use Rattle.terminal_augment.specs.Searching.{IsExplored, IsSearching, effort};
+ghost use Rattle.terminal_augment.specs.Settled.{IsLabelsOf, IsPushedOn};
+
+use crate::spot::{Frame, Start};
+use crate::ways::{look, start};
+use crate::work::Work;
+use evac_law::{Labels, Steps};
+use residual_net::{Net, Path, PathStep};
+use std::sync::ledger::Ledger;
+
+/// Takes one step of a search: over a way into the top frame's pair, or off that frame. A step at whose start people may be had
+/// is the answer.
+fn advance(net: &Net, labels: &Labels, work: &mut Work, frame: Frame, k: u16) -> Option<PathStep>
+    requires within { IsWithinLimits net.now }
+    requires labels { IsLabelsOf net.now.site labels.now }
+    requires searching { IsSearching net.now.site labels.now k work.old }
+    requires room { HasRoom net.now work.old.frames.list }
+    requires top { top_of work.old.frames.list ≡ Some frame }
+    ensures searching { IsSearching net.now.site labels.now k work.new }
+    ensures room { HasRoom net.now work.new.frames.list }
+    ensures explored { (arc : ℕ) → IsExplored net.now labels.now k arc work.old → IsExplored net.now labels.now k arc work.new }
+    ensures found { MatchOption result (effort work.new < effort work.old) (λ y. IsFound net.now k work.new.frames.list y) }
+{
+    match look(net, labels, &work.marks, frame, k) {
+        None => {
+            work.leave();
+            None
+        }
+        Some(way) => {
+            work.retry(frame, way.number);
+            match start(net, way.step) {
+                Start::At(spot) => {
+                    work.enter(spot, way.step);
+                    None
+                }
+                Start::Source | Start::Door(_) => Some(way.step),
+            }
+        }
+    }
+}
+
+/// Goes on with a search until it meets a step at whose start people may be had, or until no frame is left.
+fn descend(net: &Net, labels: &Labels, work: &mut Work, k: u16) -> Option<PathStep>
+    requires within { IsWithinLimits net.now }
+    requires labels { IsLabelsOf net.now.site labels.now }
+    requires searching { IsSearching net.now.site labels.now k work.old }
+    requires room { HasRoom net.now work.old.frames.list }
+    ensures searching { IsSearching net.now.site labels.now k work.new }
+    ensures room { HasRoom net.now work.new.frames.list }
+    ensures explored { (arc : ℕ) → IsExplored net.now labels.now k arc work.old → IsExplored net.now labels.now k arc work.new }
+    ensures found { MatchOption result (work.new.frames.list ≡ []) (λ y. IsFound net.now k work.new.frames.list y) }
+{
+    while let Some(frame) = work.frames.top() {
+        if let Some(step) = advance(net, labels, work, frame, k) {
+            return Some(step);
+        }
+    }
+    None
+}
+
+/// Fills a path with the step that a search found and with those of the frames. The answer is the least room on it.
+fn lay(net: &Net, path: &mut Path, frames: &[Frame], found: PathStep) -> u32
+    requires within { IsWithinLimits net.now }
+    requires space { length frames.now < path.old.room }
+    requires place { IsPlace net.now.site found.place }
+    requires places { All (λ f. IsPlace net.now.site f.step.place) frames.now }
+    requires some { 0 < residual_room net.now found }
+    requires room { HasRoom net.now frames.now }
+    ensures path { path.new ≡ record { steps = found ∷ steps_of frames.now; room = path.old.room } }
+    ensures some { 1 ≤ result }
+    ensures room { All (λ y. result ≤ residual_room net.now y) path.new.steps }
+{
+    path.clear();
+    path.add(found);
+    let mut people = net.room(found);
+    for frame in frames {
+        people = people.min(net.room(frame.step));
+        path.add(frame.step);
+    }
+    people
+}
+
+/// How many frames are above the lowest one whose step is full, with that one.
+fn full_count(net: &Net, frames: &[Frame]) -> usize
+    requires within { IsWithinLimits net.now }
+    requires places { All (λ f. IsPlace net.now.site f.step.place) frames.now }
+    ensures count { result ≤ length frames.now }
+    ensures room { HasRoom net.now (drop result frames.now) }
+{
+    let mut count = 0;
+    for (i, frame) in frames.iter().enumerate() {
+        if net.room(frame.step) == 0 {
+            count = i + 1;
+        }
+    }
+    count
+}
+
+/// Sends people along the next path that a search finds. Whether there was one.
+pub fn send_next<L: Ledger>(
+    net: &mut Net,
+    labels: &Labels,
+    work: &mut Work,
+    k: u16,
+    steps: &mut Steps<L>,
+) -> bool
+    requires within { IsWithinLimits net.old }
+    requires net { IsNet net.old }
+    requires labels { IsLabelsOf net.old.site labels.now }
+    requires searching { IsSearching net.old.site labels.now k work.old }
+    requires room { HasRoom net.old work.old.frames.list }
+    ensures searching { IsSearching net.new.site labels.now k work.new }
+    ensures room { HasRoom net.new work.new.frames.list }
+    ensures pushed { IsPushedOn net.old net.new k (if result then 1 else 0) }
+    ensures over { IsFalse result → work.new.frames.list ≡ [] }
+    ensures explored { IsFalse result → (arc : ℕ) → IsExplored net.old labels.now k arc work.old → IsExplored net.new labels.now k arc work.new }
+    ensures ticked { steps.new ≡ steps.old + (if result then 1 else 0) }
+{
+    match descend(net, labels, work, k) {
+        None => false,
+        Some(found) => {
+            let people = lay(net, &mut work.path, work.frames.as_slice(), found);
+            net.push(&work.path, people, steps);
+            work.seen.clear();
+            let full = full_count(net, work.frames.as_slice());
+            work.release(full);
+            true
+        }
+    }
+}
