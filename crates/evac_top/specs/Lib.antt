@@ -1,4 +1,5 @@
 pub mod Answering
+pub mod Checks
 pub mod Endings
 pub mod Inputs
 pub mod Modes

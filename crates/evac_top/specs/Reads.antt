@@ -1,15 +1,18 @@
 -- What the parts of a run read.
 use Rattle.std.specs.Prelude.{◌≡◌, ℕ, true, false, List, [], ◌++◌, Result, Ok, Err, Some, None, ⊤}
 use Rattle.std.specs.declared.option.Option.{Option}
-use Rattle.line_io.specs.Line.{Line, lines_of, text_lines}
+use Rattle.line_io.specs.Line.{Line, input_too_long, line_too_long, lines_of, text_lines}
 use Rattle.line_io.specs.View.{Reader}
 use Rattle.building_table.specs.Built.{IsBuilding}
 use Rattle.building_table.specs.Passes.{Passes}
-use Rattle.building_table.specs.declared.building.Building.{Building}
 use Rattle.building_table.specs.declared.faults.ModelFault.{ModelFault}
 use Rattle.building_table.specs.declared.faults.ModelFault.TheVariants.{Named, ReadFault, Memory}
-use Rattle.model_text.specs.Taken.{Description}
-use Rattle.evac_top.specs.Inputs.{input_of, tail_fault}
+use Rattle.certificate_text.specs.declared.fault.BlockFault.{BlockFault}
+use Rattle.certificate_text.specs.declared.fault.BlockFault.TheVariants as block_faults
+use Rattle.certificate_text.specs.BlockGrammar.{IsStated, bad_block}
+use Rattle.evac_top.specs.declared.claim.Claim.{Claim}
+use Rattle.evac_top.specs.declared.read.Input.{Input}
+use Rattle.evac_top.specs.Inputs.{Asked, Claimed, claim_of, input_of, tail_fault}
 
 -- the first fault behind a model's end, by the lines left before the call
 abbrev pub TailIs : Result (Unit {0}) ModelFault → ℕ → List Line → Type 0
@@ -30,11 +33,27 @@ pub record PassesNothing (before after : Reader) (left left' : Option (List ℕ)
   pub nothing : (rest : List Line) → tail_fault before.number (text_lines texts ++ rest) ≡ tail_fault after.number rest
 
 -- what an input says, by its bytes
-abbrev pub InputIs : Result Building ModelFault → List ℕ → Type 0
-InputIs (Ok building) bytes = (d : Description) × (input_of (lines_of bytes) ≡ Ok d) × IsBuilding building d
+abbrev pub InputIs : Result Input ModelFault → List ℕ → Type 0
+InputIs (Ok input) bytes = (asked : Asked) × (input_of (lines_of bytes) ≡ Ok asked) × IsBuilding input.building asked.building × (input.last ≡ asked.last)
 InputIs (Err (Named code line)) bytes = input_of (lines_of bytes) ≡ Err (code, line)
 InputIs (Err ReadFault) bytes = ⊤
 InputIs (Err Memory) bytes = ⊤
+
+-- the fault of an input with a block that isn't read
+abbrev pub fault_of : BlockFault → ModelFault
+fault_of (block_faults.Bad line) = Named bad_block line
+fault_of (block_faults.LineTooLong line) = Named line_too_long line
+fault_of (block_faults.InputTooLong line) = Named input_too_long line
+fault_of block_faults.ReadFault = ReadFault
+fault_of block_faults.Memory = Memory
+
+-- what an input with a block says, by its bytes
+abbrev pub ClaimIs : Result Claim ModelFault → List ℕ → Type 0
+ClaimIs (Ok claim) bytes =
+    (c : Claimed) × (claim_of (lines_of bytes) ≡ Ok c) × IsBuilding claim.building c.building × IsStated c.building.model c.draft claim.block
+ClaimIs (Err (Named code line)) bytes = claim_of (lines_of bytes) ≡ Err (code, line)
+ClaimIs (Err ReadFault) bytes = ⊤
+ClaimIs (Err Memory) bytes = ⊤
 
 -- a reader that has taken nothing yet
 abbrev pub IsFresh : Reader → Type 0

@@ -1,13 +1,14 @@
 -- What a run took, wrote and answered, by its words and its input. Each mode is one case of each definition.
-use Rattle.std.specs.Prelude.{◌≡◌, ◌≢◌, ℕ, ◌≤◌, List, [], ◌++◌, Some, None, ⊤}
+use Rattle.std.specs.Prelude.{◌≡◌, ◌≢◌, ℕ, ◌≤◌, List, [], ◌++◌, length, Some, None, ⊤}
 use Rattle.std.specs.declared.option.Option.{Option}
 use Rattle.std.specs.Io.KnownBytes.{Appends, Consumes, IsAtEnd}
 use Rattle.line_io.specs.Causes.{Rose}
-use Rattle.line_io.specs.Line.{lines_of, whole_part}
+use Rattle.line_io.specs.Line.{Line, lines_of, whole_part}
 use Rattle.certificate_text.specs.BlockText.{refusal_line}
 use Rattle.evac_top.specs.Endings.{Answers}
-use Rattle.evac_top.specs.Inputs.{IsOpen}
-use Rattle.evac_top.specs.Modes.{Mode, Solve}
+use Rattle.evac_top.specs.Inputs.{NoneRefused, claim_of, input_of}
+use Rattle.evac_top.specs.declared.mode.Mode.{Mode}
+use Rattle.evac_top.specs.declared.mode.Mode.TheVariants.{Solve, Check}
 
 -- what holds of the bytes of the input, where the source tells them
 abbrev pub Told : Option (List ℕ) → (List ℕ → Type 0) → Type 0
@@ -27,16 +28,23 @@ IsFront P written = (rest : List ℕ) × P (written ++ rest)
 -- how much of the input was taken at status 0: all of it
 abbrev pub TakesAll : Mode → Option (List ℕ) → Type 0
 TakesAll Solve left' = IsAtEnd left'
+TakesAll Check left' = IsAtEnd left'
 
 -- what was written when the source failed: nothing
 abbrev pub WroteSoFar : Mode → List ℕ → Type 0
 WroteSoFar Solve written = written ≡ []
+WroteSoFar Check written = written ≡ []
+
+-- lines that don't end a run: none of them is refused
+abbrev pub IsOpen : Mode → List Line → Type 0
+IsOpen Solve lines = NoneRefused (input_of lines) (length lines)
+IsOpen Check lines = NoneRefused (claim_of lines) (length lines)
 
 -- the bytes taken when the source failed: the lines of them that ended in LF don't end the run
 pub record StaysOpen (mode : Mode) (left left' : Option (List ℕ)) : Type 0 where
   pub taken : List ℕ
   pub consumed : Consumes left left' taken
-  pub open_lines : IsOpen (lines_of (whole_part taken))
+  pub open_lines : IsOpen mode (lines_of (whole_part taken))
 
 -- ---- a run
 

@@ -1,13 +1,13 @@
 // Replies, each brought to the sink.
 ghost use Rattle.std.specs.Prelude.{◌≡◌, ◌≤◌, []};
 ghost use Rattle.evac_law.specs.Building.{IsValid};
-ghost use Rattle.evac_law.specs.Certificates.{IsTableOf};
+ghost use Rattle.evac_law.specs.Certificates.{IsTableOf, label_cut};
 ghost use Rattle.evac_law.specs.Stands.{Fits};
-ghost use Rattle.certificate_text.specs.BlockText.{answer_text, refusal_line};
+ghost use Rattle.certificate_text.specs.BlockText.{answer_text, refusal_line, shortfall_text};
 ghost use Rattle.line_io.specs.Causes.{HasCause};
 ghost use Rattle.evac_top.specs.Sends.{Sends};
 
-use certificate_text::{write_answer, write_refusal};
+use certificate_text::{write_answer, write_refusal, write_short};
 use evac_law::{Labels, Model, Standing};
 use line_io::{Out, Sink, WriteFault};
 
@@ -44,5 +44,24 @@ pub(crate) fn send_answer<K: Sink, F: Standing>(
     ensures cause { HasCause (K.faults sink.old) (K.faults sink.new) result }
 {
     write_answer(out, sink, model, 0, standing, labels)?;
+    out.flush(sink)
+}
+
+/// Sends the block of a shortfall at a line, with the cut that labels make at the horizon.
+pub(crate) fn send_short<K: Sink>(
+    out: &mut Out,
+    sink: &mut K,
+    model: &Model,
+    line: u32,
+    most: u32,
+    labels: &Labels,
+) -> Result<(), WriteFault>
+    requires fresh { out.old ≡ [] }
+    requires valid { IsValid model.now }
+    requires table { IsTableOf model.now labels.now }
+    ensures text { Sends (K.held sink.old) (K.held sink.new) (shortfall_text line model.now (label_cut model.now labels.now model.now.horizon) most) result }
+    ensures cause { HasCause (K.faults sink.old) (K.faults sink.new) result }
+{
+    write_short(out, sink, model, line, model.people(), most, labels)?;
     out.flush(sink)
 }

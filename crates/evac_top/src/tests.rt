@@ -10,14 +10,17 @@ use std::process::Abort;
 use std::sync::ledger::{Blank, Ledger};
 use std::test::Fail;
 
-const ONE_ROOM: &str =
+pub(crate) const ONE_ROOM: &str =
     "evacplan 1\nperiod 5\nhorizon 20\nfloor 1 Ground\nnode WP1.1 10 3\nnode DS1.1\narc WP1.1 DS1.1 1 2\nend\n";
 
-const ONE_ROOM_BLOCK: &str =
+pub(crate) const ONE_ROOM_BLOCK: &str =
     "answer 0\npeople 3\ncleared 2\nout 0 0\nout 1 2\nout 2 3\nlabel WP1.1 0 2\nmove 0 WP1.1 DS1.1 2\nmove 1 WP1.1 DS1.1 1\nend\n";
 
-const TWO_EXITS: &str =
+pub(crate) const TWO_EXITS: &str =
     "evacplan 1\nperiod 5\nhorizon 20\nfloor 1 Ground\nnode WP1.1 8 8\nnode DS1.1\nnode DS2.1\narc WP1.1 DS1.1 1 1\narc WP1.1 DS2.1 3 5\nend\n";
+
+pub(crate) const TWO_EXITS_BLOCK: &str =
+    "answer 0\npeople 8\ncleared 3\nout 0 0\nout 1 1\nout 2 2\nout 3 8\nlabel WP1.1 0 3\nmove 0 WP1.1 DS1.1 1\nmove 0 WP1.1 DS2.1 5\nmove 1 WP1.1 DS1.1 1\nmove 2 WP1.1 DS1.1 1\nend\n";
 
 // A run with a counter of steps that nobody reads.
 fn run_uncounted<S: Source, K: Sink, L: Ledger>(
@@ -50,7 +53,7 @@ fn status_of<S: Source, K: Sink>(
 }
 
 // The words give this status and text for this input.
-fn check(
+pub(crate) fn check(
     rt: &(impl Abort + AllocGlobal),
     words: &[&str],
     input: &str,
@@ -69,10 +72,15 @@ fn check(
     Ok(())
 }
 
-// The model of one room with one line changed; an empty line is left out.
-fn changed(alloc: Global, number: usize, line: &str) -> Result<String, AllocError> {
+// A text with one line changed; an empty line is left out.
+pub(crate) fn with_line(
+    alloc: Global,
+    lines: &str,
+    number: usize,
+    line: &str,
+) -> Result<String, AllocError> {
     let mut text = String::new(alloc);
-    for (place, old) in ONE_ROOM.lines().enumerate() {
+    for (place, old) in lines.lines().enumerate() {
         let new = if place + 1 == number { line } else { old };
         if !new.is_empty() {
             text.push_str(new)?;
@@ -80,6 +88,11 @@ fn changed(alloc: Global, number: usize, line: &str) -> Result<String, AllocErro
         }
     }
     Ok(text)
+}
+
+// The model of one room with one line changed.
+fn changed(alloc: Global, number: usize, line: &str) -> Result<String, AllocError> {
+    with_line(alloc, ONE_ROOM, number, line)
 }
 
 #[test]
@@ -112,13 +125,36 @@ fn other_words_are_refused(rt: HostRuntime) -> Result<(), Fail> {
 }
 
 #[test]
-fn other_buildings_are_not_built_yet(rt: HostRuntime) -> Result<(), Fail> {
+fn buildings_that_cannot_be_cleared_have_a_cut(rt: HostRuntime) -> Result<(), Fail> {
     let alloc = rt.alloc();
-    check(&rt, &["solve"], TWO_EXITS, 1, "refused 90 0\n")?;
     let short = changed(alloc, 3, "horizon 1")?;
-    check(&rt, &["solve"], short.as_str(), 1, "refused 90 0\n")?;
-    let narrow = changed(alloc, 7, "arc WP1.1 DS1.1 1 0")?;
-    check(&rt, &["solve"], narrow.as_str(), 1, "refused 90 0\n")
+    let cut = "refused 22 8\npeople 3\nmost 2\nin WP1.1 0 1\nend\n";
+    check(&rt, &["solve"], short.as_str(), 1, cut)?;
+    let trapped =
+        "evacplan 1\nperiod 5\nhorizon 10\nfloor 1 Ground\nnode WP1.1 5 5\nnode DS1.1\nend\n";
+    let cut = "refused 22 7\npeople 5\nmost 0\nin WP1.1 0 10\nend\n";
+    check(&rt, &["solve"], trapped, 1, cut)
+}
+
+// The hall where nobody may stay.
+const HALL: &str =
+    "evacplan 1\nperiod 5\nhorizon 20\nfloor 1 Ground\nnode WP1.1 5 4\nnode HA1.1 0 0\nnode DS1.1\narc WP1.1 HA1.1 1 3\narc HA1.1 DS1.1 1 1\nend\n";
+
+const HALL_BLOCK: &str =
+    "answer 0\npeople 4\ncleared 5\nout 0 0\nout 1 0\nout 2 1\nout 3 2\nout 4 3\nout 5 4\nlabel WP1.1 0 5\nlabel HA1.1 0 1\nlabel HA1.1 1 5\nmove 0 WP1.1 HA1.1 1\nmove 1 WP1.1 HA1.1 1\nmove 1 HA1.1 DS1.1 1\nmove 2 WP1.1 HA1.1 1\nmove 2 HA1.1 DS1.1 1\nmove 3 WP1.1 HA1.1 1\nmove 3 HA1.1 DS1.1 1\nmove 4 HA1.1 DS1.1 1\nend\n";
+
+// Two rooms and one hall: who goes first by the hall has to turn round.
+const TWO_ROOMS: &str =
+    "evacplan 1\nperiod 5\nhorizon 20\nfloor 1 Ground\nnode WP1.1 1 1\nnode WP2.1 1 1\nnode HA1.1 1 0\nnode DS1.1\nnode DS2.1\narc WP1.1 HA1.1 1 1\narc WP1.1 DS2.1 2 1\narc WP2.1 HA1.1 1 1\narc HA1.1 DS1.1 1 1\nend\n";
+
+const TWO_ROOMS_BLOCK: &str =
+    "answer 0\npeople 2\ncleared 2\nout 0 0\nout 1 0\nout 2 2\nlabel WP1.1 0 2\nlabel WP2.1 0 2\nlabel HA1.1 0 1\nlabel HA1.1 1 2\nmove 0 WP1.1 DS2.1 1\nmove 0 WP2.1 HA1.1 1\nmove 1 HA1.1 DS1.1 1\nend\n";
+
+#[test]
+fn worked_buildings_are_answered(rt: HostRuntime) -> Result<(), Fail> {
+    check(&rt, &["solve"], TWO_EXITS, 0, TWO_EXITS_BLOCK)?;
+    check(&rt, &["solve"], HALL, 0, HALL_BLOCK)?;
+    check(&rt, &["solve"], TWO_ROOMS, 0, TWO_ROOMS_BLOCK)
 }
 
 #[test]
@@ -171,35 +207,38 @@ fn the_first_fault_of_a_model_is_named(rt: HostRuntime) -> Result<(), Fail> {
 }
 
 // A source that fails at its j-th call, for every j of a whole run, gives status 3 and nothing is written.
-fn check_failing_source(rt: &(impl Abort + AllocGlobal), piece: usize) -> Result<(), Fail>
+pub(crate) fn check_failing_source(
+    rt: &(impl Abort + AllocGlobal),
+    words: &[&str],
+    input: &str,
+    answer: &str,
+    piece: usize,
+) -> Result<(), Fail>
     requires { 0 < piece }
 {
     let alloc = rt.alloc();
     let mut failed = 0;
     for call in 1..1000 {
-        let mut source = MemSource::new(alloc, ONE_ROOM.as_bytes(), piece, &[call])?;
+        let mut source = MemSource::new(alloc, input.as_bytes(), piece, &[call])?;
         let mut sink = MemSink::new(alloc, 1000, 4096, &[])?;
-        let status = status_of(alloc, &["solve"], &mut source, &mut sink)?;
+        let status = status_of(alloc, words, &mut source, &mut sink)?;
         if status == 0 {
-            assert_eq!(rt; sink.bytes(), ONE_ROOM_BLOCK.as_bytes());
+            assert_eq!(rt; sink.bytes(), answer.as_bytes());
             break;
         }
         assert_eq!(rt; status, 3, "at call {call}");
         assert_eq!(rt; sink.bytes().len(), 0, "at call {call}");
         failed = call;
     }
-    assert!(rt;
-        failed as usize >= ONE_ROOM.len() / piece,
-        "pieces of {piece}"
-    );
+    assert!(rt; failed as usize >= input.len() / piece, "pieces of {piece}");
     Ok(())
 }
 
 #[test]
 fn a_failing_source_writes_nothing(rt: HostRuntime) -> Result<(), Fail> {
-    check_failing_source(&rt, 1)?;
-    check_failing_source(&rt, 7)?;
-    check_failing_source(&rt, 4096)
+    check_failing_source(&rt, &["solve"], ONE_ROOM, ONE_ROOM_BLOCK, 1)?;
+    check_failing_source(&rt, &["solve"], ONE_ROOM, ONE_ROOM_BLOCK, 7)?;
+    check_failing_source(&rt, &["solve"], ONE_ROOM, ONE_ROOM_BLOCK, 4096)
 }
 
 // A sink that fails at its j-th call, for every j of a whole run, gives status 4 and has a front of the text.

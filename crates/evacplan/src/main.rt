@@ -1,7 +1,7 @@
 //! Plans how a building empties: `evacplan solve` reads a model from standard input and writes the answer to standard output.
 //!
-//! The statuses and texts are those of `evac_top::run`. A word that isn't UTF-8 is none that is taken: then the words are refused. For
-//! want of memory for the words the status is 5 too.
+//! The statuses and texts are those of `evac_top::run`. Where the system can't give the words, nothing is written: the status is 5 for want
+//! of memory, and 6 where a word isn't UTF-8.
 #![tactic(auto)]
 
 ghost use Rattle.std.specs.Prelude.{◌≡◌};
@@ -16,6 +16,8 @@ use std::sync::ledger::{Blank, Ledger};
 use std::{env, io};
 
 const NO_MEMORY: u8 = 5;
+
+const NO_WORDS: u8 = 6;
 
 // Runs with a counter of steps that nobody reads.
 fn run_uncounted<S: Source, K: Sink, L: Ledger>(
@@ -36,7 +38,9 @@ fn run_uncounted<S: Source, K: Sink, L: Ledger>(
 fn main(rt: HostRuntime) -> ExitCode {
     let words = match env::args(&rt) {
         Ok(args) => args.skip(1).collect::<Vec<String>>(rt.alloc()),
-        Err(error) if error.kind() == io::ErrorKind::InvalidData => Ok(Vec::new(rt.alloc())),
+        Err(error) if error.kind() == io::ErrorKind::InvalidData => {
+            return ExitCode::from(NO_WORDS);
+        }
         Err(_) => Err(AllocError),
     };
     let Ok(words) = words else {

@@ -5,13 +5,12 @@ use Rattle.building_table.specs.declared.faults.ModelFault.TheVariants.{Named}
 use Rattle.model_text.specs.Grammar.{statement_of}
 use Rattle.evac_top.specs.Inputs.{says_nothing}
 use Rattle.evac_top.specs.Reads.{ReadsTail}
-use Rattle.evac_top.proofs.PassLemmas.{no-fault, no-text, over-now}
 use Rattle.evac_top.proofs.TailLemmas.{nothing-fault, nothing-next, nothing-none, tail-end, tail-far, tail-long, tail-text, tail-told}
 use Rattle.evac_top.proofs.read.read_tail.Goals as goal
 use Rattle.evac_top.proofs.read.read_tail.Goals.{in-Ok-Text-2, in-Err-LineTooLong, in-Err-InputTooLong}
 
 pub loop-lines-init : goal.loop-lines-init
-loop-lines-init g c = record { so_far = nothing-none c.args.lines.now (g.S.Source.left c.args.source.now); drained = λ h. h; over = λ h. refl; faults = refl }
+loop-lines-init g c = record { so_far = nothing-none c.args.lines.now (g.S.Source.left c.args.source.now); drained = λ h. h; faults = refl }
 
 pub loop-lines-preserved : goal.loop-lines-preserved
 loop-lines-preserved g c =
@@ -25,9 +24,6 @@ loop-lines-preserved g c =
           nothing-next c.args.lines.now c.loop-lines.lines c.next.new.self (left c.args.source.now) (left c.loop-lines.source) (left c.next.new.source)
           c.loop-lines.invariant.so_far (rw is at next.bytes) (rw is at next.lines) (next.found (ap Ok is)) (λ s. ap Ok (sym is) ∙ (next.settled s).1) blank;
       drained = λ h. next.drained (c.loop-lines.invariant.drained h);
-      over = λ h.
-          let now = over-now c.args.lines.now c.loop-lines.lines h (c.loop-lines.invariant.over h) in
-          absurd (no-text c.loop-lines.lines now (λ s. ap Ok (sym is) ∙ (next.settled s).1));
       faults = next.quiet (λ e. cc) ∙ c.loop-lines.invariant.faults;
     }
 
@@ -47,12 +43,6 @@ returns-in-Err-ReadFault-clause-passed g c e =
     let left = g.S.Source.left in
     nothing-fault c.args.lines.now c.loop-lines.lines c.next.new.self (left c.args.source.now) (left c.loop-lines.source) (left c.next.new.source)
     c.loop-lines.invariant.so_far (rw is at next.bytes) (rw is at next.lines) (next.stays (λ t. cc)).0 (λ s. ap Err (sym is) ∙ (next.settled s).1)
-
-pub returns-in-Err-ReadFault-clause-over : goal.returns-in-Err-ReadFault-clause-over
-returns-in-Err-ReadFault-clause-over g c h e =
-    let is = c.in-Err-ReadFault.field-0-is in
-    let now = over-now c.args.lines.now c.loop-lines.lines h (c.loop-lines.invariant.over h) in
-    no-fault c.loop-lines.lines now (λ s. ap Err (sym is) ∙ (c.in-Err-ReadFault.ensures.settled s).1)
 
 pub overflow_add-result : goal.overflow_add-result
 unfolding input_limit

@@ -1,0 +1,152 @@
+-- What an input with a block says, by its parts, and how a checked block ends a run.
+use Rattle.std.proofs.Common.{◌≡◌, ◌≤◌, arith, ℕ, List, Ok, Err, Some, None, refl, sym, ap, subst, ◌∙◌}
+use Rattle.std.specs.declared.option.Option.{Option}
+use Rattle.line_io.specs.Line.{Line, lines_of}
+use Rattle.evac_law.specs.declared.model.Model.{Model}
+use Rattle.evac_law.specs.Building.{IsValid}
+use Rattle.evac_law.proofs.Optimal.{certified_is_best}
+use Rattle.building_table.specs.Passes.{ReadsModel}
+use Rattle.building_table.specs.declared.building.Building.{Building}
+use Rattle.building_table.specs.declared.faults.ModelFault.{ModelFault}
+use Rattle.building_table.specs.declared.faults.ModelFault.TheVariants.{Named, ReadFault, Memory}
+use Rattle.certificate_text.specs.declared.block.Block.{Block}
+use Rattle.certificate_text.specs.declared.fault.BlockFault.{BlockFault}
+use Rattle.certificate_text.specs.declared.fault.BlockFault.TheVariants as block_faults
+use Rattle.certificate_text.specs.Block.{IsBlockOf}
+use Rattle.certificate_text.specs.BlockGrammar as blocks
+use Rattle.certificate_text.specs.BlockGrammar.{IsStated, block_of}
+use Rattle.certificate_text.specs.BlockReads.{ReadsBlock}
+use Rattle.plan_checker.specs.declared.verdict.Verdict.{Verdict}
+use Rattle.plan_checker.specs.declared.verdict.Verdict.TheVariants.{Yes, PeopleWrong, RateBroken, HeldBroken, NotAllOut, OutWrong, CutWrong}
+use Rattle.plan_checker.specs.Verdicts.{IsVerdict}
+use Rattle.plan_checker.proofs.LawLemmas.{one_verdict, yes_is_certified}
+use Rattle.evac_top.specs.Checks.{IsChecked, IsRight, IsVerdictOf, verdict_status, verdict_text}
+use Rattle.evac_top.specs.Endings.{EndsClaim}
+use Rattle.evac_top.specs.Inputs.{Claimed, claim_behind, claim_by, claim_of, unless}
+use Rattle.evac_top.specs.Reads.{ClaimIs, ReadsTail, fault_of}
+use Rattle.evac_top.specs.declared.claim.Claim.{Claim}
+use Rattle.evac_top.specs.declared.mode.Mode.TheVariants.{Check}
+use Rattle.evac_top.proofs.AnswerLemmas.{FaultIs}
+
+-- ---- reading
+
+-- the building and the block are there, and nothing behind them
+pub said-claim : (building : Building) (block : Block) (n1 n2 : ℕ) (bytes : List ℕ) (b c : Option (List Line))
+    → ReadsModel (Ok building) 0 n1 (Some (lines_of bytes)) b → ReadsBlock building.model (Ok block) n1 n2 b c → ReadsTail (Ok tt) n2 c
+    → ClaimIs (Ok (record { building = building; block = block })) bytes
+said-claim building block n1 n2 bytes None c h g f = absurd h
+said-claim building block n1 n2 bytes (Some x) None h g f = absurd g
+said-claim building block n1 n2 bytes (Some x) (Some y) (d, e, is) (draft, stated, is_stated) none =
+    let claimed : Claimed = record { building = d; draft = draft } in
+    let here = subst (λ (m : Model). block_of m n1 x ≡ blocks.Stated draft n2 y) is.model stated in (
+      claimed,
+      ap claim_behind e ∙ ap (claim_by d) here ∙ ap (λ f. unless f claimed) none,
+      is,
+      subst (λ (m : Model). IsStated m draft block) is.model is_stated,
+    )
+
+-- the model is refused
+pub said-model-fault : (code line n1 : ℕ) (bytes : List ℕ) (b : Option (List Line)) → ReadsModel (Err (Named code line)) 0 n1 (Some (lines_of bytes)) b
+    → ClaimIs (Err (Named code line)) bytes
+said-model-fault code line n1 bytes None h = absurd h
+said-model-fault code line n1 bytes (Some x) h = ap claim_behind h
+
+-- the block is refused
+block-refused : (building : Building) (n1 code line : ℕ) (bytes : List ℕ) (x y : List Line) → ReadsModel (Ok building) 0 n1 (Some (lines_of bytes)) (Some x)
+    → block_of building.model n1 x ≡ blocks.Refused code line → ClaimIs (Err (Named code line)) bytes
+block-refused building n1 code line bytes x y (d, e, is) refused =
+    let here = subst (λ (m : Model). block_of m n1 x ≡ blocks.Refused code line) is.model refused in
+    ap claim_behind e ∙ ap (claim_by d) here
+
+pub said-block-fault : (building : Building) (fault : BlockFault) (n1 n2 : ℕ) (bytes : List ℕ) (b c : Option (List Line))
+    → ReadsModel (Ok building) 0 n1 (Some (lines_of bytes)) b → ReadsBlock building.model (Err fault) n1 n2 b c → ClaimIs (Err (fault_of fault)) bytes
+said-block-fault building fault n1 n2 bytes None c h g = absurd h
+said-block-fault building fault n1 n2 bytes (Some x) None h g = absurd g
+said-block-fault building (block_faults.Bad line) n1 n2 bytes (Some x) (Some y) h g = block-refused building n1 _ line bytes x y h g
+said-block-fault building (block_faults.LineTooLong line) n1 n2 bytes (Some x) (Some y) h g = block-refused building n1 _ line bytes x y h g
+said-block-fault building (block_faults.InputTooLong line) n1 n2 bytes (Some x) (Some y) h g = block-refused building n1 _ line bytes x y h g
+said-block-fault building block_faults.ReadFault n1 n2 bytes (Some x) (Some y) h g = tt
+said-block-fault building block_faults.Memory n1 n2 bytes (Some x) (Some y) h g = tt
+
+-- a block isn't read because of a read fault only where there is one
+pub failed-reading : (fault : BlockFault) → fault_of fault ≡ ReadFault → fault ≡ block_faults.ReadFault
+failed-reading (block_faults.Bad line) e = cc
+failed-reading (block_faults.LineTooLong line) e = cc
+failed-reading (block_faults.InputTooLong line) e = cc
+failed-reading block_faults.ReadFault e = refl
+failed-reading block_faults.Memory e = cc
+
+-- a line behind the block is refused
+said-tail-fault : (building : Building) (block : Block) (code line n1 n2 : ℕ) (bytes : List ℕ) (b c : Option (List Line))
+    → ReadsModel (Ok building) 0 n1 (Some (lines_of bytes)) b → ReadsBlock building.model (Ok block) n1 n2 b c → ReadsTail (Err (Named code line)) n2 c
+    → ClaimIs (Err (Named code line)) bytes
+said-tail-fault building block code line n1 n2 bytes None c h g f = absurd h
+said-tail-fault building block code line n1 n2 bytes (Some x) None h g f = absurd g
+said-tail-fault building block code line n1 n2 bytes (Some x) (Some y) (d, e, is) (draft, stated, is_stated) fault =
+    let claimed : Claimed = record { building = d; draft = draft } in
+    let here = subst (λ (m : Model). block_of m n1 x ≡ blocks.Stated draft n2 y) is.model stated in
+    ap claim_behind e ∙ ap (claim_by d) here ∙ ap (λ f. unless f claimed) fault
+
+-- what is said of the lines behind a block
+pub said-tail : (building : Building) (block : Block) (fault : ModelFault) (n1 n2 : ℕ) (bytes : List ℕ) (b c : Option (List Line))
+    → ReadsModel (Ok building) 0 n1 (Some (lines_of bytes)) b → ReadsBlock building.model (Ok block) n1 n2 b c → ReadsTail (Err fault) n2 c
+    → ClaimIs (Err fault) bytes
+said-tail building block (Named code line) n1 n2 bytes b c h g f = said-tail-fault building block code line n1 n2 bytes b c h g f
+said-tail building block ReadFault n1 n2 bytes b c h g f = tt
+said-tail building block Memory n1 n2 bytes b c h g f = tt
+
+-- ---- checking
+
+yes-by : (v : Verdict) → verdict_status v ≡ 0 → v ≡ Yes
+yes-by Yes e = refl
+yes-by PeopleWrong e = cc
+yes-by (RateBroken t a) e = cc
+yes-by (HeldBroken t n) e = cc
+yes-by NotAllOut e = cc
+yes-by (OutWrong k) e = cc
+yes-by (CutWrong k) e = cc
+
+pub status-few : (v : Verdict) → verdict_status v ≤ 1
+status-few Yes = omega arith
+status-few PeopleWrong = omega arith
+status-few (RateBroken t a) = omega arith
+status-few (HeldBroken t n) = omega arith
+status-few NotAllOut = omega arith
+status-few (OutWrong k) = omega arith
+status-few (CutWrong k) = omega arith
+
+-- a verdict is the answer to its block
+pub checked : (m : Model) (b : Block) (v : Verdict) → IsValid m → IsBlockOf m b → IsVerdict m b v → IsChecked m b (verdict_status v) (verdict_text m v)
+checked m b v valid of first =
+    let law = yes_is_certified m b valid of in
+    let right : verdict_status v ≡ 0 → IsRight m b =
+    λ e. (let all = law.0 (subst (IsVerdict m b) (yes-by v e) first) in record { people = all.0; outs = all.1; certified = all.2 }) in
+    record {
+      verdict = v;
+      first = first;
+      ends = refl;
+      line = refl;
+      yes = right;
+      right = λ r. ap verdict_status (one_verdict m b v Yes first (law.1 (r.people, r.outs, r.certified)));
+      best = λ e other k f. certified_is_best m b.moves b.labels b.cleared valid (right e).certified other k f;
+    }
+
+-- the place of a verdict is the model's
+pub verdict-of : (m : Model) (b : Block) (v : Verdict) → IsVerdict m b v → IsVerdictOf m v
+verdict-of m b Yes h = tt
+verdict-of m b PeopleWrong h = tt
+verdict-of m b (RateBroken t a) h = h.1.arc_in
+verdict-of m b (HeldBroken t n) h = h.2.node_in
+verdict-of m b NotAllOut h = tt
+verdict-of m b (OutWrong k) h = tt
+verdict-of m b (CutWrong k) h = tt
+
+pub said-checked : (claim : Claim) (bytes : List ℕ) → ClaimIs (Ok claim) bytes → (s : ℕ) (t : List ℕ) → IsChecked claim.building.model claim.block s t
+    → EndsClaim (claim_of (lines_of bytes)) s t
+said-checked claim bytes (c, e, is, stated) s t checked =
+    subst (λ (r : _). EndsClaim r s t) (sym e) (claim.block, stated, subst (λ (m : Model). IsChecked m claim.block s t) is.model checked)
+
+pub check-fault : (fault : ModelFault) (bytes : List ℕ) → ClaimIs (Err fault) bytes → FaultIs Check fault bytes
+check-fault (Named code line) bytes e = λ s t is. subst (λ (r : _). EndsClaim r s t) (sym e) is
+check-fault ReadFault bytes e = tt
+check-fault Memory bytes e = tt

@@ -1,0 +1,67 @@
+// The building and the block that an input of `check` states.
+ghost use Rattle.std.specs.Prelude.{◌≡◌, Err, IfOk, OnOk};
+ghost use Rattle.std.specs.Io.KnownBytes.{IsAtEnd};
+ghost use Rattle.evac_law.specs.Building.{IsValid};
+ghost use Rattle.line_io.specs.Causes.{Rose};
+ghost use Rattle.certificate_text.specs.Block.{IsBlockOf};
+ghost use Rattle.evac_top.specs.declared.mode.Mode.TheVariants.{Check};
+ghost use Rattle.evac_top.specs.Reads.{ClaimIs, IsFresh, fault_of};
+ghost use Rattle.evac_top.specs.Runs.{StaysOpen, Told};
+
+use crate::read::{INPUT_TOO_LONG, LINE_TOO_LONG, read_tail};
+use building_table::{Building, ModelFault, read_model};
+use certificate_text::{Block, BlockFault, read_block};
+use line_io::{Lines, Source};
+use std::alloc::Global;
+
+const BAD_BLOCK: u8 = 51;
+
+/// A building with the answer block that stands behind it.
+#[derive(Drop)]
+pub struct Claim {
+    pub building: Building,
+    pub block: Block,
+}
+
+// The fault of an input with a block that isn't read.
+fn fault_of(fault: BlockFault) -> ModelFault
+    ensures { result ≡ fault_of fault }
+{
+    let (code, line) = match fault {
+        BlockFault::Bad { line } => (BAD_BLOCK, line),
+        BlockFault::LineTooLong { line } => (LINE_TOO_LONG, line),
+        BlockFault::InputTooLong { line } => (INPUT_TOO_LONG, line),
+        BlockFault::ReadFault => return ModelFault::ReadFault,
+        BlockFault::Memory => return ModelFault::Memory,
+    };
+    ModelFault::Named { code, line }
+}
+
+/// Reads the building and the block of an input that has nothing but blank lines and comments behind them.
+pub(crate) fn read_claim<S: Source>(
+    alloc: Global,
+    lines: &mut Lines,
+    source: &mut S,
+) -> Result<Claim, ModelFault>
+    requires { IsFresh lines.old }
+    ensures input { Told (S.left source.old) (ClaimIs result) }
+    ensures valid { IfOk result (λ claim. IsValid claim.building.model) }
+    ensures block { IfOk result (λ claim. IsBlockOf claim.building.model claim.block) }
+    ensures whole { OnOk result (IsAtEnd (S.left source.new)) }
+    ensures open_lines { result ≡ Err ModelFault.ReadFault → StaysOpen Check (S.left source.old) (S.left source.new) }
+    ensures failed { result ≡ Err ModelFault.ReadFault → Rose (S.faults source.old) (S.faults source.new) }
+    ensures quiet { (result ≡ Err ModelFault.ReadFault → ⊥) → S.faults source.new ≡ S.faults source.old }
+{
+    let building = match read_model(alloc, lines, source) {
+        Ok(building) => building,
+        Err(fault) => return Err(fault),
+    };
+    let block = match read_block(alloc, lines, source, &building.model, &building.names) {
+        Ok(block) => block,
+        Err(fault) => return Err(fault_of(fault)),
+    };
+    match read_tail(lines, source) {
+        Ok(()) => Ok(Claim { building, block }),
+        Err(fault) => Err(fault),
+    }
+}

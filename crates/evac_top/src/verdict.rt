@@ -1,0 +1,88 @@
+// The line of a verdict.
+ghost use Rattle.std.specs.Prelude.{◌≡◌, ◌≤◌, [], ◌++◌, length};
+ghost use Rattle.evac_law.specs.Building.{IsValid};
+ghost use Rattle.line_io.specs.Causes.{HasCause};
+ghost use Rattle.line_io.specs.Text.{fields};
+ghost use Rattle.evac_top.specs.Checks.{IsVerdictOf, no_fields, verdict_fields, verdict_text};
+ghost use Rattle.evac_top.specs.Sends.{Sends};
+
+use certificate_text::put_name;
+use evac_law::Model;
+use line_io::{Out, Sink, TextLine, WriteFault};
+use plan_checker::Verdict;
+
+const PEOPLE_WRONG: u64 = 52;
+
+const RATE_BROKEN: u64 = 53;
+
+const HELD_BROKEN: u64 = 54;
+
+const NOT_ALL_OUT: u64 = 55;
+
+const OUT_WRONG: u64 = 56;
+
+const CUT_WRONG: u64 = 57;
+
+// A line that says no, with a code.
+fn no(code: u64) -> TextLine
+    ensures line { result ≡ fields (no_fields code []) }
+    ensures few { length result ≤ 23 }
+{
+    let mut line = TextLine::new(b"no");
+    line.number(code);
+    line
+}
+
+// The line without its end.
+fn line_of(model: &Model, verdict: Verdict) -> TextLine
+    requires valid { IsValid model.now }
+    requires place { IsVerdictOf model.now verdict }
+    ensures { result ≡ fields (verdict_fields model.now verdict) }
+{
+    match verdict {
+        Verdict::Yes => TextLine::new(b"yes"),
+        Verdict::PeopleWrong => no(PEOPLE_WRONG),
+        Verdict::RateBroken { moment, arc } => {
+            let row = model.arc(arc);
+            let mut line = no(RATE_BROKEN);
+            line.number(u64::from(moment));
+            put_name(&mut line, model.node(row.from).name);
+            put_name(&mut line, model.node(row.to).name);
+            line
+        }
+        Verdict::HeldBroken { moment, node } => {
+            let mut line = no(HELD_BROKEN);
+            line.number(u64::from(moment));
+            put_name(&mut line, model.node(node).name);
+            line
+        }
+        Verdict::NotAllOut => no(NOT_ALL_OUT),
+        Verdict::OutWrong { period } => {
+            let mut line = no(OUT_WRONG);
+            line.number(u64::from(period));
+            line
+        }
+        Verdict::CutWrong { period } => {
+            let mut line = no(CUT_WRONG);
+            line.number(u64::from(period));
+            line
+        }
+    }
+}
+
+/// Sends the line of a verdict.
+pub(crate) fn send_verdict<K: Sink>(
+    out: &mut Out,
+    sink: &mut K,
+    model: &Model,
+    verdict: Verdict,
+) -> Result<(), WriteFault>
+    requires fresh { out.old ≡ [] }
+    requires valid { IsValid model.now }
+    requires place { IsVerdictOf model.now verdict }
+    ensures text { Sends (K.held sink.old) (K.held sink.new) (verdict_text model.now verdict) result }
+    ensures cause { HasCause (K.faults sink.old) (K.faults sink.new) result }
+{
+    line_of(model, verdict).put(out, sink)?;
+    out.flush(sink)
+}
