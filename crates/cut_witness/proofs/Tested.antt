@@ -83,11 +83,13 @@ kind_number Lobby = 3
 kind_number Exit = 4
 
 abbrev pub tested_names : NodeRow → NodeRow → Bool
-tested_names a b = not (eqb a.name.number b.name.number) || not (eqb (kind_number a.name.kind) (kind_number b.name.kind))
+tested_names a b =
+    not (eqb a.name.number b.name.number) || (not (eqb a.name.floor b.name.floor) || not (eqb (kind_number a.name.kind) (kind_number b.name.kind)))
 
 tested_names-true : (a b : NodeRow) → tested_names a b ≡ true → a.name ≢ b.name
 tested_names-true a b e same =
     let number : a.name.number ≡ b.name.number = ap (λ (n : NodeName). n.number) same in
+    let floor : a.name.floor ≡ b.name.floor = ap (λ (n : NodeName). n.floor) same in
     let kind : kind_number a.name.kind ≡ kind_number b.name.kind = ap (λ (n : NodeName). kind_number n.kind) same in
     grind (arith, nat_tests)
 

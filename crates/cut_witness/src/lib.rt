@@ -1,7 +1,8 @@
 //! What a cut is worth, and the items that it is made of.
 //!
 //! The labels of a plan make a cut for each period. `cut_value` sums one cut, `crossing` gives its items one after another, and
-//! `CutValues` sums the cuts of all periods in one pass over the labels.
+//! `CutValues` sums the cuts of all periods in one pass over the labels. `arc_span` and `hold_span` give the periods in whose cuts
+//! an arc or a hold of a moment is an item.
 #![tactic(auto)]
 
 mod begin;
@@ -16,6 +17,7 @@ mod values;
 mod walk;
 
 pub use begin::crossing;
+pub use span::{Span, arc_span, hold_span};
 pub use value::cut_value;
 pub use values::CutValues;
 pub use walk::Crossing;

@@ -39,6 +39,7 @@ pub struct Position {
 
 /// The entry of a node at a moment, where it is an item.
 fn entry_item(model: &Model, labels: &Labels, k: u16, node: u32, moment: u16) -> Option<CutItem>
+    requires valid { IsValid model.now }
     requires table { IsTableOf model.now labels.now }
     requires node_in { node < length model.now.nodes }
     requires k_in { k ≤ model.now.horizon }

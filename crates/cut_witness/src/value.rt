@@ -14,6 +14,7 @@ use evac_law::{Labels, Model};
 
 /// The people who come into a node at a moment, where it is outside the cut then.
 fn entry_at(model: &Model, labels: &Labels, k: u16, node: u32, moment: u16) -> u32
+    requires valid { IsValid model.now }
     requires table { IsTableOf model.now labels.now }
     requires k_in { k ≤ model.now.horizon }
     requires node_in { node < length model.now.nodes }

@@ -389,3 +389,8 @@ inverse_undoes m m' e e' v l h =
     let at_new : IsEditOf (edited m e) (inverse_of m e) × (applied (edited m e) (inverse_of m e) ≡ Ok (m, e)) =
     (back.in_range, unless-none (checks (edited m e) (inverse_of m e)) _ back.accepted ∙ ap₂ (λ x y. Ok (x, y)) back.model back.edit) in
     subst (λ t. IsEditOf t.0 t.1 × (applied t.0 t.1 ≡ Ok (m, e))) done.1 at_new
+
+pub undone : (m : Model) (e : Edit) (m' : Model) (r : Result Edit EditFault) → IsValid m → IsEditOf m e
+    → IfOk r (λ inverse. applied m e ≡ Ok (m', inverse)) → IfOk r (λ inverse. IsEditOf m' inverse × (applied m' inverse ≡ Ok (m, e)))
+undone m e m' (Ok inverse) valid is h = inverse_undoes m m' e inverse valid is h
+undone m e m' (Err fault) valid is h = tt

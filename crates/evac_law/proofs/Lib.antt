@@ -1,9 +1,12 @@
+pub mod Conserved
 pub mod Curve
 pub mod EditLemmas
+pub mod Entries
 pub mod MoveLemmas
 pub mod NameLemmas
 pub mod Optimal
 pub mod PartLemmas
+pub mod ShapeLemmas
 pub mod SumLemmas
 pub mod Tight
 pub mod ValidLemmas

@@ -1,50 +1,28 @@
 -- A certified plan is best at every moment, and a model with a shortfall is not clearable.
-use Rattle.std.proofs.Common.{◌≡◌, ℕ, zero, suc, ◌+◌, ◌<◌, ◌≤◌, Bool, true, false, cond, ◌&&◌, eqb, leb, List, get_or, ap, sym, ◌∙◌, arith, inl, inr, ◌⊎◌, ◌*◌, add-one, [], ◌∷◌, length, refl, ap₂, subst, pos, ◌-ℤ◌, ◌≤ℤ◌}
+use Rattle.std.proofs.Common.{◌≡◌, ℕ, zero, suc, ◌+◌, ◌<◌, ◌≤◌, Bool, true, false, cond, ◌&&◌, eqb, ltb, leb, List, get_or, ap, sym, ◌∙◌, arith, inl, inr, ◌⊎◌, ◌*◌, add-one, [], ◌∷◌, length, refl, ap₂, subst, pos, ◌-ℤ◌, ◌≤ℤ◌, IsTrue}
 use Rattle.std.specs.List.{sum_by, All, Any}
 use Rattle.std.proofs.lemmas.List.Sums.{sum_by-cons}
-use Rattle.std.proofs.lemmas.Bool.{cases_lt, cases_order, le-leb, lt-leb}
+use Rattle.std.proofs.lemmas.Bool.{and_parts, cases_lt, cases_order, le-leb, le-ltb, leb-true, lt-leb, lt-ltb, not-true}
 use Rattle.std.proofs.lemmas.Bool.Decides.{nat_tests}
 use Rattle.evac_law.specs.declared.model.Model.{Model}
 use Rattle.evac_law.specs.declared.plan.Move.{Move}
 use Rattle.evac_law.specs.LabelTable.{LabelTable}
-use Rattle.evac_law.specs.Sums.{below, moments_to, places}
+use Rattle.evac_law.specs.Sums.{below}
 use Rattle.evac_law.specs.Laws.{SomeoneArrivesFrom}
-use Rattle.evac_law.specs.Building.{capacity, rate, tail, IsValid, node_at, no_node, is_exit_at, head, arrival, entry, people}
-use Rattle.evac_law.specs.Certificates.{IsCertified, IsShortfall, IsClearable, label_cut}
-use Rattle.evac_law.specs.Cuts.{Cut, cut_value}
+use Rattle.evac_law.specs.Building.{capacity, rate, tail, IsValid, is_exit_at, head, arrival, entry, people}
+use Rattle.evac_law.specs.Certificates.{IsCertified, IsShortfall, IsClearable, label_cut, stated_cut}
+use Rattle.evac_law.specs.Cuts.{Cut, IsCut, cut_value}
 use Rattle.std.proofs.lemmas.List.Elements.{All-head, All-tail}
 use Rattle.evac_law.specs.Plans.{last_arrival, moved, came, left, held, IsFeasible, out_by, person_periods}
-use Rattle.evac_law.proofs.SumLemmas.{sum_by-add, sum_by-exchange, sum_by-same, sum_by-same_all, sum_by-nothing, sum_below-suc, sum_by-le_all, sum_moments-zero, sum_moments-suc, sum_places, sum_by-times, times_cond, All-below}
-use Rattle.evac_law.proofs.WeakDuality.{value_is, out_le_value}
-
--- ---- the cut of no pair
-
-pub start_only : (m : Model) (n t : ℕ) → sum_by (entry m n) (moments_to t) ≡ (node_at m n).start
-start_only m n zero = sum_moments-zero (entry m n)
-start_only m n (suc t) = sum_moments-suc (entry m n) t ∙ add_none (start_only m n t)
-  where
-    add_none : {a b : ℕ} → a ≡ b → a + entry m n (suc t) ≡ b
-    add_none e = grind (arith, nat_tests)
-
-unless_zero : (p : ℕ) → cond (eqb p 0) 0 p ≡ p
-unless_zero p = grind (arith, nat_tests)
-
-pub empty_cut_is : (m : Model) (k : ℕ) → cut_value m (λ _ _. false) k ≡ people m
-unfolding people
-empty_cut_is m k =
-    let entries : sum_by (λ n. sum_by (λ t. cond (eqb (entry m n t) 0) 0 (entry m n t)) (moments_to k)) (places m.nodes) ≡ sum_by (λ n. n.start) m.nodes =
-    sum_by-same _ _ (places m.nodes) (λ n. sum_by-same _ _ (moments_to k) (λ t. unless_zero (entry m n t)) ∙ start_only m n k)
-    ∙ sum_places (λ n. n.start) m.nodes no_node in
-    let holds : sum_by (λ n. sum_by {X = ℕ} (λ t. 0) (below k)) (places m.nodes) ≡ 0 =
-    sum_by-same _ _ (places m.nodes) (λ n. sum_by-nothing (below k)) ∙ sum_by-nothing (places m.nodes) in
-    let arcs : sum_by (λ t. sum_by {X = ℕ} (λ a. 0) (places m.arcs)) (moments_to k) ≡ 0 =
-    sum_by-same _ _ (moments_to k) (λ t. sum_by-nothing (places m.arcs)) ∙ sum_by-nothing (moments_to k) in
-    omega (arith, value_is m (λ _ _. false) k, entries, holds, arcs)
+use Rattle.evac_law.proofs.SumLemmas.{sum_by-add, sum_by-exchange, sum_by-same, sum_by-same_all, sum_by-nothing, sum_below-suc, sum_by-le_all, sum_moments-stays, sum_by-times, times_cond, All-below}
+use Rattle.evac_law.proofs.Conserved.{all_out_leaves_nobody}
+use Rattle.evac_law.proofs.Entries.{empty_cut_is, entered_le}
+use Rattle.evac_law.proofs.WeakDuality.{out_le_value}
 
 -- ---- good plans
 
 pub out_le_people : (m : Model) (q : List Move) (k : ℕ) → IsValid m → IsFeasible m q k → out_by m q k ≤ people m
-out_le_people m q k valid feasible = omega (arith, out_le_value m (λ _ _. false) q k valid feasible, empty_cut_is m k)
+out_le_people m q k valid feasible = omega (arith, out_le_value m (λ _ _. false) q k valid feasible, empty_cut_is m k, entered_le m k)
 
 later : (e : Bool) (r b c p : ℕ) → b ≤ c → cond (e && leb r b) p 0 ≤ cond (e && leb r c) p 0
 later e r b c p l = grind (arith, nat_tests)
@@ -231,10 +209,11 @@ certified_is_quickest m p q l c valid good feasible everybody =
 stays : (e : Bool) (r c t w : ℕ) → r ≤ c → c ≤ t → cond (e && leb r t) w 0 ≡ cond (e && leb r c) w 0
 stays e r c t w i j = grind (arith, nat_tests)
 
-came_stays : (m : Model) (p : List Move) (n c t : ℕ) → c ≤ t → All (λ v. arrival m v.arc v.moment ≤ c) p → came m p n t ≡ came m p n c
+came_stays : (m : Model) (p : List Move) (n c t : ℕ) → c ≤ t → All (λ v. arrival m v.arc v.moment ≤ c) p → ((s : ℕ) → c < s → entry m n s ≡ 0)
+    → came m p n t ≡ came m p n c
 unfolding came
-came_stays m p n c t l a =
-    ap₂ (λ x y. x + y) (start_only m n t ∙ sym (start_only m n c))
+came_stays m p n c t l a none =
+    ap₂ (λ x y. x + y) (sum_moments-stays (entry m n) c t l none)
     (sum_by-same_all _ _ p (λ i d h. let v = get_or p i d in stays (eqb (head m v.arc) n) (arrival m v.arc v.moment) c t v.people (a i d h) l))
 
 left_stays : (m : Model) (p : List Move) (n c t : ℕ) → c ≤ t → All (λ v. arrival m v.arc v.moment ≤ c) p → left m p n t ≡ left m p n c
@@ -242,9 +221,10 @@ unfolding left
 left_stays m p n c t l a =
     sum_by-same_all _ _ p (λ i d h. let v = get_or p i d in stays (eqb (tail m v.arc) n) v.moment c t v.people (omega (arith, a i d h)) l)
 
-held_stays : (m : Model) (p : List Move) (n c t : ℕ) → c ≤ t → All (λ v. arrival m v.arc v.moment ≤ c) p → held m p n t ≡ held m p n c
+held_stays : (m : Model) (p : List Move) (n c t : ℕ) → c ≤ t → All (λ v. arrival m v.arc v.moment ≤ c) p → ((s : ℕ) → c < s → entry m n s ≡ 0)
+    → held m p n t ≡ held m p n c
 unfolding held
-held_stays m p n c t l a = ap₂ (λ x y. pos x -ℤ pos y) (came_stays m p n c t l a) (left_stays m p n c t l a)
+held_stays m p n c t l a none = ap₂ (λ x y. pos x -ℤ pos y) (came_stays m p n c t l a none) (left_stays m p n c t l a)
 
 over : (e : Bool) (s c t w : ℕ) → s ≤ c → c < t → cond (e && eqb s t) w 0 ≡ 0
 over e s c t w i j = grind (arith, nat_tests)
@@ -255,8 +235,8 @@ nobody_moves m p a c t l all =
     sum_by-same_all _ (λ _. 0) p (λ i d h. let v = get_or p i d in over (eqb v.arc a) v.moment c t v.people (omega (arith, all i d h)) l)
     ∙ sum_by-nothing p
 
-pub certified_is_feasible : (m : Model) (p : List Move) (l : LabelTable) (c k : ℕ) → IsCertified m p l c → IsFeasible m p k
-certified_is_feasible m p l c k good = record {
+pub certified_is_feasible : (m : Model) (p : List Move) (l : LabelTable) (c k : ℕ) → IsValid m → IsCertified m p l c → IsFeasible m p k
+certified_is_feasible m p l c k valid good = record {
   arcs = good.feasible.arcs;
   rates = λ a t i j. by_rate a t i (cases_lt c t);
   holds = λ n t i e j. by_hold n t i e (cases_lt c t);
@@ -268,12 +248,43 @@ certified_is_feasible m p l c k good = record {
 
     by_hold : (n t : ℕ) → n < length m.nodes → is_exit_at m n ≡ false → (c < t) ⊎ (t ≤ c)
         → (pos 0 ≤ℤ held m p n t) × (held m p n t ≤ℤ pos (capacity m n))
-    by_hold n t i e (inl late) = rw (held_stays m p n c t (omega arith) good.arrives) (good.feasible.holds n c i e (omega arith))
+    by_hold n t i e (inl late) =
+        let over = all_out_leaves_nobody m p c valid good.feasible good.all_out in
+        rw (held_stays m p n c t (omega arith) good.arrives (λ s h. over.nobody_to_come n s i h)) (good.feasible.holds n c i e (omega arith))
     by_hold n t i e (inr soon) = good.feasible.holds n t i e soon
 
 pub certified_is_clearable : (m : Model) (p : List Move) (l : LabelTable) (c : ℕ) → IsValid m → IsCertified m p l c → IsClearable m
 certified_is_clearable m p l c valid good =
-    (p, certified_is_feasible m p l c m.horizon good, good_out m p l c m.horizon good good.in_horizon)
+    (p, certified_is_feasible m p l c m.horizon valid good, good_out m p l c m.horizon good good.in_horizon)
+
+-- ---- the cuts that a block states
+
+pub label_cut_is_cut : (m : Model) (l : LabelTable) (k : ℕ) → k ≤ m.horizon → IsCut m (label_cut m l k)
+label_cut_is_cut m l k h = record {
+  no_exits = λ n t x. not-true _ (and_parts _ _ (and_parts _ _ x).1).0;
+  in_horizon = λ n t x. omega (arith, h, leb-true t k (and_parts _ _ x).0);
+}
+
+pub stated_cut_is_worth : (m : Model) (p : List Move) (l : LabelTable) (c k : ℕ) → IsValid m → IsCertified m p l c
+    → (k ≤ m.horizon → IsCut m (stated_cut m l c k)) × (cut_value m (stated_cut m l c k) k ≡ out_by m p k)
+stated_cut_is_worth m p l c k valid good = (is_cut, worth (cases_lt k c))
+  where
+    is_cut : k ≤ m.horizon → IsCut m (stated_cut m l c k)
+    is_cut h =
+        let cut = label_cut_is_cut m l k h in
+        let both = λ (n t : ℕ) (x : IsTrue (stated_cut m l c k n t)). and_parts (ltb k c) (label_cut m l k n t) x in
+        record { no_exits = λ n t x. cut.no_exits n t (both n t x).1; in_horizon = λ n t x. cut.in_horizon n t (both n t x).1 }
+
+    worth_by : (b : Bool) → ltb k c ≡ b → cut_value m (λ n t. b && label_cut m l k n t) k ≡ out_by m p k
+        → cut_value m (stated_cut m l c k) k ≡ out_by m p k
+    worth_by b e h = subst (λ (z : Bool). cut_value m (λ n t. z && label_cut m l k n t) k ≡ out_by m p k) (sym e) h
+
+    worth : (k < c) ⊎ (c ≤ k) → cut_value m (stated_cut m l c k) k ≡ out_by m p k
+    worth (inl before) = worth_by true (lt-ltb k c before) (sym (good.cuts k before))
+    worth (inr after) =
+        let out = good_out m p l c k good after in
+        let enough = out_le_value m (λ _ _. false) p k valid (certified_is_feasible m p l c k valid good) in
+        worth_by false (le-ltb k c after) (omega (arith, out, enough, empty_cut_is m k, entered_le m k))
 
 -- ---- the last arrival of a certified plan
 

@@ -11,9 +11,9 @@ use Rattle.evac_law.specs.Sums.{below, moments_to, places}
 use Rattle.evac_law.specs.Building.{IsValid, IsNode, node_at, no_node, is_exit_at, capacity, tail, head, arrival, rate, entry}
 use Rattle.evac_law.specs.Certificates.{IsTight}
 use Rattle.evac_law.specs.Cuts.{Cut, leaves_cut, cut_value}
-use Rattle.evac_law.specs.Plans.{IsFeasible, moved, came, left, held, out_by}
+use Rattle.evac_law.specs.Plans.{IsFeasible, moved, came, coming, left, leaving, held, out_by}
 use Rattle.evac_law.proofs.SumLemmas.{sum_by-add, sum_by-same, sum_by-nothing, sum_by-le_all, sum_by-exchange, All-below, sum_moments-zero, sum_moments-suc, sum2, sum2-le, sum2-nothing, gather}
-use Rattle.evac_law.proofs.WeakDuality.{out_le_value, value_is, leaving, coming, came-zero, came-suc, left-zero, left-suc, spent, entered, joined, stayed, stayed-suc, outside, node_spent, node_entered, node_joined, node_stayed, open_node, exit_node, to_outside, from_outside, from_cut, arc_of, spent_is, joined_is, crossed_is}
+use Rattle.evac_law.proofs.WeakDuality.{out_le_value, value_is, came-zero, came-suc, left-zero, left-suc, spent, entered, joined, stayed, stayed-suc, outside, node_spent, node_entered, node_joined, node_stayed, open_node, exit_node, to_outside, from_outside, from_cut, arc_of, spent_is, joined_is, crossed_is}
 
 -- ---- a node from moment to moment, the other way round
 

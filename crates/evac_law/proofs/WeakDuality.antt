@@ -13,7 +13,7 @@ use Rattle.evac_law.specs.declared.cut.CutItem.TheVariants.{Entry, Hold, Arc}
 use Rattle.evac_law.specs.Sums.{below, moments_to, places}
 use Rattle.evac_law.specs.Building.{IsValid, IsArc, node_at, arc_at, no_arc, is_exit_at, capacity, tail, head, arrival, rate, entry}
 use Rattle.evac_law.specs.Cuts.{Cut, leaves_cut, cut_items, entry_items, hold_items, arc_items, number_of, cut_value}
-use Rattle.evac_law.specs.Plans.{IsFeasible, moved, came, left, held, out_by}
+use Rattle.evac_law.specs.Plans.{IsFeasible, moved, came, coming, left, leaving, held, out_by}
 use Rattle.evac_law.proofs.SumLemmas.{sum_by-add, sum_by-same, sum_by-nothing, sum_by-le_all, sum_by-exchange, sum_by-flat_map, All-below, sum_below-more, sum_moments-zero, sum_moments-suc, sum2, sum2-le, gather}
 
 -- ---- the value of a cut, as sums
@@ -79,13 +79,6 @@ by_zero b s p = grind (arith, nat_tests)
 by_suc : (b : Bool) (s t p : ℕ) → cond (b && leb s (suc t)) p 0 ≡ cond (b && leb s t) p 0 + cond (b && eqb s (suc t)) p 0
 by_suc b s t p = grind (arith, nat_tests)
 
--- the people of the plan who leave a node, or come to it, at a moment
-unfoldable pub leaving : Model → List Move → ℕ → ℕ → ℕ
-leaving m q n t = sum_by (λ v. cond (eqb (tail m v.arc) n && eqb v.moment t) v.people 0) q
-
-unfoldable pub coming : Model → List Move → ℕ → ℕ → ℕ
-coming m q n t = sum_by (λ v. cond (eqb (head m v.arc) n && eqb (arrival m v.arc v.moment) t) v.people 0) q
-
 pub left-zero : (m : Model) (q : List Move) (n : ℕ) → left m q n 0 ≡ leaving m q n 0
 unfolding left leaving
 left-zero m q n = sum_by-same _ _ q (λ v. by_zero (eqb (tail m v.arc) n) v.moment v.people)
@@ -137,7 +130,7 @@ kept_next false true l e j cap s ge gc k c f s' ge' gc' k' c' f' h1 h2 h3 h4 h5 
 kept_next false false l e j cap s ge gc k c f s' ge' gc' k' c' f' h1 h2 h3 h4 h5 h6 h7 h8 h9 = omega arith
 
 -- what feasible says of the people in a node, on numbers
-within : (m : Model) (q : List Move) (n t cap : ℕ) → (pos 0 ≤ℤ held m q n t) × (held m q n t ≤ℤ pos cap)
+pub within : (m : Model) (q : List Move) (n t cap : ℕ) → (pos 0 ≤ℤ held m q n t) × (held m q n t ≤ℤ pos cap)
     → (left m q n t ≤ came m q n t) × (came m q n t ≤ left m q n t + cap)
 unfolding held
 within m q n t cap h = (omega (arith, ints, h.0), omega (arith, ints, h.1))

@@ -3,10 +3,21 @@ use Rattle.std.specs.Prelude.{◌≡◌, ◌≢◌, ℕ, ◌+◌, ◌*◌, ◌<�
 use Rattle.std.specs.List.{sum_by, All}
 use Rattle.evac_law.specs.Limits.{seconds_limit, horizon_limit, node_limit, arc_limit, travel_limit, rate_limit, capacity_limit, people_limit, cell_limit}
 use Rattle.evac_law.specs.Names.{is_exit, IsName}
+use Rattle.evac_law.specs.Sums.{moments_to, places}
 use Rattle.evac_law.specs.declared.name.Kind.TheVariants.{Work}
+use Rattle.evac_law.specs.declared.name.NodeName.{NodeName}
 use Rattle.evac_law.specs.declared.model.NodeRow.{NodeRow}
 use Rattle.evac_law.specs.declared.model.ArcRow.{ArcRow}
 use Rattle.evac_law.specs.declared.model.Model.{Model}
+
+-- ---- parts
+
+-- a node and an arc that aren't shut
+abbrev pub node_row : NodeName → ℕ → ℕ → NodeRow
+node_row name capacity start = record { name = name; capacity = capacity; start = start; shut = false }
+
+abbrev pub arc_row : ℕ → ℕ → ℕ → ℕ → ArcRow
+arc_row from to travel rate = record { from = from; to = to; travel = travel; rate = rate; shut = false }
 
 -- ---- parts by place
 
@@ -60,6 +71,10 @@ entry m n t = if t == 0 then start m n else 0
 -- the people of the model: the sum of the starts
 unfoldable pub people : Model → ℕ
 people m = sum_by (λ n. n.start) m.nodes
+
+-- the people who come in by a moment, over all nodes
+unfoldable pub entered_by : Model → ℕ → ℕ
+entered_by m k = sum_by (λ n. sum_by (entry m n) (moments_to k)) (places m.nodes)
 
 -- ---- valid models
 

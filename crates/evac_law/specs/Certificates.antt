@@ -4,7 +4,7 @@ use Rattle.std.specs.List.{All}
 use Rattle.evac_law.specs.declared.model.Model.{Model}
 use Rattle.evac_law.specs.declared.plan.Move.{Move}
 use Rattle.evac_law.specs.Building.{is_exit_at, capacity, tail, head, arrival, rate, people}
-use Rattle.evac_law.specs.Cuts.{Cut, leaves_cut, cut_value}
+use Rattle.evac_law.specs.Cuts.{Cut, IsCut, leaves_cut, cut_value}
 use Rattle.evac_law.specs.LabelTable.{LabelTable, label_at}
 use Rattle.evac_law.specs.Plans.{moved, held, IsFeasible, out_by}
 
@@ -17,6 +17,10 @@ pub record IsTableOf (m : Model) (l : LabelTable) : Type 0 where
 abbrev pub label_cut : Model → LabelTable → ℕ → Cut
 label_cut m l k n t = nat_le t k && (not (is_exit_at m n) && nat_lt k (label_at l n t))
 
+-- the cut that a block states for moment k: that of its labels before the clearing moment c, and no pair from then on
+abbrev pub stated_cut : Model → LabelTable → ℕ → ℕ → Cut
+stated_cut m l c k n t = nat_lt k c && label_cut m l k n t
+
 -- the plan takes everybody out by c and not before, and up to then a cut at each moment is worth as many as are out
 pub record IsCertified (m : Model) (p : List Move) (l : LabelTable) (c : ℕ) : Type 0 where
   pub in_horizon : c ≤ m.horizon
@@ -28,6 +32,7 @@ pub record IsCertified (m : Model) (p : List Move) (l : LabelTable) (c : ℕ) : 
 
 -- a cut is worth v at the horizon, fewer than the people
 pub record IsShortfall (m : Model) (x : Cut) (v : ℕ) : Type 0 where
+  pub cut : IsCut m x
   pub worth : cut_value m x m.horizon ≡ v
   pub below_people : v < people m
 

@@ -4,22 +4,28 @@ use Rattle.std.specs.List.{Any}
 use Rattle.evac_law.specs.declared.model.Model.{Model}
 use Rattle.evac_law.specs.declared.plan.Move.{Move}
 use Rattle.evac_law.specs.declared.edit.Edit.{Edit}
-use Rattle.evac_law.specs.Building.{IsValid, is_exit_at, head, arrival, people}
-use Rattle.evac_law.specs.Certificates.{IsCertified, IsShortfall, IsTight, IsClearable}
-use Rattle.evac_law.specs.Cuts.{Cut, cut_value}
+use Rattle.evac_law.specs.Building.{IsValid, is_exit_at, head, arrival, people, entered_by}
+use Rattle.evac_law.specs.Certificates.{IsCertified, IsShortfall, IsTight, IsClearable, stated_cut}
+use Rattle.evac_law.specs.Cuts.{Cut, IsCut, cut_value}
 use Rattle.evac_law.specs.Edits.{IsEditOf, applied}
 use Rattle.evac_law.specs.LabelTable.{LabelTable}
 use Rattle.evac_law.specs.Moves.{moves_of}
-use Rattle.evac_law.specs.Plans.{IsFeasible, moved, out_by, person_periods}
+use Rattle.evac_law.specs.Plans.{IsFeasible, NobodyIsLeft, moved, out_by, person_periods}
+use Rattle.evac_law.specs.Shapes.{HasSameShape}
 use Rattle.evac_law.specs.Stands.{IsOrdered}
 
 -- no feasible plan has more people out by k than a cut is worth there; any test serves as a cut
 abbrev pub WeakDuality : Type 0
 WeakDuality = (m : Model) (x : Cut) (q : List Move) (k : ℕ) → IsValid m → IsFeasible m q k → out_by m q k ≤ cut_value m x k
 
--- the cut of no pair is worth the people
+-- the cut of no pair is worth those who have come in by then, at most the people of the model
 abbrev pub EmptyCut : Type 0
-EmptyCut = (m : Model) (k : ℕ) → cut_value m (λ _ _. false) k ≡ people m
+EmptyCut = (m : Model) (k : ℕ) → (cut_value m (λ _ _. false) k ≡ entered_by m k) × (entered_by m k ≤ people m)
+
+-- where a feasible plan has everybody out by k, nobody is left then
+abbrev pub AllOutLeavesNobody : Type 0
+AllOutLeavesNobody =
+    (m : Model) (p : List Move) (k : ℕ) → IsValid m → IsFeasible m p k → out_by m p k ≡ people m → NobodyIsLeft m p k
 
 -- at no moment has a feasible plan more people out_by than a certified one
 abbrev pub CertifiedIsBest : Type 0
@@ -30,6 +36,16 @@ CertifiedIsBest =
 -- where a cut is worth less than the people, no feasible plan takes everybody out
 abbrev pub ShortfallBarsClearing : Type 0
 ShortfallBarsClearing = (m : Model) (x : Cut) (v : ℕ) → IsValid m → IsShortfall m x v → ¬ IsClearable m
+
+-- at every moment the cut that a block states of a certified plan is worth as many as are out by then; up to the horizon it is a cut
+abbrev pub StatedCutIsWorth : Type 0
+StatedCutIsWorth =
+    (m : Model) (p : List Move) (l : LabelTable) (c k : ℕ) → IsValid m → IsCertified m p l c
+    → (k ≤ m.horizon → IsCut m (stated_cut m l c k)) × (cut_value m (stated_cut m l c k) k ≡ out_by m p k)
+
+-- an edit keeps the names, the ends and traversal times, the horizon and the period
+abbrev pub EditKeepsShape : Type 0
+EditKeepsShape = (m m' : Model) (e e' : Edit) → applied m e ≡ Ok (m', e') → HasSameShape m m'
 
 -- the inverse of an edit is an edit of the edited model and gives the old model back
 abbrev pub InverseUndoes : Type 0

@@ -8,5 +8,6 @@ pub mod Limits
 pub mod Moves
 pub mod Names
 pub mod Plans
+pub mod Shapes
 pub mod Stands
 pub mod Sums

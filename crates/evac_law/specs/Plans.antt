@@ -1,5 +1,5 @@
 -- Plans: lists of moves, what they do to the nodes, and who is out by when.
-use Rattle.std.specs.Prelude.{ℕ, ◌+◌, ◌-◌, ◌*◌, ◌<◌, ◌≤◌, ◌&&◌, if◌then◌else◌, ◌==◌, nat_le, max, List, [], ◌∷◌, length, IsFalse, ℤ, pos, negsuc, ◌-ℤ◌, ◌≤ℤ◌}
+use Rattle.std.specs.Prelude.{◌≡◌, ℕ, ◌+◌, ◌-◌, ◌*◌, ◌<◌, ◌≤◌, ◌&&◌, if◌then◌else◌, ◌==◌, nat_le, max, List, [], ◌∷◌, length, IsFalse, ℤ, pos, negsuc, ◌+ℤ◌, ◌-ℤ◌, ◌≤ℤ◌}
 use Rattle.std.specs.List.{sum_by, All}
 use Rattle.evac_law.specs.declared.model.Model.{Model}
 use Rattle.evac_law.specs.declared.plan.Move.{Move}
@@ -20,6 +20,14 @@ came m p n t =
 unfoldable pub left : Model → List Move → ℕ → ℕ → ℕ
 left m p n t = sum_by (λ v. if tail m v.arc == n && nat_le v.moment t then v.people else 0) p
 
+-- the people who leave a node at a moment
+unfoldable pub leaving : Model → List Move → ℕ → ℕ → ℕ
+leaving m p n t = sum_by (λ v. if tail m v.arc == n && v.moment == t then v.people else 0) p
+
+-- the people who come to a node at a moment along arcs
+unfoldable pub coming : Model → List Move → ℕ → ℕ → ℕ
+coming m p n t = sum_by (λ v. if head m v.arc == n && arrival m v.arc v.moment == t then v.people else 0) p
+
 -- the people in a node at a moment, an integer: those who came less those who left
 unfoldable pub held : Model → List Move → ℕ → ℕ → ℤ
 held m p n t = pos (came m p n t) -ℤ pos (left m p n t)
@@ -35,6 +43,12 @@ pub record IsFeasible (m : Model) (p : List Move) (k : ℕ) : Type 0 where
 unfoldable pub out_by : Model → List Move → ℕ → ℕ
 out_by m p k = sum_by (λ v. if is_exit_at m (head m v.arc) && nat_le (arrival m v.arc v.moment) k then v.people else 0) p
 
+-- at moment k nobody is in a node that is no exit, nobody who has entered an arc is still on it, and nobody comes in later
+pub record NobodyIsLeft (m : Model) (p : List Move) (k : ℕ) : Type 0 where
+  pub nobody_inside : (n : ℕ) → n < length m.nodes → IsFalse (is_exit_at m n) → held m p n k ≡ pos 0
+  pub nobody_on_way : All (λ v. 0 < v.people → v.moment ≤ k → arrival m v.arc v.moment ≤ k) p
+  pub nobody_to_come : (n t : ℕ) → n < length m.nodes → k < t → entry m n t ≡ 0
+
 -- people times arrival moment, over the moves into exits that arrive by the horizon
 unfoldable pub person_periods : Model → List Move → ℕ
 person_periods m p =
@@ -49,6 +63,10 @@ last_arrival m (v ∷ p) = max (arrival m v.arc v.moment) (last_arrival m p)
 abbrev pub above : ℤ → ℕ → ℕ
 above (pos z) c = z - c
 above (negsuc z) c = 0
+
+-- the people who are in a node at a moment, with those who leave it just then
+abbrev pub inside : Model → List Move → ℕ → ℕ → ℕ
+inside m p n t = above (held m p n t +ℤ pos (leaving m p n t)) 0
 
 -- the people above the rates, above the capacities and above the entries of the edited model m' in a plan of m
 unfoldable pub violation : Model → List Move → Model → ℕ

@@ -2,9 +2,10 @@
 ghost use Rattle.std.specs.Prelude.{◌≡◌, ◌<◌, length, IfOk, IfErr, OnErr, OnOk};
 ghost use Rattle.evac_law.specs.Building.{IsValid};
 ghost use Rattle.evac_law.specs.Edits.{IsEditOf, applied, fault_code};
+ghost use Rattle.evac_law.specs.Shapes.{HasSameShape};
 
 use crate::limits::{CAPACITY_LIMIT, PEOPLE_LIMIT, RATE_LIMIT};
-use crate::model::{ArcRow, Model, NodeRow};
+use crate::model::Model;
 use thiserror::Error;
 
 /// A change of a model.
@@ -70,11 +71,10 @@ fn shut(model: &mut Model, arc: u32) -> Result<Edit, EditFault>
     ensures fault { IfErr result (λ fault. applied model.old (Edit.Shut arc) ≡ Err fault) }
     ensures unchanged { OnErr result (model.new ≡ model.old) }
 {
-    let row = model.arc(arc);
-    if row.shut {
+    if model.arc(arc).shut {
         return Err(EditFault::AlreadyShut);
     }
-    model.set_arc(arc, ArcRow { shut: true, ..row });
+    model.set_arc_shut(arc, true);
     Ok(Edit::Reopen { arc })
 }
 
@@ -85,11 +85,10 @@ fn reopen(model: &mut Model, arc: u32) -> Result<Edit, EditFault>
     ensures fault { IfErr result (λ fault. applied model.old (Edit.Reopen arc) ≡ Err fault) }
     ensures unchanged { OnErr result (model.new ≡ model.old) }
 {
-    let row = model.arc(arc);
-    if !row.shut {
+    if !model.arc(arc).shut {
         return Err(EditFault::AlreadyOpen);
     }
-    model.set_arc(arc, ArcRow { shut: false, ..row });
+    model.set_arc_shut(arc, false);
     Ok(Edit::Shut { arc })
 }
 
@@ -107,7 +106,7 @@ fn shut_exit(model: &mut Model, node: u32) -> Result<Edit, EditFault>
     if row.shut {
         return Err(EditFault::AlreadyShut);
     }
-    model.set_node(node, NodeRow { shut: true, ..row });
+    model.set_exit_shut(node, true);
     Ok(Edit::ReopenExit { node })
 }
 
@@ -125,7 +124,7 @@ fn reopen_exit(model: &mut Model, node: u32) -> Result<Edit, EditFault>
     if !row.shut {
         return Err(EditFault::AlreadyOpen);
     }
-    model.set_node(node, NodeRow { shut: false, ..row });
+    model.set_exit_shut(node, false);
     Ok(Edit::ShutExit { node })
 }
 
@@ -140,12 +139,9 @@ fn set_rate(model: &mut Model, arc: u32, rate: u32) -> Result<Edit, EditFault>
     if rate > RATE_LIMIT {
         return Err(EditFault::OutOfRange);
     }
-    let row = model.arc(arc);
-    model.set_arc(arc, ArcRow { rate, ..row });
-    Ok(Edit::Rate {
-        arc,
-        rate: row.rate,
-    })
+    let old = model.arc(arc).rate;
+    model.set_arc_rate(arc, rate);
+    Ok(Edit::Rate { arc, rate: old })
 }
 
 #[tactic(auto, unfolding(crate::specs::Limits::capacity_limit))]
@@ -166,7 +162,7 @@ fn set_room(model: &mut Model, node: u32, capacity: u32) -> Result<Edit, EditFau
     if capacity < row.start {
         return Err(EditFault::OverFull);
     }
-    model.set_node(node, NodeRow { capacity, ..row });
+    model.set_capacity(node, capacity);
     Ok(Edit::Room {
         node,
         capacity: row.capacity,
@@ -198,20 +194,8 @@ fn shift(model: &mut Model, from: u32, to: u32, people: u32) -> Result<Edit, Edi
     if entered.capacity - entered.start < people {
         return Err(EditFault::OverFull);
     }
-    model.set_node(
-        from,
-        NodeRow {
-            start: left.start - people,
-            ..left
-        },
-    );
-    model.set_node(
-        to,
-        NodeRow {
-            start: entered.start + people,
-            ..entered
-        },
-    );
+    model.set_start(from, left.start - people);
+    model.set_start(to, entered.start + people);
     Ok(Edit::Shift {
         from: to,
         to: from,
@@ -240,13 +224,7 @@ fn enter(model: &mut Model, node: u32, people: u32) -> Result<Edit, EditFault>
     if row.capacity - row.start < people {
         return Err(EditFault::OverFull);
     }
-    model.set_node(
-        node,
-        NodeRow {
-            start: row.start + people,
-            ..row
-        },
-    );
+    model.set_start(node, row.start + people);
     Ok(Edit::Leave { node, people })
 }
 
@@ -268,13 +246,7 @@ fn leave(model: &mut Model, node: u32, people: u32) -> Result<Edit, EditFault>
     if row.start < people {
         return Err(EditFault::TooFew);
     }
-    model.set_node(
-        node,
-        NodeRow {
-            start: row.start - people,
-            ..row
-        },
-    );
+    model.set_start(node, row.start - people);
     Ok(Edit::Enter { node, people })
 }
 
@@ -306,6 +278,8 @@ pub fn apply(model: &mut Model, edit: Edit) -> Result<Edit, EditFault>
     ensures fault { IfErr result (λ fault. applied model.old edit ≡ Err fault) }
     ensures unchanged { OnErr result (model.new ≡ model.old) }
     ensures valid { OnOk result (IsValid model.new) }
+    ensures shape { OnOk result (HasSameShape model.old model.new) }
+    ensures undoes { IfOk result (λ inverse. IsEditOf model.new inverse × (applied model.new inverse ≡ Ok (model.old, edit))) }
 {
     dispatch(model, edit)
 }

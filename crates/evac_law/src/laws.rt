@@ -1,14 +1,24 @@
 // The laws, each the contract of a function with nothing to do.
-ghost use Rattle.evac_law.specs.Laws.{EmptyCut, CertifiedIsBest, CertifiedIsClearable, CertifiedIsQuickest, CertifiedPlansAgree, InverseUndoes, MovesOfTable, ShortfallBarsClearing, TightIsEqual, WeakDuality};
+ghost use Rattle.evac_law.specs.Laws.{AllOutLeavesNobody, CertifiedIsBest, CertifiedIsClearable, CertifiedIsQuickest, CertifiedPlansAgree, EditKeepsShape, EmptyCut, InverseUndoes, MovesOfTable, ShortfallBarsClearing, StatedCutIsWorth, TightIsEqual, WeakDuality};
 
 /// No feasible plan has more people out by a moment than a cut is worth there.
 pub fn weak_duality()
     ensures { WeakDuality }
 {}
 
-/// The cut of no pair is worth the people.
+/// The cut of no pair is worth those who have come in by then, at most the people.
 pub fn empty_cut()
     ensures { EmptyCut }
+{}
+
+/// Where everybody is out by a moment, nobody is inside then, on an arc or still to come.
+pub fn all_out_leaves_nobody()
+    ensures { AllOutLeavesNobody }
+{}
+
+/// The cut that a block states for a period is worth as many as its plan has out by then.
+pub fn stated_cut_is_worth()
+    ensures { StatedCutIsWorth }
 {}
 
 /// At no moment has a feasible plan more people out than a certified one.
@@ -19,6 +29,11 @@ pub fn certified_is_best()
 /// Where a cut is worth less than the people, no feasible plan takes everybody out.
 pub fn shortfall_bars_clearing()
     ensures { ShortfallBarsClearing }
+{}
+
+/// An edit keeps the names, the ends and traversal times of the arcs, the horizon and the period.
+pub fn edit_keeps_shape()
+    ensures { EditKeepsShape }
 {}
 
 /// The inverse of an edit gives the old model back.

@@ -20,9 +20,9 @@ pub use cut::CutItem;
 pub use edit::{Edit, EditFault, apply};
 pub use labels::Labels;
 pub use laws::{
-    certified_is_best, certified_is_clearable, certified_is_quickest, certified_plans_agree,
-    empty_cut, inverse_undoes, moves_of_table, shortfall_bars_clearing, tight_is_equal,
-    weak_duality,
+    all_out_leaves_nobody, certified_is_best, certified_is_clearable, certified_is_quickest,
+    certified_plans_agree, edit_keeps_shape, empty_cut, inverse_undoes, moves_of_table,
+    shortfall_bars_clearing, stated_cut_is_worth, tight_is_equal, weak_duality,
 };
 pub use model::{ArcRow, Model, NodeRow};
 pub use name::{Kind, NodeName};

@@ -1,7 +1,7 @@
 // The model of a building.
 ghost use Rattle.std.specs.Prelude.{◌≡◌, ◌<◌, ◌≤◌, length};
-ghost use Rattle.evac_law.specs.Building.{IsValid, arc_at, entry, node_at, people, rate};
-ghost use Rattle.evac_law.specs.Edits.{with_arc, with_node};
+ghost use Rattle.evac_law.specs.Building.{IsValid, arc_at, arc_row, entry, node_at, node_row, people, rate};
+ghost use Rattle.evac_law.specs.Edits.{with_arc, with_node, with_start};
 ghost use Rattle.evac_law.specs.Limits.{arc_limit, node_limit};
 
 use crate::name::NodeName;
@@ -24,6 +24,35 @@ pub struct ArcRow {
     pub travel: u16,
     pub rate: u32,
     pub shut: bool,
+}
+
+impl NodeRow {
+    /// A node that isn't shut.
+    pub fn new(name: NodeName, capacity: u32, start: u32) -> NodeRow
+        ensures { result ≡ node_row name capacity start }
+    {
+        NodeRow {
+            name,
+            capacity,
+            start,
+            shut: false,
+        }
+    }
+}
+
+impl ArcRow {
+    /// An arc that isn't shut.
+    pub fn new(from: u32, to: u32, travel: u16, rate: u32) -> ArcRow
+        ensures { result ≡ arc_row from to travel rate }
+    {
+        ArcRow {
+            from,
+            to,
+            travel,
+            rate,
+            shut: false,
+        }
+    }
 }
 
 /// A building: the seconds of a period, the last moment, and its nodes and arcs in file order.
@@ -102,6 +131,7 @@ impl Model {
 
     /// The people who come into a node at a moment from nowhere.
     pub fn entry(&self, node: u32, moment: u16) -> u32
+        requires valid { IsValid self.now }
         requires node_in { node < length self.now.nodes }
         requires moment_in { moment ≤ self.now.horizon }
         ensures { result ≡ entry self.now node moment }
@@ -113,19 +143,63 @@ impl Model {
         }
     }
 
-    /// Puts a node in the place of another.
-    pub(crate) fn set_node(&mut self, node: u32, row: NodeRow)
+    /// Sets the people who are in a node at moment 0.
+    pub(crate) fn set_start(&mut self, node: u32, start: u32)
         requires { node < length self.old.nodes }
-        ensures { self.new ≡ with_node self.old node row }
+        ensures { self.new ≡ with_start self.old node start }
     {
+        let row = NodeRow {
+            start,
+            ..self.node(node)
+        };
         self.nodes.put(node as usize, row);
     }
 
-    /// Puts an arc in the place of another.
-    pub(crate) fn set_arc(&mut self, arc: u32, row: ArcRow)
-        requires { arc < length self.old.arcs }
-        ensures { self.new ≡ with_arc self.old arc row }
+    /// Sets the most people who may be in a node.
+    pub(crate) fn set_capacity(&mut self, node: u32, capacity: u32)
+        requires { node < length self.old.nodes }
+        ensures { self.new ≡ with_node self.old node (record (node_at self.old node) { capacity = capacity }) }
     {
+        let row = NodeRow {
+            capacity,
+            ..self.node(node)
+        };
+        self.nodes.put(node as usize, row);
+    }
+
+    /// Shuts an exit, or opens it again.
+    pub(crate) fn set_exit_shut(&mut self, node: u32, shut: bool)
+        requires { node < length self.old.nodes }
+        ensures { self.new ≡ with_node self.old node (record (node_at self.old node) { shut = shut }) }
+    {
+        let row = NodeRow {
+            shut,
+            ..self.node(node)
+        };
+        self.nodes.put(node as usize, row);
+    }
+
+    /// Shuts an arc, or opens it again.
+    pub(crate) fn set_arc_shut(&mut self, arc: u32, shut: bool)
+        requires { arc < length self.old.arcs }
+        ensures { self.new ≡ with_arc self.old arc (record (arc_at self.old arc) { shut = shut }) }
+    {
+        let row = ArcRow {
+            shut,
+            ..self.arc(arc)
+        };
+        self.arcs.put(arc as usize, row);
+    }
+
+    /// Sets the most people who may enter an arc at a moment.
+    pub(crate) fn set_arc_rate(&mut self, arc: u32, rate: u32)
+        requires { arc < length self.old.arcs }
+        ensures { self.new ≡ with_arc self.old arc (record (arc_at self.old arc) { rate = rate }) }
+    {
+        let row = ArcRow {
+            rate,
+            ..self.arc(arc)
+        };
         self.arcs.put(arc as usize, row);
     }
 }

@@ -12,12 +12,7 @@ fn node(kind: Kind, number: u16, floor: u16) -> NodeRow {
         number,
         floor,
     };
-    NodeRow {
-        name,
-        capacity: 0,
-        start: 0,
-        shut: false,
-    }
+    NodeRow::new(name, 0, 0)
 }
 
 // A room, a lobby and two exits below, and two rooms, a hall and two stairs on each of the floors above.

@@ -16,12 +16,7 @@ pub fn node_at(model: &Model, node: u32) -> NodeRow
         number: 0,
         floor: 0,
     };
-    NodeRow {
-        name,
-        capacity: 0,
-        start: 0,
-        shut: false,
-    }
+    NodeRow::new(name, 0, 0)
 }
 
 /// The arc at a place; past the end one that is shut.

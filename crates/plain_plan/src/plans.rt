@@ -48,7 +48,7 @@ pub fn out_by(model: &Model, moves: &[Move], moment: u16) -> u64
 }
 
 // The people who came into a node by a moment: its start, and those who arrived.
-#[tactic(auto, unfolding(evac_law::specs::Plans::came), using(evac_law::proofs::Optimal::start_only))]
+#[tactic(auto, unfolding(evac_law::specs::Plans::came), using(evac_law::proofs::Entries::start_only))]
 fn came(model: &Model, moves: &[Move], node: u32, moment: u16) -> u64
     requires { length moves.now < 2 ^ 16 }
     ensures value { result ≡ came model.now moves.now node moment }

@@ -15,26 +15,11 @@ fn room(kind: Kind, number: u16, capacity: u32, start: u32) -> NodeRow {
         number,
         floor: 1,
     };
-    NodeRow {
-        name,
-        capacity,
-        start,
-        shut: false,
-    }
+    NodeRow::new(name, capacity, start)
 }
 
 fn exit(number: u16) -> NodeRow {
     room(Kind::Exit, number, 0, 0)
-}
-
-fn passage(from: u32, to: u32, travel: u16, rate: u32) -> ArcRow {
-    ArcRow {
-        from,
-        to,
-        travel,
-        rate,
-        shut: false,
-    }
 }
 
 fn step(moment: u16, arc: u32, people: u32) -> Move {
@@ -139,7 +124,7 @@ fn one_room_and_one_exit(rt: HostRuntime) -> Result<(), Fail> {
     let model = building(
         &rt,
         &[room(Kind::Work, 1, 10, 3), exit(1)],
-        &[passage(0, 1, 1, 2)],
+        &[ArcRow::new(0, 1, 1, 2)],
     )?;
     let moves = [step(0, 0, 2), step(1, 0, 1)];
     let labels = labels_of(
@@ -168,7 +153,7 @@ fn an_empty_building(rt: HostRuntime) -> Result<(), Fail> {
     let model = building(
         &rt,
         &[room(Kind::Work, 1, 10, 0), exit(1)],
-        &[passage(0, 1, 1, 2)],
+        &[ArcRow::new(0, 1, 1, 2)],
     )?;
     let labels = labels_of(alloc, &model, &[])?;
     check(&rt, &model, &[], &labels, &[0])
@@ -182,7 +167,11 @@ fn a_hall_where_nobody_may_stay(rt: HostRuntime) -> Result<(), Fail> {
         room(Kind::Hall, 1, 0, 0),
         exit(1),
     ];
-    let model = building(&rt, &nodes, &[passage(0, 1, 1, 3), passage(1, 2, 1, 1)])?;
+    let model = building(
+        &rt,
+        &nodes,
+        &[ArcRow::new(0, 1, 1, 3), ArcRow::new(1, 2, 1, 1)],
+    )?;
     let moves = [
         step(0, 0, 1),
         step(1, 0, 1),
@@ -242,7 +231,11 @@ fn a_hall_where_nobody_may_stay(rt: HostRuntime) -> Result<(), Fail> {
 fn short_and_narrow_against_long_and_wide(rt: HostRuntime) -> Result<(), Fail> {
     let alloc = rt.alloc();
     let nodes = [room(Kind::Work, 1, 8, 8), exit(1), exit(2)];
-    let model = building(&rt, &nodes, &[passage(0, 1, 1, 1), passage(0, 2, 3, 5)])?;
+    let model = building(
+        &rt,
+        &nodes,
+        &[ArcRow::new(0, 1, 1, 1), ArcRow::new(0, 2, 3, 5)],
+    )?;
     let moves = [step(0, 0, 1), step(0, 1, 5), step(1, 0, 1), step(2, 0, 1)];
     let labels = labels_of(
         alloc,
@@ -290,10 +283,10 @@ fn two_rooms_and_one_hall(rt: HostRuntime) -> Result<(), Fail> {
         exit(2),
     ];
     let arcs = [
-        passage(0, 2, 1, 1),
-        passage(0, 4, 2, 1),
-        passage(1, 2, 1, 1),
-        passage(2, 3, 1, 1),
+        ArcRow::new(0, 2, 1, 1),
+        ArcRow::new(0, 4, 2, 1),
+        ArcRow::new(1, 2, 1, 1),
+        ArcRow::new(2, 3, 1, 1),
     ];
     let model = building(&rt, &nodes, &arcs)?;
     let moves = [step(0, 1, 1), step(0, 2, 1), step(1, 3, 1)];

@@ -12,13 +12,13 @@ use Rattle.evac_law.specs.declared.model.Model.{Model}
 use Rattle.evac_law.specs.declared.plan.Move.{Move}
 use Rattle.evac_law.specs.Building.{IsValid, arrival, entry, head, is_exit_at, tail}
 use Rattle.evac_law.specs.Limits.{capacity_limit}
-use Rattle.evac_law.specs.Plans.{came, held, left, out_by}
+use Rattle.evac_law.specs.Plans.{came, coming, held, leaving, left, out_by}
 use Rattle.evac_law.specs.Sums.{moments_to}
 use Rattle.evac_law.proofs.Curve.{arriving, out_is_sum}
-use Rattle.evac_law.proofs.Optimal.{start_only}
+use Rattle.evac_law.proofs.Entries.{start_only}
 use Rattle.evac_law.proofs.SumLemmas.{All-below, sum_by-le_all, sum_by-same_all, sum_moments-suc, sum_moments-zero}
 use Rattle.evac_law.proofs.ValidLemmas.{node_is}
-use Rattle.evac_law.proofs.WeakDuality.{came-suc, came-zero, coming, leaving, left-suc, left-zero}
+use Rattle.evac_law.proofs.WeakDuality.{came-suc, came-zero, left-suc, left-zero}
 use Rattle.plan_checker.specs.Counts.{Counts, IsCountedWell, all_moved, arriving_at, came_by, coming_at, count, leaving_at, left_by}
 use Rattle.plan_checker.specs.Parts.{IsHeldWell}
 

@@ -1,5 +1,6 @@
 -- Yes and a certified plan, and one verdict of a block.
-use Rattle.std.proofs.Common.{◌≡◌, ℕ, ◌<◌, ◌≤◌, refl, ap, ap₂, arith, List, ◌⊎◌, inl, inr}
+use Rattle.std.proofs.Common.{◌≡◌, ℕ, ◌<◌, ◌≤◌, refl, ap, ap₂, subst, arith, List, ◌⊎◌, inl, inr, Result, Ok, Err, IfOk}
+use Rattle.std.specs.Prelude.{◌↔◌}
 use Rattle.evac_law.specs.declared.model.Model.{Model}
 use Rattle.evac_law.specs.declared.plan.Move.{Move}
 use Rattle.evac_law.specs.Building.{IsValid, people}
@@ -12,43 +13,42 @@ use Rattle.plan_checker.specs.declared.verdict.Verdict.{Verdict}
 use Rattle.plan_checker.specs.declared.verdict.Verdict.TheVariants.{Yes, PeopleWrong, RateBroken, HeldBroken, NotAllOut, OutWrong, CutWrong}
 use Rattle.plan_checker.specs.VerdictLaws.{IsOptimal, OneVerdict, YesIsCertified}
 use Rattle.plan_checker.specs.Parts.{Earlier, RatesKept, IsFirstRate, HoldsKept, IsFirstHold, IsAllOut, OutsRight, CutsRight}
-use Rattle.plan_checker.specs.Verdicts.{IsVerdict, PeopleRight}
+use Rattle.plan_checker.specs.Verdicts.{IsRight, IsVerdict, PeopleRight}
 use Rattle.std.proofs.lemmas.Bool.{cases_lt}
 
-abbrev Certified : Model → Block → Type 0
-Certified m b = (b.people ≡ people m) × OutsRight m b.moves b.cleared b.outs × IsCertified m b.moves b.labels b.cleared
-
-forwards : (m : Model) (b : Block) → IsValid m → IsBlockOf m b → IsVerdict m b Yes → Certified m b
+forwards : (m : Model) (b : Block) → IsValid m → IsBlockOf m b → IsVerdict m b Yes → IsRight m b
 forwards m b valid block (((kept, out), outs), cuts) =
     let feasible : IsFeasible m b.moves b.cleared = record {
       arcs = λ i d l. (block.ordered.in_range i d l).0;
       rates = kept.1;
       holds = kept.2;
-    } in (
-      kept.0,
-      outs,
-      record {
+    } in
+    record {
+      people = kept.0;
+      outs = outs;
+      certified = record {
         in_horizon = block.in_horizon;
         feasible = feasible;
         all_out = omega (arith, out.everybody, out_le_people m b.moves b.cleared valid feasible);
         arrives = out.arrives;
         cuts = cuts;
         least = out.least;
-      },
-    )
+      };
+    }
 
-backwards : (m : Model) (b : Block) → Certified m b → IsVerdict m b Yes
-backwards m b (people_right, outs, good) = (
-  (((people_right, good.feasible.rates, good.feasible.holds), record { arrives = good.arrives; everybody = omega (arith, good.all_out); least = good.least }), outs),
-  good.cuts,
-)
+backwards : (m : Model) (b : Block) → IsRight m b → IsVerdict m b Yes
+backwards m b right =
+    let good = right.certified in (
+      (((right.people, good.feasible.rates, good.feasible.holds), record { arrives = good.arrives; everybody = omega (arith, good.all_out); least = good.least }), right.outs),
+      good.cuts,
+    )
 
 pub yes_is_certified : YesIsCertified
 yes_is_certified m b valid block = (forwards m b valid block, backwards m b)
 
-pub yes_is_optimal : (m : Model) (b : Block) → IsValid m → IsBlockOf m b → IsVerdict m b Yes → IsOptimal m b.moves b.cleared
+yes_is_optimal : (m : Model) (b : Block) → IsValid m → IsBlockOf m b → IsVerdict m b Yes → IsOptimal m b.moves b.cleared
 yes_is_optimal m b valid block h =
-    let good = (forwards m b valid block h).2 in
+    let good = (forwards m b valid block h).certified in
     record {
       best = certified_is_best m b.moves b.labels b.cleared valid good;
       quickest = λ q feasible everybody. certified_is_quickest m b.moves q b.labels b.cleared valid good feasible everybody;
@@ -212,3 +212,16 @@ agree m b v w e h k = absurd (omega (arith, e))
 
 pub one_verdict : OneVerdict
 one_verdict m b v w h k = agree m b v w (same_rank m b v w h k) h k
+
+-- a verdict is yes exactly where the block is right
+pub yes_where_right : {E : Type 0} (m : Model) (b : Block) (r : Result Verdict E) → IsValid m → IsBlockOf m b → IfOk r (IsVerdict m b)
+    → IfOk r (λ v. (v ≡ Yes) ↔ IsRight m b)
+yes_where_right m b (Ok v) valid block h =
+    (λ e. forwards m b valid block (subst (IsVerdict m b) e h), λ right. one_verdict m b v Yes h (backwards m b right))
+yes_where_right m b (Err e) valid block h = tt
+
+-- after a yes the plan is optimal
+pub optimal_where_yes : {E : Type 0} (m : Model) (b : Block) (r : Result Verdict E) → IsValid m → IsBlockOf m b → IfOk r (IsVerdict m b)
+    → IfOk r (λ v. v ≡ Yes → IsOptimal m b.moves b.cleared)
+optimal_where_yes m b (Ok v) valid block h = λ e. yes_is_optimal m b valid block (subst (IsVerdict m b) e h)
+optimal_where_yes m b (Err e) valid block h = tt

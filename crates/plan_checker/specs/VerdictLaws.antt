@@ -11,14 +11,11 @@ use Rattle.certificate_text.specs.declared.block.Block.{Block}
 use Rattle.certificate_text.specs.Block.{IsBlockOf}
 use Rattle.plan_checker.specs.declared.verdict.Verdict.{Verdict}
 use Rattle.plan_checker.specs.declared.verdict.Verdict.TheVariants.{Yes}
-use Rattle.plan_checker.specs.Parts.{OutsRight}
-use Rattle.plan_checker.specs.Verdicts.{IsVerdict}
+use Rattle.plan_checker.specs.Verdicts.{IsRight, IsVerdict}
 
--- yes comes exactly where the block has the model's people and its plan's curve, and the plan is certified by the labels
+-- yes is the verdict exactly of the blocks that are right
 abbrev pub YesIsCertified : Type 0
-YesIsCertified =
-    (m : Model) (b : Block) → IsValid m → IsBlockOf m b
-    → IsVerdict m b Yes ↔ ((b.people ≡ people m) × OutsRight m b.moves b.cleared b.outs × IsCertified m b.moves b.labels b.cleared)
+YesIsCertified = (m : Model) (b : Block) → IsValid m → IsBlockOf m b → IsVerdict m b Yes ↔ IsRight m b
 
 -- of a block one verdict alone is true
 abbrev pub OneVerdict : Type 0

@@ -2,6 +2,7 @@
 use Rattle.std.specs.Prelude.{◌≡◌, ◌≢◌}
 use Rattle.evac_law.specs.declared.model.Model.{Model}
 use Rattle.evac_law.specs.Building.{people}
+use Rattle.evac_law.specs.Certificates.{IsCertified}
 use Rattle.certificate_text.specs.declared.block.Block.{Block}
 use Rattle.plan_checker.specs.declared.verdict.Verdict.{Verdict}
 use Rattle.plan_checker.specs.declared.verdict.Verdict.TheVariants.{Yes, PeopleWrong, RateBroken, HeldBroken, NotAllOut, OutWrong, CutWrong}
@@ -32,3 +33,9 @@ IsVerdict m b NotAllOut = PlanKept m b × (¬ (IsAllOut m b.moves b.cleared))
 IsVerdict m b (OutWrong k) = PlanClears m b × IsFirstOut m b.moves b.cleared b.outs k
 IsVerdict m b (CutWrong k) = CurveRight m b × IsFirstCut m b.moves b.cleared b.labels k
 IsVerdict m b Yes = CurveRight m b × CutsRight m b.moves b.cleared b.labels
+
+-- a block has the model's people and the curve of its plan, and its labels certify the plan
+pub record IsRight (m : Model) (b : Block) : Type 0 where
+  pub people : PeopleRight m b
+  pub outs : OutsRight m b.moves b.cleared b.outs
+  pub certified : IsCertified m b.moves b.labels b.cleared

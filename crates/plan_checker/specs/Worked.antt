@@ -3,11 +3,12 @@ use Rattle.std.specs.Prelude.{ℕ, ◌+◌, Bool, true, ◌&&◌, ◌==◌, nat_
 use Rattle.evac_law.specs.declared.model.Model.{Model}
 use Rattle.evac_law.specs.declared.plan.Move.{Move}
 use Rattle.evac_law.specs.declared.name.Kind.TheVariants as kinds
-use Rattle.cut_witness.specs.Worked.{arc_row, building, node_row}
+use Rattle.evac_law.specs.Building.{arc_row}
+use Rattle.cut_witness.specs.Worked.{building, room}
 
 -- three people in a room with one exit
 abbrev pub one_room : Model
-one_room = building (node_row kinds.Work 1 10 3 ∷ (node_row kinds.Exit 1 0 0 ∷ [])) (arc_row 0 1 1 2 ∷ [])
+one_room = building (room kinds.Work 1 10 3 ∷ (room kinds.Exit 1 0 0 ∷ [])) (arc_row 0 1 1 2 ∷ [])
 
 -- whether each number is at most a hundred
 abbrev pub are_small : List ℕ → Bool

@@ -1,9 +1,9 @@
 // The check of a block.
-ghost use Rattle.std.specs.Prelude.{◌≡◌, IfOk};
+ghost use Rattle.std.specs.Prelude.{◌≡◌, ◌↔◌, IfOk};
 ghost use Rattle.evac_law.specs.Building.{IsValid};
 ghost use Rattle.certificate_text.specs.Block.{IsBlockOf};
 ghost use Rattle.plan_checker.specs.VerdictLaws.{IsOptimal};
-ghost use Rattle.plan_checker.specs.Verdicts.{IsVerdict};
+ghost use Rattle.plan_checker.specs.Verdicts.{IsRight, IsVerdict};
 
 use crate::curve::{curve_of, first_wrong_out, is_all_out};
 use crate::cuts::first_wrong_cut;
@@ -14,12 +14,10 @@ use certificate_text::Block;
 use evac_law::Model;
 use std::alloc::{AllocError, Global};
 
-/// The first part of a block that fails, or yes. It takes time in proportion to the nodes and arcs at all moments.
-pub fn check(alloc: Global, model: &Model, block: &Block) -> Result<Verdict, AllocError>
+fn first_failing(alloc: Global, model: &Model, block: &Block) -> Result<Verdict, AllocError>
     requires valid { IsValid model.now }
     requires block { IsBlockOf model.now block.now }
-    ensures verdict { IfOk result (IsVerdict model.now block.now) }
-    ensures optimal { IfOk result (λ v. v ≡ Verdict.Yes → IsOptimal model.now block.now.moves block.now.cleared) }
+    ensures { IfOk result (IsVerdict model.now block.now) }
 {
     let moves = block.moves.as_slice();
     let last = block.cleared;
@@ -43,4 +41,15 @@ pub fn check(alloc: Global, model: &Model, block: &Block) -> Result<Verdict, All
         return Ok(Verdict::CutWrong { period });
     }
     Ok(Verdict::Yes)
+}
+
+/// The first part of a block that fails, or yes. It takes time in proportion to the nodes and arcs at all moments.
+pub fn check(alloc: Global, model: &Model, block: &Block) -> Result<Verdict, AllocError>
+    requires valid { IsValid model.now }
+    requires block { IsBlockOf model.now block.now }
+    ensures verdict { IfOk result (IsVerdict model.now block.now) }
+    ensures yes { IfOk result (λ v. (v ≡ Verdict.Yes) ↔ IsRight model.now block.now) }
+    ensures optimal { IfOk result (λ v. v ≡ Verdict.Yes → IsOptimal model.now block.now.moves block.now.cleared) }
+{
+    first_failing(alloc, model, block)
 }

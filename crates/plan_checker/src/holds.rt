@@ -18,6 +18,7 @@ fn first_broken_moment(
     node: u32,
     until: u16,
 ) -> Option<u16>
+    requires valid { IsValid model.now }
     requires node_in { node < length model.now.nodes }
     requires came_nodes { came.now.nodes ≡ length model.now.nodes }
     requires left_nodes { left.now.nodes ≡ length model.now.nodes }

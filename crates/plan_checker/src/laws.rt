@@ -1,7 +1,7 @@
 // What follows from a verdict, as the contracts of functions with nothing to do.
 ghost use Rattle.plan_checker.specs.VerdictLaws.{OneVerdict, YesIsCertified};
 
-/// Yes is the verdict exactly of the blocks with the model's people, the plan's curve and a plan that the labels certify.
+/// Yes is the verdict exactly of the blocks that are right.
 pub fn yes_is_certified()
     ensures { YesIsCertified }
 {}

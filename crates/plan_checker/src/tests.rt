@@ -17,25 +17,9 @@ fn one_room(alloc: Global) -> Result<Model, AllocError>
         number: 1,
         floor: 1,
     };
-    let room = NodeRow {
-        name: name(Kind::Work),
-        capacity: 10,
-        start: 3,
-        shut: false,
-    };
-    let exit = NodeRow {
-        name: name(Kind::Exit),
-        capacity: 0,
-        start: 0,
-        shut: false,
-    };
-    let passage = ArcRow {
-        from: 0,
-        to: 1,
-        travel: 1,
-        rate: 2,
-        shut: false,
-    };
+    let room = NodeRow::new(name(Kind::Work), 10, 3);
+    let exit = NodeRow::new(name(Kind::Exit), 0, 0);
+    let passage = ArcRow::new(0, 1, 1, 2);
     Ok(Model {
         seconds: 5,
         horizon: 20,

@@ -1,7 +1,7 @@
 use Rattle.std.proofs.Common.{arith}
 use Rattle.std.proofs.lemmas.Grind.{common_steps}
 use Rattle.evac_law.specs.Plans.{came}
-use Rattle.evac_law.proofs.Optimal.{start_only}
+use Rattle.evac_law.proofs.Entries.{start_only}
 use Rattle.plain_plan.proofs.plans.came.Goals as goal
 
 pub returns-clause-value : goal.returns-clause-value

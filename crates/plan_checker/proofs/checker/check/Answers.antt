@@ -1,17 +1,8 @@
-use Rattle.std.proofs.Common.{rules}
-use Rattle.plan_checker.proofs.LawLemmas.{yes_is_optimal}
-use Rattle.plan_checker.proofs.OrderedMoves.{moves_fit}
+use Rattle.plan_checker.proofs.LawLemmas.{optimal_where_yes, yes_where_right}
 use Rattle.plan_checker.proofs.checker.check.Goals as goal
 
-pub first_broken_hold-requires-clause-few : goal.first_broken_hold-requires-clause-few
-first_broken_hold-requires-clause-few c =
-    rw c.as_slice-moves.ensures
-    (moves_fit c.args.model.now c.args.block.now.moves c.requires.valid c.requires.block.ordered c.requires.block.moves_fit)
-
-pub curve_of-requires-clause-few : goal.curve_of-requires-clause-few
-curve_of-requires-clause-few c =
-    rw c.as_slice-moves.ensures
-    (moves_fit c.args.model.now c.args.block.now.moves c.requires.valid c.requires.block.ordered c.requires.block.moves_fit)
+pub returns-clause-yes : goal.returns-clause-yes
+returns-clause-yes c = yes_where_right c.args.model.now c.args.block.now _ c.requires.valid c.requires.block c.first_failing.ensures
 
 pub returns-clause-optimal : goal.returns-clause-optimal
-returns-clause-optimal c e = yes_is_optimal c.args.model.now c.args.block.now c.requires.valid c.requires.block (search rules)
+returns-clause-optimal c = optimal_where_yes c.args.model.now c.args.block.now _ c.requires.valid c.requires.block c.first_failing.ensures
