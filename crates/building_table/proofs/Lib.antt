@@ -1,4 +1,3 @@
-pub mod PassLemmas
 pub mod EqLemmas
 pub mod TakeLemmas
 pub mod PlaceLemmas

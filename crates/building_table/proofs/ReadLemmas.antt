@@ -1,354 +1,189 @@
 -- Reading a model, line by line.
-use Rattle.std.proofs.Common.{◌≡◌, ℕ, ◌+◌, true, false, List, [], ◌∷◌, ◌++◌, Result, Ok, Err, Some, None, IfOk, refl, sym, ap, subst, ◌∙◌, arith, append-nil, append_assoc, inl, inr}
+use Rattle.std.proofs.Common.{◌≡◌, ℕ, ◌+◌, List, [], ◌∷◌, ◌++◌, length, Result, Ok, Err, Some, None, IfOk, refl, sym, ap, subst, ◌∙◌, append-nil}
 use Rattle.std.specs.declared.option.Option.{Option}
+use Rattle.line_io.specs.Hearing.{Listens}
 use Rattle.line_io.specs.Line.{text_lines}
-use Rattle.line_io.specs.Reader.{lines_left}
+use Rattle.line_io.specs.Passes.{Follows, IsLeft, Passes}
+use Rattle.line_io.specs.Reader.{lines_left, pending_lines}
 use Rattle.line_io.specs.View.{Reader}
-use Rattle.line_io.proofs.LineLemmas.{text_lines-push}
+use Rattle.line_io.specs.declared.hearing.Ending.{Ending}
+use Rattle.line_io.specs.declared.hearing.Ending.TheVariants.{Finished, Failed, InputEnded, Fault}
+use Rattle.line_io.specs.declared.hearing.Refusal.{Refusal}
+use Rattle.line_io.specs.declared.hearing.Refusal.TheVariants as refusals
+use Rattle.line_io.specs.declared.hearing.Refusal.TheVariants.{Code}
+use Rattle.line_io.specs.declared.lines.LineFault.TheVariants as line_faults
+use Rattle.line_io.proofs.HearingLemmas.{Comes, GoesOn, comes, last-number, means-last, means-rest}
+use Rattle.line_io.proofs.PassLemmas.{none-pending-lines, passes-none, passes-taken}
 use Rattle.evac_law.specs.Building.{IsValid}
 use Rattle.model_text.proofs.ReadingLemmas.{opening-valid}
 use Rattle.building_table.specs.declared.building.Building.{Building}
 use Rattle.building_table.specs.declared.faults.ModelFault.{ModelFault}
 use Rattle.building_table.specs.declared.faults.ModelFault.TheVariants.{Named, ReadFault, Memory}
-use Rattle.building_table.specs.Built.{Built, IsBuilding, built_of}
+use Rattle.building_table.specs.declared.read.ModelReader.{ModelReader}
+use Rattle.building_table.specs.Built.{IsBuilding}
 use Rattle.building_table.specs.Names.{NameTable, NamesFit, arc_ends, node_names}
-use Rattle.building_table.specs.Passes.{Follows, Passes, ReadsLines, ReadsModel}
-use Rattle.building_table.specs.Reads.{IsLeft, Stops, NextLine, IsNext, Hears, HearsFirst, Finishes, AnswersBy, ReadsBy, IsDescribedBy, LeadsOn}
-use Rattle.building_table.proofs.PassLemmas.{passes-none, passes-then, text_lines-append}
+use Rattle.building_table.specs.Passes.{ReadsLines, ReadsModel}
+use Rattle.building_table.specs.Reads.{Place, meaning, step_at, IsAt, Moves, HearsModel, Finishes, AnswersBy, ReadsBy, Concludes}
 use Rattle.model_text.specs.Codes.{missing_end}
 use Rattle.model_text.specs.Grammar.{Said}
-use Rattle.model_text.specs.Readings.{Line, Reading, Described, Refused, Step, Passed, Took, Ended, Stopped, unless, first_step, later_step, after_step, after_first_step, reading_of, opening_of}
-use Rattle.model_text.specs.Taken.{Description, description_of, AreTaken}
+use Rattle.model_text.specs.Readings.{Line, Reading, Described, Refused, Step, Passed, Took, Ended, Stopped, unless, after_step, after_first_step, reading_of, opening_of}
+use Rattle.model_text.specs.Taken.{Description, description_of, end_fault}
 
--- ---- one line more
+-- ---- what a line makes of a reading
 
--- the lines with one more, and what follows
-pub line-more : (texts : List (List ℕ)) (t : List ℕ) (rest : List Line) → text_lines (texts ++ (t ∷ [])) ++ rest ≡ text_lines texts ++ (Ok t ∷ rest)
-line-more texts t rest = ap (λ l. l ++ rest) (text_lines-push texts t) ∙ append_assoc (text_lines texts) (Ok t ∷ []) rest
+-- what a step makes of the lines behind it
+after : Step → Place → ℕ → List Line → Reading
+after step None k rest = after_first_step step k (opening_of k rest) (reading_of [] k rest)
+after step (Some taken) k rest = after_step step taken k rest (λ more. reading_of more k rest)
 
--- lines went by, and then none
-pub passes-still : (a b c : Reader) (l m n : Option (List ℕ)) (texts : List (List ℕ)) → Passes a b l m texts → Passes b c m n [] → Passes a c l n texts
-passes-still a b c l m n texts p q = let P : List (List ℕ) → Type 0 = λ xs. Passes a c l n xs in subst P (append-nil texts) (passes-then a b c l m n texts [] p q)
+line-step : (x : Place) (n : ℕ) (t : List ℕ) (rest : List Line) → meaning x n (Ok t ∷ rest) ≡ after (step_at x t) x (n + 1) rest
+unfolding opening_of reading_of after
+line-step None n t rest = refl
+line-step (Some taken) n t rest = refl
 
-opening-more : (number : ℕ) (line : Line) (rest : List Line)
-    → opening_of number (line ∷ rest) ≡ after_first_step (first_step line) (number + 1) (opening_of (number + 1) rest) (reading_of [] (number + 1) rest)
-unfolding opening_of
-opening-more number line rest = refl
+no-line : (x : Place) (n : ℕ) → meaning x n [] ≡ Refused missing_end (n + 1)
+unfolding opening_of reading_of
+no-line None n = refl
+no-line (Some taken) n = refl
 
-opening-none : (number : ℕ) → opening_of number [] ≡ Refused missing_end (number + 1)
-unfolding opening_of
-opening-none number = refl
+bad-line : (x : Place) (n k : ℕ) → meaning x n (Err k ∷ []) ≡ Refused k (n + 1)
+unfolding opening_of reading_of
+bad-line None n k = refl
+bad-line (Some taken) n k = refl
 
-reading-more : (taken : List Said) (number : ℕ) (line : Line) (rest : List Line)
-    → reading_of taken number (line ∷ rest) ≡ after_step (later_step taken line) taken (number + 1) rest (λ more. reading_of more (number + 1) rest)
-unfolding reading_of
-reading-more taken number line rest = refl
+after-moves : (step : Step) (x y : Place) (k : ℕ) (rest : List Line) → Moves step x y → after step x k rest ≡ meaning y k rest
+unfolding after
+after-moves Passed None y k rest h = ap (λ z. meaning z k rest) (sym h)
+after-moves Passed (Some taken) y k rest h = ap (λ z. meaning z k rest) (sym h)
+after-moves (Took s) None y k rest h = ap (λ z. meaning z k rest) (sym h)
+after-moves (Took s) (Some taken) y k rest h = ap (λ z. meaning z k rest) (sym h)
+after-moves Ended x y k rest h = absurd h
+after-moves (Stopped code) x y k rest h = absurd h
 
-reading-none : (taken : List Said) (number : ℕ) → reading_of taken number [] ≡ Refused missing_end (number + 1)
-unfolding reading_of
-reading-none taken number = refl
+after-stopped : (x : Place) (code k : ℕ) (rest : List Line) → after (Stopped code) x k rest ≡ Refused code k
+unfolding after
+after-stopped None code k rest = refl
+after-stopped (Some taken) code k rest = refl
 
--- ---- before the header
+goes-on : GoesOn HearsModel IsAt meaning
+goes-on s s' x n t is heard =
+    let h = heard x is in
+    (h.0, h.2, λ rest. line-step x n t rest ∙ after-moves (step_at x t) x h.0 (n + 1) rest h.1)
 
--- lines went by that leave the opening
-pub record Opens (a b : Reader) (l m : Option (List ℕ)) : Type 0 where
-  pub texts : List (List ℕ)
-  pub passes : Passes a b l m texts
-  pub state : (rest : List Line) → opening_of a.number (text_lines texts ++ rest) ≡ opening_of b.number rest
+-- ---- the answer
 
-pub opens-none : (a : Reader) (l : Option (List ℕ)) → Opens a a l l
-opens-none a l = record { texts = []; passes = passes-none a l; state = λ rest. refl }
-
--- what the opening is with one line more
-opens-line : (a b c : Reader) (l m n : Option (List ℕ)) (h : Opens a b l m) → Passes b c m n (c.text ∷ []) → (rest : List Line)
-    → opening_of a.number (text_lines (h.texts ++ (c.text ∷ [])) ++ rest)
-    ≡ after_first_step (first_step (Ok c.text)) (b.number + 1) (opening_of (b.number + 1) rest) (reading_of [] (b.number + 1) rest)
-opens-line a b c l m n h p rest =
-    ap (opening_of a.number) (line-more h.texts c.text rest) ∙ h.state (Ok c.text ∷ rest) ∙ opening-more b.number (Ok c.text) rest
-
-pub number-more : (b c : Reader) (m n : Option (List ℕ)) → Passes b c m n (c.text ∷ []) → b.number + 1 ≡ c.number
-number-more b c m n p = sym p.number
-
--- a blank line
-pub opens-blank : (a b c : Reader) (l m n : Option (List ℕ)) → Opens a b l m → Passes b c m n (c.text ∷ []) → first_step (Ok c.text) ≡ Passed → Opens a c l n
-opens-blank a b c l m n h p blank = record {
-  texts = h.texts ++ (c.text ∷ []);
-  passes = passes-then a b c l m n h.texts (c.text ∷ []) h.passes p;
-  state = λ rest. opens-line a b c l m n h p rest
-      ∙ ap (λ s. after_first_step s (b.number + 1) (opening_of (b.number + 1) rest) (reading_of [] (b.number + 1) rest)) blank
-      ∙ ap (λ k. opening_of k rest) (number-more b c m n p);
-}
-
--- the header
-pub opens-header : (a b c : Reader) (l m n : Option (List ℕ)) (header : Said) → Opens a b l m → Passes b c m n (c.text ∷ []) → first_step (Ok c.text) ≡ Took header
-    → ReadsBy {T = Unit {0}} (opening_of a.number) (LeadsOn a.number c.number) (Ok tt) a c l n
-opens-header a b c l m n header h p took = record {
-  texts = h.texts ++ (c.text ∷ []);
-  passes = passes-then a b c l m n h.texts (c.text ∷ []) h.passes p;
-  answer = λ rest. opens-line a b c l m n h p rest
-      ∙ ap (λ s. after_first_step s (b.number + 1) (opening_of (b.number + 1) rest) (reading_of [] (b.number + 1) rest)) took
-      ∙ ap (λ k. reading_of [] k rest) (number-more b c m n p);
-}
-
--- ---- answers
-
-pub left-lines : Option (List Line) → List Line
-left-lines None = []
-left-lines (Some lines) = lines
-
-pub left-so : (x y : Option (List Line)) → IsLeft x y (left-lines y)
-unfolding left-lines
-left-so None y = tt
-left-so (Some a) None = tt
-left-so (Some a) (Some b) = refl
-
-pub left-from : (texts : List (List ℕ)) (x y z : Option (List Line)) (rest : List Line) → Follows texts x y → IsLeft y z rest → IsLeft x z rest
-left-from texts None y z rest f h = tt
-left-from texts (Some a) None z rest f h = absurd f
-left-from texts (Some a) (Some b) None rest f h = tt
-left-from texts (Some a) (Some b) (Some c) rest f h = h
-
-stop-by : (N : List Line → Reading) (number code line : ℕ) (rest : List Line) → N [] ≡ Refused missing_end (number + 1) → ((k : ℕ) → N (Err k ∷ []) ≡ Refused k (number + 1))
-    → line ≡ number + 1 → Stops code rest → N rest ≡ Refused code line
-stop-by N number code line rest none fault is (inl s) = ap N s.1 ∙ none ∙ ap (λ k. Refused k (number + 1)) (sym s.0) ∙ ap (Refused code) (sym is)
-stop-by N number code line rest none fault is (inr s) = ap N s ∙ fault code ∙ ap (Refused code) (sym is)
-
--- there is no further line
-pub stop-any : {T : Type 0} (M N : List Line → Reading) (V : T → List (List ℕ) → Type 0) (a b c : Reader) (l m n : Option (List ℕ)) (texts : List (List ℕ)) → Passes a b l m texts
-    → ((rest : List Line) → M (text_lines texts ++ rest) ≡ N rest) → N [] ≡ Refused missing_end (b.number + 1) → ((k : ℕ) → N (Err k ∷ []) ≡ Refused k (b.number + 1))
-    → (f : ModelFault) → NextLine (Err f) b c m n → ReadsBy M V (Err f) a c l n
-stop-any M N V a b c l m n texts p state none fault (Named code line) h =
-    let same : c.number ≡ b.number = let e = h.1.number in omega arith in
-    record {
-      texts = texts;
-      passes = passes-still a b c l m n texts p h.1;
-      answer = (
-        h.2.0,
-        (
-          left-from texts (lines_left a l) (lines_left b m) (lines_left c n) h.2.0 p.follows h.2.1.0,
-          state h.2.0 ∙ stop-by N b.number code line h.2.0 none fault (h.0 ∙ ap (λ k. k + 1) same) h.2.1.1,
-        ),
-      );
-    }
-stop-any M N V a b c l m n texts p state none fault ReadFault h =
-    let same : c.number ≡ b.number = let e = h.number in omega arith in
-    record {
-      texts = texts;
-      passes = passes-still a b c l m n texts p h;
-      answer = ap M (sym (append-nil (text_lines texts))) ∙ state [] ∙ none ∙ ap (λ k. Refused missing_end (k + 1)) (sym same);
-    }
-stop-any M N V a b c l m n texts p state none fault Memory h = absurd h
-
-opening-fault : (number k : ℕ) → opening_of number (Err k ∷ []) ≡ Refused k (number + 1)
-unfolding opening_of
-opening-fault number k = refl
-
-reading-fault : (taken : List Said) (number k : ℕ) → reading_of taken number (Err k ∷ []) ≡ Refused k (number + 1)
-unfolding reading_of
-reading-fault taken number k = refl
-
-pub opens-stop : {T : Type 0} (V : T → List (List ℕ) → Type 0) (a b c : Reader) (l m n : Option (List ℕ)) → Opens a b l m → (f : ModelFault) → NextLine (Err f) b c m n
-    → ReadsBy (opening_of a.number) V (Err f) a c l n
-opens-stop V a b c l m n h f next =
-    stop-any (opening_of a.number) (opening_of b.number) V a b c l m n h.texts h.passes h.state (opening-none b.number) (opening-fault b.number) f next
-
--- a line is refused
-refuse-any : {T : Type 0} (M : List Line → Reading) (V : T → List (List ℕ) → Type 0) (a c : Reader) (l n : Option (List ℕ)) (texts : List (List ℕ)) (code line : ℕ) → Passes a c l n texts
-    → ((rest : List Line) → M (text_lines texts ++ rest) ≡ Refused code line) → ReadsBy M V (Err (Named code line)) a c l n
-refuse-any M V a c l n texts code line p state = record {
-  texts = texts;
-  passes = p;
-  answer = (left-lines (lines_left c n), (left-so (lines_left a l) (lines_left c n), state (left-lines (lines_left c n))));
-}
-
-memory-any : {T : Type 0} (M : List Line → Reading) (V : T → List (List ℕ) → Type 0) (a c : Reader) (l n : Option (List ℕ)) (texts : List (List ℕ)) → Passes a c l n texts → ReadsBy M V (Err Memory) a c l n
-memory-any M V a c l n texts p = record { texts = texts; passes = p; answer = tt }
-
-pub opens-refused : {T : Type 0} (V : T → List (List ℕ) → Type 0) (a b c : Reader) (l m n : Option (List ℕ)) → Opens a b l m → Passes b c m n (c.text ∷ []) → (f : ModelFault) (line : ℕ)
-    → line ≡ c.number → HearsFirst (Err f) (first_step (Ok c.text)) line → ReadsBy (opening_of a.number) V (Err f) a c l n
-opens-refused V a b c l m n h p (Named code number) line is heard =
-    refuse-any (opening_of a.number) V a c l n (h.texts ++ (c.text ∷ [])) code number (passes-then a b c l m n h.texts (c.text ∷ []) h.passes p) (λ rest.
-    opens-line a b c l m n h p rest
-    ∙ ap (λ s. after_first_step s (b.number + 1) (opening_of (b.number + 1) rest) (reading_of [] (b.number + 1) rest)) heard.0
-    ∙ ap (Refused code) (number-more b c m n p ∙ sym is ∙ sym heard.1))
-opens-refused V a b c l m n h p ReadFault line is heard = absurd heard
-opens-refused V a b c l m n h p Memory line is heard = memory-any (opening_of a.number) V a c l n (h.texts ++ (c.text ∷ [])) (passes-then a b c l m n h.texts (c.text ∷ []) h.passes p)
-
--- ---- behind the header
-
--- lines went by that are statements, and a builder holds what they say
-pub record Holds (a b : Reader) (l m : Option (List ℕ)) (held : Built) : Type 0 where
-  pub texts : List (List ℕ)
-  pub passes : Passes a b l m texts
-  pub taken : List Said
-  pub are : AreTaken taken
-  pub built : held ≡ built_of taken
-  pub state : (rest : List Line) → reading_of [] a.number (text_lines texts ++ rest) ≡ reading_of taken b.number rest
-
-pub holds-none : (a : Reader) (l : Option (List ℕ)) (held : Built) → held ≡ built_of [] → Holds a a l l held
-holds-none a l held e = record { texts = []; passes = passes-none a l; taken = []; are = tt; built = e; state = λ rest. refl }
-
-holds-line : (a b c : Reader) (l m n : Option (List ℕ)) (held : Built) (h : Holds a b l m held) → Passes b c m n (c.text ∷ []) → (rest : List Line)
-    → reading_of [] a.number (text_lines (h.texts ++ (c.text ∷ [])) ++ rest)
-    ≡ after_step (later_step h.taken (Ok c.text)) h.taken (b.number + 1) rest (λ more. reading_of more (b.number + 1) rest)
-holds-line a b c l m n held h p rest =
-    ap (reading_of [] a.number) (line-more h.texts c.text rest) ∙ h.state (Ok c.text ∷ rest) ∙ reading-more h.taken b.number (Ok c.text) rest
-
-after-next : (step : Step) (taken next : List Said) (k : ℕ) (rest : List Line) → IsNext step taken next → after_step step taken k rest (λ more. reading_of more k rest) ≡ reading_of next k rest
-after-next Passed taken next k rest h = ap (λ t. reading_of t k rest) (sym h)
-after-next (Took s) taken next k rest h = ap (λ t. reading_of t k rest) (sym h)
-after-next Ended taken next k rest h = absurd h
-after-next (Stopped code) taken next k rest h = absurd h
-
--- a line that is a statement, or blank
-pub holds-next : (a b c : Reader) (l m n : Option (List ℕ)) (held new : Built) (line : ℕ) (h : Holds a b l m held) → Passes b c m n (c.text ∷ [])
-    → Hears (Ok false) (later_step h.taken (Ok c.text)) h.taken line new → Holds a c l n new
-holds-next a b c l m n held new line h p heard = record {
-  texts = h.texts ++ (c.text ∷ []);
-  passes = passes-then a b c l m n h.texts (c.text ∷ []) h.passes p;
-  taken = heard.0;
-  are = heard.1.1;
-  built = heard.1.2;
-  state = λ rest. holds-line a b c l m n held h p rest
-      ∙ after-next (later_step h.taken (Ok c.text)) h.taken heard.0 (b.number + 1) rest heard.1.0
-      ∙ ap (λ k. reading_of heard.0 k rest) (number-more b c m n p);
-}
-
-pub holds-stop : {T : Type 0} (V : T → List (List ℕ) → Type 0) (a b c : Reader) (l m n : Option (List ℕ)) (held : Built) → Holds a b l m held → (f : ModelFault) → NextLine (Err f) b c m n
-    → ReadsBy (reading_of [] a.number) V (Err f) a c l n
-holds-stop V a b c l m n held h f next =
-    stop-any (reading_of [] a.number) (reading_of h.taken b.number) V a b c l m n h.texts h.passes h.state (reading-none h.taken b.number) (reading-fault h.taken b.number) f next
-
-pub holds-refused : {T : Type 0} (V : T → List (List ℕ) → Type 0) (a b c : Reader) (l m n : Option (List ℕ)) (held new : Built) (h : Holds a b l m held) → Passes b c m n (c.text ∷ [])
-    → (f : ModelFault) (line : ℕ) → line ≡ c.number → Hears (Err f) (later_step h.taken (Ok c.text)) h.taken line new → ReadsBy (reading_of [] a.number) V (Err f) a c l n
-holds-refused V a b c l m n held new h p (Named code number) line is heard =
-    refuse-any (reading_of [] a.number) V a c l n (h.texts ++ (c.text ∷ [])) code number (passes-then a b c l m n h.texts (c.text ∷ []) h.passes p) (λ rest.
-    holds-line a b c l m n held h p rest
-    ∙ ap (λ s. after_step s h.taken (b.number + 1) rest (λ more. reading_of more (b.number + 1) rest)) heard.0
-    ∙ ap (Refused code) (number-more b c m n p ∙ sym is ∙ sym heard.1))
-holds-refused V a b c l m n held new h p ReadFault line is heard = absurd heard
-holds-refused V a b c l m n held new h p Memory line is heard = memory-any (reading_of [] a.number) V a c l n (h.texts ++ (c.text ∷ [])) (passes-then a b c l m n h.texts (c.text ∷ []) h.passes p)
+-- the lines that went by with the one answered last, by its step
+step-last : {ending : Ending Refusal} {from to : ModelReader} {a c : Reader} {l n : Option (List ℕ)} (h : Listens HearsModel ending from to a c l n) (w : Comes IsAt meaning None a.number h.texts h.at)
+    (t : List ℕ) → h.last ≡ t ∷ [] → (rest : List Line) → opening_of a.number (text_lines (h.texts ++ h.last) ++ rest) ≡ after (step_at w.place t) w.place c.number rest
+step-last {ending} {from} {to} {a} h w t is rest =
+    means-last IsAt meaning h None w t is rest ∙ line-step w.place (a.number + length h.texts) t rest ∙ ap (λ k. after (step_at w.place t) w.place k rest) (last-number h t is)
 
 -- the end of the model
-pub holds-end : (a b c : Reader) (l m n : Option (List ℕ)) (held new : Built) (h : Holds a b l m held) → Passes b c m n (c.text ∷ []) → (line : ℕ) → line ≡ c.number
-    → Hears (Ok true) (later_step h.taken (Ok c.text)) h.taken line new → (result : Result Building ModelFault) → Finishes result h.taken line
-    → ReadsBy (reading_of [] a.number) (IsDescribedBy (reading_of [] a.number) c.number) result a c l n
-holds-end a b c l m n held new h p line is heard (Ok building) done = record {
-  texts = h.texts ++ (c.text ∷ []);
-  passes = passes-then a b c l m n h.texts (c.text ∷ []) h.passes p;
-  answer = (
-    description_of h.taken,
-    (
-      done.1,
-      λ rest.
-          holds-line a b c l m n held h p rest
-          ∙ ap (λ s. after_step s h.taken (b.number + 1) rest (λ more. reading_of more (b.number + 1) rest)) (heard.0 ∙ ap (λ o. unless o Ended) done.0)
-          ∙ ap (λ k. Described (description_of h.taken) k rest) (number-more b c m n p),
-    ),
-  );
+ends-model : (a c : Reader) (l n : Option (List ℕ)) (texts : List (List ℕ)) (taken : List Said) (rest : List Line) → Passes a c l n texts → IsLeft (lines_left a l) (lines_left c n) rest
+    → ((more : List Line) → opening_of a.number (text_lines texts ++ more) ≡ after_step (unless (end_fault taken) Ended) taken c.number more (λ x. reading_of x c.number more))
+    → (result : Result Building ModelFault) → Finishes result taken c.number → ReadsBy result a c l n
+ends-model a c l n texts taken rest p left means (Ok b) h = record {
+  texts = texts;
+  passes = p;
+  answer = (description_of taken, (h.1, λ more. means more ∙ ap (λ o. after_step (unless o Ended) taken c.number more (λ x. reading_of x c.number more)) h.0));
 }
-holds-end a b c l m n held new h p line is heard (Err (Named code number)) done =
-    refuse-any (reading_of [] a.number) (IsDescribedBy (reading_of [] a.number) c.number) a c l n (h.texts ++ (c.text ∷ [])) code number
-    (passes-then a b c l m n h.texts (c.text ∷ []) h.passes p) (λ rest.
-    holds-line a b c l m n held h p rest
-    ∙ ap (λ s. after_step s h.taken (b.number + 1) rest (λ more. reading_of more (b.number + 1) rest)) (heard.0 ∙ ap (λ o. unless o Ended) done.0)
-    ∙ ap (Refused code) (number-more b c m n p ∙ sym is ∙ sym done.1))
-holds-end a b c l m n held new h p line is heard (Err ReadFault) done = absurd done
-holds-end a b c l m n held new h p line is heard (Err Memory) done =
-    memory-any (reading_of [] a.number) (IsDescribedBy (reading_of [] a.number) c.number) a c l n (h.texts ++ (c.text ∷ [])) (passes-then a b c l m n h.texts (c.text ∷ []) h.passes p)
+ends-model a c l n texts taken rest p left means (Err (Named code number)) h =
+    let refused : (more : List Line) → opening_of a.number (text_lines texts ++ more) ≡ Refused code number =
+    λ more. means more ∙ ap (λ o. after_step (unless o Ended) taken c.number more (λ x. reading_of x c.number more)) h.0 ∙ ap (Refused code) (sym h.1) in
+    record { texts = texts; passes = p; answer = record { rest = rest; left_is = left; left = refused rest; pending = refused (pending_lines c) } }
+ends-model a c l n texts taken rest p left means (Err ReadFault) h = absurd h
+ends-model a c l n texts taken rest p left means (Err Memory) h = record { texts = texts; passes = p; answer = tt }
 
-pub holds-memory : (a : Reader) (l : Option (List ℕ)) → ReadsBy (reading_of [] a.number) (IsDescribedBy (reading_of [] a.number) a.number) (Err Memory) a a l l
-holds-memory a l = memory-any (reading_of [] a.number) (IsDescribedBy (reading_of [] a.number) a.number) a a l l [] (passes-none a l)
-
--- ---- the whole
-
-meaning-more : (M N : List Line → Reading) (xs ys : List (List ℕ)) → ((rest : List Line) → M (text_lines xs ++ rest) ≡ N rest) → (rest : List Line)
-    → M (text_lines (xs ++ ys) ++ rest) ≡ N (text_lines ys ++ rest)
-meaning-more M N xs ys state rest =
-    ap M (ap (λ l. l ++ rest) (text_lines-append xs ys) ∙ append_assoc (text_lines xs) (text_lines ys) rest) ∙ state (text_lines ys ++ rest)
-
--- the answer behind the header is the answer of all lines
-answer-more : (first last : ℕ) (M N : List Line → Reading) (x y z : Option (List Line)) (xs ys : List (List ℕ)) → Follows xs x y → ((rest : List Line) → M (text_lines xs ++ rest) ≡ N rest)
-    → (result : Result Building ModelFault) → AnswersBy N (IsDescribedBy N last) result last y z ys → AnswersBy M (IsDescribedBy M last) result last x z (xs ++ ys)
-answer-more first last M N x y z xs ys follows state (Ok b) h = (h.0, (h.1.0, λ rest. meaning-more M N xs ys state rest ∙ h.1.1 rest))
-answer-more first last M N x y z xs ys follows state (Err (Named code line)) h =
-    (h.0, (left-from xs x y z h.0 follows h.1.0, meaning-more M N xs ys state h.0 ∙ h.1.1))
-answer-more first last M N x y z xs ys follows state (Err ReadFault) h =
-    ap M (text_lines-append xs ys) ∙ state (text_lines ys) ∙ h
-answer-more first last M N x y z xs ys follows state (Err Memory) h = tt
-
--- the header, and then the statements
-pub reads-whole : (a b c : Reader) (l m n : Option (List ℕ)) (result : Result Building ModelFault)
-    → ReadsBy {T = Unit {0}} (opening_of a.number) (LeadsOn a.number b.number) (Ok tt) a b l m
-    → ReadsBy (reading_of [] b.number) (IsDescribedBy (reading_of [] b.number) c.number) result b c m n
-    → ReadsBy (opening_of a.number) (IsDescribedBy (opening_of a.number) c.number) result a c l n
-reads-whole a b c l m n result h s = record {
-  texts = h.texts ++ s.texts;
-  passes = passes-then a b c l m n h.texts s.texts h.passes s.passes;
-  answer = answer-more a.number c.number (opening_of a.number) (reading_of [] b.number) (lines_left a l) (lines_left b m) (lines_left c n) h.texts s.texts h.passes.follows h.answer result s.answer;
-}
-
-answer-fault : (M : List Line → Reading) (V : Unit {0} → List (List ℕ) → Type 0) (W : Building → List (List ℕ) → Type 0) (number : ℕ) (x y : Option (List Line)) (texts : List (List ℕ)) (f : ModelFault)
-    → AnswersBy {T = Unit {0}} M V (Err f) number x y texts → AnswersBy M W (Err f) number x y texts
-answer-fault M V W number x y texts (Named code line) h = h
-answer-fault M V W number x y texts ReadFault h = h
-answer-fault M V W number x y texts Memory h = tt
-
--- a fault before the header
-pub reads-fault : (V : Unit {0} → List (List ℕ) → Type 0) (a c : Reader) (l n : Option (List ℕ)) (f : ModelFault) → ReadsBy {T = Unit {0}} (opening_of a.number) V (Err f) a c l n
-    → ReadsBy (opening_of a.number) (IsDescribedBy (opening_of a.number) c.number) (Err f) a c l n
-reads-fault V a c l n f h = record {
-  texts = h.texts;
+-- the lines are refused, where such lines follow those that went by
+refuses : (code line : ℕ) {ending : Ending Refusal} {from to : ModelReader} {a c : Reader} {l n : Option (List ℕ)} (h : Listens HearsModel ending from to a c l n) (Behind : List Line → Type 0)
+    → ((rest : List Line) → Behind rest → opening_of a.number (text_lines (h.texts ++ h.last) ++ rest) ≡ Refused code line) → Behind h.rest → Behind (pending_lines c)
+    → (result : Result Building ModelFault) → result ≡ Err (Named code line) → ReadsBy result a c l n
+refuses code line {ending} {from} {to} {a} {c} {l} {n} h behind refused left pending result is = subst (λ (r : Result Building ModelFault). ReadsBy r a c l n) (sym is) (record {
+  texts = h.texts ++ h.last;
   passes = h.passes;
-  answer = answer-fault (opening_of a.number) V (IsDescribedBy (opening_of a.number) c.number) c.number (lines_left a l) (lines_left c n) h.texts f h.answer;
-}
+  answer = record { rest = h.rest; left_is = h.is_left; left = refused h.rest left; pending = refused (pending_lines c) pending };
+})
 
-model-by : (M : ℕ → List Line → Reading) (first last : ℕ) (x y : Option (List Line)) (texts : List (List ℕ)) (result : Result Building ModelFault) → Follows texts x y
-    → ((k : ℕ) (r : List Line) → M k r ≡ opening_of k r) → AnswersBy (M first) (IsDescribedBy (M first) last) result last x y texts → ReadsModel result first last x y
-model-by M first last None y texts result f same h = tt
-model-by M first last (Some xs) None texts result f same h = absurd f
-model-by M first last (Some xs) (Some ys) texts (Ok b) f same h = (h.0, ap (opening_of first) f ∙ sym (same first (text_lines texts ++ ys)) ∙ h.1.1 ys, h.1.0)
-model-by M first last (Some xs) (Some ys) texts (Err (Named code line)) f same h =
-    ap (opening_of first) (f ∙ ap (λ r. text_lines texts ++ r) h.1.0) ∙ sym (same first (text_lines texts ++ h.0)) ∙ h.1.1
-model-by M first last (Some xs) (Some ys) texts (Err ReadFault) f same h = tt
-model-by M first last (Some xs) (Some ys) texts (Err Memory) f same h = tt
+after-last : (x : Place) (taken : List Said) (step : Step) (k : ℕ) (rest : List Line) → x ≡ Some taken → after step x k rest ≡ after_step step taken k rest (λ y. reading_of y k rest)
+unfolding after
+after-last x taken step k rest is = ap (λ z. after step z k rest) is
 
-pub reads-model : (a c : Reader) (l n : Option (List ℕ)) (result : Result Building ModelFault) → ReadsBy (opening_of a.number) (IsDescribedBy (opening_of a.number) c.number) result a c l n
-    → ReadsModel result a.number c.number (lines_left a l) (lines_left c n)
-reads-model a c l n result r = model-by opening_of a.number c.number (lines_left a l) (lines_left c n) r.texts result r.passes.follows (λ k x. refl) r.answer
+reads-by : (ending : Ending Refusal) (a c : Reader) (l n : Option (List ℕ)) (from to : ModelReader) (h : Listens HearsModel ending from to a c l n) → Comes IsAt meaning None a.number h.texts h.at → (result : Result Building ModelFault)
+    → Concludes ending to c.number result → ReadsBy result a c l n
+reads-by Finished a c l n from to h w result done =
+    let t = h.ends.0 in
+    let heard = h.ends.2 w.place w.is in
+    ends-model a c l n (h.texts ++ h.last) heard.0 h.rest h.passes h.is_left
+    (λ more. step-last h w t h.ends.1 more ∙ after-last w.place heard.0 (step_at w.place t) c.number more heard.1
+    ∙ ap (λ s. after_step s heard.0 c.number more (λ y. reading_of y c.number more)) heard.2)
+    result (done heard.0 heard.3 heard.4)
+reads-by (Failed (Code code)) a c l n from to h w result done =
+    let heard = h.ends.2 w.place w.is in
+    refuses code c.number h (λ _. Unit {0}) (λ rest _. step-last h w h.ends.0 h.ends.1 rest ∙ ap (λ s. after s w.place c.number rest) heard ∙ after-stopped w.place code c.number rest) tt tt result done
+reads-by (Failed refusals.Memory) a c l n from to h w result done =
+    subst (λ (r : Result Building ModelFault). ReadsBy r a c l n) (sym done) (record { texts = h.texts ++ h.last; passes = h.passes; answer = tt })
+reads-by InputEnded a c l n from to h w result done =
+    refuses missing_end (c.number + 1) h (λ rest. rest ≡ []) (λ rest none. means-rest IsAt meaning h None w h.ends.0 rest ∙ ap (meaning w.place c.number) none ∙ no-line w.place c.number)
+    h.ends.1 (none-pending-lines c h.rests.1) result done
+reads-by (Fault line_faults.LineTooLong) a c l n from to h w result done =
+    refuses 2 (c.number + 1) h (λ rest. rest ≡ Err 2 ∷ []) (λ rest bad. means-rest IsAt meaning h None w h.ends.0 rest ∙ ap (meaning w.place c.number) bad ∙ bad-line w.place c.number 2)
+    h.ends.1 h.rests result done
+reads-by (Fault line_faults.InputTooLong) a c l n from to h w result done =
+    refuses 3 (c.number + 1) h (λ rest. rest ≡ Err 3 ∷ []) (λ rest bad. means-rest IsAt meaning h None w h.ends.0 rest ∙ ap (meaning w.place c.number) bad ∙ bad-line w.place c.number 3)
+    h.ends.1 h.rests result done
+reads-by (Fault line_faults.ReadFault) a c l n from to h w result done =
+    subst (λ (r : Result Building ModelFault). ReadsBy r a c l n) (sym done) (record {
+      texts = h.texts ++ h.last;
+      passes = h.passes;
+      answer = ap (opening_of a.number) (sym (append-nil (text_lines (h.texts ++ h.last)))) ∙ means-rest IsAt meaning h None w h.ends.0 [] ∙ no-line w.place c.number;
+    })
 
-undecided-by : (M : List Line → Reading) (last : ℕ) (x y : Option (List Line)) (texts : List (List ℕ)) (result : Result Building ModelFault) → AnswersBy M (IsDescribedBy M last) result last x y texts
-    → result ≡ Err ReadFault → M (text_lines texts) ≡ Refused missing_end (last + 1)
-undecided-by M last x y texts (Ok b) h e = cc
-undecided-by M last x y texts (Err (Named code line)) h e = cc
-undecided-by M last x y texts (Err ReadFault) h e = h
-undecided-by M last x y texts (Err Memory) h e = cc
+-- what listening to the lines of a model tells of the answer
+pub reads-all : (ending : Ending Refusal) (a c : Reader) (l n : Option (List ℕ)) (from to : ModelReader) → Listens HearsModel ending from to a c l n → IsAt from None → (result : Result Building ModelFault) (k : ℕ)
+    → Concludes ending to k result → k ≡ c.number → ReadsBy result a c l n
+reads-all ending a c l n from to h start result k done is = reads-by ending a c l n from to h (comes HearsModel IsAt meaning goes-on h None start) result (subst (λ (j : ℕ). Concludes ending to j result) is done)
 
-described-by : (M : List Line → Reading) (last : ℕ) (x y : Option (List Line)) (texts : List (List ℕ)) (result : Result Building ModelFault) → AnswersBy M (IsDescribedBy M last) result last x y texts
-    → IfOk result (λ b. (d : Description) × (M (text_lines texts) ≡ Described d last []) × IsBuilding b d)
-described-by M last x y texts (Ok b) h = (h.0, ap M (sym (append-nil (text_lines texts))) ∙ h.1.1 [], h.1.0)
-described-by M last x y texts (Err f) h = tt
+pub reads-memory : (a : Reader) (l : Option (List ℕ)) → ReadsBy (Err Memory) a a l l
+reads-memory a l = record { texts = []; passes = passes-none a l; answer = tt }
 
-pub reads-lines : (a c : Reader) (l n : Option (List ℕ)) (result : Result Building ModelFault) → ReadsBy (opening_of a.number) (IsDescribedBy (opening_of a.number) c.number) result a c l n
+-- ---- the clauses
+
+model-by : (first : ℕ) (c : Reader) (x y : Option (List Line)) (texts : List (List ℕ)) (result : Result Building ModelFault) → Follows texts x y → AnswersBy first result c x y texts
+    → ReadsModel result first c.number x y
+model-by first c None y texts result f h = tt
+model-by first c (Some xs) None texts result f h = absurd f
+model-by first c (Some xs) (Some ys) texts (Ok b) f h = (h.0, ap (opening_of first) f ∙ h.1.1 ys, h.1.0)
+model-by first c (Some xs) (Some ys) texts (Err (Named code line)) f h = ap (opening_of first) (f ∙ ap (λ r. text_lines texts ++ r) h.left_is) ∙ h.left
+model-by first c (Some xs) (Some ys) texts (Err ReadFault) f h = tt
+model-by first c (Some xs) (Some ys) texts (Err Memory) f h = tt
+
+pub reads-model : (a c : Reader) (l n : Option (List ℕ)) (result : Result Building ModelFault) → ReadsBy result a c l n → ReadsModel result a.number c.number (lines_left a l) (lines_left c n)
+reads-model a c l n result r = model-by a.number c (lines_left a l) (lines_left c n) r.texts result r.passes.follows r.answer
+
+lines-by : (a c : Reader) (l n : Option (List ℕ)) (texts : List (List ℕ)) (p : Passes a c l n texts) (result : Result Building ModelFault) → AnswersBy a.number result c (lines_left a l) (lines_left c n) texts
     → ReadsLines result a c l n
-reads-lines a c l n result r = record {
-  texts = r.texts;
-  passes = r.passes;
-  undecided = undecided-by (opening_of a.number) c.number (lines_left a l) (lines_left c n) r.texts result r.answer;
-  described = described-by (opening_of a.number) c.number (lines_left a l) (lines_left c n) r.texts result r.answer;
+lines-by a c l n texts p (Ok b) h = record {
+  texts = texts;
+  passes = p;
+  undecided = λ e. cc;
+  refused = λ code line e. cc;
+  described = (h.0, ap (opening_of a.number) (sym (append-nil (text_lines texts))) ∙ h.1.1 [], h.1.0);
 }
+lines-by a c l n texts p (Err (Named code line)) h = record {
+  texts = texts;
+  passes = p;
+  undecided = λ e. cc;
+  refused = λ k at e. let same : Refused code line ≡ Refused k at = cc in ap (opening_of a.number) (passes-taken a c l n texts p) ∙ h.pending ∙ same;
+  described = tt;
+}
+lines-by a c l n texts p (Err ReadFault) h = record { texts = texts; passes = p; undecided = λ e. h; refused = λ code line e. cc; described = tt }
+lines-by a c l n texts p (Err Memory) h = record { texts = texts; passes = p; undecided = λ e. cc; refused = λ code line e. cc; described = tt }
+
+pub reads-lines : (a c : Reader) (l n : Option (List ℕ)) (result : Result Building ModelFault) → ReadsBy result a c l n → ReadsLines result a c l n
+reads-lines a c l n result r = lines-by a c l n r.texts r.passes result r.answer
 
 valid-building : (b : Building) (d : Description) → IsBuilding b d → IsValid d.model → IsValid b.model
 valid-building b d is valid = subst IsValid (sym is.model) valid
-
-valid-by : (first last : ℕ) (x y : Option (List Line)) (texts : List (List ℕ)) (result : Result Building ModelFault) → AnswersBy (opening_of first) (IsDescribedBy (opening_of first) last) result last x y texts
-    → IfOk result (λ b. IsValid b.model)
-valid-by first last x y texts (Ok b) h = valid-building b h.0 h.1.0 (opening-valid (text_lines texts ++ []) first h.0 last [] (h.1.1 []))
-valid-by first last x y texts (Err f) h = tt
-
-pub reads-valid : (a c : Reader) (l n : Option (List ℕ)) (result : Result Building ModelFault) → ReadsBy (opening_of a.number) (IsDescribedBy (opening_of a.number) c.number) result a c l n
-    → IfOk result (λ b. IsValid b.model)
-reads-valid a c l n result r = valid-by a.number c.number (lines_left a l) (lines_left c n) r.texts result r.answer
 
 fit-building : (b : Building) (d : Description) → IsBuilding b d → NamesFit b.names b.model
 fit-building b d is = record {
@@ -356,11 +191,13 @@ fit-building b d is = record {
   ends = ap (λ (t : NameTable). t.ends) is.names ∙ ap arc_ends (sym is.model);
 }
 
-fit-by : (first last : ℕ) (x y : Option (List Line)) (texts : List (List ℕ)) (result : Result Building ModelFault) → AnswersBy (opening_of first) (IsDescribedBy (opening_of first) last) result last x y texts
-    → IfOk result (λ b. NamesFit b.names b.model)
-fit-by first last x y texts (Ok b) h = fit-building b h.0 h.1.0
-fit-by first last x y texts (Err f) h = tt
+-- what a building is
+pub reads-valid : (a c : Reader) (l n : Option (List ℕ)) (result : Result Building ModelFault) → ReadsBy result a c l n → IfOk result (λ b. IsValid b.model)
+reads-valid a c l n (Ok b) r =
+    let d = r.answer.0 in
+    valid-building b d r.answer.1.0 (opening-valid (text_lines r.texts ++ []) a.number d c.number [] (r.answer.1.1 []))
+reads-valid a c l n (Err f) r = tt
 
-pub reads-names : (a c : Reader) (l n : Option (List ℕ)) (result : Result Building ModelFault) → ReadsBy (opening_of a.number) (IsDescribedBy (opening_of a.number) c.number) result a c l n
-    → IfOk result (λ b. NamesFit b.names b.model)
-reads-names a c l n result r = fit-by a.number c.number (lines_left a l) (lines_left c n) r.texts result r.answer
+pub reads-names : (a c : Reader) (l n : Option (List ℕ)) (result : Result Building ModelFault) → ReadsBy result a c l n → IfOk result (λ b. NamesFit b.names b.model)
+reads-names a c l n (Ok b) r = fit-building b r.answer.0 r.answer.1.0
+reads-names a c l n (Err f) r = tt

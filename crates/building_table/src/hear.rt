@@ -1,5 +1,5 @@
 // One line of a model.
-ghost use Rattle.std.specs.Prelude.{◌≡◌, ℕ, List, IfOk, Ok};
+ghost use Rattle.std.specs.Prelude.{◌≡◌, List, IfOk, Ok, Err};
 ghost use Rattle.std.specs.Str.{bytes_eq};
 ghost use Rattle.evac_law.specs.Building.{IsValid};
 ghost use Rattle.building_table.specs.Built.{IsPart, built_of};
@@ -13,6 +13,7 @@ ghost use Rattle.model_text.specs.Taken.{AreTaken};
 use crate::builder::Builder;
 use crate::building::Building;
 use crate::faults::ModelFault;
+use line_io::{Heard, Refusal};
 use model_text::{Fields, Statement, TextFault, read_line};
 use std::alloc::Global;
 
@@ -33,84 +34,65 @@ fn is_word(field: &[u8], word: &[u8]) -> bool
     field == word
 }
 
-// Takes a statement into a builder; the end of the model is `true`.
+// Takes a statement into a builder.
 fn hear_statement(
     alloc: Global,
     builder: &mut Builder,
     statement: Statement<'_>,
-    line: u32,
-) -> Result<bool, ModelFault>
+) -> Result<Heard, Refusal>
     requires { IsSaid (said statement) }
-    ensures { (taken : List Said) → AreTaken taken → builder.old ≡ built_of taken → Hears result (later_said taken (Ok (said statement.entry))) taken line builder.new }
+    ensures { (taken : List Said) → AreTaken taken → builder.old ≡ built_of taken → Hears result (later_said taken (Ok (said statement.entry))) taken builder.new }
 {
     match statement {
-        Statement::Blank => Ok(false),
-        Statement::Header { .. } => Err(ModelFault::Named {
-            code: TextFault::UnknownWord.code(),
-            line,
-        }),
-        Statement::End => Ok(true),
-        part => hear_part(alloc, builder, part, line),
+        Statement::Blank => Ok(Heard::More),
+        Statement::Header { .. } => Err(Refusal::Code(TextFault::UnknownWord.code())),
+        Statement::End => Ok(Heard::Last),
+        part => hear_part(alloc, builder, part),
     }
 }
 
 // Takes a statement that a builder takes.
-fn hear_part(
-    alloc: Global,
-    builder: &mut Builder,
-    part: Statement<'_>,
-    line: u32,
-) -> Result<bool, ModelFault>
+fn hear_part(alloc: Global, builder: &mut Builder, part: Statement<'_>) -> Result<Heard, Refusal>
     requires { IsPart (said part) }
-    ensures { (taken : List Said) → AreTaken taken → builder.old ≡ built_of taken → Hears result (later_said taken (Ok (said part.entry))) taken line builder.new }
+    ensures { (taken : List Said) → AreTaken taken → builder.old ≡ built_of taken → Hears result (later_said taken (Ok (said part.entry))) taken builder.new }
 {
     match builder.take(alloc, part) {
-        Ok(()) => Ok(false),
+        Ok(()) => Ok(Heard::More),
         Err(fault) => match fault.code() {
-            Some(code) => Err(ModelFault::Named { code, line }),
-            None => Err(ModelFault::Memory),
+            Some(code) => Err(Refusal::Code(code)),
+            None => Err(Refusal::Memory),
         },
     }
 }
 
-/// Takes a line behind the header into a builder; the end of the model is `true`.
-pub(crate) fn hear(
-    alloc: Global,
-    builder: &mut Builder,
-    text: &[u8],
-    line: u32,
-) -> Result<bool, ModelFault>
-    ensures { (taken : List Said) → AreTaken taken → builder.old ≡ built_of taken → Hears result (later_step taken (Ok text.now)) taken line builder.new }
+/// Takes a line behind the header into a builder.
+pub(crate) fn hear(alloc: Global, builder: &mut Builder, text: &[u8]) -> Result<Heard, Refusal>
+    ensures { (taken : List Said) → AreTaken taken → builder.old ≡ built_of taken → Hears result (later_step taken (Ok text.now)) taken builder.new }
 {
     if begins_header(text) {
-        return Err(ModelFault::Named {
-            code: TextFault::UnknownWord.code(),
-            line,
-        });
+        return Err(Refusal::Code(TextFault::UnknownWord.code()));
     }
     match read_line(text) {
-        Ok(statement) => hear_statement(alloc, builder, statement, line),
-        Err(fault) => Err(ModelFault::Named {
-            code: fault.code(),
-            line,
-        }),
+        Ok(statement) => hear_statement(alloc, builder, statement),
+        Err(fault) => Err(Refusal::Code(fault.code())),
     }
 }
 
 /// Whether a line that is the first or stands behind blank lines is the header: else it is blank, or refused.
-pub(crate) fn hear_first(text: &[u8], line: u32) -> Result<bool, ModelFault>
-    ensures { HearsFirst result (first_step (Ok text.now)) line }
+pub(crate) fn hear_first(text: &[u8]) -> Result<bool, Refusal>
+    ensures { HearsFirst result (first_step (Ok text.now)) }
 {
     match read_line(text) {
         Ok(Statement::Blank) => Ok(false),
         Ok(Statement::Header { version: 1 }) => Ok(true),
-        _ => Err(ModelFault::Named { code: 1, line }),
+        _ => Err(Refusal::Code(1)),
     }
 }
 
 /// The building of a builder, or the fault of the model's end.
 pub(crate) fn finish(alloc: Global, builder: Builder, line: u32) -> Result<Building, ModelFault>
     ensures finished { (taken : List Said) → AreTaken taken → builder ≡ built_of taken → Finishes result taken line }
+    ensures no_read { result ≡ Err ModelFault.ReadFault → ⊥ }
     ensures valid { IfOk result (λ b. (taken : List Said) → AreTaken taken → builder ≡ built_of taken → IsValid b.model) }
 {
     match builder.finish(alloc) {

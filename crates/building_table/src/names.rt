@@ -81,7 +81,7 @@ impl Model for Names {
 
 impl Names {
     /// The names of some nodes and arcs, with the floors and the title.
-    pub(crate) fn new(
+    pub fn new(
         alloc: Global,
         nodes: &[NodeRow],
         arcs: &[ArcRow],

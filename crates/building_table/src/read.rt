@@ -1,87 +1,78 @@
 // The building that lines describe.
-ghost use Rattle.std.specs.Prelude.{◌≡◌, ◌≤◌, ◌+◌, [], Err, IfOk, false};
+ghost use Rattle.std.specs.Prelude.{◌≡◌, ◌≤◌, Err, IfOk, false};
 ghost use Rattle.evac_law.specs.Building.{IsValid};
+ghost use Rattle.line_io.specs.Calls.{Asks};
 ghost use Rattle.line_io.specs.Causes.{Rose};
-ghost use Rattle.line_io.specs.Line.{input_limit};
 ghost use Rattle.line_io.specs.Reader.{Drained, is_settled, lines_left};
 ghost use Rattle.building_table.specs.Names.{NamesFit};
 ghost use Rattle.building_table.specs.Passes.{ReadsLines, ReadsModel};
-ghost use Rattle.building_table.specs.Reads.{IsDescribedBy, LeadsOn, NextLine, ReadsBy};
-ghost use Rattle.model_text.specs.Readings.{opening_of, reading_of};
+ghost use Rattle.building_table.specs.Reads.{Concludes};
+ghost use Rattle.line_io.specs.Line.{input_limit};
 
 use crate::builder::Builder;
 use crate::building::Building;
 use crate::faults::ModelFault;
 use crate::hear::{finish, hear, hear_first};
-use line_io::{Found, LineFault, Lines, Source};
+use line_io::{Ending, Heard, LineFault, Lines, Listener, Refusal, Source, listen};
 use std::alloc::Global;
 
-// The number of the next line, or why there is none.
-#[tactic(auto, unfolding(line_io::specs::Line::input_limit))]
-fn next_line<S: Source>(lines: &mut Lines, source: &mut S) -> Result<u32, ModelFault>
-    ensures bound { IfOk result (λ line. line ≤ input_limit + 1) }
-    ensures line { NextLine result lines.old lines.new (S.left source.old) (S.left source.new) }
-    ensures drained { Drained lines.old (S.left source.old) → Drained lines.new (S.left source.new) }
-    ensures failed { result ≡ Err ModelFault.ReadFault → Rose (S.faults source.old) (S.faults source.new) }
-    ensures unfinished { result ≡ Err ModelFault.ReadFault → is_settled lines.new ≡ false }
-    ensures quiet { (result ≡ Err ModelFault.ReadFault → ⊥) → S.faults source.new ≡ S.faults source.old }
-{
-    let line = lines.number() + 1;
-    match lines.next(source) {
-        Ok(Found::Text) => Ok(line),
-        Ok(Found::End) => Err(ModelFault::Named { code: 21, line }),
-        Err(LineFault::ReadFault) => Err(ModelFault::ReadFault),
-        Err(LineFault::LineTooLong) => Err(ModelFault::Named { code: 2, line }),
-        Err(LineFault::InputTooLong) => Err(ModelFault::Named { code: 3, line }),
-    }
-}
-
-// Reads up to the header.
-fn read_header<S: Source>(lines: &mut Lines, source: &mut S) -> Result<(), ModelFault>
-    ensures header { ReadsBy (opening_of lines.old.number) (LeadsOn lines.old.number lines.new.number) result lines.old lines.new (S.left source.old) (S.left source.new) }
-    ensures drained { Drained lines.old (S.left source.old) → Drained lines.new (S.left source.new) }
-    ensures failed { result ≡ Err ModelFault.ReadFault → Rose (S.faults source.old) (S.faults source.new) }
-    ensures unfinished { result ≡ Err ModelFault.ReadFault → is_settled lines.new ≡ false }
-    ensures quiet { (result ≡ Err ModelFault.ReadFault → ⊥) → S.faults source.new ≡ S.faults source.old }
-{
-    loop {
-        match next_line(lines, source) {
-            Ok(line) => match hear_first(lines.text(), line) {
-                Ok(false) => {}
-                Ok(true) => return Ok(()),
-                Err(fault) => return Err(fault),
-            },
-            Err(fault) => return Err(fault),
-        }
-    }
-}
-
-// Reads statements up to the end of the model.
-fn read_statements<S: Source>(
+// What takes the lines of a model.
+#[derive(Drop)]
+struct ModelReader {
     alloc: Global,
-    lines: &mut Lines,
-    source: &mut S,
-) -> Result<Building, ModelFault>
-    ensures building { ReadsBy (reading_of [] lines.old.number) (IsDescribedBy (reading_of [] lines.old.number) lines.new.number) result lines.old lines.new (S.left source.old) (S.left source.new) }
-    ensures drained { Drained lines.old (S.left source.old) → Drained lines.new (S.left source.new) }
-    ensures failed { result ≡ Err ModelFault.ReadFault → Rose (S.faults source.old) (S.faults source.new) }
-    ensures unfinished { result ≡ Err ModelFault.ReadFault → is_settled lines.new ≡ false }
-    ensures quiet { (result ≡ Err ModelFault.ReadFault → ⊥) → S.faults source.new ≡ S.faults source.old }
-{
-    let mut builder = match Builder::new(alloc) {
-        Ok(builder) => builder,
-        Err(_) => return Err(ModelFault::Memory),
-    };
-    loop {
-        match next_line(lines, source) {
-            Ok(line) => match hear(alloc, &mut builder, lines.text(), line) {
-                Ok(false) => {}
-                Ok(true) => return finish(alloc, builder, line),
-                Err(fault) => return Err(fault),
-            },
-            Err(fault) => return Err(fault),
+    opened: bool,
+    builder: Builder,
+}
+
+impl Listener for ModelReader {
+    ghost use Rattle.std.specs.Prelude.{⊤};
+    ghost use Rattle.building_table.specs.Reads.{HearsModel};
+
+    type Fault = Refusal;
+
+    ghost kept = { λ _. tt };
+
+    ghost ready = { λ _. ⊤ };
+
+    ghost hears = { HearsModel };
+
+    fn hear(&mut self, text: &[u8], line: u32) -> Result<Heard, Refusal> {
+        let _ = line;
+        if self.opened {
+            return hear(self.alloc, &mut self.builder, text);
         }
+        self.opened = hear_first(text)?;
+        Ok(Heard::More)
     }
+}
+
+// The answer where so many lines went by.
+#[tactic(auto, unfolding(line_io::specs::Line::input_limit))]
+fn conclude(
+    reader: ModelReader,
+    ending: Ending<Refusal>,
+    number: u32,
+) -> Result<Building, ModelFault>
+    requires { number ≤ input_limit }
+    ensures answer { Concludes ending reader number result }
+    ensures caused { result ≡ Err ModelFault.ReadFault → ending ≡ Ending.Fault LineFault.ReadFault }
+    ensures quiet { ending ≡ Ending.Fault LineFault.ReadFault → result ≡ Err ModelFault.ReadFault }
+{
+    let code = match ending {
+        Ending::Finished => return finish(reader.alloc, reader.builder, number),
+        Ending::Failed(Refusal::Code(code)) => {
+            return Err(ModelFault::Named { code, line: number });
+        }
+        Ending::Failed(Refusal::Memory) => return Err(ModelFault::Memory),
+        Ending::InputEnded => 21,
+        Ending::Fault(LineFault::LineTooLong) => 2,
+        Ending::Fault(LineFault::InputTooLong) => 3,
+        Ending::Fault(LineFault::ReadFault) => return Err(ModelFault::ReadFault),
+    };
+    Err(ModelFault::Named {
+        code,
+        line: number + 1,
+    })
 }
 
 /// Reads a model from lines, up to its end, or answers the first fault of the lines.
@@ -98,14 +89,21 @@ pub fn read_model<S: Source>(
     // which lines went by, with their bytes
     ensures bytes { ReadsLines result lines.old lines.new (S.left source.old) (S.left source.new) }
     ensures drained { Drained lines.old (S.left source.old) → Drained lines.new (S.left source.new) }
+    ensures asks { Asks S.takes lines.old.ended source.old lines.new.ended source.new }
 
     // a read fault has its cause
     ensures failed { result ≡ Err ModelFault.ReadFault → Rose (S.faults source.old) (S.faults source.new) }
     ensures unfinished { result ≡ Err ModelFault.ReadFault → is_settled lines.new ≡ false }
     ensures quiet { (result ≡ Err ModelFault.ReadFault → ⊥) → S.faults source.new ≡ S.faults source.old }
 {
-    match read_header(lines, source) {
-        Ok(()) => read_statements(alloc, lines, source),
-        Err(fault) => Err(fault),
-    }
+    let Ok(builder) = Builder::new(alloc) else {
+        return Err(ModelFault::Memory);
+    };
+    let mut reader = ModelReader {
+        alloc,
+        opened: false,
+        builder,
+    };
+    let ending = listen(lines, source, &mut reader);
+    conclude(reader, ending, lines.number())
 }

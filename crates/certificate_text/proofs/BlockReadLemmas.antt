@@ -1,210 +1,247 @@
 -- Reading a block, line by line.
-use Rattle.std.proofs.Common.{◌≡◌, ℕ, ◌+◌, List, [], ◌∷◌, ◌++◌, Result, Ok, Err, Some, None, IfOk, refl, sym, ap, ◌∙◌, arith, append-nil, inl, inr}
+use Rattle.std.proofs.Common.{◌≡◌, ℕ, ◌+◌, List, [], ◌∷◌, ◌++◌, length, Result, Ok, Err, Some, None, IfOk, refl, sym, ap, subst, ◌∙◌, append-nil}
 use Rattle.std.specs.declared.option.Option.{Option}
 use Rattle.evac_law.specs.declared.model.Model.{Model}
 use Rattle.line_io.specs.Line.{Line, text_lines}
-use Rattle.line_io.specs.Reader.{lines_left}
+use Rattle.line_io.specs.Reader.{lines_left, pending_lines}
 use Rattle.line_io.specs.View.{Reader}
-use Rattle.building_table.specs.Passes.{Follows, Passes}
-use Rattle.building_table.proofs.PassLemmas.{passes-none, passes-then}
-use Rattle.building_table.proofs.ReadLemmas.{left-from, left-lines, left-so, line-more, number-more, passes-still}
+use Rattle.line_io.specs.Hearing.{Listens}
+use Rattle.line_io.specs.Passes.{Follows, Passes}
+use Rattle.line_io.specs.declared.hearing.Ending.{Ending}
+use Rattle.line_io.specs.declared.hearing.Ending.TheVariants as endings
+use Rattle.line_io.specs.declared.hearing.Heard.{Heard}
+use Rattle.line_io.specs.declared.hearing.Heard.TheVariants.{More, Last}
+use Rattle.line_io.specs.declared.lines.LineFault.TheVariants as line_faults
+use Rattle.line_io.proofs.PassLemmas.{none-pending-lines, passes-taken}
+use Rattle.line_io.proofs.HearingLemmas.{Comes, GoesOn, comes, last-number, means-last, means-rest}
+use Rattle.certificate_text.specs.declared.fault.TakeFault.{TakeFault}
+use Rattle.certificate_text.specs.declared.fault.TakeFault.TheVariants.{Bad, Memory}
+use Rattle.certificate_text.specs.declared.read.BlockReader.{BlockReader}
+use Rattle.certificate_text.proofs.BlockLemmas.{stated-fits}
+use Rattle.certificate_text.proofs.DraftLemmas.{ended-full, none-draft, went-draft}
 use Rattle.certificate_text.specs.declared.block.Block.{Block}
 use Rattle.certificate_text.specs.declared.fault.BlockFault.{BlockFault}
 use Rattle.certificate_text.specs.declared.fault.BlockFault.TheVariants as faults
 use Rattle.certificate_text.specs.Block.{IsBlockOf}
-use Rattle.certificate_text.specs.BlockGrammar.{Ended, IsStated, Refused, Stated, Stopped, Went, after_step, bad_block, block_of, line_step, reading_of}
-use Rattle.certificate_text.specs.BlockReads.{IsReading, ReadsBlock, ReadsBlockLines}
+use Rattle.certificate_text.specs.BlockGrammar.{Ended, IsStated, Refused, Stated, Stopped, Went, after_block_step, bad_block, block_of, line_step, block_from}
+use Rattle.certificate_text.specs.BlockReads.{IsFault, IsBlockReading, ReadsBlock, ReadsBlockLines}
 use Rattle.certificate_text.specs.DraftFacts.{IsDraft}
 use Rattle.certificate_text.specs.Drafts.{Draft, no_draft}
-use Rattle.certificate_text.specs.Takings.{AnswersBy, IsFault, NextLine, ReadsBy, RefusesAt, Stops, StopsAt}
+use Rattle.certificate_text.specs.Takings.{AnswersBlock, ConcludesBlock, HearsDraft, HearsBlock, ReadsBlockBy, RefusesBlock}
 
--- ---- one line more
+-- ---- one line
 
-reading-more : (m : Model) (d : Draft) (number : ℕ) (line : Line) (rest : List Line)
-    → reading_of m d number (line ∷ rest) ≡ after_step (line_step m d line) d (number + 1) rest (λ next. reading_of m next (number + 1) rest)
-unfolding reading_of
-reading-more m d number line rest = refl
+line-more : (m : Model) (d : Draft) (number : ℕ) (line : Line) (rest : List Line)
+    → block_from m d number (line ∷ rest) ≡ after_block_step (line_step m d line) d (number + 1) rest (λ next. block_from m next (number + 1) rest)
+unfolding block_from
+line-more m d number line rest = refl
 
-reading-none : (m : Model) (d : Draft) (number : ℕ) → reading_of m d number [] ≡ Refused bad_block (number + 1)
-unfolding reading_of
-reading-none m d number = refl
+no-line : (m : Model) (d : Draft) (number : ℕ) → block_from m d number [] ≡ Refused bad_block (number + 1)
+unfolding block_from
+no-line m d number = refl
 
--- lines went by that state a block up to there
-pub record Holds (m : Model) (a b : Reader) (l n : Option (List ℕ)) (d : Draft) : Type 0 where
-  pub texts : List (List ℕ)
-  pub passes : Passes a b l n texts
-  pub draft : IsDraft m d
-  pub state : (rest : List Line) → block_of m a.number (text_lines texts ++ rest) ≡ reading_of m d b.number rest
+-- a reader of the blocks of a model has this one
+abbrev pub IsAt : Model → BlockReader → Draft → Type 0
+IsAt m r d = (r.model.now ≡ m) × (r.builder ≡ d) × IsDraft m d
 
-pub holds-none : (m : Model) (a : Reader) (l : Option (List ℕ)) (d : Draft) → d ≡ no_draft → IsDraft m d → Holds m a a l l d
-holds-none m a l d e h = record { texts = []; passes = passes-none a l; draft = h; state = λ rest. ap (λ x. reading_of m x a.number rest) (sym e) }
+-- what it heard, by its draft
+heard-at : (m : Model) (r new : BlockReader) (d : Draft) (line : ℕ) (text : List ℕ) (P : Model → Draft → Type 0) → IsAt m r d → P r.model.now r.builder → P m d
+heard-at m r new d line text P is h = subst (λ (x : Draft). P m x) is.1 (subst (λ (x : Model). P x r.builder) is.0 h)
 
--- what the lines are with one more
-pub holds-line : (m : Model) (a b c : Reader) (l k n : Option (List ℕ)) (d : Draft) (h : Holds m a b l k d) → Passes b c k n (c.text ∷ []) → (rest : List Line)
-    → block_of m a.number (text_lines (h.texts ++ (c.text ∷ [])) ++ rest)
-    ≡ after_step (line_step m d (Ok c.text)) d (b.number + 1) rest (λ next. reading_of m next (b.number + 1) rest)
-holds-line m a b c l k n d h p rest =
-    ap (block_of m a.number) (line-more h.texts c.text rest) ∙ h.state (Ok c.text ∷ rest) ∙ reading-more m d b.number (Ok c.text) rest
+goes-on : (m : Model) → GoesOn HearsBlock (IsAt m) (block_from m)
+goes-on m s s' d n t is heard =
+    let went : line_step m d (Ok t) ≡ Went s'.builder = heard-at m s s' d (n + 1) t (λ x y. line_step x y (Ok t) ≡ Went s'.builder) is heard.1 in (
+      s'.builder,
+      (heard.0 ∙ is.0, refl, went-draft m d t s'.builder went is.2),
+      λ rest. line-more m d n (Ok t) rest ∙ ap (λ s. after_block_step s d (n + 1) rest (λ next. block_from m next (n + 1) rest)) went,
+    )
 
-pub holds-next : (m : Model) (a b c : Reader) (l k n : Option (List ℕ)) (d new : Draft) → Holds m a b l k d → Passes b c k n (c.text ∷ [])
-    → line_step m d (Ok c.text) ≡ Went new → IsDraft m new → Holds m a c l n new
-holds-next m a b c l k n d new h p went is = record {
-  texts = h.texts ++ (c.text ∷ []);
-  passes = passes-then a b c l k n h.texts (c.text ∷ []) h.passes p;
-  draft = is;
-  state = λ rest. holds-line m a b c l k n d h p rest
-      ∙ ap (λ s. after_step s d (b.number + 1) rest (λ next. reading_of m next (b.number + 1) rest)) went
-      ∙ ap (λ i. reading_of m new i rest) (number-more b c k n p);
+-- the lines that went by with the one answered last, by its step
+step-last : (m : Model) {ending : Ending TakeFault} {from to : BlockReader} {a c : Reader} {l n : Option (List ℕ)} (h : Listens HearsBlock ending from to a c l n)
+    (w : Comes (IsAt m) (block_from m) no_draft a.number h.texts h.at) (t : List ℕ) → h.last ≡ t ∷ [] → (rest : List Line)
+    → block_of m a.number (text_lines (h.texts ++ h.last) ++ rest) ≡ after_block_step (line_step m w.place (Ok t)) w.place c.number rest (λ next. block_from m next c.number rest)
+step-last m {ending} {from} {to} {a} h w t is rest =
+    means-last (IsAt m) (block_from m) h no_draft w t is rest ∙ line-more m w.place (a.number + length h.texts) (Ok t) rest
+    ∙ ap (λ k. after_block_step (line_step m w.place (Ok t)) w.place k rest (λ next. block_from m next k rest)) (last-number h t is)
+
+-- ---- the answer
+
+-- where the block has ended
+closed-draft : (m : Model) {from to : BlockReader} {a c : Reader} {l n : Option (List ℕ)} (h : Listens HearsBlock endings.Finished from to a c l n)
+    (w : Comes (IsAt m) (block_from m) no_draft a.number h.texts h.at) → (line_step m w.place (Ok h.ends.0) ≡ Ended) × (to.builder ≡ w.place) × (to.model.now ≡ m)
+closed-draft m {from} {to} h w =
+    let heard = h.ends.2 in (
+      heard-at m h.at to w.place 0 h.ends.0 (λ x y. line_step x y (Ok h.ends.0) ≡ Ended) w.is heard.1.0,
+      heard.1.1 ∙ w.is.1,
+      heard.0 ∙ w.is.0,
+    )
+
+-- a line is refused, where such lines follow those that went by
+refuses : (m : Model) (fault : BlockFault) (code line : ℕ) {ending : Ending TakeFault} {from to : BlockReader} {a c : Reader} {l n : Option (List ℕ)} (h : Listens HearsBlock ending from to a c l n)
+    (Behind : List Line → Type 0) → IsFault fault code line → ((rest : List Line) → Behind rest → block_of m a.number (text_lines (h.texts ++ h.last) ++ rest) ≡ Refused code line) → Behind h.rest → Behind (pending_lines c)
+    → RefusesBlock m a.number fault c (lines_left a l) (lines_left c n) (h.texts ++ h.last)
+refuses m fault code line {ending} {from} {to} {a} {c} h behind is refused left pending = record {
+  code = code;
+  line = line;
+  rest = h.rest;
+  fault_is = is;
+  left_is = h.is_left;
+  left = refused h.rest left;
+  pending = refused (pending_lines c) pending;
 }
 
--- ---- answers
+answer-by : (m : Model) (ending : Ending TakeFault) (from to : BlockReader) (a c : Reader) (l n : Option (List ℕ)) (h : Listens HearsBlock ending from to a c l n)
+    → Comes (IsAt m) (block_from m) no_draft a.number h.texts h.at → (result : Result Block BlockFault) → ConcludesBlock m ending to.builder c.number result
+    → AnswersBlock m a.number result c (lines_left a l) (lines_left c n) (h.texts ++ h.last)
+answer-by m endings.Finished from to a c l n h w (Ok block) done =
+    let heard = closed-draft m h w in
+    let stated = subst (λ (x : Draft). IsStated m x block) heard.1 done in (
+      w.place,
+      (
+        stated,
+        stated-fits m w.place block w.is.2 (ended-full m w.place h.ends.0 heard.0) stated,
+        λ rest. step-last m h w h.ends.0 h.ends.1 rest
+            ∙ ap (λ s. after_block_step s w.place c.number rest (λ next. block_from m next c.number rest)) heard.0,
+      ),
+    )
+answer-by m endings.Finished from to a c l n h w (Err fault) done =
+    subst (λ (f : BlockFault). AnswersBlock m a.number (Err f) c (lines_left a l) (lines_left c n) (h.texts ++ h.last)) (sym done) tt
+answer-by m (endings.Failed Bad) from to a c l n h w result done =
+    let stopped : line_step m w.place (Ok h.ends.0) ≡ Stopped bad_block = heard-at m h.at to w.place 0 h.ends.0 (λ x y. line_step x y (Ok h.ends.0) ≡ Stopped bad_block) w.is h.ends.2.1 in
+    subst (λ (r : Result Block BlockFault). AnswersBlock m a.number r c (lines_left a l) (lines_left c n) (h.texts ++ h.last)) (sym done)
+    (refuses m (faults.Bad c.number) bad_block c.number h (λ _. Unit {0}) (refl, refl) (λ rest _. step-last m h w h.ends.0 h.ends.1 rest
+    ∙ ap (λ s. after_block_step s w.place c.number rest (λ next. block_from m next c.number rest)) stopped) tt tt)
+answer-by m (endings.Failed Memory) from to a c l n h w result done =
+    subst (λ (r : Result Block BlockFault). AnswersBlock m a.number r c (lines_left a l) (lines_left c n) (h.texts ++ h.last)) (sym done) tt
+answer-by m endings.InputEnded from to a c l n h w result done =
+    subst (λ (r : Result Block BlockFault). AnswersBlock m a.number r c (lines_left a l) (lines_left c n) (h.texts ++ h.last)) (sym done)
+    (refuses m (faults.Bad (c.number + 1)) bad_block (c.number + 1) h (λ rest. rest ≡ []) (refl, refl)
+    (λ rest none. means-rest (IsAt m) (block_from m) h no_draft w h.ends.0 rest ∙ ap (block_from m w.place c.number) none ∙ no-line m w.place c.number) h.ends.1 (none-pending-lines c h.rests.1))
+answer-by m (endings.Fault line_faults.LineTooLong) from to a c l n h w result done =
+    subst (λ (r : Result Block BlockFault). AnswersBlock m a.number r c (lines_left a l) (lines_left c n) (h.texts ++ h.last)) (sym done)
+    (refuses m (faults.LineTooLong (c.number + 1)) 2 (c.number + 1) h (λ rest. rest ≡ Err 2 ∷ []) (refl, refl)
+    (λ rest bad. means-rest (IsAt m) (block_from m) h no_draft w h.ends.0 rest ∙ ap (block_from m w.place c.number) bad ∙ line-more m w.place c.number (Err 2) []) h.ends.1 h.rests)
+answer-by m (endings.Fault line_faults.InputTooLong) from to a c l n h w result done =
+    subst (λ (r : Result Block BlockFault). AnswersBlock m a.number r c (lines_left a l) (lines_left c n) (h.texts ++ h.last)) (sym done)
+    (refuses m (faults.InputTooLong (c.number + 1)) 3 (c.number + 1) h (λ rest. rest ≡ Err 3 ∷ []) (refl, refl)
+    (λ rest bad. means-rest (IsAt m) (block_from m) h no_draft w h.ends.0 rest ∙ ap (block_from m w.place c.number) bad ∙ line-more m w.place c.number (Err 3) []) h.ends.1 h.rests)
+answer-by m (endings.Fault line_faults.ReadFault) from to a c l n h w result done =
+    subst (λ (r : Result Block BlockFault). AnswersBlock m a.number r c (lines_left a l) (lines_left c n) (h.texts ++ h.last)) (sym done)
+    (ap (block_of m a.number) (sym (append-nil (text_lines (h.texts ++ h.last)))) ∙ means-rest (IsAt m) (block_from m) h no_draft w h.ends.0 [] ∙ no-line m w.place c.number)
 
--- there is no memory
-pub reads-memory : (m : Model) (a b c : Reader) (l k n : Option (List ℕ)) (d : Draft) → Holds m a b l k d → Passes b c k n (c.text ∷ []) → ReadsBy m (Err faults.Memory) a c l n
-reads-memory m a b c l k n d h p = record { texts = h.texts ++ (c.text ∷ []); passes = passes-then a b c l k n h.texts (c.text ∷ []) h.passes p; answer = tt }
+-- what a reader of no line yet is
+abbrev pub IsStart : Model → BlockReader → Type 0
+IsStart m r = (r.model.now ≡ m) × (r.builder ≡ no_draft)
 
--- the end of the block
-pub reads-end : (m : Model) (a b c : Reader) (l k n : Option (List ℕ)) (d : Draft) (block : Block) → Holds m a b l k d → Passes b c k n (c.text ∷ [])
-    → line_step m d (Ok c.text) ≡ Ended → IsStated m d block → IsBlockOf m block → ReadsBy m (Ok block) a c l n
-reads-end m a b c l k n d block h p ended is fits = record {
-  texts = h.texts ++ (c.text ∷ []);
-  passes = passes-then a b c l k n h.texts (c.text ∷ []) h.passes p;
-  answer = (
-    d,
-    (
-      is,
-      fits,
-      λ rest. holds-line m a b c l k n d h p rest
-          ∙ ap (λ s. after_step s d (b.number + 1) rest (λ next. reading_of m next (b.number + 1) rest)) ended
-          ∙ ap (λ i. Stated d i rest) (number-more b c k n p),
-    ),
-  );
+starts : (m : Model) (r : BlockReader) → IsStart m r → IsAt m r no_draft
+starts m r is = (is.0, is.1, none-draft m)
+
+pub block-comes : (m : Model) {ending : Ending TakeFault} {from to : BlockReader} {a c : Reader} {l n : Option (List ℕ)} (h : Listens HearsBlock ending from to a c l n) → IsStart m from
+    → Comes (IsAt m) (block_from m) no_draft a.number h.texts h.at
+block-comes m {ending} {from} h is = comes HearsBlock (IsAt m) (block_from m) (goes-on m) h no_draft (starts m from is)
+
+pub reads-all : (m : Model) (ending : Ending TakeFault) (from to : BlockReader) (a c : Reader) (l n : Option (List ℕ)) → Listens HearsBlock ending from to a c l n → IsStart m from
+    → (result : Result Block BlockFault) (k : ℕ) → ConcludesBlock m ending to.builder k result → k ≡ c.number → ReadsBlockBy m result a c l n
+reads-all m ending from to a c l n h start result k done at = record {
+  texts = h.texts ++ h.last;
+  passes = h.passes;
+  answer = answer-by m ending from to a c l n h (block-comes m h start) result (subst (λ (j : ℕ). ConcludesBlock m ending to.builder j result) at done);
 }
 
--- a line is refused
-pub reads-refused : (m : Model) (a b c : Reader) (l k n : Option (List ℕ)) (d : Draft) (line : ℕ) → Holds m a b l k d → Passes b c k n (c.text ∷ []) → line ≡ c.number
-    → line_step m d (Ok c.text) ≡ Stopped bad_block → ReadsBy m (Err (faults.Bad line)) a c l n
-reads-refused m a b c l k n d line h p is stopped =
-    let rest : List Line = left-lines (lines_left c n) in
-    record {
-      texts = h.texts ++ (c.text ∷ []);
-      passes = passes-then a b c l k n h.texts (c.text ∷ []) h.passes p;
-      answer = record {
-        code = bad_block;
-        line = c.number;
-        rest = rest;
-        fault_is = (refl, is);
-        left_is = left-so (lines_left a l) (lines_left c n);
-        refused = holds-line m a b c l k n d h p rest
-            ∙ ap (λ s. after_step s d (b.number + 1) rest (λ next. reading_of m next (b.number + 1) rest)) stopped
-            ∙ ap (λ i. Refused bad_block i) (number-more b c k n p);
-      };
-    }
+-- what the end of the block needs
+pub closed-so : (m : Model) (ending : Ending TakeFault) (from to : BlockReader) (a c : Reader) (l n : Option (List ℕ)) → Listens HearsBlock ending from to a c l n → IsStart m from → ending ≡ endings.Finished
+    → IsDraft m to.builder
+closed-so m ending from to a c l n listens start is =
+    let P : Ending TakeFault → Type 0 = λ e. Listens HearsBlock e from to a c l n in
+    let h = subst P is listens in
+    let w = block-comes m h start in
+    subst (λ (d : Draft). IsDraft m d) (sym (closed-draft m h w).1) w.is.2
 
-stop-by : (m : Model) (d : Draft) (number code : ℕ) (rest : List Line) → Stops code rest → reading_of m d number rest ≡ Refused code (number + 1)
-stop-by m d number code rest (inl s) = ap (reading_of m d number) s.1 ∙ reading-none m d number ∙ ap (λ k. Refused k (number + 1)) (sym s.0)
-stop-by m d number code rest (inr s) = ap (reading_of m d number) s ∙ reading-more m d number (Err code) []
-
--- no line was found
-stop-at : (m : Model) (a b c : Reader) (l k n : Option (List ℕ)) (d : Draft) (f : BlockFault) (h : Holds m a b l k d) → Passes b c k n [] → StopsAt f b c k n
-    → RefusesAt m a.number f (lines_left a l) (lines_left c n) h.texts
-stop-at m a b c l k n d f h p s =
-    let same : c.number ≡ b.number = let e = p.number in omega arith in
-    record {
-      code = s.code;
-      line = c.number + 1;
-      rest = s.rest;
-      fault_is = s.fault_is;
-      left_is = left-from h.texts (lines_left a l) (lines_left b k) (lines_left c n) s.rest h.passes.follows s.left_is;
-      refused = h.state s.rest ∙ stop-by m d b.number s.code s.rest s.stops ∙ ap (λ i. Refused s.code (i + 1)) (sym same);
-    }
-
-pub reads-stop : (m : Model) (a b c : Reader) (l k n : Option (List ℕ)) (d : Draft) → Holds m a b l k d → (f : BlockFault) → NextLine (Err f) b c k n → ReadsBy m (Err f) a c l n
-reads-stop m a b c l k n d h (faults.Bad line) next = record {
-  texts = h.texts;
-  passes = passes-still a b c l k n h.texts h.passes next.0;
-  answer = stop-at m a b c l k n d (faults.Bad line) h next.0 next.1;
-}
-reads-stop m a b c l k n d h (faults.LineTooLong line) next = record {
-  texts = h.texts;
-  passes = passes-still a b c l k n h.texts h.passes next.0;
-  answer = stop-at m a b c l k n d (faults.LineTooLong line) h next.0 next.1;
-}
-reads-stop m a b c l k n d h (faults.InputTooLong line) next = record {
-  texts = h.texts;
-  passes = passes-still a b c l k n h.texts h.passes next.0;
-  answer = stop-at m a b c l k n d (faults.InputTooLong line) h next.0 next.1;
-}
-reads-stop m a b c l k n d h faults.ReadFault next =
-    let same : c.number ≡ b.number = let e = next.number in omega arith in
-    record {
-      texts = h.texts;
-      passes = passes-still a b c l k n h.texts h.passes next;
-      answer = ap (block_of m a.number) (sym (append-nil (text_lines h.texts))) ∙ h.state [] ∙ reading-none m d b.number ∙ ap (λ i. Refused bad_block (i + 1)) (sym same);
-    }
-reads-stop m a b c l k n d h faults.Memory next = record {
-  texts = h.texts;
-  passes = passes-still a b c l k n h.texts h.passes next.0;
-  answer = tt;
-}
+-- a reader that goes on can hear a line
+pub ready-on : (result : Result Heard TakeFault) (m : Model) (d new : Draft) (text : List ℕ) → IsDraft m d → HearsDraft result (line_step m d (Ok text)) d new → result ≡ Ok More → IsDraft m new
+ready-on (Ok More) m d new text is heard e = went-draft m d text new heard is
+ready-on (Ok Last) m d new text is heard e = cc
+ready-on (Err f) m d new text is heard e = cc
 
 -- ---- what the answers say
 
 fault-line : (m : Model) (first last : ℕ) (f : BlockFault) (before : List Line) (code line : ℕ) → IsFault f code line → block_of m first before ≡ Refused code line → (after : List Line)
-    → IsReading m (Err f) first last before after
+    → IsBlockReading m (Err f) first last before after
 fault-line m first last (faults.Bad line) before code number f e after = e ∙ ap (λ k. Refused k number) f.0 ∙ ap (λ k. Refused bad_block k) (sym f.1)
 fault-line m first last (faults.LineTooLong line) before code number f e after = e ∙ ap (λ k. Refused k number) f.0 ∙ ap (λ k. Refused 2 k) (sym f.1)
 fault-line m first last (faults.InputTooLong line) before code number f e after = e ∙ ap (λ k. Refused k number) f.0 ∙ ap (λ k. Refused 3 k) (sym f.1)
 fault-line m first last faults.ReadFault before code number f e after = tt
 fault-line m first last faults.Memory before code number f e after = tt
 
-reading-fault : (m : Model) (first last : ℕ) (f : BlockFault) (xs ys : List Line) (texts : List (List ℕ)) → Follows texts (Some xs) (Some ys)
-    → RefusesAt m first f (Some xs) (Some ys) texts → IsReading m (Err f) first last xs ys
-reading-fault m first last f xs ys texts follows r =
-    fault-line m first last f xs r.code r.line r.fault_is
-    (ap (block_of m first) (follows ∙ ap (λ z. text_lines texts ++ z) r.left_is) ∙ r.refused) ys
+reading-fault : (m : Model) (first : ℕ) (c : Reader) (f : BlockFault) (xs ys : List Line) (texts : List (List ℕ)) → Follows texts (Some xs) (Some ys)
+    → RefusesBlock m first f c (Some xs) (Some ys) texts → IsBlockReading m (Err f) first c.number xs ys
+reading-fault m first c f xs ys texts follows r =
+    fault-line m first c.number f xs r.code r.line r.fault_is (ap (block_of m first) (follows ∙ ap (λ z. text_lines texts ++ z) r.left_is) ∙ r.left) ys
 
-reading-by : (m : Model) (first last : ℕ) (x y : Option (List Line)) (texts : List (List ℕ)) (result : Result Block BlockFault) → Follows texts x y
-    → AnswersBy m first result last x y texts → ReadsBlock m result first last x y
-reading-by m first last None y texts result f h = tt
-reading-by m first last (Some xs) None texts result f h = absurd f
-reading-by m first last (Some xs) (Some ys) texts (Ok block) f h = (h.0, ap (block_of m first) f ∙ h.1.2 ys, h.1.0)
-reading-by m first last (Some xs) (Some ys) texts (Err (faults.Bad line)) f h = reading-fault m first last (faults.Bad line) xs ys texts f h
-reading-by m first last (Some xs) (Some ys) texts (Err (faults.LineTooLong line)) f h = reading-fault m first last (faults.LineTooLong line) xs ys texts f h
-reading-by m first last (Some xs) (Some ys) texts (Err (faults.InputTooLong line)) f h = reading-fault m first last (faults.InputTooLong line) xs ys texts f h
-reading-by m first last (Some xs) (Some ys) texts (Err faults.ReadFault) f h = tt
-reading-by m first last (Some xs) (Some ys) texts (Err faults.Memory) f h = tt
+reading-by : (m : Model) (first : ℕ) (c : Reader) (x y : Option (List Line)) (texts : List (List ℕ)) (result : Result Block BlockFault) → Follows texts x y
+    → AnswersBlock m first result c x y texts → ReadsBlock m result first c.number x y
+reading-by m first c None y texts result f h = tt
+reading-by m first c (Some xs) None texts result f h = absurd f
+reading-by m first c (Some xs) (Some ys) texts (Ok block) f h = (h.0, ap (block_of m first) f ∙ h.1.2 ys, h.1.0)
+reading-by m first c (Some xs) (Some ys) texts (Err (faults.Bad line)) f h = reading-fault m first c (faults.Bad line) xs ys texts f h
+reading-by m first c (Some xs) (Some ys) texts (Err (faults.LineTooLong line)) f h = reading-fault m first c (faults.LineTooLong line) xs ys texts f h
+reading-by m first c (Some xs) (Some ys) texts (Err (faults.InputTooLong line)) f h = reading-fault m first c (faults.InputTooLong line) xs ys texts f h
+reading-by m first c (Some xs) (Some ys) texts (Err faults.ReadFault) f h = tt
+reading-by m first c (Some xs) (Some ys) texts (Err faults.Memory) f h = tt
 
-pub reads-block : (m : Model) (a c : Reader) (l n : Option (List ℕ)) (result : Result Block BlockFault) → ReadsBy m result a c l n
+pub reads-block : (m : Model) (a c : Reader) (l n : Option (List ℕ)) (result : Result Block BlockFault) → ReadsBlockBy m result a c l n
     → ReadsBlock m result a.number c.number (lines_left a l) (lines_left c n)
-reads-block m a c l n result r = reading-by m a.number c.number (lines_left a l) (lines_left c n) r.texts result r.passes.follows r.answer
+reads-block m a c l n result r = reading-by m a.number c (lines_left a l) (lines_left c n) r.texts result r.passes.follows r.answer
 
-undecided-by : (m : Model) (first last : ℕ) (x y : Option (List Line)) (texts : List (List ℕ)) (result : Result Block BlockFault) → AnswersBy m first result last x y texts
-    → result ≡ Err faults.ReadFault → block_of m first (text_lines texts) ≡ Refused bad_block (last + 1)
-undecided-by m first last x y texts (Ok block) h e = cc
-undecided-by m first last x y texts (Err (faults.Bad line)) h e = cc
-undecided-by m first last x y texts (Err (faults.LineTooLong line)) h e = cc
-undecided-by m first last x y texts (Err (faults.InputTooLong line)) h e = cc
-undecided-by m first last x y texts (Err faults.ReadFault) h e = h
-undecided-by m first last x y texts (Err faults.Memory) h e = cc
+-- a fault has one code and one line
+one-fault : (f g : BlockFault) (code line k at : ℕ) → f ≡ g → IsFault f code line → IsFault g k at → Refused code line ≡ Refused k at
+one-fault (faults.Bad x) (faults.Bad y) code line k at e f g = let same : x ≡ y = cc in cc
+one-fault (faults.LineTooLong x) (faults.LineTooLong y) code line k at e f g = let same : x ≡ y = cc in cc
+one-fault (faults.InputTooLong x) (faults.InputTooLong y) code line k at e f g = let same : x ≡ y = cc in cc
+one-fault faults.ReadFault g code line k at e h i = absurd h
+one-fault faults.Memory g code line k at e h i = absurd h
+one-fault f g code line k at e h i = cc
 
-stated-by : (m : Model) (first last : ℕ) (x y : Option (List Line)) (texts : List (List ℕ)) (result : Result Block BlockFault) → AnswersBy m first result last x y texts
-    → IfOk result (λ block. (d : Draft) × (block_of m first (text_lines texts) ≡ Stated d last []) × IsStated m d block)
-stated-by m first last x y texts (Ok block) h = (h.0, ap (block_of m first) (sym (append-nil (text_lines texts))) ∙ h.1.2 [], h.1.0)
-stated-by m first last x y texts (Err f) h = tt
-
-pub reads-lines : (m : Model) (a c : Reader) (l n : Option (List ℕ)) (result : Result Block BlockFault) → ReadsBy m result a c l n → ReadsBlockLines m result a c l n
-reads-lines m a c l n result r = record {
-  texts = r.texts;
-  passes = r.passes;
-  undecided = undecided-by m a.number c.number (lines_left a l) (lines_left c n) r.texts result r.answer;
-  stated = stated-by m a.number c.number (lines_left a l) (lines_left c n) r.texts result r.answer;
+lines-fault : (m : Model) (f : BlockFault) (a c : Reader) (l n : Option (List ℕ)) (texts : List (List ℕ)) → Passes a c l n texts → (f ≡ faults.ReadFault → ⊥)
+    → RefusesBlock m a.number f c (lines_left a l) (lines_left c n) texts → ReadsBlockLines m (Err f) a c l n
+lines-fault m f a c l n texts p other h = record {
+  texts = texts;
+  passes = p;
+  undecided = λ e. absurd (other cc);
+  refused = λ g k at e is. let same : f ≡ g = cc in ap (block_of m a.number) (passes-taken a c l n texts p) ∙ h.pending ∙ one-fault f g h.code h.line k at same h.fault_is is;
+  stated = tt;
 }
 
-fits-by : (m : Model) (first last : ℕ) (x y : Option (List Line)) (texts : List (List ℕ)) (result : Result Block BlockFault) → AnswersBy m first result last x y texts
-    → IfOk result (λ block. IsBlockOf m block)
-fits-by m first last x y texts (Ok block) h = h.1.1
-fits-by m first last x y texts (Err f) h = tt
+lines-by : (m : Model) (a c : Reader) (l n : Option (List ℕ)) (texts : List (List ℕ)) (p : Passes a c l n texts) (result : Result Block BlockFault)
+    → AnswersBlock m a.number result c (lines_left a l) (lines_left c n) texts → ReadsBlockLines m result a c l n
+lines-by m a c l n texts p (Ok block) h = record {
+  texts = texts;
+  passes = p;
+  undecided = λ e. cc;
+  refused = λ g code line e is. cc;
+  stated = (h.0, ap (block_of m a.number) (sym (append-nil (text_lines texts))) ∙ h.1.2 [], h.1.0);
+}
+lines-by m a c l n texts p (Err (faults.Bad line)) h = lines-fault m (faults.Bad line) a c l n texts p (λ e. cc) h
+lines-by m a c l n texts p (Err (faults.LineTooLong line)) h = lines-fault m (faults.LineTooLong line) a c l n texts p (λ e. cc) h
+lines-by m a c l n texts p (Err (faults.InputTooLong line)) h = lines-fault m (faults.InputTooLong line) a c l n texts p (λ e. cc) h
+lines-by m a c l n texts p (Err faults.ReadFault) h = record {
+  texts = texts;
+  passes = p;
+  undecided = λ e. h;
+  refused = λ g code line e is. absurd (subst (λ (f : BlockFault). IsFault f code line) (let same : g ≡ faults.ReadFault = cc in same) is);
+  stated = tt;
+}
+lines-by m a c l n texts p (Err faults.Memory) h = record {
+  texts = texts;
+  passes = p;
+  undecided = λ e. cc;
+  refused = λ g code line e is. absurd (subst (λ (f : BlockFault). IsFault f code line) (let same : g ≡ faults.Memory = cc in same) is);
+  stated = tt;
+}
 
-pub reads-fits : (m : Model) (a c : Reader) (l n : Option (List ℕ)) (result : Result Block BlockFault) → ReadsBy m result a c l n → IfOk result (λ block. IsBlockOf m block)
-reads-fits m a c l n result r = fits-by m a.number c.number (lines_left a l) (lines_left c n) r.texts result r.answer
+pub reads-lines : (m : Model) (a c : Reader) (l n : Option (List ℕ)) (result : Result Block BlockFault) → ReadsBlockBy m result a c l n → ReadsBlockLines m result a c l n
+reads-lines m a c l n result r = lines-by m a c l n r.texts r.passes result r.answer
+
+pub reads-fits : (m : Model) (a c : Reader) (l n : Option (List ℕ)) (result : Result Block BlockFault) → ReadsBlockBy m result a c l n → IfOk result (λ block. IsBlockOf m block)
+reads-fits m a c l n (Ok block) r = r.answer.1.1
+reads-fits m a c l n (Err f) r = tt

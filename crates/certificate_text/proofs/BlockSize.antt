@@ -121,7 +121,7 @@ outs-size : (m : Model) (p : List Move) (l : LabelTable) (c : ℕ) → IsValid m
 outs-size m p l c valid cert =
     all-size (λ k. out_line k (out_by m p k)) 37 (c + 1) (λ k h.
     out-size k (out_by m p k) (omega (arith, h, cert.in_horizon, valid.horizon))
-    (let a = out_le_people m p k valid (certified_is_feasible m p l c k cert) in let b = valid.people_fit in omega (arith, a, b)))
+    (let a = out_le_people m p k valid (certified_is_feasible m p l c k valid cert) in let b = valid.people_fit in omega (arith, a, b)))
 
 labels-size : (m : Model) (p : List Move) (l : LabelTable) (c : ℕ) → IsValid m → IsCertified m p l c → length (label_lines m l c) ≤ 37 * c * length m.nodes
 labels-size m p l c valid cert =
@@ -139,7 +139,7 @@ moves-size m p l c valid cert =
     neither-size (nat_eq (moved p a t) 0) (move_line t (name_text (node_at m (tail m a)).name) (name_text (node_at m (head m a)).name) (moved p a t)) 37
     (move-size t (name_text (node_at m (tail m a)).name) (name_text (node_at m (head m a)).name) (moved p a t) (omega (arith, h, valid.horizon))
     (name_short (node_at m (tail m a)).name (name_is m (tail m a) valid (tail_in m a valid k))) (name_short (node_at m (head m a)).name (name_is m (head m a) valid (head_in m a valid k)))
-    (let x = (certified_is_feasible m p l c m.horizon cert).rates a t k (omega (arith, h)) in let y = rate-most m a t valid k in omega (arith, x, y)))))
+    (let x = (certified_is_feasible m p l c m.horizon valid cert).rates a t k (omega (arith, h)) in let y = rate-most m a t valid k in omega (arith, x, y)))))
 
 -- ---- the whole
 
@@ -180,8 +180,3 @@ answer-size index m p l c few valid cert =
     let h = end-size in
     let cells = cells-size (length m.nodes) (length m.arcs) (m.horizon + 1) c (omega (arith, cert.in_horizon)) in
     sum-size ((length m.nodes + length m.arcs) * (m.horizon + 1)) c _ valid.cells_fit within (omega (arith, parts, a, b, d, e, f, g, h, cells))
-
--- a block is within the limit of an input
-pub block-input : (size : ℕ) → size ≤ block_limit → size ≤ input_limit
-unfolding block_limit input_limit
-block-input size h = omega (arith, h)

@@ -11,13 +11,13 @@ use Rattle.evac_law.specs.Sums.{below}
 use Rattle.evac_law.proofs.PartLemmas.{flat_map-none, flat_map-suc}
 use Rattle.line_io.specs.Line.{Line, text_lines}
 use Rattle.line_io.specs.Text.{fields}
-use Rattle.building_table.proofs.PassLemmas.{text_lines-append}
+use Rattle.line_io.proofs.PassLemmas.{text_lines-append}
 use Rattle.model_text.specs.NameFields.{name_of}
 use Rattle.model_text.specs.Numbers.{has_leading_zero, number_of}
 use Rattle.model_text.proofs.NameLaws.{plain-reads, text-reads}
 use Rattle.certificate_text.specs.declared.entry.Entry.{Entry}
 use Rattle.certificate_text.specs.declared.entry.Entry.TheVariants.{Index, People, Cleared, Out, Label, Move, End}
-use Rattle.certificate_text.specs.BlockGrammar.{Ended, Stopped, Went, after_step, bad_block, entry_step, line_step, or_stopped, reading_of}
+use Rattle.certificate_text.specs.BlockGrammar.{Ended, Stopped, Went, after_block_step, bad_block, entry_step, line_step, or_stopped, block_from}
 use Rattle.certificate_text.specs.BlockText.{answer_line, cleared_line, label_line, move_line, out_line, people_line}
 use Rattle.certificate_text.specs.Drafts.{Draft, is_full, with_entry}
 use Rattle.certificate_text.specs.Entries.{by_word, entry_of, is_end, of_fields}
@@ -29,14 +29,14 @@ pub record Leads (m : Model) (d d' : Draft) (text : List ℕ) : Type 0 where
   pub contents : List (List ℕ)
   pub are : AreLines contents
   pub spelled : flat_map ended contents ≡ text
-  pub reads : (before : ℕ) (rest : List Line) → reading_of m d before (text_lines contents ++ rest) ≡ reading_of m d' (before + length contents) rest
+  pub reads : (before : ℕ) (rest : List Line) → block_from m d before (text_lines contents ++ rest) ≡ block_from m d' (before + length contents) rest
 
 pub leads-none : (m : Model) (d : Draft) → Leads m d d []
 leads-none m d = record {
   contents = [];
   are = tt;
   spelled = refl;
-  reads = λ before rest. ap (λ k. reading_of m d k rest) (let e : before ≡ before + 0 = omega arith in e);
+  reads = λ before rest. ap (λ k. block_from m d k rest) (let e : before ≡ before + 0 = omega arith in e);
 }
 
 pub lines-append : (xs ys : List (List ℕ)) → AreLines xs → AreLines ys → AreLines (xs ++ ys)
@@ -49,9 +49,9 @@ leads-then m a b c s t h g = record {
   are = lines-append h.contents g.contents h.are g.are;
   spelled = flat_map-append ended h.contents g.contents ∙ ap₂ (λ x y. x ++ y) h.spelled g.spelled;
   reads = λ before rest.
-      ap (reading_of m a before) (ap (λ x. x ++ rest) (text_lines-append h.contents g.contents) ∙ append_assoc (text_lines h.contents) (text_lines g.contents) rest)
+      ap (block_from m a before) (ap (λ x. x ++ rest) (text_lines-append h.contents g.contents) ∙ append_assoc (text_lines h.contents) (text_lines g.contents) rest)
       ∙ h.reads before (text_lines g.contents ++ rest) ∙ g.reads (before + length h.contents) rest
-      ∙ ap (λ k. reading_of m c k rest) (let e = length-append h.contents g.contents in omega (arith, e));
+      ∙ ap (λ k. block_from m c k rest) (let e = length-append h.contents g.contents in omega (arith, e));
 }
 
 pub leads-is : (m : Model) (a b : Draft) (s t : List ℕ) → s ≡ t → Leads m a b s → Leads m a b t
@@ -74,8 +74,8 @@ leads-below m s f (suc n) h =
 -- ---- one line
 
 pub reading-more : (m : Model) (d : Draft) (number : ℕ) (line : Line) (rest : List Line)
-    → reading_of m d number (line ∷ rest) ≡ after_step (line_step m d line) d (number + 1) rest (λ next. reading_of m next (number + 1) rest)
-unfolding reading_of
+    → block_from m d number (line ∷ rest) ≡ after_block_step (line_step m d line) d (number + 1) rest (λ next. block_from m next (number + 1) rest)
+unfolding block_from
 reading-more m d number line rest = refl
 
 step-went : (m : Model) (d d' : Draft) (e : Entry) → is_end e ≡ false → with_entry m d e ≡ Some d' → entry_step m d (Some e) ≡ Went d'
@@ -88,7 +88,7 @@ leads-line m d d' x e line says other h = record {
   are = (line, tt);
   spelled = append-nil (ended x);
   reads = λ before rest. reading-more m d before (Ok x) rest
-      ∙ ap (λ s. after_step s d (before + 1) rest (λ next. reading_of m next (before + 1) rest)) (ap (entry_step m d) says ∙ step-went m d d' e other h);
+      ∙ ap (λ s. after_block_step s d (before + 1) rest (λ next. block_from m next (before + 1) rest)) (ap (entry_step m d) says ∙ step-went m d d' e other h);
 }
 
 -- ---- what the lines of a block say

@@ -2,9 +2,11 @@ pub mod BlockBack
 pub mod BlockLemmas
 pub mod BlockReadLemmas
 pub mod BlockSize
+pub mod CertifiedBack
 pub mod DraftLemmas
 pub mod EntryLemmas
 pub mod ExitLemmas
+pub mod GivesBack
 pub mod LabelLemmas
 pub mod LabelsBack
 pub mod LastLemmas
@@ -12,10 +14,12 @@ pub mod LeadLemmas
 pub mod LineTexts
 pub mod MovesBack
 pub mod NumberFits
+pub mod OneBlock
 pub mod OptionLemmas
 pub mod OrderedMoves
 pub mod OutsBack
 pub mod PlacesBack
 pub mod RunLabels
 pub mod RunLemmas
+pub mod ShortLemmas
 pub mod TextParts

@@ -3,8 +3,9 @@ use Rattle.std.specs.Prelude.{◌≡◌, ℕ, ◌+◌, List, [], Result, Ok, Err
 use Rattle.std.specs.declared.option.Option.{Option}
 use Rattle.evac_law.specs.declared.model.Model.{Model}
 use Rattle.line_io.specs.Line.{Line, input_too_long, line_too_long, text_lines}
+use Rattle.line_io.specs.Reader.{taken_lines}
 use Rattle.line_io.specs.View.{Reader}
-use Rattle.building_table.specs.Passes.{Passes}
+use Rattle.line_io.specs.Passes.{Passes}
 use Rattle.certificate_text.specs.declared.block.Block.{Block}
 use Rattle.certificate_text.specs.declared.fault.BlockFault.{BlockFault}
 use Rattle.certificate_text.specs.declared.fault.BlockFault.TheVariants.{Bad, LineTooLong, InputTooLong, ReadFault, Memory}
@@ -12,23 +13,33 @@ use Rattle.certificate_text.specs.BlockGrammar.{IsStated, Refused, Stated, bad_b
 use Rattle.certificate_text.specs.Drafts.{Draft}
 
 -- the block or the first fault of the lines left before, behind `first` lines; `last` is the line of the block's end, with `after` behind it
-abbrev pub IsReading : Model → Result Block BlockFault → ℕ → ℕ → List Line → List Line → Type 0
-IsReading m (Ok block) first last before after = (d : Draft) × (block_of m first before ≡ Stated d last after) × IsStated m d block
-IsReading m (Err (Bad line)) first last before after = block_of m first before ≡ Refused bad_block line
-IsReading m (Err (LineTooLong line)) first last before after = block_of m first before ≡ Refused line_too_long line
-IsReading m (Err (InputTooLong line)) first last before after = block_of m first before ≡ Refused input_too_long line
-IsReading m (Err ReadFault) first last before after = ⊤
-IsReading m (Err Memory) first last before after = ⊤
+abbrev pub IsBlockReading : Model → Result Block BlockFault → ℕ → ℕ → List Line → List Line → Type 0
+IsBlockReading m (Ok block) first last before after = (d : Draft) × (block_of m first before ≡ Stated d last after) × IsStated m d block
+IsBlockReading m (Err (Bad line)) first last before after = block_of m first before ≡ Refused bad_block line
+IsBlockReading m (Err (LineTooLong line)) first last before after = block_of m first before ≡ Refused line_too_long line
+IsBlockReading m (Err (InputTooLong line)) first last before after = block_of m first before ≡ Refused input_too_long line
+IsBlockReading m (Err ReadFault) first last before after = ⊤
+IsBlockReading m (Err Memory) first last before after = ⊤
 
 -- the same, where the source tells its bytes
 abbrev pub ReadsBlock : Model → Result Block BlockFault → ℕ → ℕ → Option (List Line) → Option (List Line) → Type 0
 ReadsBlock m result first last None after = ⊤
 ReadsBlock m result first last (Some before) None = ⊥
-ReadsBlock m result first last (Some before) (Some after) = IsReading m result first last before after
+ReadsBlock m result first last (Some before) (Some after) = IsBlockReading m result first last before after
+
+-- the fault of a line of the input, by its code and its line
+abbrev pub IsFault : BlockFault → ℕ → ℕ → Type 0
+IsFault (Bad line) code number = (code ≡ bad_block) × (line ≡ number)
+IsFault (LineTooLong line) code number = (code ≡ line_too_long) × (line ≡ number)
+IsFault (InputTooLong line) code number = (code ≡ input_too_long) × (line ≡ number)
+IsFault ReadFault code number = ⊥
+IsFault Memory code number = ⊥
 
 -- a call of `read_block` went on by some lines: those of the block that it answers; where the source failed, they end before the block does and none is refused
 pub record ReadsBlockLines (m : Model) (result : Result Block BlockFault) (before after : Reader) (left left' : Option (List ℕ)) : Type 0 where
   pub texts : List (List ℕ)
   pub passes : Passes before after left left' texts
   pub undecided : result ≡ Err ReadFault → block_of m before.number (text_lines texts) ≡ Refused bad_block (after.number + 1)
+  -- a fault is that of the lines of the bytes taken
+  pub refused : (fault : BlockFault) (code line : ℕ) → result ≡ Err fault → IsFault fault code line → block_of m before.number (taken_lines before passes.taken) ≡ Refused code line
   pub stated : IfOk result (λ block. (d : Draft) × (block_of m before.number (text_lines texts) ≡ Stated d after.number []) × IsStated m d block)

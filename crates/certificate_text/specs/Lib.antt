@@ -15,4 +15,5 @@ pub mod BlockText
 pub mod DraftFacts
 pub mod Drafts
 pub mod Entries
+pub mod Short
 pub mod Takings

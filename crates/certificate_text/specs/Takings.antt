@@ -1,19 +1,29 @@
 -- What the parts of a block's reader answer.
-use Rattle.std.specs.Prelude.{◌≡◌, ℕ, ◌+◌, Bool, true, false, List, [], ◌∷◌, ◌++◌, Result, Ok, Err, Some, None, ⊤, ◌⊎◌}
+use Rattle.std.specs.Prelude.{◌≡◌, ℕ, ◌+◌, List, ◌++◌, Result, Ok, Err, Some, None, ⊤}
 use Rattle.std.specs.declared.option.Option.{Option}
 use Rattle.evac_law.specs.declared.model.Model.{Model}
-use Rattle.line_io.specs.Line.{Line, input_too_long, line_too_long, text_lines}
-use Rattle.line_io.specs.Reader.{lines_left}
+use Rattle.line_io.specs.Line.{Line, text_lines}
+use Rattle.line_io.specs.Reader.{lines_left, pending_lines}
 use Rattle.line_io.specs.View.{Reader}
-use Rattle.building_table.specs.Passes.{Passes}
-use Rattle.building_table.specs.Reads.{IsLeft}
+use Rattle.line_io.specs.Hearing.{Hearing}
+use Rattle.line_io.specs.Passes.{IsLeft, Passes}
+use Rattle.line_io.specs.declared.hearing.Ending.{Ending}
+use Rattle.line_io.specs.declared.hearing.Ending.TheVariants as endings
+use Rattle.line_io.specs.declared.hearing.Heard.{Heard}
+use Rattle.line_io.specs.declared.hearing.Heard.TheVariants.{More, Last}
+use Rattle.line_io.specs.declared.lines.LineFault.TheVariants as line_faults
+use Rattle.evac_law.specs.Building.{IsValid}
+use Rattle.building_table.specs.Names.{NamesFit}
+use Rattle.certificate_text.specs.declared.read.BlockReader.{BlockReader}
+use Rattle.certificate_text.specs.DraftFacts.{IsDraft}
 use Rattle.certificate_text.specs.declared.block.Block.{Block}
 use Rattle.certificate_text.specs.declared.fault.BlockFault.{BlockFault}
 use Rattle.certificate_text.specs.declared.fault.BlockFault.TheVariants as faults
 use Rattle.certificate_text.specs.declared.fault.TakeFault.{TakeFault}
 use Rattle.certificate_text.specs.declared.fault.TakeFault.TheVariants.{Bad, Memory}
 use Rattle.certificate_text.specs.Block.{IsBlockOf}
-use Rattle.certificate_text.specs.BlockGrammar.{Ended, IsStated, Refused, Stated, Step, Stopped, Went, bad_block, block_of}
+use Rattle.certificate_text.specs.BlockGrammar.{Ended, IsStated, Refused, Stated, BlockStep, Stopped, Went, bad_block, block_of, line_step}
+use Rattle.certificate_text.specs.BlockReads.{IsFault}
 use Rattle.certificate_text.specs.Drafts.{Draft}
 
 -- a block took one line more, or it is refused
@@ -22,58 +32,56 @@ Takes (Ok done) next new = next ≡ Some new
 Takes (Err Bad) next new = next ≡ None
 Takes (Err Memory) next new = ⊤
 
--- a block heard a line that takes a step: `true` is the end of the block
-abbrev pub Hears : Result Bool TakeFault → Step → Draft → Draft → Type 0
-Hears (Ok false) step old new = step ≡ Went new
-Hears (Ok true) step old new = (step ≡ Ended) × (new ≡ old)
-Hears (Err Bad) step old new = step ≡ Stopped bad_block
-Hears (Err Memory) step old new = ⊤
+-- a block heard a line that takes a step
+abbrev pub HearsDraft : Result Heard TakeFault → BlockStep → Draft → Draft → Type 0
+HearsDraft (Ok More) step old new = step ≡ Went new
+HearsDraft (Ok Last) step old new = (step ≡ Ended) × (new ≡ old)
+HearsDraft (Err Bad) step old new = step ≡ Stopped bad_block
+HearsDraft (Err Memory) step old new = ⊤
 
--- the fault of a line of the input, by its code and its line
-abbrev pub IsFault : BlockFault → ℕ → ℕ → Type 0
-IsFault (faults.Bad line) code number = (code ≡ bad_block) × (line ≡ number)
-IsFault (faults.LineTooLong line) code number = (code ≡ line_too_long) × (line ≡ number)
-IsFault (faults.InputTooLong line) code number = (code ≡ input_too_long) × (line ≡ number)
-IsFault faults.ReadFault code number = ⊥
-IsFault faults.Memory code number = ⊥
+-- ---- a reader that hears lines
 
--- lines that stop at once with a code: none, or one with that fault
-abbrev pub Stops : ℕ → List Line → Type 0
-Stops code rest = ((code ≡ bad_block) × (rest ≡ [])) ⊎ (rest ≡ Err code ∷ [])
+-- it can hear a line
+pub record IsReady (r : BlockReader) : Type 0 where
+  pub valid : IsValid r.model.now
+  pub names : NamesFit r.names.now r.model.now
+  pub draft : IsDraft r.model.now r.builder
 
--- there is no further line, or it has a fault
-pub record StopsAt (fault : BlockFault) (before after : Reader) (left left' : Option (List ℕ)) : Type 0 where
-  pub code : ℕ
-  pub rest : List Line
-  pub fault_is : IsFault fault code (after.number + 1)
-  pub left_is : IsLeft (lines_left before left) (lines_left after left') rest
-  pub stops : Stops code rest
+-- what it answers to a line
+abbrev pub HearsBlock : Hearing BlockReader TakeFault
+HearsBlock r line text result new = (new.model.now ≡ r.model.now) × HearsDraft result (line_step r.model.now r.builder (Ok text)) r.builder new.builder
 
--- the number of the line that was found, or why there is none
-abbrev pub NextLine : Result ℕ BlockFault → Reader → Reader → Option (List ℕ) → Option (List ℕ) → Type 0
-NextLine (Ok line) before after left left' = (line ≡ after.number) × Passes before after left left' (after.text ∷ [])
-NextLine (Err faults.ReadFault) before after left left' = Passes before after left left' []
-NextLine (Err fault) before after left left' = Passes before after left left' [] × StopsAt fault before after left left'
+-- the answer of a block that heard all, or behind which the lines ended, where so many went by
+abbrev pub ConcludesBlock : Model → Ending TakeFault → Draft → ℕ → Result Block BlockFault → Type 0
+ConcludesBlock m endings.Finished d number (Ok block) = IsStated m d block
+ConcludesBlock m endings.Finished d number (Err fault) = fault ≡ faults.Memory
+ConcludesBlock m (endings.Failed Bad) d number result = result ≡ Err (faults.Bad number)
+ConcludesBlock m (endings.Failed Memory) d number result = result ≡ Err faults.Memory
+ConcludesBlock m endings.InputEnded d number result = result ≡ Err (faults.Bad (number + 1))
+ConcludesBlock m (endings.Fault line_faults.LineTooLong) d number result = result ≡ Err (faults.LineTooLong (number + 1))
+ConcludesBlock m (endings.Fault line_faults.InputTooLong) d number result = result ≡ Err (faults.InputTooLong (number + 1))
+ConcludesBlock m (endings.Fault line_faults.ReadFault) d number result = result ≡ Err faults.ReadFault
 
--- a line is refused, of the lines that went by and those that are left
-pub record RefusesAt (m : Model) (first : ℕ) (fault : BlockFault) (before after : Option (List Line)) (texts : List (List ℕ)) : Type 0 where
+-- a line is refused, of the lines that went by: with those that are left, and with those of the bytes that are pending
+pub record RefusesBlock (m : Model) (first : ℕ) (fault : BlockFault) (r : Reader) (before after : Option (List Line)) (texts : List (List ℕ)) : Type 0 where
   pub code : ℕ
   pub line : ℕ
   pub rest : List Line
   pub fault_is : IsFault fault code line
   pub left_is : IsLeft before after rest
-  pub refused : block_of m first (text_lines texts ++ rest) ≡ Refused code line
+  pub left : block_of m first (text_lines texts ++ rest) ≡ Refused code line
+  pub pending : block_of m first (text_lines texts ++ pending_lines r) ≡ Refused code line
 
 -- the answer of a call, for the lines that went by and those that are left
-abbrev pub AnswersBy : Model → ℕ → Result Block BlockFault → ℕ → Option (List Line) → Option (List Line) → List (List ℕ) → Type 0
-AnswersBy m first (Ok block) last before after texts =
-    (d : Draft) × (IsStated m d block × IsBlockOf m block × ((rest : List Line) → block_of m first (text_lines texts ++ rest) ≡ Stated d last rest))
-AnswersBy m first (Err faults.ReadFault) last before after texts = block_of m first (text_lines texts) ≡ Refused bad_block (last + 1)
-AnswersBy m first (Err faults.Memory) last before after texts = ⊤
-AnswersBy m first (Err fault) last before after texts = RefusesAt m first fault before after texts
+abbrev pub AnswersBlock : Model → ℕ → Result Block BlockFault → Reader → Option (List Line) → Option (List Line) → List (List ℕ) → Type 0
+AnswersBlock m first (Ok block) r before after texts =
+    (d : Draft) × (IsStated m d block × IsBlockOf m block × ((rest : List Line) → block_of m first (text_lines texts ++ rest) ≡ Stated d r.number rest))
+AnswersBlock m first (Err faults.ReadFault) r before after texts = block_of m first (text_lines texts) ≡ Refused bad_block (r.number + 1)
+AnswersBlock m first (Err faults.Memory) r before after texts = ⊤
+AnswersBlock m first (Err fault) r before after texts = RefusesBlock m first fault r before after texts
 
 -- lines went by, and this is the answer
-pub record ReadsBy (m : Model) (result : Result Block BlockFault) (before after : Reader) (left left' : Option (List ℕ)) : Type 0 where
+pub record ReadsBlockBy (m : Model) (result : Result Block BlockFault) (before after : Reader) (left left' : Option (List ℕ)) : Type 0 where
   pub texts : List (List ℕ)
   pub passes : Passes before after left left' texts
-  pub answer : AnswersBy m before.number result after.number (lines_left before left) (lines_left after left') texts
+  pub answer : AnswersBlock m before.number result after (lines_left before left) (lines_left after left') texts

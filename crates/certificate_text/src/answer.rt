@@ -1,13 +1,15 @@
 // The block of an answer.
 ghost use Rattle.std.specs.Prelude.{◌≡◌, ◌+◌, ◌*◌, ◌<◌, ◌≤◌, ◌^◌, length};
 ghost use Rattle.evac_law.specs.Building.{IsValid};
-ghost use Rattle.evac_law.specs.Certificates.{IsTableOf};
+ghost use Rattle.evac_law.specs.Certificates.{IsCertified, IsTableOf};
 ghost use Rattle.evac_law.specs.Stands.{Fits};
 ghost use Rattle.evac_law.proofs.Curve.{arriving, arriving_by};
 ghost use Rattle.std.specs.List.{flat_map};
 ghost use Rattle.evac_law.specs.Sums.{below};
 ghost use Rattle.line_io.specs.Causes.{HasCause};
 ghost use Rattle.line_io.specs.Writer.{PutsText};
+ghost use Rattle.certificate_text.specs.Block.{number_field_limit};
+ghost use Rattle.certificate_text.specs.BlockLaws.{ReadsBack};
 ghost use Rattle.certificate_text.specs.BlockText.{answer_text, begins_run, label_lines, label_part, move_lines, move_part, moment_moves, node_labels, out_lines, shown_label};
 
 use crate::lines::{
@@ -243,8 +245,7 @@ fn write_moves<K: Sink, F: Standing>(
     Ok(())
 }
 
-/// Puts the answer block of a standing plan with its labels. The index is 0 for the opening of a model and counts edits from there.
-pub fn write_answer<K: Sink, F: Standing>(
+fn write_lines<K: Sink, F: Standing>(
     out: &mut Out,
     sink: &mut K,
     model: &Model,
@@ -269,4 +270,26 @@ pub fn write_answer<K: Sink, F: Standing>(
     write_labels(out, sink, model, labels, cleared)?;
     write_moves(out, sink, model, standing)?;
     write_end(out, sink)
+}
+
+/// Puts the answer block of a standing plan with its labels. The index is 0 for the opening of a model and counts edits from there.
+pub fn write_answer<K: Sink, F: Standing>(
+    out: &mut Out,
+    sink: &mut K,
+    model: &Model,
+    index: u32,
+    standing: &F,
+    labels: &Labels,
+) -> Result<(), WriteFault>
+    requires valid { IsValid model.now }
+    requires fits { Fits model.now (F.stand standing.now) }
+    requires table { IsTableOf model.now labels.now }
+    requires in_time { (F.stand standing.now).last ≤ model.now.horizon }
+    ensures text { let s = F.stand standing.now in
+        PutsText (K.held sink.old) out.old (answer_text index model.now s.plan labels.now s.last) (K.held sink.new) out.new result }
+    ensures back { let s = F.stand standing.now in
+        index ≤ number_field_limit → IsCertified model.now s.plan labels.now s.last → ReadsBack index model.now s.plan labels.now s.last }
+    ensures cause { HasCause (K.faults sink.old) (K.faults sink.new) result }
+{
+    write_lines(out, sink, model, index, standing, labels)
 }

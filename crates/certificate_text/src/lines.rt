@@ -140,7 +140,8 @@ pub(crate) fn write_in<K: Sink>(
     line.put(out, sink)
 }
 
-pub(crate) fn write_end<K: Sink>(out: &mut Out, sink: &mut K) -> Result<(), WriteFault>
+/// Puts the last line of a block.
+pub fn write_end<K: Sink>(out: &mut Out, sink: &mut K) -> Result<(), WriteFault>
     ensures text { PutsText (K.held sink.old) out.old end_line (K.held sink.new) out.new result }
     ensures cause { HasCause (K.faults sink.old) (K.faults sink.new) result }
 {

@@ -4,9 +4,11 @@ ghost use Rattle.std.specs.List.{flat_map};
 ghost use Rattle.evac_law.specs.Building.{IsValid, people as people_of};
 ghost use Rattle.evac_law.specs.Certificates.{IsTableOf, label_cut};
 ghost use Rattle.evac_law.specs.Sums.{moments_to};
+ghost use Rattle.evac_law.specs.declared.model.Model.{Model as ModelValue};
 ghost use Rattle.line_io.specs.Causes.{HasCause};
 ghost use Rattle.line_io.specs.Writer.{PutsText};
 ghost use Rattle.certificate_text.specs.BlockText.{in_lines, in_part, node_in, opens_run, run_end, shortfall_text};
+ghost use Rattle.certificate_text.specs.Short.{HasSameNames};
 
 use crate::lines::{write_end, write_in, write_most, write_people, write_refusal};
 use evac_law::{Labels, Model};
@@ -132,7 +134,8 @@ fn write_ins<K: Sink>(
     Ok(())
 }
 
-/// Puts the short block of a model that can't be cleared: the refusal at a line, the people, and the cut of the last moment by labels, with its value.
+/// Puts the short block of a model that can't be cleared: the refusal at a line, the people, and the cut of the last moment by labels, with its
+/// value. Any model with the same names serves, as that before an edit of capacities or people.
 pub fn write_short<K: Sink>(
     out: &mut Out,
     sink: &mut K,
@@ -143,9 +146,9 @@ pub fn write_short<K: Sink>(
     labels: &Labels,
 ) -> Result<(), WriteFault>
     requires valid { IsValid model.now }
-    requires people { people ≡ people_of model.now }
     requires table { IsTableOf model.now labels.now }
-    ensures text { PutsText (K.held sink.old) out.old (shortfall_text line model.now (label_cut model.now labels.now model.now.horizon) most) (K.held sink.new) out.new result }
+    ensures text { (of : ModelValue) → HasSameNames model.now of → people_of of ≡ people
+        → PutsText (K.held sink.old) out.old (shortfall_text line of (label_cut of labels.now of.horizon) most) (K.held sink.new) out.new result }
     ensures cause { HasCause (K.faults sink.old) (K.faults sink.new) result }
 {
     write_refusal(out, sink, NOT_CLEARED, line)?;

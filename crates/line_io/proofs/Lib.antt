@@ -1,7 +1,8 @@
-pub mod CauseLemmas
+pub mod CallLemmas
 pub mod GivenLemmas
+pub mod HearingLemmas
 pub mod LineLemmas
+pub mod PassLemmas
 pub mod Pieces
-pub mod ReadLemmas
 pub mod ReaderLemmas
 pub mod TextLemmas

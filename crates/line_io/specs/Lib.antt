@@ -1,6 +1,9 @@
+pub mod Calls
 pub mod Causes
+pub mod Hearing
 pub mod Line
 pub mod Memory
+pub mod Passes
 pub mod Reader
 pub mod Scan
 pub mod Text

@@ -1,16 +1,17 @@
 -- What a call of a source or a sink in memory answers, and what is then left and held.
-use Rattle.std.specs.Prelude.{ℕ, ◌+◌, ◌-◌, Bool, ◌==◌, nat_le, ◌||◌, List, ◌++◌, length, drop, min}
+use Rattle.std.specs.Prelude.{◌≡◌, ℕ, ◌+◌, ◌-◌, ◌^◌, Bool, true, false, ◌==◌, nat_le, ◌&&◌, ◌||◌, List, ◌++◌, length, take, drop, min, Result, Ok, Err}
 use Rattle.std.specs.List.{list_any}
 use Rattle.line_io.specs.Causes.{last_count}
 use Rattle.line_io.specs.View.{MemorySource, MemorySink}
+use Rattle.line_io.specs.declared.outside.Failed.{Failed}
 
 -- one more, up to a 64-bit counter's last value
 abbrev pub counted : ℕ → ℕ
 counted n = min (n + 1) last_count
 
--- whether the call of this number is one that fails
+-- whether the call of this number is one that fails: it is in the list, which holds 32-bit numbers
 abbrev pub is_failing : List ℕ → ℕ → Bool
-is_failing failing number = list_any (λ n. n == number) failing
+is_failing failing number = nat_le number (2 ^ 32 - 1) && list_any (λ n. n == number) failing
 
 -- whether the next call fails: its number is listed
 abbrev pub source_fails : MemorySource → Bool
@@ -28,6 +29,11 @@ source_failed s = record s { calls = counted s.calls; faults = counted s.faults 
 abbrev pub source_gave : MemorySource → ℕ → MemorySource
 source_gave s n = record s { left = drop n s.left; calls = counted s.calls }
 
+-- what a call does, into so much room
+abbrev pub SourceTakes : MemorySource → ℕ → Result ℕ Failed → MemorySource → Type 0
+SourceTakes s room (Ok n) s' = (source_fails s ≡ false) × (n ≡ given_count s room) × (s' ≡ source_gave s n)
+SourceTakes s room (Err fault) s' = (source_fails s ≡ true) × (s' ≡ source_failed s)
+
 -- whether the next call fails: its number is listed, or the room is used up
 abbrev pub sink_fails : MemorySink → Bool
 sink_fails s = is_failing s.failing (counted s.calls) || nat_le s.room (length s.held)
@@ -43,3 +49,8 @@ sink_failed s = record s { calls = counted s.calls; faults = counted s.faults }
 -- the sink after a call that took these bytes
 abbrev pub sink_took : MemorySink → List ℕ → MemorySink
 sink_took s bytes = record s { held = s.held ++ bytes; calls = counted s.calls }
+
+-- what a call does, with these bytes
+abbrev pub SinkPuts : MemorySink → List ℕ → Result ℕ Failed → MemorySink → Type 0
+SinkPuts s piece (Ok n) s' = (sink_fails s ≡ false) × (n ≡ taken_count s (length piece)) × (s' ≡ sink_took s (take n piece))
+SinkPuts s piece (Err fault) s' = (sink_fails s ≡ true) × (s' ≡ sink_failed s)

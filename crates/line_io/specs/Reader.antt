@@ -1,10 +1,11 @@
 -- What a reader of lines has before it, and what it answers.
-use Rattle.std.specs.Prelude.{◌≡◌, ℕ, ◌+◌, ◌<◌, Bool, true, ◌||◌, ◌==◌, nat_le, if◌then◌else◌, List, [], ◌∷◌, ◌++◌, length, Result, Ok, Err, None, Some, ⊤, ◌⊎◌}
+use Rattle.std.specs.Prelude.{◌≡◌, ℕ, ◌+◌, ◌<◌, ◌≤◌, Bool, true, ◌||◌, ◌==◌, nat_le, if◌then◌else◌, List, [], ◌∷◌, ◌++◌, length, Result, Ok, Err, None, Some, ⊤, ◌⊎◌}
 use Rattle.std.specs.List.{list_any}
 use Rattle.std.specs.Option.{option_map}
 use Rattle.std.specs.declared.option.Option.{Option}
 use Rattle.std.specs.Io.KnownBytes.{prepend_known, Consumes, IsAtEnd}
-use Rattle.line_io.specs.Line.{Line, lines_after, pieces, content, line_of, line_limit, line_too_long, input_too_long, is_lf, text_lines, IsPiece, IsWhole}
+use Rattle.line_io.specs.Line.{Line, lines_after, pieces, content, line_of, input_limit, line_limit, line_too_long, input_too_long, is_lf, IsPiece, IsWhole}
+use Rattle.line_io.specs.declared.limits.TheConstants.{BUFFER_SIZE}
 use Rattle.line_io.specs.declared.lines.Found.{Found}
 use Rattle.line_io.specs.declared.lines.Found.TheVariants.{Text, End}
 use Rattle.line_io.specs.declared.lines.LineFault.{LineFault}
@@ -30,6 +31,11 @@ Drained r left = r.ended ≡ true → IsAtEnd left
 -- the lines that aren't given yet
 abbrev pub lines_left : Reader → Option (List ℕ) → Option (List Line)
 lines_left r left = option_map (λ bytes. lines_after r.given (pieces bytes)) (ahead r left)
+
+-- no more is pending than a buffer has room for, and no more was given than an input may have
+pub record HasRoom (r : Reader) : Type 0 where
+  pub pending : length r.pending ≤ BUFFER_SIZE
+  pub given : r.given ≤ input_limit
 
 -- an answer, by the lines left before it and after it
 abbrev pub Gives : Result Found LineFault → List ℕ → List Line → List Line → Type 0
@@ -71,18 +77,6 @@ pub record GivesAway (result : Result Found LineFault) (before after : Reader) (
   pub counted : after.given ≡ before.given + length gone
   pub line : Gone result after gone
 
--- between two states of a reader the lines that say these texts went away
-pub record Reads (before after : Reader) (left left' : Option (List ℕ)) (texts : List (List ℕ)) : Type 0 where
-  -- the bytes that were taken from the source, and those that went away as lines
-  pub taken : List ℕ
-  pub gone : List ℕ
-  pub consumed : Consumes left left' taken
-  pub tied : before.pending ++ taken ≡ gone ++ after.pending
-  pub counted : after.given ≡ before.given + length gone
-  pub lines : lines_after before.given (pieces gone) ≡ text_lines texts
-  -- the last of them ends in LF, but maybe where the source has ended and nothing is pending
-  pub finished : IsWhole gone ⊎ ((after.ended ≡ true) × (after.pending ≡ []))
-
 -- the fault of a code
 abbrev pub fault_of : ℕ → LineFault
 fault_of code = if code == line_too_long then LineTooLong else InputTooLong
@@ -93,9 +87,17 @@ answer_at [] = Ok End
 answer_at (Ok text ∷ lines) = Ok Text
 answer_at (Err code ∷ lines) = Err (fault_of code)
 
+-- the lines of the pending bytes
+abbrev pub pending_lines : Reader → List Line
+pending_lines r = lines_after r.given (pieces r.pending)
+
+-- the lines of the pending bytes with those that were taken behind them
+abbrev pub taken_lines : Reader → List ℕ → List Line
+taken_lines r taken = lines_after r.given (pieces (r.pending ++ taken))
+
 -- what a settled reader answers: its first pending line
 abbrev pub settled_answer : Reader → Result Found LineFault
-settled_answer r = answer_at (lines_after r.given (pieces r.pending))
+settled_answer r = answer_at (pending_lines r)
 
 -- the reader stays there: each later call answers the same, and asks the source no more
 pub record StaysAt (result : Result Found LineFault) (after : Reader) : Type 0 where

@@ -51,7 +51,13 @@ pub record MemorySink : Type 0 where
   pub calls : ℕ
   pub faults : ℕ
 
--- a reader or a writer of std, and how often it failed
+-- a reader or a writer of std, and how often it was called
+pub record Called (T : Type 0) : Type 0 where
+  pub inner : T
+  pub calls : ℕ
+
+-- the same as a source or a sink, with how often it failed
 pub record Adapter (T : Type 0) : Type 0 where
   pub inner : T
+  pub calls : ℕ
   pub faults : ℕ

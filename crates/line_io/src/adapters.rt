@@ -1,10 +1,12 @@
-// Sources and sinks over the readers and writers of std. What these give and take is theirs to say; here only faults are counted.
+// Sources and sinks over the readers and writers of std. What these give and take is theirs to say; here only calls and faults are counted:
+// each call makes one call of what is adapted, and answers a fault where that failed.
 ghost use Rattle.std.specs.Prelude.{◌≡◌, ◌<◌, ◌≤◌, ℕ, List, length, IfOk, if◌then◌else◌, is_ok};
 ghost use Rattle.std.specs.declared.option.Option.{Option};
 ghost use Rattle.std.specs.Io.KnownBytes.{ReadConsumes, WriteAppends};
-ghost use Rattle.line_io.specs.Causes.{HasCause};
+ghost use Rattle.line_io.specs.Causes.{HasCause, in_64_bits};
 ghost use Rattle.line_io.specs.Memory.{counted};
 
+use crate::counted::Counted;
 use crate::outside::{Failed, Sink, Source};
 use std::io::{Read, Write};
 use std::marker::Model;
@@ -12,7 +14,7 @@ use std::marker::Model;
 /// A reader of std as a source. Each error is a fault.
 #[derive(Drop)]
 pub struct StdSource<R: Read + Drop> {
-    inner: R,
+    inner: Counted<R>,
     faults: u64,
 }
 
@@ -21,28 +23,32 @@ impl<R: Read + Drop> Model for StdSource<R> {
 
     ghost Value = { Adapter R };
 
-    ghost view = { λ s. record { inner = s.inner; faults = s.faults } };
+    ghost view = { λ s. record { inner = s.inner.inner; calls = s.inner.calls; faults = s.faults } };
 }
 
 impl<R: Read + Drop> StdSource<R> {
     /// A source over this reader, which didn't fail yet.
     pub fn new(inner: R) -> StdSource<R>
-        ensures { result ≡ record { inner = inner; faults = 0 } }
+        ensures { result ≡ record { inner = inner; calls = 0; faults = 0 } }
     {
-        StdSource { inner, faults: 0 }
+        StdSource {
+            inner: Counted::new(inner),
+            faults: 0,
+        }
     }
 }
 
 impl<R: Read + Drop> Source for StdSource<R> {
     ghost left = { λ s. R.remaining s.inner };
 
-    ghost faults = { λ s. s.faults };
+    ghost faults = { λ s. in_64_bits s.faults };
 
     fn take(&mut self, into: &mut [u8]) -> Result<usize, Failed>
         requires { 0 < length into.old }
         ensures bound { IfOk result (λ n. n ≤ length into.new) }
         ensures bytes { ReadConsumes (R.remaining self.old.inner) (R.remaining self.new.inner) result into.new }
-        ensures cause { HasCause self.old.faults self.new.faults result }
+        ensures cause { HasCause (in_64_bits self.old.faults) (in_64_bits self.new.faults) result }
+        ensures calls { self.new.calls ≡ counted self.old.calls }
         ensures count { self.new.faults ≡ (if is_ok result then self.old.faults else counted self.old.faults) }
     {
         match self.inner.read(into) {
@@ -58,7 +64,7 @@ impl<R: Read + Drop> Source for StdSource<R> {
 /// A writer of std as a sink. Each error is a fault, and so is a write that takes no byte.
 #[derive(Drop)]
 pub struct StdSink<W: Write + Drop> {
-    inner: W,
+    inner: Counted<W>,
     faults: u64,
 }
 
@@ -67,28 +73,32 @@ impl<W: Write + Drop> Model for StdSink<W> {
 
     ghost Value = { Adapter W };
 
-    ghost view = { λ s. record { inner = s.inner; faults = s.faults } };
+    ghost view = { λ s. record { inner = s.inner.inner; calls = s.inner.calls; faults = s.faults } };
 }
 
 impl<W: Write + Drop> StdSink<W> {
     /// A sink over this writer, which didn't fail yet.
     pub fn new(inner: W) -> StdSink<W>
-        ensures { result ≡ record { inner = inner; faults = 0 } }
+        ensures { result ≡ record { inner = inner; calls = 0; faults = 0 } }
     {
-        StdSink { inner, faults: 0 }
+        StdSink {
+            inner: Counted::new(inner),
+            faults: 0,
+        }
     }
 }
 
 impl<W: Write + Drop> Sink for StdSink<W> {
     ghost held = { λ s. W.contents s.inner };
 
-    ghost faults = { λ s. s.faults };
+    ghost faults = { λ s. in_64_bits s.faults };
 
     fn put(&mut self, piece: &[u8]) -> Result<usize, Failed>
         requires { 0 < length piece.now }
         ensures bound { IfOk result (λ n. (0 < n) × (n ≤ length piece.now)) }
         ensures bytes { WriteAppends (W.contents self.old.inner) (W.contents self.new.inner) result piece.now }
-        ensures cause { HasCause self.old.faults self.new.faults result }
+        ensures cause { HasCause (in_64_bits self.old.faults) (in_64_bits self.new.faults) result }
+        ensures calls { self.new.calls ≡ counted self.old.calls }
         ensures count { self.new.faults ≡ (if is_ok result then self.old.faults else counted self.old.faults) }
     {
         match self.inner.write(piece) {

@@ -1,6 +1,7 @@
 // Parts of a buffer.
 ghost use Rattle.std.specs.Prelude.{◌≡◌, ◌<◌, ◌≤◌, ◌+◌, ◌-◌, ◌++◌, ℕ, List, length, take, drop, IfOk};
 ghost use Rattle.std.specs.Io.KnownBytes.{Appends, IsAtEnd, ReadConsumes};
+ghost use Rattle.line_io.specs.Calls.{Offers};
 ghost use Rattle.line_io.specs.Causes.{HasCause, Rose};
 
 use crate::limits::LEAST_OFFER;
@@ -24,7 +25,7 @@ pub(crate) fn write_at(buffer: &mut [u8], at: usize, bytes: &[u8])
     buffer[at..end].copy_from_slice(bytes);
 }
 
-// Takes bytes of a source behind those in front of a place. No other function asks a source, so that each time it is offered enough room.
+// Takes bytes of a source behind those in front of a place.
 pub(crate) fn take_behind<S: Source>(
     source: &mut S,
     buffer: &mut [u8],
@@ -35,6 +36,7 @@ pub(crate) fn take_behind<S: Source>(
     ensures bound { IfOk result (λ n. at + n ≤ length buffer.new) }
     ensures bytes { ReadConsumes (S.left source.old) (S.left source.new) result (drop at buffer.new) }
     ensures end { IfOk result (λ n. n ≡ 0 → IsAtEnd (S.left source.new)) }
+    ensures offered { (room : ℕ) × (LEAST_OFFER ≤ room) × S.takes source.old room result source.new }
     ensures cause { HasCause (S.faults source.old) (S.faults source.new) result }
 {
     source.take(&mut buffer[at..])
@@ -47,6 +49,7 @@ pub(crate) fn send<K: Sink>(sink: &mut K, bytes: &[u8]) -> usize
     ensures all { result ≡ length bytes.now → K.faults sink.new ≡ K.faults sink.old }
     ensures failed { result < length bytes.now → Rose (K.faults sink.old) (K.faults sink.new) }
     ensures untouched { length bytes.now ≡ 0 → sink.new ≡ sink.old }
+    ensures offered { Offers K.puts bytes.now sink.old (drop result bytes.now) sink.new }
 {
     let mut start = 0;
     while start < bytes.len() {

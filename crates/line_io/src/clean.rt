@@ -2,7 +2,7 @@
 ghost use Rattle.std.specs.Prelude.{◌≡◌, ◌<◌, ◌≤◌, ◌++◌, ℕ, List, Some, None, length, take, drop, min, IfOk};
 ghost use Rattle.std.specs.declared.option.Option.{Option};
 ghost use Rattle.std.specs.Io.KnownBytes.{ReadConsumes, WriteAppends};
-ghost use Rattle.line_io.specs.Causes.{HasCause};
+ghost use Rattle.line_io.specs.Causes.{HasCause, unlimited};
 
 use crate::outside::{Failed, Sink, Source};
 use std::alloc::{AllocError, Global};
@@ -40,13 +40,13 @@ impl CleanSource {
 impl Source for CleanSource {
     ghost left = { λ s. Some s };
 
-    ghost faults = { λ _. 0 };
+    ghost faults = { λ _. unlimited 0 };
 
     fn take(&mut self, into: &mut [u8]) -> Result<usize, Failed>
         requires { 0 < length into.old }
         ensures bound { IfOk result (λ n. n ≤ length into.new) }
         ensures bytes { ReadConsumes (Some self.old) (Some self.new) result into.new }
-        ensures cause { HasCause 0 0 result }
+        ensures cause { HasCause (unlimited 0) (unlimited 0) result }
         ensures answer { result ≡ Ok (min (length into.old) (length self.old)) }
         ensures left { IfOk result (λ n. self.new ≡ drop n self.old) }
         ensures given { IfOk result (λ n. into.new ≡ take n self.old ++ drop n into.old) }
@@ -73,13 +73,13 @@ impl CleanSink {
 impl Sink for CleanSink {
     ghost held = { λ _. None };
 
-    ghost faults = { λ _. 0 };
+    ghost faults = { λ _. unlimited 0 };
 
     fn put(&mut self, piece: &[u8]) -> Result<usize, Failed>
         requires { 0 < length piece.now }
         ensures bound { IfOk result (λ n. (0 < n) × (n ≤ length piece.now)) }
         ensures bytes { WriteAppends None None result piece.now }
-        ensures cause { HasCause 0 0 result }
+        ensures cause { HasCause (unlimited 0) (unlimited 0) result }
         ensures answer { result ≡ Ok (length piece.now) }
     {
         Ok(piece.len())

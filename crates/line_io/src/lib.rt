@@ -4,14 +4,19 @@
 //!   fails only where the count rose. Some of both stand here: in memory, with calls that fail as told; clean ones; and over std's readers
 //!   and writers.
 //! - `Lines` finds the lines of a source. Which bytes are a line is said in `specs/Line.antt`, without a buffer. No byte is lost, a fault of
-//!   a line stays, and a read fault leaves all as it was.
-//! - `Out` puts text into a buffer on its way to a sink. What the sink holds and what is pending grow by exactly the text that was put.
+//!   a line stays, and a read fault leaves all as it was. Each time the source is offered enough room, and none after it gave no byte.
+//! - `listen` lets a `Listener` hear line by line, until it has heard all or fails, or no further line is found. Any grammar read line by
+//!   line is a listener with a relation between its states.
+//! - `Out` puts text into a buffer on its way to a sink. What the sink holds and what is pending grow by exactly the text that was put. A
+//!   flush offers the sink all that is pending each time.
 //! - `TextLine` makes one line of fields, which is then put with its end.
 #![tactic(auto)]
 
 mod adapters;
 mod buffer;
 mod clean;
+mod counted;
+mod hearing;
 mod limits;
 mod lines;
 mod memory;
@@ -23,6 +28,7 @@ mod text_line;
 
 pub use adapters::{StdSink, StdSource};
 pub use clean::{CleanSink, CleanSource};
+pub use hearing::{Ending, Heard, Listener, Refusal, listen};
 pub use limits::{BUFFER_SIZE, INPUT_LIMIT, LEAST_OFFER, LINE_LIMIT, PUT_LIMIT, TEXT_LINE_LIMIT};
 pub use lines::{Found, LineFault, Lines};
 pub use memory::{MemSink, MemSource};

@@ -2,9 +2,10 @@
 ghost use Rattle.std.specs.Prelude.{◌≡◌, ◌<◌, ◌≤◌, ◌+◌, ◌++◌, ℕ, List, [], length, take, drop, true, false, IfOk, IfSome, IfNone, OnSome, OnOk, OnErr, ◌⊎◌};
 ghost use Rattle.std.specs.List.{position};
 ghost use Rattle.std.specs.Io.KnownBytes.{Keeps};
+ghost use Rattle.line_io.specs.Calls.{Asks};
 ghost use Rattle.line_io.specs.Causes.{HasCause, Rose};
 ghost use Rattle.line_io.specs.Line.{content, is_lf, without_last, pieces, lines_after, line_limit, input_limit};
-ghost use Rattle.line_io.specs.Reader.{Answers, Drained, Gives, GivesAway, IsGiven, IsLast, ahead, is_settled, lines_left, settled_answer, settles};
+ghost use Rattle.line_io.specs.Reader.{Answers, Drained, Gives, GivesAway, HasRoom, IsGiven, IsLast, ahead, is_settled, lines_left, settled_answer, settles};
 ghost use Rattle.line_io.specs.Scan.{Takes, first_size};
 ghost use Rattle.line_io.specs.View.{Reader};
 
@@ -166,6 +167,7 @@ impl Lines {
         ensures drained { Drained self.old (S.left source.old) → Drained self.new (S.left source.new) }
         ensures more { OnOk result ((self.new.ended ≡ true) ⊎ (length self.old.pending < length self.new.pending)) }
         ensures bounds { length self.new.pending ≤ BUFFER_SIZE }
+        ensures asks { Asks S.takes self.old.ended source.old self.new.ended source.new }
         ensures cause { HasCause (S.faults source.old) (S.faults source.new) result }
     {
         let end = self.end - self.start;
@@ -217,7 +219,7 @@ impl Lines {
         ensures bytes { GivesAway result self.old self.new (S.left source.old) (S.left source.new) }
         ensures found { result ≡ Ok Found.Text → self.new.number ≡ self.old.number + 1 }
         ensures stays { (result ≡ Ok Found.Text → ⊥) → (self.new.number ≡ self.old.number) × (self.new.text ≡ self.old.text) }
-        ensures bounds { (length self.new.pending ≤ BUFFER_SIZE) × (self.new.given ≤ input_limit) }
+        ensures room { HasRoom self.new }
 
         // the end and the faults of a line are the last answer
         ensures settled { is_settled self.old ≡ true → (source.new ≡ source.old) × (result ≡ settled_answer self.old) }
@@ -225,6 +227,9 @@ impl Lines {
         ensures last { IsLast result self.new }
         ensures end { result ≡ Ok Found.End → self.new.ended ≡ true }
         ensures drained { Drained self.old (S.left source.old) → Drained self.new (S.left source.new) }
+
+        // each time the source is offered enough room, and it is asked no more where it has ended
+        ensures asks { Asks S.takes self.old.ended source.old self.new.ended source.new }
 
         // a read fault has its cause, and comes only where no line is pending
         ensures failed { result ≡ Err LineFault.ReadFault → Rose (S.faults source.old) (S.faults source.new) }

@@ -1,18 +1,29 @@
 // A source and a sink in memory, which fail where they are told to.
-ghost use Rattle.std.specs.Prelude.{◌≡◌, ◌<◌, ◌≤◌, ◌++◌, ℕ, List, [], Some, length, take, drop, IfOk, OnErr, is_err};
+ghost use Rattle.std.specs.Prelude.{◌≡◌, ◌<◌, ◌≤◌, ◌++◌, ◌==◌, ℕ, List, [], Some, length, take, drop, IfOk};
+ghost use Rattle.std.specs.List.{list_any};
 ghost use Rattle.std.specs.declared.option.Option.{Option};
 ghost use Rattle.std.specs.Io.KnownBytes.{ReadConsumes, WriteAppends};
-ghost use Rattle.line_io.specs.Causes.{HasCause};
-ghost use Rattle.line_io.specs.Memory.{given_count, is_failing, sink_failed, sink_fails, sink_took, source_failed, source_fails, source_gave, taken_count};
+ghost use Rattle.line_io.specs.Causes.{HasCause, in_64_bits, unlimited};
+ghost use Rattle.line_io.specs.Memory.{SinkPuts, SourceTakes, is_failing};
 
 use crate::outside::{Failed, Sink, Source};
 use std::alloc::{AllocError, Global};
 use std::marker::Model;
 
+// The greatest number of a call that can be listed.
+const LAST_LISTED: u64 = u32::MAX as u64;
+
+fn is_listed(failing: &[u32], number: u64) -> bool
+    ensures { result ≡ list_any (λ n. n == number) failing.now }
+{
+    failing.iter().any(|n| u64::from(*n) == number)
+}
+
+// Whether the call of this number is one that fails.
 fn is_failing(failing: &[u32], number: u64) -> bool
     ensures { result ≡ is_failing failing.now number }
 {
-    failing.iter().any(|n| u64::from(*n) == number)
+    number <= LAST_LISTED && is_listed(failing, number)
 }
 
 /// Bytes in pieces, with calls that fail.
@@ -40,7 +51,7 @@ impl Model for MemSource {
       faults = s.faults;
     } };
 
-    ghost invariant = { λ s. (s.at ≤ length s.bytes.items) × (0 < s.piece) };
+    ghost invariant = { λ s. (s.at ≤ length s.bytes.items) × (0 < s.piece) × (s.faults ≤ s.calls) };
 }
 
 impl MemSource {
@@ -74,18 +85,17 @@ impl MemSource {
 impl Source for MemSource {
     ghost left = { λ s. Some s.left };
 
-    ghost faults = { λ s. s.faults };
+    ghost faults = { λ s. unlimited s.faults };
+
+    ghost takes = { SourceTakes };
 
     fn take(&mut self, into: &mut [u8]) -> Result<usize, Failed>
         requires { 0 < length into.old }
         ensures bound { IfOk result (λ n. n ≤ length into.new) }
         ensures bytes { ReadConsumes (Some self.old.left) (Some self.new.left) result into.new }
-        ensures cause { HasCause self.old.faults self.new.faults result }
-        ensures fails { is_err result ≡ source_fails self.old }
-        ensures count { IfOk result (λ n. n ≡ given_count self.old (length into.old)) }
-        ensures gave { IfOk result (λ n. self.new ≡ source_gave self.old n) }
+        ensures cause { HasCause (unlimited self.old.faults) (unlimited self.new.faults) result }
+        ensures takes { SourceTakes self.old (length into.old) result self.new }
         ensures given { IfOk result (λ n. into.new ≡ take n self.old.left ++ drop n into.old) }
-        ensures failed { OnErr result (self.new ≡ source_failed self.old) }
     {
         let number = self.calls.saturating_add(1);
         self.calls = number;
@@ -170,17 +180,16 @@ impl MemSink {
 impl Sink for MemSink {
     ghost held = { λ s. Some s.held };
 
-    ghost faults = { λ s. s.faults };
+    ghost faults = { λ s. in_64_bits s.faults };
+
+    ghost puts = { SinkPuts };
 
     fn put(&mut self, piece: &[u8]) -> Result<usize, Failed>
         requires { 0 < length piece.now }
         ensures bound { IfOk result (λ n. (0 < n) × (n ≤ length piece.now)) }
         ensures bytes { WriteAppends (Some self.old.held) (Some self.new.held) result piece.now }
-        ensures cause { HasCause self.old.faults self.new.faults result }
-        ensures fails { is_err result ≡ sink_fails self.old }
-        ensures count { IfOk result (λ n. n ≡ taken_count self.old (length piece.now)) }
-        ensures took { IfOk result (λ n. self.new ≡ sink_took self.old (take n piece.now)) }
-        ensures failed { OnErr result (self.new ≡ sink_failed self.old) }
+        ensures cause { HasCause (in_64_bits self.old.faults) (in_64_bits self.new.faults) result }
+        ensures puts { SinkPuts self.old piece.now result self.new }
     {
         let number = self.calls.saturating_add(1);
         self.calls = number;

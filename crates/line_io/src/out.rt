@@ -1,5 +1,6 @@
 // Text on its way to a sink.
 ghost use Rattle.std.specs.Prelude.{◌≡◌, ◌<◌, ◌≤◌, ◌+◌, ◌++◌, ◌^◌, ℕ, List, [], length, take, drop, decimal, IfOk, IsOk, OnOk, OnErr};
+ghost use Rattle.line_io.specs.Calls.{Offers};
 ghost use Rattle.line_io.specs.Causes.{HasCause};
 ghost use Rattle.line_io.specs.Writer.{Puts};
 
@@ -101,10 +102,11 @@ impl Out {
         self.put(sink, digits.format(value).as_bytes())
     }
 
-    /// Brings all pending bytes to the sink.
+    /// Brings all pending bytes to the sink, which is offered all of them each time.
     pub fn flush<K: Sink>(&mut self, sink: &mut K) -> Result<(), WriteFault>
         ensures both { Puts (K.held sink.old) self.old [] (K.held sink.new) self.new }
         ensures ok { OnOk result (self.new ≡ []) }
+        ensures offers { Offers K.puts self.old sink.old self.new sink.new }
         ensures bounds { length self.new ≤ BUFFER_SIZE }
         ensures cause { HasCause (K.faults sink.old) (K.faults sink.new) result }
     {

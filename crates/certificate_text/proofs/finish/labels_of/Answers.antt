@@ -58,6 +58,7 @@ returns c =
     let over : length runs ≤ i = omega arith in
     record {
       table = record { nodes = inv.nodes; horizon = inv.horizon };
+      full = inv.full.full;
       early = λ n t a b.
           inv.early n t a b (record { open_cell = λ r d p k. let w = slice_get_within runs i r d in absurd (omega (arith, w, over)) })
           ∙ ap (λ rs. run_label rs n t) (take_all i runs over);

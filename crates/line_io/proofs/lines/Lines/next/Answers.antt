@@ -1,8 +1,9 @@
-use Rattle.std.proofs.Common.{◌≡◌, ◌∙◌, ap, false, rules}
+use Rattle.std.proofs.Common.{◌≡◌, ◌∙◌, ap, refl, false, rules}
 use Rattle.std.proofs.lemmas.Bool.{both_ways}
-use Rattle.std.proofs.KnownBytes.{Keeps-trans}
+use Rattle.std.proofs.KnownBytes.{Keeps-refl, Keeps-trans}
 use Rattle.line_io.specs.Reader.{is_settled}
-use Rattle.line_io.proofs.ReaderLemmas.{gives-first, gives-none, takes-more}
+use Rattle.line_io.proofs.CallLemmas.{asks-none, asks-then}
+use Rattle.line_io.proofs.ReaderLemmas.{gives-first, gives-none, takes-more, takes-none}
 use Rattle.line_io.proofs.lines.Lines.next.Goals as goal
 
 pub returns-in-Some-clause-bytes : goal.returns-in-Some-clause-bytes
@@ -13,6 +14,9 @@ returns-in-Some-clause-bytes g c =
 pub returns-in-Err-clause-bytes : goal.returns-in-Err-clause-bytes
 returns-in-Err-clause-bytes g c =
     gives-none c.args.self.now c.refill.new.self _ _ (takes-more _ _ _ _ _ _ c.loop-size.invariant.taken c.in-Err.ensures.taken) (c.in-Err.ensures.rest.0 ∙ c.loop-size.invariant.given)
+
+pub returns-in-Err-clause-asks : goal.returns-in-Err-clause-asks
+returns-in-Err-clause-asks g c = asks-then c.loop-size.invariant.asks c.refill.ensures.asks
 
 pub loop-size-preserved : goal.loop-size-preserved
 loop-size-preserved g c =
@@ -27,4 +31,18 @@ loop-size-preserved g c =
       number = c.refill.ensures.rest.1 ∙ inv.number;
       text = c.refill.ensures.rest.2 ∙ inv.text;
       faults = search rules;
+      asks = asks-then inv.asks c.refill.ensures.asks;
     }
+
+pub loop-size-init : goal.loop-size-init
+loop-size-init g c = record {
+  ahead = Keeps-refl _;
+  taken = takes-none c.args.self.now _ _ (Keeps-refl _);
+  drained = λ d. d;
+  settled = λ s. (refl, refl);
+  given = refl;
+  number = refl;
+  text = refl;
+  faults = refl;
+  asks = asks-none g.S.Source.takes c.args.self.now.ended c.args.source.now;
+}

@@ -1,6 +1,7 @@
 -- Nothing is given yet, bytes were taken behind the pending ones, and the source failed no more than before.
 use Rattle.std.proofs.Common.{◌≡◌, ◌-◌, ◌+◌, length, cond, true}
 use Rattle.std.specs.Io.KnownBytes.{Keeps}
+use Rattle.line_io.specs.Calls.{Asks}
 use Rattle.line_io.specs.Line.{line_limit}
 use Rattle.line_io.specs.Reader.{ahead, Drained, is_settled}
 use Rattle.line_io.specs.Scan.{Takes}
@@ -16,6 +17,7 @@ invariant-loop-size g l = record {
   number : l.self.number ≡ l.initial.self.number;
   text : l.self.text ≡ l.initial.self.text;
   faults : g.S.Source.faults l.source ≡ g.S.Source.faults l.initial.source;
+  asks : Asks g.S.Source.takes l.initial.self.ended l.initial.source l.self.ended l.source;
 }
 
 abbrev pub decreases-loop-size : goal.decreases-loop-size

@@ -1,9 +1,11 @@
 -- A refill moves the pending bytes to the front and takes more behind them.
-use Rattle.std.proofs.Common.{◌≡◌, ◌+◌, ◌-◌, ◌++◌, ◌∙◌, ap, sym, arith, length, take, drop}
+use Rattle.std.specs.Prelude.{◌==◌}
+use Rattle.std.proofs.Common.{◌≡◌, Ok, ◌+◌, ◌-◌, ◌++◌, ◌∙◌, ap, sym, arith, length, take, drop}
 use Rattle.std.specs.Vec.{with_items}
-use Rattle.std.proofs.lemmas.Bool.{both_ways}
+use Rattle.std.proofs.lemmas.Bool.{both_ways, eq-eqb, ne_eqb}
 use Rattle.std.proofs.lemmas.List.{with_items_is, length-drop, length-take}
 use Rattle.line_io.specs.Line.{line_limit}
+use Rattle.line_io.proofs.CallLemmas.{asks-one}
 use Rattle.line_io.proofs.LineLemmas.{unsettled-open, unsettled-few}
 use Rattle.line_io.proofs.ReaderLemmas.{keeps-end, keeps-more, refilled}
 use Rattle.line_io.proofs.lines.Lines.refill.Goals as goal
@@ -64,3 +66,18 @@ returns-clause-drained g c = λ _ over.
       | then-count-eq0 w ↦ c.in_ok-count.ensures.end w.if-count-eq0.true
       | else-count-eq0 w ↦ absurd (both_ways _ on (sym (ap (λ i. i.ended) w.self-inside-is) ∙ over))
     ]
+
+pub returns-in_err-count-clause-asks : goal.returns-in_err-count-clause-asks
+returns-in_err-count-clause-asks g c =
+    let off = (unsettled-open c.args.self.now c.requires).0 in
+    asks-one g.S.Source.takes c.args.source.now c.take_behind.new.source c.args.self.now.ended c.self.inside.ended _ off c.in_err-count.ensures.offered (ap (λ r. r.ended) c.self.view_is ∙ off)
+
+pub returns-clause-asks : goal.returns-clause-asks
+returns-clause-asks g c =
+    let off = (unsettled-open c.args.self.now c.requires).0 in
+    let n = c.in_ok-count.count in
+    let is : c.if-count-eq0.self-inside.ended ≡ (n == 0) = elim c.if-count-eq0.branch [
+      | then-count-eq0 w ↦ rw w.self-inside-is (sym (eq-eqb n 0 w.if-count-eq0.true))
+      | else-count-eq0 w ↦ rw w.self-inside-is (ap (λ r. r.ended) c.self.view_is ∙ off ∙ sym (ne_eqb n 0 w.if-count-eq0.false))
+    ] in
+    asks-one g.S.Source.takes c.args.source.now c.take_behind.new.source c.args.self.now.ended c.if-count-eq0.self-inside.ended (Ok n) off c.in_ok-count.ensures.offered is
