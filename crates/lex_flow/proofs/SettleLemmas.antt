@@ -8,7 +8,8 @@ use Rattle.evac_law.specs.Building.{IsValid, arrival, people, start}
 use Rattle.evac_law.specs.Certificates.{IsCertified, IsShortfall, label_cut}
 use Rattle.evac_law.specs.LabelTable.{LabelTable, label_at, unset}
 use Rattle.evac_law.specs.Plans.{IsFeasible, last_arrival}
-use Rattle.evac_law.proofs.Optimal.{empty_cut_is}
+use Rattle.evac_law.proofs.Entries.{empty_cut_is, entered_le}
+use Rattle.evac_law.proofs.Optimal.{label_cut_is_cut}
 use Rattle.evac_law.proofs.SumLemmas as sums
 use Rattle.residual_net.specs.declared.place.Place.TheVariants.{Supply}
 use Rattle.residual_net.specs.Closed.{IsClosed}
@@ -75,7 +76,7 @@ horizon_is m w of = ap (λ (s : Site). s.shape.horizon) of.site
 
 -- no more than the people arrive
 pub within_people : (m : Model) (w : Network) (k : ℕ) → IsValid m → IsNet w → IsNetOf m w → IsWithinLimits w → k ≤ m.horizon → arrived_by w k ≤ people m
-within_people m w k valid net of within l = omega (arith, arrived_within m w valid net of within (λ _ _. false) k l, empty_cut_is m k)
+within_people m w k valid net of within l = omega (arith, arrived_within m w valid net of within (λ _ _. false) k l, empty_cut_is m k, entered_le m k)
 
 -- somebody who arrives at a moment or later, or is unsent, stays so
 still_needed : (m : Model) (w v : Network) (k : ℕ) → IsValid m → IsNet w → IsNetOf m w → IsWithinLimits w → IsNet v → IsNetOf m v → IsWithinLimits v
@@ -231,6 +232,7 @@ certified m w l valid net of within sent closed = (
 shortfall : (m : Model) (w : Network) (l : LabelTable) → IsValid m → IsNet w → IsNetOf m w → IsWithinLimits w → (AreStartsSent w → ⊥)
     → IsClosed w (labelled l m.horizon) m.horizon → IsShortfall m (label_cut m l m.horizon) (arrived_by w m.horizon)
 shortfall m w l valid net of within unsent closed = record {
+  cut = label_cut_is_cut m l m.horizon (omega arith);
   worth = sym (closed_is_cut m w valid net of within l m.horizon (omega arith) closed);
   below_people = omega (arith, within_people m w m.horizon valid net of within (omega arith), fewer);
 }

@@ -147,6 +147,7 @@ pub fn settle_all<L: Ledger>(
     ensures ticked { steps.new ≡ steps.old + pushes_of result }
 {
     let _ = net.shape();
+    search.renew();
     unset_from(labels, from);
     let progress = settle_on(net, labels, search, from, steps);
     outcome_of(net, progress.pushes)

@@ -17,15 +17,15 @@ use Rattle.time_expansion.specs.Expansion.{Expansion, cells}
 use Rattle.time_expansion.specs.declared.ends.Ends.{Ends}
 use Rattle.residual_net.specs.declared.place.Place.{Place}
 use Rattle.residual_net.specs.declared.place.Place.TheVariants.{Arc, Hold, Supply}
+use Rattle.residual_net.specs.declared.place.Cell.{Cell}
 use Rattle.residual_net.specs.declared.start.Kind.{Kind}
 use Rattle.residual_net.specs.declared.start.Kind.TheVariants as kinds
 use Rattle.residual_net.specs.Limits.{supply_limit}
 use Rattle.residual_net.specs.Site.{Site, IsSite, IsPlace, End_test, arcs_of, at, exit_at, head_of, is_barred, is_door, is_source, same_place, sum_places, tail_of}
 use Rattle.residual_net.specs.Site.End.{Pair, Door}
-use Rattle.residual_net.specs.Network.{Network, IsBlank, IsGrid, IsKept, IsStored, flow_at, flow_into, flow_out, limit_at, supply_limits, with_saved}
-use Rattle.residual_net.specs.Change.{IsLimitSet}
+use Rattle.residual_net.specs.Network.{Network, IsBlank, IsGrid, IsKept, IsStored, flow_at, flow_into, flow_out, limit_at, supply_limits}
 use Rattle.residual_net.specs.OfModel.{IsNetOf, model_limit, site_of}
-use Rattle.residual_net.specs.Start.{SetsLimits, StartsAs, is_kind, moment_of, number_of, place_of}
+use Rattle.residual_net.specs.Start.{IsLimitGiven, IsUnused, SetsLimits, StartsAs, is_kind, moment_of, number_of, place_of}
 use Rattle.residual_net.proofs.Places.{sum_places-same, sum_places-none, same-place}
 use Rattle.residual_net.proofs.Held.{arrival_is, exit_is, from_is, same_in}
 
@@ -100,7 +100,7 @@ site_made m shape n ends exits travels e f g h i =
 step_test : (a n s t : ℕ) → (eqb a n && ltb s (t + 1)) ≡ ((eqb n a && eqb t s) || (eqb a n && ltb s t))
 step_test a n s t = grind (arith, nat_tests)
 
-row_test : (b : Bool) (a n : ℕ) → (b && ltb a (n + 1)) ≡ ((b && eqb a n) || (b && ltb a n))
+pub row_test : (b : Bool) (a n : ℕ) → (b && ltb a (n + 1)) ≡ ((b && eqb a n) || (b && ltb a n))
 row_test b a n = grind (arith, nat_tests)
 
 -- the places of a row at the moments so far
@@ -111,7 +111,7 @@ row_so_far k n t q = (is_kind k q && eqb (number_of q) n) && ltb (moment_of q) t
 abbrev pub rows_so_far : Kind → ℕ → Place → Bool
 rows_so_far k n q = is_kind k q && ltb (number_of q) n
 
-row_step : (k : Kind) (n t : ℕ) (q : Place) → row_so_far k n (t + 1) q ≡ (same_place (place_of k n t) q || row_so_far k n t q)
+pub row_step : (k : Kind) (n t : ℕ) (q : Place) → row_so_far k n (t + 1) q ≡ (same_place (place_of k n t) q || row_so_far k n t q)
 row_step kinds.Arc n t (Arc a s) = step_test a n s t
 row_step kinds.Arc n t (Hold a s) = refl
 row_step kinds.Arc n t (Supply a s) = refl
@@ -122,15 +122,15 @@ row_step kinds.Supply n t (Arc a s) = refl
 row_step kinds.Supply n t (Hold a s) = refl
 row_step kinds.Supply n t (Supply a s) = step_test a n s t
 
-none_before : (b : Bool) (s : ℕ) → (b && ltb s 0) ≡ false
+pub none_before : (b : Bool) (s : ℕ) → (b && ltb s 0) ≡ false
 none_before b s = grind (arith, nat_tests)
 
-all_before : (b : Bool) (s t : ℕ) → s < t → (b && ltb s t) ≡ b
+pub all_before : (b : Bool) (s t : ℕ) → s < t → (b && ltb s t) ≡ b
 all_before b s t l = grind (arith, nat_tests)
 
-pub sets_none : (m : Model) (w : Network) (b : Place → Bool) → IsGrid w → ((q : Place) → b q ≡ false) → SetsLimits m w w b
+pub sets_none : (m : Model) (w : Network) (b : Place → Bool) → IsUnused w → ((q : Place) → b q ≡ false) → SetsLimits m w w b
 sets_none m w b g none = record {
-  grid = g;
+  unused = g;
   site = refl;
   flows = λ p i. refl;
   limits = λ p i. sym (ap (λ z. cond z (model_limit m p) (limit_at w p)) (none p));
@@ -138,7 +138,7 @@ sets_none m w b g none = record {
 
 pub sets_same : (m : Model) (w v : Network) (b c : Place → Bool) → SetsLimits m w v b → ((q : Place) → IsPlace w.site q → b q ≡ c q) → SetsLimits m w v c
 sets_same m w v b c h same = record {
-  grid = h.grid;
+  unused = h.unused;
   site = h.site;
   flows = h.flows;
   limits = λ p i. h.limits p i ∙ ap (λ z. cond z (model_limit m p) (limit_at w p)) (same p i);
@@ -147,7 +147,7 @@ sets_same m w v b c h same = record {
 sets_then : (m : Model) (w u v : Network) (b c d : Place → Bool) → SetsLimits m w u b → SetsLimits m u v c
     → ((q : Place) → d q ≡ (c q || b q)) → SetsLimits m w v d
 sets_then m w u v b c d h g or = record {
-  grid = g.grid;
+  unused = g.unused;
   site = g.site ∙ h.site;
   flows = λ p i. g.flows p (subst (λ s. IsPlace s p) (sym h.site) i) ∙ h.flows p i;
   limits = λ p i.
@@ -161,9 +161,9 @@ sets_then m w u v b c d h g or = record {
     either true b x y = refl
     either false b x y = refl
 
-one_set : (m : Model) (u v : Network) (p : Place) → IsGrid v → IsLimitSet u v p (model_limit m p) → SetsLimits m u v (same_place p)
-one_set m u v p g h = record {
-  grid = g;
+one_set : (m : Model) (u v : Network) (p : Place) → IsLimitGiven u v p (model_limit m p) → SetsLimits m u v (same_place p)
+one_set m u v p h = record {
+  unused = h.unused;
   site = h.site;
   flows = h.flows;
   limits = λ q i. h.limits q i ∙ swap q (cases_Bool (same_place p q));
@@ -174,15 +174,15 @@ one_set m u v p g h = record {
     swap q (inl e) = rw e (ap (model_limit m) (same-place p q e))
     swap q (inr e) = rw e refl
 
-pub row_begin : (m : Model) (w : Network) (k : Kind) (n : ℕ) → IsGrid w → SetsLimits m w w (row_so_far k n 0)
+pub row_begin : (m : Model) (w : Network) (k : Kind) (n : ℕ) → IsUnused w → SetsLimits m w w (row_so_far k n 0)
 row_begin m w k n g = sets_none m w (row_so_far k n 0) g (λ q. none_before (is_kind k q && eqb (number_of q) n) (moment_of q))
 
-pub row_more : (m : Model) (w u v : Network) (k : Kind) (n t : ℕ) → SetsLimits m w u (row_so_far k n t) → IsGrid v
-    → IsLimitSet u v (place_of k n t) (model_limit m (place_of k n t)) → SetsLimits m w v (row_so_far k n (t + 1))
-row_more m w u v k n t h g set =
-    sets_then m w u v (row_so_far k n t) (same_place (place_of k n t)) (row_so_far k n (t + 1)) h (one_set m u v (place_of k n t) g set) (row_step k n t)
+pub row_more : (m : Model) (w u v : Network) (k : Kind) (n t : ℕ) → SetsLimits m w u (row_so_far k n t)
+    → IsLimitGiven u v (place_of k n t) (model_limit m (place_of k n t)) → SetsLimits m w v (row_so_far k n (t + 1))
+row_more m w u v k n t h set =
+    sets_then m w u v (row_so_far k n t) (same_place (place_of k n t)) (row_so_far k n (t + 1)) h (one_set m u v (place_of k n t) set) (row_step k n t)
 
-in_horizon : (s : Site) (q : Place) → IsPlace s q → moment_of q < s.shape.horizon + 1
+pub in_horizon : (s : Site) (q : Place) → IsPlace s q → moment_of q < s.shape.horizon + 1
 in_horizon s (Arc a t) i = omega (arith, i.1)
 in_horizon s (Hold a t) i = omega (arith, i.1)
 in_horizon s (Supply a t) i = omega (arith, i.1)
@@ -193,7 +193,7 @@ row_end m w u k n t h l =
     sets_same m w u (row_so_far k n t) (λ q. is_kind k q && eqb (number_of q) n) h
     (λ q i. all_before (is_kind k q && eqb (number_of q) n) (moment_of q) t (omega (arith, in_horizon w.site q i, l)))
 
-pub rows_begin : (m : Model) (w : Network) (k : Kind) → IsGrid w → SetsLimits m w w (rows_so_far k 0)
+pub rows_begin : (m : Model) (w : Network) (k : Kind) → IsUnused w → SetsLimits m w w (rows_so_far k 0)
 rows_begin m w k g = sets_none m w (rows_so_far k 0) g (λ q. none_before (is_kind k q) (number_of q))
 
 pub rows_more : (m : Model) (w u v : Network) (k : Kind) (n : ℕ) → SetsLimits m w u (rows_so_far k n)
@@ -214,26 +214,22 @@ place_moment s kinds.Arc n t i l = (i.0, l)
 place_moment s kinds.Hold n t i l = (i.0, l)
 place_moment s kinds.Supply n t i l = (i.0, l)
 
-grid_saved : (w : Network) → IsGrid w → IsGrid (with_saved w)
-grid_saved w g = record { site = g.site; full = g.full; saved_full = g.full }
-
 -- arcs, holds and supplies in turn
 pub starts_as : (m : Model) (w a h v : Network) → IsBlank w → w.site ≡ site_of m → SetsLimits m w a (is_kind kinds.Arc)
-    → SetsLimits m a h (is_kind kinds.Hold) → SetsLimits m h v (is_kind kinds.Supply) → StartsAs m (with_saved v)
-unfolding flow_at limit_at
+    → SetsLimits m a h (is_kind kinds.Hold) → SetsLimits m h v (is_kind kinds.Supply) → StartsAs m v
 starts_as m w a h v blank site arcs holds supplies =
     let some = sets_then m w a h (is_kind kinds.Arc) (is_kind kinds.Hold) (λ q. is_kind kinds.Hold q || is_kind kinds.Arc q) arcs holds (λ q. refl) in
     let all = sets_then m w h v (λ q. is_kind kinds.Hold q || is_kind kinds.Arc q) (is_kind kinds.Supply)
     (λ q. is_kind kinds.Supply q || (is_kind kinds.Hold q || is_kind kinds.Arc q)) some supplies (λ q. refl) in
     let in_w = λ (p : Place) (i : IsPlace v.site p). subst (λ s. IsPlace s p) all.site i in
     record {
-      grid = grid_saved v all.grid;
+      grid = all.unused.grid;
       of = record {
         site = all.site ∙ site;
         limits = λ p i. all.limits p (in_w p i) ∙ ap (λ b. cond b (model_limit m p) (limit_at w p)) (every p);
       };
       flows = λ p i. all.flows p (in_w p i) ∙ blank.flows p (in_w p i);
-      saved = refl;
+      saved = ap (λ (z : List Cell). record v { cells = z }) all.unused.saved;
     }
   where
     every : (p : Place) → (is_kind kinds.Supply p || (is_kind kinds.Hold p || is_kind kinds.Arc p)) ≡ true

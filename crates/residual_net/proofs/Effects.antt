@@ -1,5 +1,5 @@
 -- Arrivals after pushes and cancels, everybody sent, and supplies within their limit.
-use Rattle.std.proofs.Common.{◌≡◌, ℕ, ◌+◌, ◌*◌, ◌<◌, ◌≤◌, Bool, true, false, cond, ◌&&◌, eqb, leb, List, length, refl, ap, sym, ◌∙◌, arith, inl, inr, ◌⊎◌, subst}
+use Rattle.std.proofs.Common.{◌≡◌, ℕ, ◌+◌, ◌*◌, ◌<◌, ◌≤◌, Bool, true, false, cond, ◌&&◌, eqb, leb, List, length, get_or, refl, ap, sym, ◌∙◌, arith, inl, inr, ◌⊎◌, subst}
 use Rattle.std.specs.List.{All}
 use Rattle.std.proofs.lemmas.Bool.{cases_Bool, cases_lt, ltb-false, le-leb}
 use Rattle.evac_law.specs.declared.model.Model.{Model}
@@ -15,32 +15,51 @@ use Rattle.residual_net.specs.Site.{Site, End, IsPlace, arcs_of, arrival_at, doo
 use Rattle.residual_net.specs.Site.End.{Source, Pair, Door}
 use Rattle.residual_net.specs.Network.{Network, IsAllSent, IsNet, IsWithinLimits, arrived_by, flow_at, flow_into, flow_out, limit_at, supply_limits}
 use Rattle.residual_net.specs.Route.{IsAugmentingPath, IsPushed, Leads}
-use Rattle.residual_net.specs.Change.{IsCancelled, supply_limits_with}
+use Rattle.residual_net.specs.Change.{IsCancelled, IsFlowPath, supply_limits_with}
 use Rattle.residual_net.specs.OfModel.{IsNetOf, site_of}
 use Rattle.residual_net.proofs.Begin.{entries_are_people}
 use Rattle.residual_net.proofs.Held.{same_in}
-use Rattle.residual_net.proofs.Places.{same-place, sum_places-le, sum_places-pick, sum_places-same, sum_places-split}
-use Rattle.residual_net.proofs.Push.{arrived_moved, cancel_arrived}
+use Rattle.residual_net.proofs.Places.{same-place, sum_places-le, sum_places-none, sum_places-pick, sum_places-same, sum_places-split}
+use Rattle.residual_net.proofs.Push.{arrived_moved, balance, cancel_arrived}
 use Rattle.residual_net.proofs.Taking.{undone}
+
+places_after : (w v : Network) (p : Place) (path : List PathStep) (x : ℕ) → IsCancelled w v p path x → All (λ r. IsPlace v.site r.place) path
+places_after w v p path x c i d l = subst (λ (s : Site). IsPlace s (get_or path i d).place) (sym c.taken.site) (c.arrives.1.places i d l)
 
 pub push_moves : (w v : Network) (path : List PathStep) (x : ℕ) (e : End) (k : ℕ) → IsAugmentingPath w path x e k → IsPushed w v path x
     → (j : ℕ) → arrived_by v j + cond (door_by j e) x 0 ≡ arrived_by w j + cond (leb k j) x 0
 push_moves w v path x e k p a j = arrived_moved w v path x a p.places e k p.origin p.leads j
 
-at_most : (b : Bool) (x : ℕ) → cond b x 0 ≤ x
-at_most true x = omega arith
-at_most false x = omega arith
+pub cancel_lowers : (w v : Network) (p : Place) (path : List PathStep) (x k : ℕ) → IsCancelled w v p path x → IsFlowPath w.site path k
+    → (j : ℕ) → arrived_by v j + cond (leb k j) x 0 ≡ arrived_by w j
+cancel_lowers w v p path x k c flow j =
+    let leads = subst (λ (s : Site). Leads s Source path (Door k)) (sym c.taken.site) flow.leads in
+    cancel_arrived w v path x (undone w v path x c.taken flow.forwards) (places_after w v p path x c) k leads j
 
-pub cancel_lowers : (w v : Network) (p : Place) (path : List PathStep) (x : ℕ) → IsCancelled w v p path x
-    → (j : ℕ) → (arrived_by v j ≤ arrived_by w j) × (arrived_by w j ≤ arrived_by v j + x)
-cancel_lowers w v p path x c j =
+no_source : (s : Site) (p : Place) → is_source (head_of s p) ≡ false
+no_source s (Arc a t) = of_exit (exit_at s (to_at s.shape a)) _ _ _
+  where
+    of_exit : (b : Bool) (n t u : ℕ) → is_source (cond b (Door t) (Pair n u)) ≡ false
+    of_exit true n t u = refl
+    of_exit false n t u = refl
+no_source s (Hold n t) = refl
+no_source s (Supply n t) = refl
+
+into_source : (w : Network) → flow_into w is_source ≡ 0
+unfolding flow_into
+into_source w = sum_places-same w.site _ (λ _. 0) (λ p _. ap (λ b. cond b (flow_at w p) 0) (no_source w.site p)) ∙ sum_places-none w.site
+
+pub fewer_sent : (w v : Network) (p : Place) (path : List PathStep) (x : ℕ) → IsCancelled w v p path x → flow_out v is_source + x ≡ flow_out w is_source
+fewer_sent w v p path x c =
     let k = c.arrives.0 in
     let flow = c.arrives.1 in
-    let site = c.taken.site in
-    let places : All (λ (r : PathStep). IsPlace v.site r.place) path = λ i d l. subst (λ (s : Site). IsPlace s (Rattle.std.proofs.Common.get_or path i d).place) (sym site) (flow.places i d l) in
-    let leads = subst (λ (s : Site). Leads s Source path (Door k)) (sym site) flow.leads in
-    let fall = cancel_arrived w v path x (undone w v path x c.taken flow.forwards) places k leads j in
-    (omega (arith, fall), omega (arith, fall, at_most (leb k j) x))
+    let leads = subst (λ (s : Site). Leads s Source path (Door k)) (sym c.taken.site) flow.leads in
+    omega (
+      arith,
+      balance v w path x (undone w v path x c.taken flow.forwards) (places_after w v p path x c) is_source Source (Door k) leads,
+      into_source v,
+      into_source w,
+    )
 
 -- ---- everybody sent
 

@@ -8,9 +8,9 @@ use Rattle.std.proofs.lemmas.List.Elements.{All-get_or}
 use Rattle.evac_law.specs.declared.model.NodeRow.{NodeRow}
 use Rattle.evac_law.specs.Building.{IsValid, IsArc, is_exit_at, no_node, no_arc, tail, head, arrival, entry}
 use Rattle.evac_law.specs.Names.{is_exit}
-use Rattle.evac_law.specs.Plans.{came, left}
+use Rattle.evac_law.specs.Plans.{came, coming, leaving, left}
 use Rattle.evac_law.proofs.SumLemmas.{sum2, sum2-le, sum2-same, sum2-nothing}
-use Rattle.evac_law.proofs.WeakDuality.{leaving, coming, came-zero, came-suc, left-zero, left-suc}
+use Rattle.evac_law.proofs.WeakDuality.{came-zero, came-suc, left-zero, left-suc}
 use Rattle.time_expansion.specs.Expansion.{from_at, to_at, no_ends}
 use Rattle.residual_net.specs.declared.place.Place.TheVariants.{Arc, Hold, Supply}
 use Rattle.residual_net.specs.Site.{Site, at, head_of, tail_of, exit_at, arrival_at, arcs_of, sum_places}

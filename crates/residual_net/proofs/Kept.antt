@@ -1,5 +1,5 @@
 -- What a net keeps beside its flow, where only limits or the saved copy change.
-use Rattle.std.proofs.Common.{◌≡◌, ℕ, ◌≤◌, true, false, cond, inl, inr, ◌⊎◌, List, length, take, drop, ◌++◌, get_or, replicate, reverse, refl, ap, sym, ◌∙◌, arith, subst}
+use Rattle.std.proofs.Common.{◌≡◌, ℕ, ◌≤◌, true, false, cond, inl, inr, ◌⊎◌, List, length, take, drop, ◌++◌, get_or, replicate, refl, ap, sym, ◌∙◌, arith, subst}
 use Rattle.std.proofs.lemmas.List.{take_at, length-replicate, get_or-replicate}
 use Rattle.std.proofs.lemmas.Bool.{cases_Bool}
 use Rattle.residual_net.specs.declared.place.Place.{Place}
@@ -9,8 +9,6 @@ use Rattle.residual_net.specs.Site.{Site, IsSite, IsPlace, End_test, all_cells, 
 use Rattle.residual_net.specs.Site.End.{Pair, Door}
 use Rattle.residual_net.specs.Network.{Network, IsBlank, IsGrid, IsKept, IsStored, flow_at, flow_into, flow_out, limit_at, no_cell, saved_of, supply_limits, with_saved}
 use Rattle.residual_net.specs.Change.{IsLimitSet, supply_limits_with}
-use Rattle.residual_net.specs.Route.{Trail}
-use Rattle.residual_net.specs.declared.place.PathStep.{PathStep}
 use Rattle.residual_net.proofs.Places.{sum_places-same, cell_below, same-place}
 
 -- ---- the saved copy
@@ -127,20 +125,3 @@ blank s cells saved h e f = record {
   flows = λ p i. ap (λ (z : List Cell). (get_or z (cell_of s p) no_cell).flow) e ∙ ap (λ (z : Cell). z.flow) (get_or-replicate (all_cells s) (cell_of s p) no_cell no_cell (cell_below s p i));
   limits = λ p i. ap (λ (z : List Cell). (get_or z (cell_of s p) no_cell).limit) e ∙ ap (λ (z : Cell). z.limit) (get_or-replicate (all_cells s) (cell_of s p) no_cell no_cell (cell_below s p i));
 }
-
--- ---- a path turned round
-
-abbrev trail : List PathStep → ℕ → Trail
-trail steps room = record { steps = steps; room = room }
-
-pub turned : (steps items now : List PathStep) (len size : ℕ) (t : Trail) → trail (take len items) (length items) ≡ t → size ≡ length items
-    → steps ≡ items → length now ≡ length steps → take len now ≡ reverse (take len steps)
-    → trail (take len (take size (now ++ drop (length now) items))) (length (take size (now ++ drop (length now) items))) ≡ trail (reverse t.steps) t.room
-turned steps items now len size t view full e long h =
-    let all : take size (now ++ drop (length now) items) ≡ now = refilled items now now size (full) refl (omega (arith, long, ap length e)) in
-    let there : trail (take len now) (length now) ≡ trail (reverse (take len items)) (length items) =
-    ap (λ (z : List PathStep). trail z (length now)) (h ∙ ap (λ (z : List PathStep). reverse (take len z)) e)
-    ∙ ap (λ (z : ℕ). trail (reverse (take len items)) z) (long ∙ ap length e) in
-    ap (λ (z : List PathStep). trail (take len z) (length z)) all
-    ∙ there
-    ∙ ap (λ (z : Trail). trail (reverse z.steps) z.room) view

@@ -1,6 +1,7 @@
 pub mod Places
 pub mod Push
 pub mod Steps
+pub mod Saving
 pub mod Arrivals
 pub mod Quiet
 pub mod Held

@@ -14,7 +14,7 @@ use Rattle.residual_net.specs.Site.End.{Source, Pair, Door}
 use Rattle.residual_net.specs.Network.{Network, IsGrid, IsNet, IsWithinLimits, supply_limits, flow_into, flow_out, no_cell, flow_at, limit_at, residual_room, with_cell}
 use Rattle.residual_net.specs.Change.{IsLimitSet}
 use Rattle.residual_net.specs.Route.{IsPushed, IsPushable, IsOrigin, Leads, added, taken}
-use Rattle.residual_net.proofs.Places.{sum_places-same, sum_places-le, cell_below, cell_written, same-place}
+use Rattle.residual_net.proofs.Places.{sum_places-same, sum_places-le, cell_below, cell_written, place-same, same-place}
 use Rattle.residual_net.proofs.Push.{still_conserved}
 
 pub cell_in : (w : Network) (p : Place) → IsGrid w → IsPlace w.site p → cell_of w.site p < length w.cells
@@ -130,6 +130,33 @@ taken_none (r ∷ rs) x p a =
       none_of r.back (same_place r.place p) x (differ r.place p (All-head (λ (r : PathStep). r.place ≢ p) r rs a)),
       taken_none rs x p (All-tail (λ (r : PathStep). r.place ≢ p) r rs a),
     )
+
+-- a path forwards adds the people to each of its places
+pub added_on : (path : List PathStep) (x i : ℕ) (d : PathStep) → All (λ r. r.back ≡ false) path → i < length path → x ≤ added path x (get_or path i d).place
+unfolding added
+added_on [] x i d a l = absurd (omega (arith, l))
+added_on (r ∷ rs) x zero d a l =
+    let on : r.back ≡ false = All-head (λ (r : PathStep). r.back ≡ false) r rs a in
+    let here : cond (not r.back && same_place r.place r.place) x 0 ≡ x = rw (on, place-same r.place) refl in
+    omega (arith, sum_by-cons (λ (y : PathStep). cond (not y.back && same_place y.place r.place) x 0) r rs, here)
+added_on (r ∷ rs) x (suc i) d a l =
+    let p = (get_or rs i d).place in
+    let rest = added_on rs x i d (All-tail (λ (r : PathStep). r.back ≡ false) r rs a) (omega (arith, l)) in
+    omega (arith, sum_by-cons (λ (y : PathStep). cond (not y.back && same_place y.place p) x 0) r rs, rest)
+
+-- and to no other
+pub added_some : (path : List PathStep) (x : ℕ) (p : Place) → 0 < added path x p
+    → (i : ℕ) × (r : PathStep) × (i < length path) × (get_or path i r ≡ r) × (r.place ≡ p)
+unfolding added
+added_some [] x p some = absurd (omega (arith, some))
+added_some (r ∷ rs) x p some = elim (cases_Bool (same_place r.place p)) [
+  | inl e ↦ (0, r, omega arith, refl, same-place r.place p e)
+  | inr e ↦
+      let none = none_of (not r.back) (same_place r.place p) x e in
+      let more : 0 < added rs x p = omega (arith, some, sum_by-cons (λ (y : PathStep). cond (not y.back && same_place y.place p) x 0) r rs, none) in
+      let rest = added_some rs x p more in
+      (suc rest.0, rest.1, omega (arith, rest.2), rest.3, rest.4)
+]
 
 pub apart-cons : (r : PathStep) (rs : List PathStep) → AllPairs (λ x y. x.place ≢ y.place) (r ∷ rs)
     → All (λ y. y.place ≢ r.place) rs × AllPairs (λ x y. x.place ≢ y.place) rs

@@ -17,4 +17,5 @@ pub mod OfModel
 pub mod Start
 pub mod Sent
 pub mod NetLaws
+pub mod Labelled
 pub mod Worked

@@ -11,10 +11,10 @@ use Rattle.residual_net.specs.declared.place.PathStep.{PathStep}
 use Rattle.residual_net.specs.declared.place.Place.{Place}
 use Rattle.residual_net.specs.declared.place.Place.TheVariants.{Supply}
 use Rattle.residual_net.specs.Limits.{supply_limit}
-use Rattle.residual_net.specs.Site.{End, IsPlace, door_by, start_of, stop_of}
-use Rattle.residual_net.specs.Network.{Network, IsAllSent, IsNet, IsWithinLimits, arrived_by, limit_at, residual_room}
+use Rattle.residual_net.specs.Site.{End, IsPlace, door_by, is_source, start_of, stop_of}
+use Rattle.residual_net.specs.Network.{Network, IsAllSent, IsNet, IsWithinLimits, arrived_by, flow_out, limit_at, residual_room}
 use Rattle.residual_net.specs.Route.{IsAugmentingPath, IsPushable, IsPushed}
-use Rattle.residual_net.specs.Change.{IsCancelled, supply_limits_with}
+use Rattle.residual_net.specs.Change.{IsCancelled, IsFlowPath, supply_limits_with}
 use Rattle.residual_net.specs.Closed.{IsClosed, reached}
 use Rattle.residual_net.specs.OfModel.{IsNetOf, last_move, plan_of, site_of, stand_of}
 
@@ -66,11 +66,11 @@ PushMovesArrivals =
     (w v : Network) (path : List PathStep) (x : ℕ) (e : End) (k : ℕ) → IsAugmentingPath w path x e k → IsPushed w v path x
     → (j : ℕ) → arrived_by v j + (if door_by j e then x else 0) ≡ arrived_by w j + (if nat_le k j then x else 0)
 
--- a cancel lowers no moment's arrivals by more than it takes off, and raises none
+-- a cancel takes its people off those sent, and off those who have arrived by each moment from the path's last one on
 abbrev pub CancelLowersArrivals : Type 0
 CancelLowersArrivals =
-    (w v : Network) (p : Place) (path : List PathStep) (x : ℕ) → IsCancelled w v p path x
-    → (j : ℕ) → (arrived_by v j ≤ arrived_by w j) × (arrived_by w j ≤ arrived_by v j + x)
+    (w v : Network) (p : Place) (path : List PathStep) (x k : ℕ) → IsCancelled w v p path x → IsFlowPath w.site path k
+    → ((j : ℕ) → arrived_by v j + (if nat_le k j then x else 0) ≡ arrived_by w j) × (flow_out v is_source + x ≡ flow_out w is_source)
 
 -- everybody arrives by the horizon exactly where everybody is sent
 abbrev pub SentIsArrived : Type 0

@@ -105,7 +105,7 @@ fn place_into(grid: &Grid, node: u32, moment: u16) -> Place
     }
 }
 
-/// A place with flow that leads out of a node at a moment.
+/// A place with flow that leads out of a node at a moment: the hold where it has flow, so that those who leave last are taken off.
 fn place_out(grid: &Grid, node: u32, moment: u16) -> Place
     requires node { node < grid.now.site.shape.nodes }
     requires moment { moment ≤ grid.now.site.shape.horizon }
@@ -114,6 +114,10 @@ fn place_out(grid: &Grid, node: u32, moment: u16) -> Place
     ensures leads { tail_of grid.now.site result ≡ Pair node moment }
     ensures some { 0 < flow_at grid.now result }
 {
+    let hold = Place::Hold { node, moment };
+    if grid.get(hold).flow > 0 {
+        return hold;
+    }
     let arcs = grid.shape().leaving(node);
     for arc in arcs {
         let place = Place::Arc { arc: *arc, moment };
@@ -121,7 +125,7 @@ fn place_out(grid: &Grid, node: u32, moment: u16) -> Place
             return place;
         }
     }
-    Place::Hold { node, moment }
+    hold
 }
 
 /// Fills a path with the steps from a supply to a place, along flow.

@@ -1,10 +1,11 @@
 // The cells of a net, with no rule on its flow.
-ghost use Rattle.std.specs.Prelude.{◌≡◌, ◌∷◌, [], ◌≤◌, ◌<◌, ◌+◌, IsTrue, IfOk, length, replicate};
+ghost use Rattle.std.specs.Prelude.{◌≡◌, ◌∷◌, [], ◌≤◌, ◌<◌, ◌+◌, IsTrue, IfOk, length, replicate, vec_capacity};
 ghost use Rattle.residual_net.specs.Site.{IsSite, IsPlace, arrival_at, cell_of, exit_at, head_of, is_door, tail_of};
 ghost use Rattle.residual_net.specs.Site.End.{Door, Pair, Source};
 ghost use Rattle.residual_net.specs.Network.{IsBlank, IsGrid, flow_at, limit_at, no_cell, residual_room, saved_of, with_cell, with_saved};
 ghost use Rattle.residual_net.specs.Route.{IsPushed};
 ghost use Rattle.residual_net.specs.Change.{IsLimitSet};
+ghost use Rattle.residual_net.specs.Start.{IsLimitGiven, IsUnused, saved_cells};
 
 use crate::place::{Cell, PathStep, Place};
 use std::alloc::{AllocError, Global};
@@ -12,6 +13,8 @@ use std::marker::Model;
 use time_expansion::Shape;
 
 /// The network of a net, a cell for each of its places, and the cells that were saved.
+///
+/// Until cells are saved or a limit changes, what is saved is the limits with no flow, and the memory for it isn't touched.
 #[derive(Drop)]
 pub struct Grid {
     shape: Shape,
@@ -19,16 +22,19 @@ pub struct Grid {
     travels: Vec<u16>,
     cells: Vec<Cell>,
     saved: Vec<Cell>,
+    is_saved: bool,
 }
 
 impl Model for Grid {
+    ghost use Rattle.std.specs.Prelude.{◌≤◌, length, vec_capacity};
     ghost use Rattle.residual_net.specs.Network.{IsGrid, Network};
+    ghost use Rattle.residual_net.specs.Start.{saved_cells};
 
     ghost Value = { Network };
 
-    ghost view = { λ g. record { site = record { shape = g.shape; exits = g.exits.items; travels = g.travels.items }; cells = g.cells.items; saved = g.saved.items } };
+    ghost view = { λ g. record { site = record { shape = g.shape; exits = g.exits.items; travels = g.travels.items }; cells = g.cells.items; saved = saved_cells g.is_saved g.cells.items g.saved.items } };
 
-    ghost invariant = { λ g. IsGrid (record { site = record { shape = g.shape; exits = g.exits.items; travels = g.travels.items }; cells = g.cells.items; saved = g.saved.items }) };
+    ghost invariant = { λ g. IsGrid (record { site = record { shape = g.shape; exits = g.exits.items; travels = g.travels.items }; cells = g.cells.items; saved = saved_cells g.is_saved g.cells.items g.saved.items }) × (length g.cells.items ≤ vec_capacity g.saved) };
 }
 
 /// Cells of no flow and no limit.
@@ -37,6 +43,22 @@ fn blank_cells(alloc: Global, count: usize) -> Result<Vec<Cell>, AllocError>
 {
     let blank = Cell { flow: 0, limit: 0 };
     vec![in alloc; blank; count]
+}
+
+/// Writes what is saved, where it isn't written yet.
+fn write_saved(saved: &mut Vec<Cell>, cells: &[Cell], is_saved: bool)
+    requires { length cells.now ≤ vec_capacity saved.old }
+    ensures saved { saved.new.items ≡ saved_cells is_saved cells.now saved.old.items }
+    ensures capacity { vec_capacity saved.new ≡ vec_capacity saved.old }
+{
+    if is_saved {
+        return;
+    }
+    saved.clear();
+    for cell in cells {
+        let limit = cell.limit;
+        saved.push_reserved(Cell { flow: 0, limit });
+    }
 }
 
 impl Grid {
@@ -50,17 +72,19 @@ impl Grid {
         requires { IsSite (record { shape = shape; exits = exits.items; travels = travels.items }) }
         ensures site { IfOk result (λ g. g.site ≡ record { shape = shape; exits = exits.items; travels = travels.items }) }
         ensures blank { IfOk result IsBlank }
+        ensures unused { IfOk result IsUnused }
     {
         let supplies = shape.nodes() as usize * (shape.horizon() as usize + 1);
         let count = shape.cells() as usize + supplies;
         let cells = blank_cells(alloc, count)?;
-        let saved = blank_cells(alloc, count)?;
+        let saved = Vec::with_capacity(alloc, count)?;
         Ok(Grid {
             shape,
             exits,
             travels,
             cells,
             saved,
+            is_saved: false,
         })
     }
 
@@ -70,6 +94,13 @@ impl Grid {
         ensures grid { IsGrid self.now }
     {
         &self.shape
+    }
+
+    /// The cells of all places.
+    pub fn cells(&self) -> &[Cell]
+        ensures { result.now ≡ self.now.cells }
+    {
+        self.cells.as_slice()
     }
 
     /// Whether a node is an exit.
@@ -117,9 +148,10 @@ impl Grid {
         self.cells[at]
     }
 
-    /// Puts a cell in the place of another.
+    /// Puts a cell with the same limit in the place of another.
     fn put(&mut self, place: Place, cell: Cell)
-        requires { IsPlace self.old.site place }
+        requires place { IsPlace self.old.site place }
+        requires limit { cell.limit ≡ limit_at self.old place }
         ensures { self.new ≡ with_cell self.old place cell }
     {
         let at = self.place(place);
@@ -144,6 +176,17 @@ impl Grid {
         let _ = &self.cells;
     }
 
+    /// Gives a place of a grid that nobody has used yet a limit.
+    pub fn give_limit(&mut self, place: Place, limit: u32)
+        requires place { IsPlace self.old.site place }
+        requires unused { IsUnused self.old }
+        ensures { IsLimitGiven self.old self.new place limit }
+    {
+        let at = self.place(place);
+        self.cells[at] = Cell { flow: 0, limit };
+        self.is_saved = false;
+    }
+
     /// Gives a place another limit.
     pub fn set_limit(&mut self, place: Place, limit: u32)
         requires { IsPlace self.old.site place }
@@ -151,14 +194,18 @@ impl Grid {
         ensures grid { IsGrid self.new }
     {
         let flow = self.get(place).flow;
-        self.put(place, Cell { flow, limit });
-        let _ = &self.cells;
+        let at = self.place(place);
+        write_saved(&mut self.saved, self.cells.as_slice(), self.is_saved);
+        self.is_saved = true;
+        self.cells[at] = Cell { flow, limit };
     }
 
     /// Saves the cells.
     pub fn save(&mut self)
         ensures { self.new ≡ with_saved self.old }
     {
+        write_saved(&mut self.saved, self.cells.as_slice(), self.is_saved);
+        self.is_saved = true;
         self.saved
             .as_mut_slice()
             .copy_from_slice(self.cells.as_slice());
@@ -168,6 +215,8 @@ impl Grid {
     pub fn restore(&mut self)
         ensures { self.new ≡ saved_of self.old }
     {
+        write_saved(&mut self.saved, self.cells.as_slice(), self.is_saved);
+        self.is_saved = true;
         self.cells
             .as_mut_slice()
             .copy_from_slice(self.saved.as_slice());

@@ -41,7 +41,7 @@ pub fn push_moves_arrivals()
     ensures { PushMovesArrivals }
 {}
 
-/// A cancel lowers no moment's arrivals by more than it takes off, and raises none.
+/// A cancel takes its people off those sent, and off the arrivals from its path's last moment on.
 pub fn cancel_lowers_arrivals()
     ensures { CancelLowersArrivals }
 {}

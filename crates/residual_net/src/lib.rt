@@ -27,3 +27,4 @@ pub use limits::SUPPLY_LIMIT;
 pub use net::Net;
 pub use path::Path;
 pub use place::{Cell, PathStep, Place};
+pub use start::{Kind, limit_of, place_of};

@@ -3,7 +3,7 @@ ghost use Rattle.std.specs.Prelude.{◌≡◌, ◌+◌, ◌<◌, ◌≤◌, IfOk
 ghost use Rattle.evac_law.specs.Building.{IsValid};
 ghost use Rattle.residual_net.specs.Limits.{supply_limit};
 ghost use Rattle.residual_net.specs.Site.{IsPlace, arrival_at, exit_at, is_barred};
-ghost use Rattle.residual_net.specs.Network.{IsGrid, IsNet, IsStored, IsWithinLimits, arrived_by, excess_at, flow_at, residual_room, saved_of, unsent_at, with_saved};
+ghost use Rattle.residual_net.specs.Network.{IsGrid, IsNet, IsStored, IsWithinLimits, arrived_by, excess_at, flow_at, limit_at, residual_room, saved_of, unsent_at, with_saved};
 ghost use Rattle.residual_net.specs.Route.{IsPushable, IsPushed, IsUnderway};
 ghost use Rattle.residual_net.specs.Change.{IsCancelled, IsLimitSet, IsLowering, supply_limits_with};
 ghost use Rattle.residual_net.specs.OfModel.{IsNetOf, last_move, plan_of};
@@ -13,7 +13,7 @@ ghost use Rattle.residual_net.specs.declared.place.Place.TheVariants.{Arc, Hold,
 use crate::cancel::{find_path, least, take_all};
 use crate::grid::Grid;
 use crate::path::Path;
-use crate::place::{PathStep, Place};
+use crate::place::{Cell, PathStep, Place};
 use crate::standing::last_some;
 use crate::start::grid_of;
 use evac_law::Steps;
@@ -115,6 +115,13 @@ impl Net {
         self.grid.shape()
     }
 
+    /// The cells of all places.
+    pub fn cells(&self) -> &[Cell]
+        ensures { result.now ≡ self.now.cells }
+    {
+        self.grid.cells()
+    }
+
     /// The number of the nodes.
     pub fn nodes(&self) -> u32
         ensures { result ≡ self.now.site.shape.nodes }
@@ -158,6 +165,15 @@ impl Net {
         } else {
             cell.limit - cell.flow
         }
+    }
+
+    /// The most people who may go over a place.
+    pub fn limit(&self, place: Place) -> u32
+        requires { IsPlace self.now.site place }
+        ensures { result ≡ limit_at self.now place }
+    {
+        let cell = self.grid.get(place);
+        cell.limit
     }
 
     /// The people who enter an arc at a moment.

@@ -1,34 +1,26 @@
 // A path of residual steps, in memory that is reserved once.
-ghost use Rattle.std.specs.Prelude.{◌≡◌, ◌<◌, ◌-◌, [], ◌∷◌, ◌++◌, IfOk, length, reverse, take, ◌≤◌};
+ghost use Rattle.std.specs.Prelude.{◌≡◌, ◌<◌, ◌-◌, [], ◌∷◌, ◌++◌, IfOk, length, reverse};
 
-use crate::place::{PathStep, Place};
+use crate::place::PathStep;
 use std::alloc::{AllocError, Global};
 use std::marker::Model;
 
-/// Steps one after another.
+/// Steps one after another. Memory for more of them isn't touched before they are added.
 #[derive(Drop)]
 pub struct Path {
     steps: Vec<PathStep>,
-    len: usize,
+    room: usize,
 }
 
 impl Model for Path {
-    ghost use Rattle.std.specs.Prelude.{◌≤◌, length, take};
+    ghost use Rattle.std.specs.Prelude.{◌≤◌, length, vec_capacity};
     ghost use Rattle.residual_net.specs.Route.{Trail};
 
     ghost Value = { Trail };
 
-    ghost view = { λ p. record { steps = take p.len p.steps.items; room = length p.steps.items } };
+    ghost view = { λ p. record { steps = p.steps.items; room = p.room } };
 
-    ghost invariant = { λ p. p.len ≤ length p.steps.items };
-}
-
-/// Turns the order of the first steps round.
-fn turn_front(steps: &mut [PathStep], len: usize)
-    requires { len ≤ length steps.old }
-    ensures { take len steps.new ≡ reverse (take len steps.old) }
-{
-    steps[..len].reverse();
+    ghost invariant = { λ p. (length p.steps.items ≤ p.room) × (p.room ≤ vec_capacity p.steps) };
 }
 
 impl Path {
@@ -36,26 +28,22 @@ impl Path {
     pub fn new(alloc: Global, room: usize) -> Result<Path, AllocError>
         ensures { IfOk result (λ p. p ≡ record { steps = []; room = room }) }
     {
-        let blank = PathStep {
-            place: Place::Supply { node: 0, moment: 0 },
-            back: false,
-        };
-        let steps = vec![in alloc; blank; room]?;
-        Ok(Path { steps, len: 0 })
+        let steps = Vec::with_capacity(alloc, room)?;
+        Ok(Path { steps, room })
     }
 
     /// Leaves no step.
     pub fn clear(&mut self)
         ensures { self.new ≡ record { steps = []; room = self.old.room } }
     {
-        self.len = 0;
+        self.steps.clear();
     }
 
     /// How many more steps there is room for.
     pub fn spare(&self) -> usize
         ensures { result ≡ self.now.room - length self.now.steps }
     {
-        self.steps.len() - self.len
+        self.room - self.steps.len()
     }
 
     /// Adds a step at the end.
@@ -63,21 +51,20 @@ impl Path {
         requires { length self.old.steps < self.old.room }
         ensures { self.new ≡ record { steps = self.old.steps ++ step ∷ []; room = self.old.room } }
     {
-        self.steps[self.len] = step;
-        self.len += 1;
+        self.steps.push_reserved(step);
     }
 
     /// The steps.
     pub fn steps(&self) -> &[PathStep]
         ensures { result.now ≡ self.now.steps }
     {
-        &self.steps[..self.len]
+        self.steps.as_slice()
     }
 
     /// Turns the order of the steps round.
     pub(crate) fn turn(&mut self)
         ensures { self.new ≡ record { steps = reverse self.old.steps; room = self.old.room } }
     {
-        turn_front(self.steps.as_mut_slice(), self.len);
+        self.steps.reverse();
     }
 }

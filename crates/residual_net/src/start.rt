@@ -3,10 +3,9 @@ ghost use Rattle.std.specs.Prelude.{◌≡◌, ℕ, ◌+◌, ◌<◌, ◌≤◌,
 ghost use Rattle.evac_law.specs.Building.{IsValid};
 ghost use Rattle.evac_law.specs.Names.{is_exit};
 ghost use Rattle.residual_net.specs.Site.{IsPlace};
-ghost use Rattle.residual_net.specs.Network.{IsGrid};
 ghost use Rattle.residual_net.specs.OfModel.{model_limit, site_of};
 ghost use Rattle.residual_net.specs.declared.place.Place.{Place};
-ghost use Rattle.residual_net.specs.Start.{SetsLimits, StartsAs, is_kind, number_of, place_of};
+ghost use Rattle.residual_net.specs.Start.{IsUnused, SetsLimits, StartsAs, is_kind, number_of, place_of};
 
 use crate::grid::Grid;
 use crate::place::Place;
@@ -59,7 +58,7 @@ fn travels_of(alloc: Global, model: &Model) -> Result<Vec<u16>, AllocError>
 }
 
 /// The limit that a model gives a place.
-fn limit_of(model: &Model, place: Place) -> u32
+pub fn limit_of(model: &Model, place: Place) -> u32
     requires valid { IsValid model.now }
     requires place { IsPlace (site_of model.now) place }
     ensures { result ≡ model_limit model.now place }
@@ -84,7 +83,7 @@ fn limit_of(model: &Model, place: Place) -> u32
 }
 
 /// The place of a kind with a number at a moment.
-fn place_of(kind: Kind, number: u32, moment: u16) -> Place
+pub fn place_of(kind: Kind, number: u32, moment: u16) -> Place
     ensures { result ≡ place_of kind number moment }
 {
     match kind {
@@ -107,13 +106,13 @@ fn place_of(kind: Kind, number: u32, moment: u16) -> Place
 fn limit_row(grid: &mut Grid, model: &Model, kind: Kind, number: u32)
     requires valid { IsValid model.now }
     requires site { grid.old.site ≡ site_of model.now }
-    requires grid { IsGrid grid.old }
+    requires unused { IsUnused grid.old }
     requires number { IsPlace grid.old.site (place_of kind number 0) }
     ensures { SetsLimits model.now grid.old grid.new (λ p. is_kind kind p && number_of p == number) }
 {
     for moment in 0..model.horizon + 1 {
         let place = place_of(kind, number, moment);
-        grid.set_limit(place, limit_of(model, place));
+        grid.give_limit(place, limit_of(model, place));
     }
 }
 
@@ -121,7 +120,7 @@ fn limit_row(grid: &mut Grid, model: &Model, kind: Kind, number: u32)
 fn limit_rows(grid: &mut Grid, model: &Model, kind: Kind, count: u32)
     requires valid { IsValid model.now }
     requires site { grid.old.site ≡ site_of model.now }
-    requires grid { IsGrid grid.old }
+    requires unused { IsUnused grid.old }
     requires numbers { (n : ℕ) → n < count → IsPlace grid.old.site (place_of kind n 0) }
     requires all { (p : Place) → IsPlace grid.old.site p → IsTrue (is_kind kind p) → number_of p < count }
     ensures { SetsLimits model.now grid.old grid.new (is_kind kind) }
@@ -131,7 +130,7 @@ fn limit_rows(grid: &mut Grid, model: &Model, kind: Kind, count: u32)
     }
 }
 
-/// The cells of a net with no flow and the limits of a model, saved as they are.
+/// The cells of a net with no flow and the limits of a model.
 pub fn grid_of(alloc: Global, model: &Model) -> Result<Grid, AllocError>
     requires { IsValid model.now }
     ensures { IfOk result (StartsAs model.now) }
@@ -146,6 +145,5 @@ pub fn grid_of(alloc: Global, model: &Model) -> Result<Grid, AllocError>
     limit_rows(&mut grid, model, Kind::Arc, arcs);
     limit_rows(&mut grid, model, Kind::Hold, nodes);
     limit_rows(&mut grid, model, Kind::Supply, nodes);
-    grid.save();
     Ok(grid)
 }

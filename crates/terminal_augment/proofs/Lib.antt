@@ -6,3 +6,5 @@ pub mod SendLemmas
 pub mod LabelLemmas
 pub mod ClosedLemmas
 pub mod WorkedLemmas
+pub mod GuessLemmas
+pub mod FloodLemmas

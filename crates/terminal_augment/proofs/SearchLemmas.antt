@@ -212,7 +212,7 @@ done_grows w l m v k y more done room = reach (start_of w.site y) (done room)
     reach (Pair n t) h = or_more (ltb (label_at l n t) k) (is_marked m n t) (is_marked v n t) (more n t) h
     reach (Door j) h = h
 
-way_done : (w : Network) (l : LabelTable) (m v : MarkTable) (k : ℕ) (o : Option PathStep) → ((n t : ℕ) → is_marked m n t ≡ true → is_marked v n t ≡ true)
+pub way_done : (w : Network) (l : LabelTable) (m v : MarkTable) (k : ℕ) (o : Option PathStep) → ((n t : ℕ) → is_marked m n t ≡ true → is_marked v n t ≡ true)
     → MatchOption o (Unit {0}) (λ y. IsDone w l m k y) → MatchOption o (Unit {0}) (λ y. IsDone w l v k y)
 way_done w l m v k None more h = tt
 way_done w l m v k (Some y) more h = done_grows w l m v k y more h

@@ -11,4 +11,6 @@ pub mod Ways
 pub mod Frames
 pub mod Searching
 pub mod Settled
+pub mod Guesses
+pub mod Floods
 pub mod Worked

@@ -44,6 +44,15 @@ entered x p y = record {
   path = x.path;
 }
 
+-- a pair is marked and seen
+abbrev pub noted : Work → Spot → Work
+noted x p = record {
+  marks = with_stamp x.marks p.node p.moment x.marks.stamp;
+  frames = x.frames;
+  seen = piled p x.seen;
+  path = x.path;
+}
+
 -- the top frame's next way is another
 abbrev pub retried : Work → Frame → ℕ → Work
 retried x f n = record x { frames = piled (record f { next = n }) (unpiled x.frames) }

@@ -1,10 +1,10 @@
 -- What settling an arrival moment does to a net and to its labels.
 use Rattle.std.specs.Prelude.{◌≡◌, ℕ, ◌+◌, ◌<◌, ◌≤◌, ◌⊎◌, Bool}
+pub use Rattle.residual_net.specs.Labelled.{IsClosedBelow, IsLabelsOf}
 use Rattle.evac_law.specs.LabelTable.{LabelTable, label_at, unset}
 use Rattle.residual_net.specs.declared.place.Place.{Place}
 use Rattle.residual_net.specs.Closed.{IsClosed}
 use Rattle.residual_net.specs.Network.{Network, IsNet, IsWithinLimits, arrived_by, limit_at}
-use Rattle.residual_net.specs.NetLaws.{labelled}
 use Rattle.residual_net.specs.Site.{Site, IsPlace}
 
 -- a search as callers see it: the number of nodes and the horizon that it is for
@@ -17,18 +17,9 @@ pub record IsSearchOf (s : Site) (x : SearchSize) : Type 0 where
   pub nodes : x.nodes ≡ s.shape.nodes
   pub horizon : x.horizon ≡ s.shape.horizon
 
--- the labels are for the network's nodes and moments
-pub record IsLabelsOf (s : Site) (l : LabelTable) : Type 0 where
-  pub nodes : l.nodes ≡ s.shape.nodes
-  pub horizon : l.horizon ≡ s.shape.horizon
-
 -- each label that isn't below k is unset
 abbrev pub IsUnsetFrom : LabelTable → ℕ → Type 0
 IsUnsetFrom l k = (n t : ℕ) → n < l.nodes → t ≤ l.horizon → k ≤ label_at l n t → label_at l n t ≡ unset
-
--- for each moment below k the pairs labelled at most it are closed at it
-abbrev pub IsClosedBelow : Network → LabelTable → ℕ → Type 0
-IsClosedBelow w l k = (i : ℕ) → i < k → IsClosed w (labelled l i) i
 
 -- no limit changes, nor what was saved
 pub record KeepsLimits (w v : Network) : Type 0 where

@@ -5,6 +5,8 @@
 //! get the moment as their label: with those labelled before they are closed, so that no plan has more people out by then.
 #![tactic(auto)]
 
+mod flood;
+mod guess;
 mod marks;
 mod moment;
 mod pile;

@@ -10,34 +10,20 @@ ghost use Rattle.terminal_augment.specs.Frames.{HasRoom};
 ghost use Rattle.terminal_augment.specs.Searching.{IsExplored, IsSearching, IsWork};
 ghost use Rattle.terminal_augment.specs.Settled.{IsClosedBelow, IsLabelled, IsLabelsOf, IsPushedOn, IsSearchOf, IsSentOn, IsUnsetFrom, KeepsLimits};
 ghost use Rattle.terminal_augment.specs.Spots.{has};
-ghost use Rattle.terminal_augment.specs.Ways.{IsDoorStep};
 
+use crate::flood::flood;
+use crate::guess::send_guessed;
+use crate::pile::Pile;
 use crate::spot::{Spot, Start};
 use crate::walk::send_next;
-use crate::ways::{is_usable, start};
+use crate::ways::{door_step, is_usable, start};
 use crate::work::Work;
 use evac_law::{Labels, Steps};
-use residual_net::{Net, PathStep, Place};
+use guided_search::Scout;
+use residual_net::Net;
 use std::alloc::{AllocError, Global};
 use std::marker::Model;
 use std::sync::ledger::Ledger;
-
-/// The step over an arc that arrives at an exit at a moment, where there is one.
-fn door_step(net: &Net, arc: u32, k: u16) -> Option<PathStep>
-    requires arc { arc < arcs_of net.now.site }
-    requires moment { k ≤ net.now.site.shape.horizon }
-    ensures { IsDoorStep net.now.site arc k result }
-{
-    let node = net.shape().ends()[arc as usize].to;
-    let travel = net.travel(arc);
-    if net.is_exit(node) && travel <= k {
-        let moment = k - travel;
-        let place = Place::Arc { arc, moment };
-        Some(PathStep { place, back: false })
-    } else {
-        None
-    }
-}
 
 /// Enters the pair from which an arc leads to an arrival at a moment, where a search may take that step.
 fn open_door(net: &Net, labels: &Labels, work: &mut Work, arc: u32, k: u16)
@@ -146,15 +132,48 @@ fn send_all<L: Ledger>(
     pushes
 }
 
+/// Sends people to a moment along guessed paths, and then until a search finds no more.
+fn send_both<L: Ledger>(
+    net: &mut Net,
+    labels: &Labels,
+    work: &mut Work,
+    scout: &mut Scout,
+    k: u16,
+    steps: &mut Steps<L>,
+) -> u32
+    requires within { IsWithinLimits net.old }
+    requires net { IsNet net.old }
+    requires labels { IsLabelsOf net.old.site labels.now }
+    requires moment { k ≤ net.old.site.shape.horizon }
+    requires work { IsWork net.old.site.shape.nodes net.old.site.shape.horizon work.old }
+    ensures searching { IsSearching net.new.site labels.now k work.new }
+    ensures none { work.new.frames.list ≡ [] }
+    ensures pushed { IsPushedOn net.old net.new k result }
+    ensures explored { IsExplored net.new labels.now k (arcs_of net.new.site) work.new }
+    ensures ticked { steps.new ≡ steps.old + result }
+{
+    if scout.waits(net, k) && flood(net, labels, work, k) {
+        return 0;
+    }
+    let guessed = send_guessed(net, labels, work, scout, k, steps);
+    if flood(net, labels, work, k) {
+        return guessed;
+    }
+    let others = send_all(net, labels, work, k, steps);
+    scout.miss(net, others);
+    guessed + others
+}
+
 /// Gives pairs a label.
-fn label_all(labels: &mut Labels, seen: &[Spot], k: u16)
-    requires { All (λ p. (p.node < labels.old.nodes) × (p.moment ≤ labels.old.horizon)) seen.now }
+fn label_all(labels: &mut Labels, seen: &Pile<Spot>, k: u16)
+    requires { All (λ p. (p.node < labels.old.nodes) × (p.moment ≤ labels.old.horizon)) seen.now.list }
     ensures nodes { labels.new.nodes ≡ labels.old.nodes }
     ensures horizon { labels.new.horizon ≡ labels.old.horizon }
-    ensures labels { (n t : ℕ) → n < labels.old.nodes → t ≤ labels.old.horizon → label_at labels.new n t ≡ (if has seen.now n t then k else label_at labels.old n t) }
+    ensures labels { (n t : ℕ) → n < labels.old.nodes → t ≤ labels.old.horizon → label_at labels.new n t ≡ (if has seen.now.list n t then k else label_at labels.old n t) }
 {
     let _ = labels.nodes();
-    for spot in seen {
+    for number in 0..seen.len() {
+        let spot = seen.get(number);
         labels.set(spot.node, spot.moment, k);
     }
 }
@@ -164,6 +183,7 @@ fn settle_with<L: Ledger>(
     net: &mut Net,
     labels: &mut Labels,
     work: &mut Work,
+    scout: &mut Scout,
     k: u16,
     steps: &mut Steps<L>,
 ) -> u32
@@ -180,8 +200,8 @@ fn settle_with<L: Ledger>(
     ensures ticked { steps.new ≡ steps.old + result }
 {
     let _ = net.shape();
-    let pushes = send_all(net, labels, work, k, steps);
-    label_all(labels, work.seen.as_slice(), k);
+    let pushes = send_both(net, labels, work, scout, k, steps);
+    label_all(labels, &work.seen, k);
     pushes
 }
 
@@ -189,6 +209,7 @@ fn settle_with<L: Ledger>(
 #[derive(Drop)]
 pub struct Search {
     work: Work,
+    scout: Scout,
 }
 
 impl Model for Search {
@@ -209,7 +230,15 @@ impl Search {
         ensures { IfOk result (IsSearchOf (site_of model.now)) }
     {
         let work = Work::new(alloc, model.node_count(), model.horizon)?;
-        Ok(Search { work })
+        let scout = Scout::new(alloc, model)?;
+        Ok(Search { work, scout })
+    }
+
+    /// Forgets what earlier moments told, as the flow or the limits of the net aren't what they were.
+    pub fn renew(&mut self)
+        ensures { self.new ≡ self.old }
+    {
+        self.scout.renew();
     }
 }
 
@@ -237,5 +266,5 @@ pub fn settle<L: Ledger>(
     ensures search { search.new ≡ search.old }
     ensures ticked { steps.new ≡ steps.old + result }
 {
-    settle_with(net, labels, &mut search.work, k, steps)
+    settle_with(net, labels, &mut search.work, &mut search.scout, k, steps)
 }

@@ -1,42 +1,42 @@
 // A pile in memory that is reserved once.
-ghost use Rattle.std.specs.Prelude.{◌≡◌, ◌<◌, [], ◌∷◌, IfOk, drop, length};
+ghost use Rattle.std.specs.Prelude.{◌≡◌, ◌<◌, [], ◌∷◌, IfOk, drop, length, slice_index_or};
 ghost use Rattle.terminal_augment.specs.Piles.{top_of};
 
 use std::alloc::{AllocError, Global};
 use std::marker::Model;
 
-/// Things one on another. The top stands at `top`, and the rest of the pile behind it.
+/// Things one on another. Memory for more of them isn't touched before they are added.
 #[derive(Drop)]
 pub struct Pile<T> {
     items: Vec<T>,
-    top: usize,
+    room: usize,
 }
 
 impl<T> Model for Pile<T> {
-    ghost use Rattle.std.specs.Prelude.{◌≤◌, drop, length};
+    ghost use Rattle.std.specs.Prelude.{◌≤◌, length, reverse, vec_capacity};
     ghost use Rattle.terminal_augment.specs.Piles.{Pile as Heap};
 
     ghost Value = { Heap T };
 
-    ghost view = { λ p. record { list = drop p.top p.items.items; room = length p.items.items } };
+    ghost view = { λ p. record { list = reverse p.items.items; room = p.room } };
 
-    ghost invariant = { λ p. p.top ≤ length p.items.items };
+    ghost invariant = { λ p. (length p.items.items ≤ p.room) × (p.room ≤ vec_capacity p.items) };
 }
 
 impl<T: Copy + Drop> Pile<T> {
     /// An empty pile with room for some things.
-    pub fn new(alloc: Global, blank: T, room: usize) -> Result<Pile<T>, AllocError>
+    pub fn new(alloc: Global, room: usize) -> Result<Pile<T>, AllocError>
         ensures { IfOk result (λ p. p ≡ record { list = []; room = room }) }
     {
-        let items = vec![in alloc; blank; room]?;
-        Ok(Pile { items, top: room })
+        let items = Vec::with_capacity(alloc, room)?;
+        Ok(Pile { items, room })
     }
 
     /// Takes everything off.
     pub fn clear(&mut self)
         ensures { self.new ≡ record { list = []; room = self.old.room } }
     {
-        self.top = self.items.len();
+        self.items.clear();
     }
 
     /// Puts a thing on top.
@@ -44,8 +44,7 @@ impl<T: Copy + Drop> Pile<T> {
         requires { length self.old.list < self.old.room }
         ensures { self.new ≡ record { list = item ∷ self.old.list; room = self.old.room } }
     {
-        self.top -= 1;
-        self.items[self.top] = item;
+        self.items.push_reserved(item);
     }
 
     /// Takes the top off.
@@ -53,20 +52,30 @@ impl<T: Copy + Drop> Pile<T> {
         requires { 0 < length self.old.list }
         ensures { self.new ≡ record { list = drop 1 self.old.list; room = self.old.room } }
     {
-        self.top += 1;
+        // What lay on top is let go.
+        let _ = self.items.pop();
     }
 
     /// What lies on top.
     pub fn top(&self) -> Option<T>
         ensures { result ≡ top_of self.now.list }
     {
-        self.as_slice().first().copied()
+        self.items.as_slice().last().copied()
     }
 
-    /// Everything, from the top down.
-    pub fn as_slice(&self) -> &[T]
-        ensures { result.now ≡ self.now.list }
+    /// How many things there are.
+    pub fn len(&self) -> usize
+        ensures { result ≡ length self.now.list }
     {
-        &self.items[self.top..]
+        self.items.len()
+    }
+
+    /// The thing that lies below a number of others.
+    pub fn get(&self, number: usize) -> T
+        requires { number < length self.now.list }
+        ensures { result ≡ slice_index_or self.now.list number result }
+    {
+        let items = self.items.as_slice();
+        items[items.len() - 1 - number]
     }
 }

@@ -9,6 +9,7 @@ ghost use Rattle.terminal_augment.specs.Piles.{top_of};
 ghost use Rattle.terminal_augment.specs.Searching.{IsExplored, IsSearching, effort};
 ghost use Rattle.terminal_augment.specs.Settled.{IsLabelsOf, IsPushedOn};
 
+use crate::pile::Pile;
 use crate::spot::{Frame, Start};
 use crate::ways::{look, start};
 use crate::work::Work;
@@ -67,38 +68,39 @@ fn descend(net: &Net, labels: &Labels, work: &mut Work, k: u16) -> Option<PathSt
 }
 
 /// Fills a path with the step that a search found and with those of the frames. The answer is the least room on it.
-fn lay(net: &Net, path: &mut Path, frames: &[Frame], found: PathStep) -> u32
+fn lay(net: &Net, path: &mut Path, frames: &Pile<Frame>, found: PathStep) -> u32
     requires within { IsWithinLimits net.now }
-    requires space { length frames.now < path.old.room }
+    requires space { length frames.now.list < path.old.room }
     requires place { IsPlace net.now.site found.place }
-    requires places { All (λ f. IsPlace net.now.site f.step.place) frames.now }
+    requires places { All (λ f. IsPlace net.now.site f.step.place) frames.now.list }
     requires some { 0 < residual_room net.now found }
-    requires room { HasRoom net.now frames.now }
-    ensures path { path.new ≡ record { steps = found ∷ steps_of frames.now; room = path.old.room } }
+    requires room { HasRoom net.now frames.now.list }
+    ensures path { path.new ≡ record { steps = found ∷ steps_of frames.now.list; room = path.old.room } }
     ensures some { 1 ≤ result }
     ensures room { All (λ y. result ≤ residual_room net.now y) path.new.steps }
 {
     path.clear();
     path.add(found);
     let mut people = net.room(found);
-    for frame in frames {
-        people = people.min(net.room(frame.step));
-        path.add(frame.step);
+    for number in 0..frames.len() {
+        let step = frames.get(number).step;
+        people = people.min(net.room(step));
+        path.add(step);
     }
     people
 }
 
 /// How many frames are above the lowest one whose step is full, with that one.
-fn full_count(net: &Net, frames: &[Frame]) -> usize
+fn full_count(net: &Net, frames: &Pile<Frame>) -> usize
     requires within { IsWithinLimits net.now }
-    requires places { All (λ f. IsPlace net.now.site f.step.place) frames.now }
-    ensures count { result ≤ length frames.now }
-    ensures room { HasRoom net.now (drop result frames.now) }
+    requires places { All (λ f. IsPlace net.now.site f.step.place) frames.now.list }
+    ensures count { result ≤ length frames.now.list }
+    ensures room { HasRoom net.now (drop result frames.now.list) }
 {
     let mut count = 0;
-    for (i, frame) in frames.iter().enumerate() {
-        if net.room(frame.step) == 0 {
-            count = i + 1;
+    for number in 0..frames.len() {
+        if net.room(frames.get(number).step) == 0 {
+            count = number + 1;
         }
     }
     count
@@ -127,10 +129,10 @@ pub fn send_next<L: Ledger>(
     match descend(net, labels, work, k) {
         None => false,
         Some(found) => {
-            let people = lay(net, &mut work.path, work.frames.as_slice(), found);
+            let people = lay(net, &mut work.path, &work.frames, found);
             net.push(&work.path, people, steps);
             work.seen.clear();
-            let full = full_count(net, work.frames.as_slice());
+            let full = full_count(net, &work.frames);
             work.release(full);
             true
         }

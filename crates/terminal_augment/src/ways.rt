@@ -5,20 +5,20 @@ ghost use Rattle.residual_net.specs.Site.{IsPlace, arcs_of, head_of, start_of, t
 ghost use Rattle.terminal_augment.specs.Frames.{IsLooked, IsStart, end_of};
 ghost use Rattle.terminal_augment.specs.Settled.{IsLabelsOf};
 ghost use Rattle.terminal_augment.specs.Spots.{IsInside};
-ghost use Rattle.terminal_augment.specs.Ways.{IsDone, IsUsable, passed, way_at, way_back, way_before, way_behind, way_by_arc, way_count, way_in};
+ghost use Rattle.terminal_augment.specs.Ways.{IsDone, IsDoorStep, IsUsable, passed, way_at, way_back, way_before, way_behind, way_by_arc, way_count, way_in};
 
 use crate::marks::Marks;
 use crate::spot::{Frame, Spot, Start, Way};
 use evac_law::Labels;
 use residual_net::{Net, PathStep, Place};
 
-fn forth(place: Place) -> PathStep
+pub fn forth(place: Place) -> PathStep
     ensures { result ≡ record { place = place; back = false } }
 {
     PathStep { place, back: false }
 }
 
-fn back(place: Place) -> PathStep
+pub fn back(place: Place) -> PathStep
     ensures { result ≡ record { place = place; back = true } }
 {
     PathStep { place, back: true }
@@ -176,7 +176,7 @@ pub fn start(net: &Net, step: PathStep) -> Start
 }
 
 /// Whether a node at a moment has neither a label below k nor a mark.
-fn is_fresh(labels: &Labels, marks: &Marks, spot: Spot, k: u16) -> bool
+pub fn is_fresh(labels: &Labels, marks: &Marks, spot: Spot, k: u16) -> bool
     requires labels_node { spot.node < labels.now.nodes }
     requires labels_moment { spot.moment ≤ labels.now.horizon }
     requires marks_node { spot.node < marks.now.nodes }
@@ -224,4 +224,21 @@ pub fn look(net: &Net, labels: &Labels, marks: &Marks, frame: Frame, k: u16) -> 
         }
     }
     None
+}
+
+/// The step over an arc that arrives at an exit at a moment, where there is one.
+pub fn door_step(net: &Net, arc: u32, k: u16) -> Option<PathStep>
+    requires arc { arc < arcs_of net.now.site }
+    requires moment { k ≤ net.now.site.shape.horizon }
+    ensures { IsDoorStep net.now.site arc k result }
+{
+    let node = net.shape().ends()[arc as usize].to;
+    let travel = net.travel(arc);
+    if net.is_exit(node) && travel <= k {
+        let moment = k - travel;
+        let place = Place::Arc { arc, moment };
+        Some(PathStep { place, back: false })
+    } else {
+        None
+    }
 }

@@ -3,12 +3,12 @@ ghost use Rattle.std.specs.Prelude.{◌≡◌, ◌<◌, ◌≤◌, IfOk, length}
 ghost use Rattle.std.specs.List.{All};
 ghost use Rattle.terminal_augment.specs.Marking.{IsMarks};
 ghost use Rattle.terminal_augment.specs.Piles.{top_of};
-ghost use Rattle.terminal_augment.specs.Searching.{IsCleared, IsWork, entered, freed, left, released, retried};
+ghost use Rattle.terminal_augment.specs.Searching.{IsCleared, IsWork, entered, freed, left, noted, released, retried};
 
 use crate::marks::Marks;
 use crate::pile::Pile;
 use crate::spot::{Frame, Spot};
-use residual_net::{Path, PathStep, Place};
+use residual_net::{Path, PathStep};
 use std::alloc::{AllocError, Global};
 
 /// What a search needs: its marks, the frames of the way that it follows, the pairs that it has seen since people were last sent,
@@ -27,18 +27,10 @@ impl Work {
         ensures { IfOk result (IsWork nodes horizon) }
     {
         let room = nodes as usize * (horizon as usize + 1);
-        let spot = Spot { node: 0, moment: 0 };
-        let place = Place::Supply { node: 0, moment: 0 };
-        let step = PathStep { place, back: false };
-        let frame = Frame {
-            spot,
-            step,
-            next: 0,
-        };
         Ok(Work {
             marks: Marks::new(alloc, nodes, horizon)?,
-            frames: Pile::new(alloc, frame, room)?,
-            seen: Pile::new(alloc, spot, room)?,
+            frames: Pile::new(alloc, room)?,
+            seen: Pile::new(alloc, room)?,
             path: Path::new(alloc, room + 1)?,
         })
     }
@@ -67,6 +59,18 @@ impl Work {
             step,
             next: 0,
         });
+        self.seen.push(spot);
+    }
+
+    /// Marks a pair and puts it among those seen.
+    pub fn note(&mut self, spot: Spot)
+        requires node { spot.node < self.old.marks.nodes }
+        requires moment { spot.moment ≤ self.old.marks.horizon }
+        requires seen { length self.old.seen.list < self.old.seen.room }
+        ensures noted { self.new ≡ noted self.old spot }
+        ensures marks { IsMarks self.new.marks }
+    {
+        self.marks.mark(spot);
         self.seen.push(spot);
     }
 

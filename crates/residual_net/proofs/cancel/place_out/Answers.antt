@@ -7,20 +7,20 @@ use Rattle.residual_net.specs.Network.{flow_at}
 use Rattle.residual_net.proofs.Walks.{hold_some}
 use Rattle.residual_net.proofs.cancel.place_out.Goals as goal
 
-pub get-requires : goal.get-requires
-get-requires c =
+pub get-requires-in-loop-arc : goal.get-requires-in-loop-arc
+get-requires-in-loop-arc c =
     let same = c.loop-arc.invariant.arcs in
     let here = lists.arc_out c.args.grid.now.site.shape c.args.node c.loop-arc.arc-index 0 (omega (arith, ap length same, c.loop-arc-test.true)) in
     (rw same here.0, c.requires.moment)
 
-pub returns-then-get-gt0-clause-place : goal.returns-then-get-gt0-clause-place
-returns-then-get-gt0-clause-place c =
+pub returns-then-get-gt0-2-clause-place : goal.returns-then-get-gt0-2-clause-place
+returns-then-get-gt0-2-clause-place c =
     let same = c.loop-arc.invariant.arcs in
     let here = lists.arc_out c.args.grid.now.site.shape c.args.node c.loop-arc.arc-index 0 (omega (arith, ap length same, c.loop-arc-test.true)) in
     (rw same here.0, c.requires.moment)
 
-pub returns-then-get-gt0-clause-leads : goal.returns-then-get-gt0-clause-leads
-returns-then-get-gt0-clause-leads c =
+pub returns-then-get-gt0-2-clause-leads : goal.returns-then-get-gt0-2-clause-leads
+returns-then-get-gt0-2-clause-leads c =
     let x = c.args.grid.now.site.shape in
     let same = c.loop-arc.invariant.arcs in
     let here = lists.arc_out x c.args.node c.loop-arc.arc-index 0 (omega (arith, ap length same, c.loop-arc-test.true)) in

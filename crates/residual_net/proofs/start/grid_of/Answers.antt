@@ -1,7 +1,6 @@
 use Rattle.std.proofs.Common.{◌∙◌, subst, sym, arith}
 use Rattle.evac_law.specs.Limits.{node_limit, arc_limit}
 use Rattle.residual_net.specs.Site.{IsSite}
-use Rattle.residual_net.specs.Start.{StartsAs}
 use Rattle.residual_net.proofs.Begin.{valid_site, site_made, starts_as}
 use Rattle.residual_net.proofs.start.grid_of.Goals as goal
 
@@ -30,6 +29,5 @@ returns c =
     let site = c.in_ok-grid.ensures.site
     ∙ site_made m c.in_ok-shape.shape c.len-nodes.result c.as_slice.result.now c.in_ok-exits.exits.items c.in_ok-travels.travels.items c.in_ok-shape.ensures
     c.len-nodes.ensures (c.as_slice.ensures.value ∙ c.in_ok-ends.ensures) c.in_ok-exits.ensures c.in_ok-travels.ensures in
-    subst (StartsAs m) (sym c.save.ensures)
-    (starts_as m c.in_ok-grid.grid c.limit_rows.new.grid c.limit_rows-2.new.grid c.limit_rows-3.new.grid c.in_ok-grid.ensures.blank site c.limit_rows.ensures
-    c.limit_rows-2.ensures c.limit_rows-3.ensures)
+    starts_as m c.in_ok-grid.grid c.limit_rows.new.grid c.limit_rows-2.new.grid c.limit_rows-3.new.grid c.in_ok-grid.ensures.blank site c.limit_rows.ensures
+    c.limit_rows-2.ensures c.limit_rows-3.ensures

@@ -1,34 +1,29 @@
-use Rattle.std.proofs.Common.{◌≤◌, List, cond, subst, sym, ap, ◌∙◌, arith}
-use Rattle.evac_law.specs.LabelTable.{label_at}
+use Rattle.std.proofs.Common.{◌≤◌, subst, sym, ap, arith}
 use Rattle.residual_net.specs.NetLaws.{labelled}
 use Rattle.residual_net.specs.Site.{Site}
-use Rattle.terminal_augment.specs.declared.spot.Spot.{Spot}
 use Rattle.terminal_augment.specs.Settled.{IsLabelsOf}
-use Rattle.terminal_augment.specs.Spots.{has}
 use Rattle.terminal_augment.proofs.ClosedLemmas.{AreLabelled, closed_after, labelled_after}
 use Rattle.terminal_augment.proofs.moment.settle_with.Goals as goal
 
 pub returns-clause-labels : goal.returns-clause-labels
 returns-clause-labels g c =
-    let x = c.send_all-pushes.new.work in
+    let x = c.send_both-pushes.new.work in
     let labels : AreLabelled c.args.labels.now c.label_all.new.labels x.seen.list c.args.k = record {
       nodes = c.label_all.ensures.nodes;
       horizon = c.label_all.ensures.horizon;
-      labels = λ n t a b.
-          c.label_all.ensures.labels n t a b ∙ ap (λ (ps : List Spot). cond (has ps n t) c.args.k (label_at c.args.labels.now n t)) c.as_slice.ensures;
+      labels = c.label_all.ensures.labels;
     } in
-    labelled_after c.send_all-pushes.new.net.site c.args.labels.now c.label_all.new.labels c.args.k x c.send_all-pushes.ensures.searching c.requires.unset labels
+    labelled_after c.send_both-pushes.new.net.site c.args.labels.now c.label_all.new.labels c.args.k x c.send_both-pushes.ensures.searching c.requires.unset labels
 
 pub returns-clause-closed : goal.returns-clause-closed
 returns-clause-closed g c =
-    let x = c.send_all-pushes.new.work in
-    let v = c.send_all-pushes.new.net in
-    let done = c.send_all-pushes.ensures in
+    let x = c.send_both-pushes.new.work in
+    let v = c.send_both-pushes.new.net in
+    let done = c.send_both-pushes.ensures in
     let labels : AreLabelled c.args.labels.now c.label_all.new.labels x.seen.list c.args.k = record {
       nodes = c.label_all.ensures.nodes;
       horizon = c.label_all.ensures.horizon;
-      labels = λ n t a b.
-          c.label_all.ensures.labels n t a b ∙ ap (λ (ps : List Spot). cond (has ps n t) c.args.k (label_at c.args.labels.now n t)) c.as_slice.ensures;
+      labels = c.label_all.ensures.labels;
     } in
     let site = done.pushed.limits.site in
     let of = subst (λ (s : Site). IsLabelsOf s c.args.labels.now) (sym site) c.requires.labels in

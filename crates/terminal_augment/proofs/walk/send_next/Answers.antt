@@ -12,12 +12,11 @@ use Rattle.terminal_augment.proofs.walk.send_next.Goals as goal
 
 pub lay-people-requires-clause-places : goal.lay-people-requires-clause-places
 lay-people-requires-clause-places g c =
-    subst (λ (fs : List Frame). All (λ (f : Frame). IsPlace c.args.net.now.site f.step.place) fs) (sym c.as_slice.ensures)
-    (send.chain_places c.args.net.now.site c.args.k c.descend.new.work.frames.list c.descend.ensures.searching.chain)
+    send.chain_places c.args.net.now.site c.args.k c.descend.new.work.frames.list c.descend.ensures.searching.chain
 
 pub push-requires-clause-path : goal.push-requires-clause-path
 push-requires-clause-path g c =
-    let path = ap (λ (t : Trail). t.steps) c.lay-people.ensures.path ∙ ap (λ (fs : List Frame). c.in-Some.found ∷ steps_of fs) c.as_slice.ensures in (
+    let path = ap (λ (t : Trail). t.steps) c.lay-people.ensures.path in (
       start_of c.args.net.now.site c.in-Some.found,
       c.args.k,
       send.augments c.args.net.now c.args.k c.descend.new.work.frames.list c.in-Some.found c.lay-people.result c.lay-people.new.path.steps c.in-Some.ensures.found
@@ -27,9 +26,8 @@ push-requires-clause-path g c =
 pub full_count-full-requires-clause-places : goal.full_count-full-requires-clause-places
 full_count-full-requires-clause-places g c =
     let site = c.push.ensures.pushed.site in
-    subst (λ (fs : List Frame). All (λ (f : Frame). IsPlace c.push.new.self.site f.step.place) fs) (sym c.as_slice-in-Some.ensures)
-    (subst (λ (s : Site). All (λ (f : Frame). IsPlace s f.step.place) c.descend.new.work.frames.list) (sym site)
-    (send.chain_places c.args.net.now.site c.args.k c.descend.new.work.frames.list c.descend.ensures.searching.chain))
+    subst (λ (s : Site). All (λ (f : Frame). IsPlace s f.step.place) c.descend.new.work.frames.list) (sym site)
+    (send.chain_places c.args.net.now.site c.args.k c.descend.new.work.frames.list c.descend.ensures.searching.chain)
 
 pub release-requires-clause-inside : goal.release-requires-clause-inside
 release-requires-clause-inside g c j d l =
@@ -54,13 +52,12 @@ returns-in-Some-clause-room g c =
     let x : Work = record { marks = d.marks; frames = d.frames; seen = c.clear.new.self; path = c.lay-people.new.path } in
     let n = c.full_count-full.result in
     let list = ap (λ (v : Work). v.frames.list) c.release.ensures.released ∙ search.released_list x n in
-    let room = subst (λ (fs : List Frame). HasRoom c.push.new.self (drop n fs)) c.as_slice-in-Some.ensures c.full_count-full.ensures.room in
-    subst (λ (fs : List Frame). HasRoom c.push.new.self fs) (sym list) room
+    subst (λ (fs : List Frame). HasRoom c.push.new.self fs) (sym list) c.full_count-full.ensures.room
 
 pub returns-in-Some-clause-pushed : goal.returns-in-Some-clause-pushed
 returns-in-Some-clause-pushed g c =
     let w = c.args.net.now in
-    let path = ap (λ (t : Trail). t.steps) c.lay-people.ensures.path ∙ ap (λ (fs : List Frame). c.in-Some.found ∷ steps_of fs) c.as_slice.ensures in
+    let path = ap (λ (t : Trail). t.steps) c.lay-people.ensures.path in
     let augments = send.augments w c.args.k c.descend.new.work.frames.list c.in-Some.found c.lay-people.result c.lay-people.new.path.steps c.in-Some.ensures.found
     c.descend.ensures.searching.chain path c.lay-people.ensures.room in
     send.pushed_on w c.push.new.self c.lay-people.new.path.steps c.lay-people.result (start_of w.site c.in-Some.found) c.args.k c.push.ensures.net

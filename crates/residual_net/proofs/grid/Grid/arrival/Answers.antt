@@ -9,7 +9,7 @@ use Rattle.residual_net.proofs.grid.Grid.arrival.Goals as goal
 pub overflow_add-result : goal.overflow_add-result
 unfolding travel_limit
 overflow_add-result c =
-    let inside = c.self.invariant in
+    let inside = c.self.invariant.0 in
     let place = subst (λ (p : Place). IsPlace c.args.self.now.site p) c.in-Arc.is c.requires.place in
     let horizon = sizes c.self.inside.shape inside.site.shape in
     let same = ap (λ (w : Network). w.site.shape.horizon) c.self.view_is in

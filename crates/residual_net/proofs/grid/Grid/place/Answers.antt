@@ -5,7 +5,7 @@ use Rattle.residual_net.proofs.grid.Grid.place.Goals as goal
 pub returns-in-Arc-clause-within : goal.returns-in-Arc-clause-within
 unfolding cell_of
 returns-in-Arc-clause-within c =
-    let grid = rw c.self.view_is at c.self.invariant in
+    let grid = rw c.self.view_is at c.self.invariant.0 in
     let below = cell_in c.args.self.now c.args.place grid c.requires in
     let here = rw (← c.self.view_is, c.in-Arc.is) at below in
     rw (c.arc_cell.ensures.cell, ← c.self.view_is) here
@@ -13,7 +13,7 @@ returns-in-Arc-clause-within c =
 pub returns-in-Hold-clause-within : goal.returns-in-Hold-clause-within
 unfolding cell_of
 returns-in-Hold-clause-within c =
-    let grid = rw c.self.view_is at c.self.invariant in
+    let grid = rw c.self.view_is at c.self.invariant.0 in
     let below = cell_in c.args.self.now c.args.place grid c.requires in
     let here = rw (← c.self.view_is, c.in-Hold.is) at below in
     rw (c.hold_cell.ensures.cell, ← c.self.view_is) here
@@ -21,7 +21,7 @@ returns-in-Hold-clause-within c =
 pub returns-in-Supply-clause-within : goal.returns-in-Supply-clause-within
 unfolding cell_of
 returns-in-Supply-clause-within c =
-    let grid = rw c.self.view_is at c.self.invariant in
+    let grid = rw c.self.view_is at c.self.invariant.0 in
     let below = cell_in c.args.self.now c.args.place grid c.requires in
     let here = rw (← c.self.view_is, c.in-Supply.is) at below in
     rw (c.cells.ensures.number, c.horizon.ensures, ← c.self.view_is) here

@@ -1,0 +1,55 @@
+//! Lists in which a place past the end may be read and written: what is read there is 0, and what is written is lost.
+
+/// More than any bound of a walk: from here nobody comes.
+pub const FAR: u32 = 65_535;
+
+/// The most steps of a walk, so that it ends whatever its numbers are.
+pub const FUEL: u64 = 1_000_000_000_000;
+
+/// A number of a list.
+pub fn read(list: &[u32], at: usize) -> u32 {
+    if at < list.len() { list[at] } else { 0 }
+}
+
+/// Puts a number into a list.
+pub fn write(list: &mut [u32], at: usize, item: u32) {
+    if at < list.len() {
+        list[at] = item;
+    }
+}
+
+/// A bound of a list.
+pub fn read_short(list: &[u16], at: usize) -> u32 {
+    if at < list.len() { list[at] as u32 } else { 0 }
+}
+
+/// Puts a bound into a list.
+pub fn write_short(list: &mut [u16], at: usize, item: u32) {
+    if at < list.len() {
+        list[at] = short(item);
+    }
+}
+
+/// Puts a byte into a list.
+pub fn write_byte(list: &mut [u8], at: usize, item: u8) {
+    if at < list.len() {
+        list[at] = item;
+    }
+}
+
+/// Adds to a list, as far as its memory reaches.
+pub fn add<T: Copy + Drop>(list: &mut Vec<T>, item: T) {
+    if list.len() < list.capacity() {
+        list.push_reserved(item);
+    }
+}
+
+/// The low half of a number.
+pub fn short(number: u32) -> u16 {
+    (number % 65_536) as u16
+}
+
+/// The low part of a count.
+pub fn number(count: usize) -> u32 {
+    (count % 4_294_967_296) as u32
+}

@@ -1,0 +1,164 @@
+//! The bounds of raised pairs, computed anew.
+//!
+//! Raising one bound after another can go on for long where many pairs raise each other by 1. So after some vain tries all raised
+//! pairs get the bounds that those around them allow, as in a search for shortest paths by levels. What the pairs around don't
+//! reach is dead.
+
+use crate::bounds::Bounds;
+use crate::ground::Ground;
+use crate::lists::{FAR, FUEL, add};
+use crate::raised::Raised;
+use crate::sizes::Sizes;
+use std::alloc::{AllocError, Global};
+
+/// The most pairs that wait at once. Those past it are left with bounds that are too low.
+const ROOM: usize = 65_536;
+
+/// What stands before a pair where pairs are sorted by their bounds.
+const LEVEL: u64 = 4_294_967_296;
+
+/// The pairs that have bounds by those around, each behind its bound, and the pairs of a level and of the next.
+#[derive(Drop)]
+pub struct Mender {
+    order: Vec<u64>,
+    now: Vec<u32>,
+    after: Vec<u32>,
+}
+
+fn item(list: &[u64], at: usize) -> u64 {
+    if at < list.len() { list[at] } else { 0 }
+}
+
+impl Mender {
+    /// Nothing to mend.
+    pub fn new(alloc: Global, sizes: Sizes) -> Result<Mender, AllocError> {
+        let few = sizes.pairs().min(ROOM);
+        Ok(Mender {
+            order: Vec::with_capacity(alloc, few)?,
+            now: Vec::with_capacity(alloc, few)?,
+            after: Vec::with_capacity(alloc, few)?,
+        })
+    }
+
+    /// Computes the bounds of the raised pairs anew, and leaves those raised that aren't dead.
+    pub fn mend(&mut self, ground: Ground<'_>, bounds: &mut Bounds, raised: &mut Raised) {
+        self.seed(ground, bounds, raised);
+        self.now.clear();
+        let mut seed = 0usize;
+        let mut level = 0u64;
+        for _ in 0..FUEL {
+            if self.now.is_empty() {
+                if seed >= self.order.len() {
+                    break;
+                }
+                level = item(self.order.as_slice(), seed) / LEVEL;
+            }
+            seed = self.join(bounds, level, seed);
+            self.after.clear();
+            self.spread_all(ground, bounds, raised, (level % LEVEL) as u32);
+            std::mem::swap(&mut self.now, &mut self.after);
+            level = level.wrapping_add(1);
+        }
+        for at in 0..raised.len() {
+            let pair = raised.get(at);
+            if bounds.get(pair) >= FAR {
+                raised.drop_stamp(pair);
+            }
+        }
+        raised.shrink();
+    }
+
+    /// Gives each raised pair the bound that the pairs around allow it.
+    fn seed(&mut self, ground: Ground<'_>, bounds: &mut Bounds, raised: &Raised) {
+        self.order.clear();
+        for at in 0..raised.len() {
+            let pair = raised.get(at);
+            let best = border(ground, bounds, raised, pair);
+            bounds.set(pair, best);
+            bounds.reset(pair);
+            if best < FAR {
+                add(&mut self.order, best as u64 * LEVEL + pair as u64);
+            }
+        }
+        self.order.as_mut_slice().sort_unstable();
+    }
+
+    /// Adds the pairs whose bound is a level by those around. The answer is how many of the sorted pairs are done.
+    fn join(&mut self, bounds: &Bounds, level: u64, from: usize) -> usize {
+        for at in from..self.order.len() {
+            let item = item(self.order.as_slice(), at);
+            if item / LEVEL != level {
+                return at;
+            }
+            let pair = (item % LEVEL) as u32;
+            if bounds.get(pair) as u64 == level {
+                add(&mut self.now, pair);
+            }
+        }
+        self.order.len()
+    }
+
+    /// Spreads from all pairs of a level, those that come to it meanwhile too.
+    fn spread_all(&mut self, ground: Ground<'_>, bounds: &mut Bounds, raised: &Raised, level: u32) {
+        for at in 0..self.now.capacity() {
+            if at >= self.now.len() {
+                return;
+            }
+            let pair = self.now.as_slice()[at];
+            if bounds.get(pair) == level {
+                self.spread(ground, bounds, raised, pair, level);
+            }
+        }
+    }
+
+    /// Lets the raised pairs to which ways lead from a pair have no higher bound than it allows.
+    fn spread(
+        &mut self,
+        ground: Ground<'_>,
+        bounds: &mut Bounds,
+        raised: &Raised,
+        pair: u32,
+        level: u32,
+    ) {
+        let (node, moment) = ground.sizes.parts(pair);
+        let look = ground.look(node, moment);
+        for way in look.ways {
+            let other = look.pair(*way);
+            let bound = level.wrapping_add(!way.back as u32);
+            if look.is_within(*way)
+                && raised.has(other)
+                && bound < bounds.get(other)
+                && look.is_open(*way, !way.back)
+            {
+                bounds.set(other, bound);
+                if bound == level {
+                    add(&mut self.now, other);
+                } else {
+                    add(&mut self.after, other);
+                }
+            }
+        }
+    }
+}
+
+/// The least bound that a pair may have by the ways from pairs that weren't raised.
+fn border(ground: Ground<'_>, bounds: &Bounds, raised: &Raised, pair: u32) -> u32 {
+    let (node, moment) = ground.sizes.parts(pair);
+    if bounds.is_source(ground.cells, ground.sizes, node, moment) {
+        return 0;
+    }
+    let look = ground.look(node, moment);
+    let mut best = FAR;
+    for way in look.ways {
+        let other = look.pair(*way);
+        let bound = bounds.get(other).wrapping_add(way.back as u32);
+        if look.is_within(*way)
+            && bound < best
+            && !raised.has(other)
+            && look.is_open(*way, way.back)
+        {
+            best = bound;
+        }
+    }
+    best
+}

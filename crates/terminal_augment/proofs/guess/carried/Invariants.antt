@@ -1,0 +1,13 @@
+use Rattle.std.proofs.Common.{◌≤◌, length, drop}
+use Rattle.terminal_augment.specs.Guesses.{IsMarkedOn, IsTail}
+use Rattle.terminal_augment.proofs.guess.carried.Given as goal
+
+abbrev pub invariant-loop-left : goal.invariant-loop-left
+invariant-loop-left l = record {
+  fits : l.left ≤ length l.path;
+  tail : IsTail l.net l.k l.marks l.end l.people (drop l.left l.path);
+  marks : IsMarkedOn l.fn.marks l.marks;
+}
+
+abbrev pub decreases-loop-left : goal.decreases-loop-left
+decreases-loop-left l = l.left

@@ -1,0 +1,67 @@
+-- A guessed path, looked at step by step from its end.
+use Rattle.std.specs.Prelude.{◌≡◌, ℕ, false, ◌+◌, ◌<◌, ◌≤◌, List, drop, map, length, IsTrue}
+use Rattle.std.specs.List.{All}
+use Rattle.residual_net.specs.declared.place.PathStep.{PathStep}
+use Rattle.residual_net.specs.declared.place.Place.TheVariants.{Hold}
+use Rattle.residual_net.specs.Network.{Network, residual_room}
+use Rattle.residual_net.specs.Route.{IsAugmentingPath}
+use Rattle.residual_net.specs.Site.{Site, End, IsPlace, start_of, stop_of}
+use Rattle.residual_net.specs.Site.End.{Source, Pair, Door}
+use Rattle.terminal_augment.specs.declared.guess.Look.{Look}
+use Rattle.terminal_augment.specs.declared.spot.Frame.{Frame}
+use Rattle.terminal_augment.specs.declared.spot.Spot.{Spot}
+use Rattle.terminal_augment.specs.declared.spot.Start.{Start}
+use Rattle.terminal_augment.specs.declared.spot.Start.TheVariants as starts
+use Rattle.terminal_augment.specs.Frames.{IsChain, IsStart, end_of, spots, top_end}
+use Rattle.terminal_augment.specs.Marking.{MarkTable, IsMarks, is_marked}
+use Rattle.terminal_augment.specs.Spots.{has}
+
+-- the pair of an end, where it is one
+abbrev pub spot_of : End → Spot
+spot_of Source = record { node = 0; moment = 0 }
+spot_of (Pair n t) = record { node = n; moment = t }
+spot_of (Door j) = record { node = 0; moment = 0 }
+
+-- the frames whose steps are those of a path
+abbrev pub frame_of : Site → PathStep → Frame
+frame_of s y = record { spot = spot_of (start_of s y); step = y; next = 0 }
+
+abbrev pub frames_of : Site → List PathStep → List Frame
+frames_of s = map (frame_of s)
+
+-- a step with room leads from one end to another
+pub record IsStep (w : Network) (y : PathStep) (r e : Start) : Type 0 where
+  pub place : IsPlace w.site y.place
+  pub room : 0 < residual_room w y
+  pub start : start_of w.site y ≡ end_of r
+  pub inside : IsStart w.site r
+  pub stop : stop_of w.site y ≡ end_of e
+
+-- the step is the wait to a pair from another
+pub record IsWait (y : PathStep) (q p : Spot) : Type 0 where
+  pub step : y ≡ record { place = Hold p.node p.moment; back = false }
+  pub end : q ≡ record { node = p.node; moment = p.moment + 1 }
+
+-- the steps lead from an end to an arrival at moment k over marked pairs, and each has room for some people
+pub record IsTail (w : Network) (k : ℕ) (m : MarkTable) (e : Start) (people : ℕ) (path : List PathStep) : Type 0 where
+  pub chain : IsChain w.site k (frames_of w.site path)
+  pub inside : IsStart w.site e
+  pub top : end_of e ≡ top_end k (frames_of w.site path)
+  pub some : 1 ≤ people
+  pub room : All (λ y. people ≤ residual_room w y) path
+  pub marked : (n t : ℕ) → IsTrue (has (spots (frames_of w.site path)) n t) → IsTrue (is_marked m n t)
+
+-- a look at a path has come to a pair over its last steps
+abbrev pub IsLookedAt : Network → ℕ → MarkTable → Look → List PathStep → Type 0
+IsLookedAt w k m x path = IsTail w k m (starts.At x.spot) x.people (drop x.left path)
+
+-- the path brings that many people to moment k
+abbrev pub IsCarried : Network → ℕ → List PathStep → ℕ → Type 0
+IsCarried w k path people = (e : End) × IsAugmentingPath w path people e k
+
+-- other marks on the same nodes and moments
+pub record IsMarkedOn (m v : MarkTable) : Type 0 where
+  pub nodes : v.nodes ≡ m.nodes
+  pub horizon : v.horizon ≡ m.horizon
+  pub size : length v.list ≡ length m.list
+  pub marks : IsMarks m → IsMarks v

@@ -1,0 +1,220 @@
+// The last search to a moment: through all pairs that reach an arrival then, in the order in which they are met.
+ghost use Rattle.std.specs.Prelude.{◌≡◌, ℕ, ◌+◌, ◌<◌, ◌≤◌, IsTrue, [], length, slice_index, false, true};
+ghost use Rattle.time_expansion.specs.Expansion.{arcs_from, arcs_to};
+ghost use Rattle.residual_net.specs.declared.place.Place.TheVariants.{Arc};
+ghost use Rattle.residual_net.specs.Network.{IsWithinLimits};
+ghost use Rattle.residual_net.specs.Site.{IsPlace, arcs_of};
+ghost use Rattle.terminal_augment.specs.Floods.{IsFlooding, IsGrown, IsWayDone};
+ghost use Rattle.terminal_augment.specs.Frames.{IsExpanded};
+ghost use Rattle.terminal_augment.specs.Searching.{AreDoorsDone, IsExplored, IsSearching, IsWork};
+ghost use Rattle.terminal_augment.specs.Settled.{IsLabelsOf};
+ghost use Rattle.terminal_augment.specs.Spots.{IsInside};
+ghost use Rattle.terminal_augment.specs.Ways.{IsDone, in_count, out_count, way_before, way_in};
+
+use crate::spot::{Spot, Start};
+use crate::ways::{back, door_step, forth, is_fresh, start};
+use crate::work::Work;
+use evac_law::Labels;
+use residual_net::{Net, PathStep, Place};
+
+/// Marks where a step begins, if it may be taken. Whether nobody can be sent from there.
+fn meet(net: &Net, labels: &Labels, work: &mut Work, step: PathStep, k: u16) -> bool
+    requires within { IsWithinLimits net.now }
+    requires labels { IsLabelsOf net.now.site labels.now }
+    requires place { IsPlace net.now.site step.place }
+    requires flooding { IsFlooding net.now.site labels.now k work.old }
+    ensures flooding { IsFlooding net.now.site labels.now k work.new }
+    ensures grown { IsGrown work.old work.new }
+    ensures done { IsTrue result → IsDone net.now labels.now work.new.marks k step }
+{
+    if net.room(step) == 0 {
+        return true;
+    }
+    match start(net, step) {
+        Start::Source => false,
+        Start::Door(moment) => moment <= k,
+        Start::At(spot) => {
+            if !is_fresh(labels, &work.marks, spot, k) {
+                return true;
+            }
+            work.note(spot);
+            true
+        }
+    }
+}
+
+/// Marks where an arc begins by which people come to a node at a moment. Whether nobody can be sent from there.
+fn meet_in(net: &Net, labels: &Labels, work: &mut Work, arc: u32, moment: u16, k: u16) -> bool
+    requires within { IsWithinLimits net.now }
+    requires labels { IsLabelsOf net.now.site labels.now }
+    requires arc { arc < arcs_of net.now.site }
+    requires moment { moment ≤ net.now.site.shape.horizon }
+    requires flooding { IsFlooding net.now.site labels.now k work.old }
+    ensures flooding { IsFlooding net.now.site labels.now k work.new }
+    ensures grown { IsGrown work.old work.new }
+    ensures done { IsTrue result → IsWayDone net.now labels.now work.new.marks k (way_in net.now.site arc moment) }
+{
+    let travel = net.travel(arc);
+    if travel > moment {
+        return true;
+    }
+    let moment = moment - travel;
+    let node = net.shape().ends()[arc as usize].from;
+    if !is_fresh(labels, &work.marks, Spot { node, moment }, k) {
+        return true;
+    }
+    meet(net, labels, work, forth(Place::Arc { arc, moment }), k)
+}
+
+/// Marks where the arcs begin by which people come to a pair. Whether nobody can be sent from there.
+fn expand_in(net: &Net, labels: &Labels, work: &mut Work, spot: Spot, k: u16) -> bool
+    requires within { IsWithinLimits net.now }
+    requires labels { IsLabelsOf net.now.site labels.now }
+    requires inside { IsInside net.now.site spot.node spot.moment }
+    requires flooding { IsFlooding net.now.site labels.now k work.old }
+    ensures flooding { IsFlooding net.now.site labels.now k work.new }
+    ensures grown { IsGrown work.old work.new }
+    ensures done { IsTrue result → (i : ℕ) → i < in_count net.now.site spot.node → IsWayDone net.now labels.now work.new.marks k (way_in net.now.site (slice_index (arcs_to net.now.site.shape spot.node) i) spot.moment) }
+{
+    let entering = net.shape().entering(spot.node);
+    for i in 0..entering.len() {
+        if !meet_in(net, labels, work, entering[i], spot.moment, k) {
+            return false;
+        }
+    }
+    true
+}
+
+/// Marks where the wait before a pair begins. Whether nobody can be sent from there.
+fn meet_before(net: &Net, labels: &Labels, work: &mut Work, spot: Spot, k: u16) -> bool
+    requires within { IsWithinLimits net.now }
+    requires labels { IsLabelsOf net.now.site labels.now }
+    requires inside { IsInside net.now.site spot.node spot.moment }
+    requires flooding { IsFlooding net.now.site labels.now k work.old }
+    ensures flooding { IsFlooding net.now.site labels.now k work.new }
+    ensures grown { IsGrown work.old work.new }
+    ensures done { IsTrue result → IsWayDone net.now labels.now work.new.marks k (way_before spot.node spot.moment) }
+{
+    if spot.moment == 0 {
+        return true;
+    }
+    let node = spot.node;
+    let moment = spot.moment - 1;
+    if !is_fresh(labels, &work.marks, Spot { node, moment }, k) {
+        return true;
+    }
+    meet(net, labels, work, forth(Place::Hold { node, moment }), k)
+}
+
+/// Marks where the arcs lead by which people leave a pair. Whether nobody can be sent from there.
+fn expand_out(net: &Net, labels: &Labels, work: &mut Work, spot: Spot, k: u16) -> bool
+    requires within { IsWithinLimits net.now }
+    requires labels { IsLabelsOf net.now.site labels.now }
+    requires inside { IsInside net.now.site spot.node spot.moment }
+    requires flooding { IsFlooding net.now.site labels.now k work.old }
+    ensures flooding { IsFlooding net.now.site labels.now k work.new }
+    ensures grown { IsGrown work.old work.new }
+    ensures done { IsTrue result → (i : ℕ) → i < out_count net.now.site spot.node → IsDone net.now labels.now work.new.marks k (record { place = Arc (slice_index (arcs_from net.now.site.shape spot.node) i) spot.moment; back = true }) }
+{
+    let leaving = net.shape().leaving(spot.node);
+    let moment = spot.moment;
+    for i in 0..leaving.len() {
+        let arc = leaving[i];
+        if !meet(net, labels, work, back(Place::Arc { arc, moment }), k) {
+            return false;
+        }
+    }
+    true
+}
+
+/// Marks all pairs from which steps lead to a pair. Whether nobody can be sent from there.
+fn expand(net: &Net, labels: &Labels, work: &mut Work, spot: Spot, k: u16) -> bool
+    requires within { IsWithinLimits net.now }
+    requires labels { IsLabelsOf net.now.site labels.now }
+    requires inside { IsInside net.now.site spot.node spot.moment }
+    requires flooding { IsFlooding net.now.site labels.now k work.old }
+    ensures flooding { IsFlooding net.now.site labels.now k work.new }
+    ensures grown { IsGrown work.old work.new }
+    ensures expanded { IsTrue result → IsExpanded net.now labels.now work.new.marks k spot.node spot.moment }
+{
+    let node = spot.node;
+    let moment = spot.moment;
+    let supply = meet(net, labels, work, forth(Place::Supply { node, moment }), k);
+    if !supply {
+        return false;
+    }
+    let entering = expand_in(net, labels, work, spot, k);
+    if !entering {
+        return false;
+    }
+    let before = meet_before(net, labels, work, spot, k);
+    if !before {
+        return false;
+    }
+    let leaving = expand_out(net, labels, work, spot, k);
+    if !leaving {
+        return false;
+    }
+    meet(net, labels, work, back(Place::Hold { node, moment }), k)
+}
+
+/// Marks where an arc begins by which people arrive at a moment. Whether nobody can be sent from there.
+fn open(net: &Net, labels: &Labels, work: &mut Work, arc: u32, k: u16) -> bool
+    requires within { IsWithinLimits net.now }
+    requires labels { IsLabelsOf net.now.site labels.now }
+    requires arc { arc < arcs_of net.now.site }
+    requires moment { k ≤ net.now.site.shape.horizon }
+    requires flooding { IsFlooding net.now.site labels.now k work.old }
+    ensures flooding { IsFlooding net.now.site labels.now k work.new }
+    ensures grown { IsGrown work.old work.new }
+    ensures doors { IsTrue result → AreDoorsDone net.now labels.now work.old.marks k arc → AreDoorsDone net.now labels.now work.new.marks k (arc + 1) }
+{
+    if let Some(step) = door_step(net, arc, k) {
+        return meet(net, labels, work, step, k);
+    }
+    true
+}
+
+/// Marks where the arcs begin by which people arrive at a moment. Whether nobody can be sent from there.
+fn open_all(net: &Net, labels: &Labels, work: &mut Work, k: u16) -> bool
+    requires within { IsWithinLimits net.now }
+    requires labels { IsLabelsOf net.now.site labels.now }
+    requires moment { k ≤ net.now.site.shape.horizon }
+    requires flooding { IsFlooding net.now.site labels.now k work.old }
+    ensures flooding { IsFlooding net.now.site labels.now k work.new }
+    ensures doors { IsTrue result → AreDoorsDone net.now labels.now work.new.marks k (arcs_of net.now.site) }
+{
+    let arcs = net.shape().ends().len() as u32;
+    for arc in 0..arcs {
+        if !open(net, labels, work, arc, k) {
+            return false;
+        }
+    }
+    true
+}
+
+/// Marks all pairs that reach an arrival at a moment. Whether nobody can be sent from any of them.
+pub fn flood(net: &Net, labels: &Labels, work: &mut Work, k: u16) -> bool
+    requires within { IsWithinLimits net.now }
+    requires labels { IsLabelsOf net.now.site labels.now }
+    requires moment { k ≤ net.now.site.shape.horizon }
+    requires work { IsWork net.now.site.shape.nodes net.now.site.shape.horizon work.old }
+    ensures searching { IsSearching net.now.site labels.now k work.new }
+    ensures none { work.new.frames.list ≡ [] }
+    ensures explored { IsTrue result → IsExplored net.now labels.now k (arcs_of net.now.site) work.new }
+{
+    work.clear();
+    if !open_all(net, labels, work, k) {
+        return false;
+    }
+    let mut done = 0;
+    while done < work.seen.len() {
+        let place = work.seen.len() - done - 1;
+        let spot = work.seen.get(place);
+        if !expand(net, labels, work, spot, k) {
+            return false;
+        }
+        done += 1;
+    }
+    true
+}

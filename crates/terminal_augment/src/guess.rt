@@ -1,0 +1,282 @@
+// A guess at a path, looked at step by step before people are sent along it.
+ghost use Rattle.std.specs.Prelude.{◌≡◌, ℕ, ◌+◌, ◌<◌, false, ◌≤◌, IsTrue, MatchOption, length};
+ghost use Rattle.time_expansion.specs.Expansion.{hold_cell};
+ghost use Rattle.residual_net.specs.declared.place.Place.TheVariants.{Hold};
+ghost use Rattle.residual_net.specs.Network.{IsNet, IsWithinLimits, residual_room};
+ghost use Rattle.residual_net.specs.Site.{IsPlace, cell_of, head_of, stop_of, tail_of};
+ghost use Rattle.terminal_augment.specs.Frames.{IsStart, end_of};
+ghost use Rattle.terminal_augment.specs.Guesses.{IsCarried, IsLookedAt, IsMarkedOn, IsStep, IsWait};
+ghost use Rattle.terminal_augment.specs.Marking.{IsMarks};
+ghost use Rattle.terminal_augment.specs.Searching.{IsWork};
+ghost use Rattle.terminal_augment.specs.Settled.{IsPushedOn};
+ghost use Rattle.terminal_augment.specs.Spots.{IsInside};
+
+use crate::marks::Marks;
+use crate::spot::{Spot, Start};
+use crate::ways::start;
+use crate::work::Work;
+use evac_law::{Labels, Steps};
+use guided_search::Scout;
+use residual_net::{Net, PathStep, Place};
+use std::sync::ledger::Ledger;
+
+/// The most guesses at one arrival moment.
+const FUEL: u64 = 1_000_000_000_000;
+
+/// Whether a place is one of a net's.
+fn is_place(net: &Net, place: Place) -> bool
+    ensures { IsTrue result → IsPlace net.now.site place }
+{
+    let shape = net.shape();
+    match place {
+        Place::Arc { arc, moment } => {
+            (arc as usize) < shape.ends().len() && moment <= shape.horizon()
+        }
+        Place::Hold { node, moment } => node < shape.nodes() && moment <= shape.horizon(),
+        Place::Supply { node, moment } => node < shape.nodes() && moment <= shape.horizon(),
+    }
+}
+
+/// Whether a place leads to an end.
+fn leads_to(net: &Net, place: Place, end: Start) -> bool
+    requires { IsPlace net.now.site place }
+    ensures { IsTrue result → head_of net.now.site place ≡ end_of end }
+{
+    let shape = net.shape();
+    match place {
+        Place::Arc { arc, moment } => {
+            let to = shape.ends()[arc as usize].to;
+            let then = moment as u32 + net.travel(arc) as u32;
+            match end {
+                Start::Source => false,
+                Start::At(spot) => {
+                    to == spot.node && then == spot.moment as u32 && !net.is_exit(to)
+                }
+                Start::Door(k) => net.is_exit(to) && then == k as u32,
+            }
+        }
+        Place::Hold { node, moment } => match end {
+            Start::At(spot) => node == spot.node && moment as u32 + 1 == spot.moment as u32,
+            Start::Source | Start::Door(_) => false,
+        },
+        Place::Supply { node, moment } => match end {
+            Start::At(spot) => node == spot.node && moment == spot.moment,
+            Start::Source | Start::Door(_) => false,
+        },
+    }
+}
+
+/// Whether a place leads from an end.
+fn leads_from(net: &Net, place: Place, end: Start) -> bool
+    requires { IsPlace net.now.site place }
+    ensures { IsTrue result → tail_of net.now.site place ≡ end_of end }
+{
+    match end {
+        Start::At(spot) => match place {
+            Place::Arc { arc, moment } => {
+                net.shape().ends()[arc as usize].from == spot.node && moment == spot.moment
+            }
+            Place::Hold { node, moment } => node == spot.node && moment == spot.moment,
+            Place::Supply { .. } => false,
+        },
+        Start::Source | Start::Door(_) => false,
+    }
+}
+
+/// Whether a step stops at an end.
+fn stops_at(net: &Net, step: PathStep, end: Start) -> bool
+    requires { IsPlace net.now.site step.place }
+    ensures { IsTrue result → stop_of net.now.site step ≡ end_of end }
+{
+    if step.back {
+        leads_from(net, step.place, end)
+    } else {
+        leads_to(net, step.place, end)
+    }
+}
+
+/// The pair from which a step is the wait that stops at a pair.
+fn waits(step: PathStep, spot: Spot) -> Option<Spot>
+    ensures { MatchOption result (Unit {0}) (IsWait step spot) }
+{
+    match step.place {
+        Place::Hold { node, moment } => {
+            if !step.back && node == spot.node && moment as u32 + 1 == spot.moment as u32 {
+                Some(Spot { node, moment })
+            } else {
+                None
+            }
+        }
+        Place::Arc { .. } | Place::Supply { .. } => None,
+    }
+}
+
+/// The cell of the wait from a pair, by where the waits in its node begin.
+fn wait_cell(net: &Net, first: u32, spot: Spot) -> usize
+    requires node { spot.node < net.now.site.shape.nodes }
+    requires moment { spot.moment ≤ net.now.site.shape.horizon }
+    requires first { first ≡ hold_cell net.now.site.shape spot.node 0 }
+    ensures cell { result ≡ cell_of net.now.site (Hold spot.node spot.moment) }
+    ensures within { result < length net.now.cells }
+{
+    // The cells are those of a net, as many as it has places.
+    let _ = net.shape();
+    first as usize + spot.moment as usize
+}
+
+/// The room of the wait from a pair, by where the waits in its node begin.
+#[tactic(auto, unfolding(residual_net::specs::Network::flow_at, residual_net::specs::Network::limit_at))]
+fn wait_room(net: &Net, first: u32, spot: Spot) -> u32
+    requires node { spot.node < net.now.site.shape.nodes }
+    requires moment { spot.moment ≤ net.now.site.shape.horizon }
+    requires first { first ≡ hold_cell net.now.site.shape spot.node 0 }
+    ensures { result ≡ residual_room net.now (record { place = Hold spot.node spot.moment; back = false }) }
+{
+    let at = wait_cell(net, first, spot);
+    let cell = net.cells()[at];
+    cell.limit.saturating_sub(cell.flow)
+}
+
+/// How far a look at a path has come: to a pair, with the people who may be sent on from there, and some steps left.
+#[derive(Clone, Copy)]
+struct Look {
+    spot: Spot,
+    people: u32,
+    left: usize,
+}
+
+/// Looks back over waits one after another, as long as they have room and no pair comes twice.
+fn over_waits(net: &Net, marks: &mut Marks, path: &[PathStep], from: Look) -> Look
+    requires within { IsWithinLimits net.now }
+    requires marks { IsMarks marks.old }
+    requires nodes { marks.old.nodes ≡ net.now.site.shape.nodes }
+    requires horizon { marks.old.horizon ≡ net.now.site.shape.horizon }
+    requires inside { IsInside net.now.site from.spot.node from.spot.moment }
+    requires left { from.left ≤ length path.now }
+    ensures left { result.left ≤ from.left }
+    ensures inside { IsInside net.now.site result.spot.node result.spot.moment }
+    ensures tail { (k : ℕ) → IsLookedAt net.now k marks.old from path.now → IsLookedAt net.now k marks.new result path.now }
+    ensures marks { IsMarkedOn marks.old marks.new }
+{
+    let node = from.spot.node;
+    let first_wait = net.shape().hold_cell(node, 0);
+    let first_mark = marks.first(node);
+    let mut look = from;
+    while look.left > 0 {
+        let step = path[look.left - 1];
+        let Some(spot) = waits(step, look.spot) else {
+            return look;
+        };
+        let room = wait_room(net, first_wait, spot);
+        if room == 0 {
+            return look;
+        }
+        if marks.is_marked_at(first_mark, spot) {
+            return look;
+        }
+        marks.mark_at(first_mark, spot);
+        let people = look.people.min(room);
+        let left = look.left - 1;
+        look = Look { spot, people, left };
+    }
+    look
+}
+
+/// Where a step begins, if it is one of the net's, has room and stops at an end.
+fn begins(net: &Net, step: PathStep, end: Start) -> Option<Start>
+    requires within { IsWithinLimits net.now }
+    requires inside { IsStart net.now.site end }
+    ensures { MatchOption result (Unit {0}) (λ r. IsStep net.now step r end) }
+{
+    if !is_place(net, step.place) {
+        return None;
+    }
+    if !stops_at(net, step, end) {
+        return None;
+    }
+    if net.room(step) == 0 {
+        return None;
+    }
+    Some(start(net, step))
+}
+
+/// The most people who may be sent along a path to an arrival at a moment, or 0 where it leads there from no source, twice to one
+/// pair, or over a step with no room.
+fn carried(net: &Net, marks: &mut Marks, path: &[PathStep], most: u32, k: u16) -> u32
+    requires within { IsWithinLimits net.now }
+    requires marks { IsMarks marks.old }
+    requires nodes { marks.old.nodes ≡ net.now.site.shape.nodes }
+    requires horizon { marks.old.horizon ≡ net.now.site.shape.horizon }
+    ensures path { 0 < result → IsCarried net.now k path.now result }
+    ensures marks { IsMarkedOn marks.old marks.new }
+{
+    let mut end = Start::Door(k);
+    if most == 0 {
+        return 0;
+    }
+    let mut people = most;
+    let mut left = path.len();
+    while left > 0 {
+        left -= 1;
+        let step = path[left];
+        let Some(before) = begins(net, step, end) else {
+            return 0;
+        };
+        people = people.min(net.room(step));
+        match before {
+            Start::At(spot) => {
+                if marks.is_marked(spot) {
+                    return 0;
+                }
+                marks.mark(spot);
+                let look = over_waits(net, marks, path, Look { spot, people, left });
+                end = Start::At(look.spot);
+                people = look.people;
+                left = look.left;
+            }
+            Start::Source => {
+                return if left == 0 { people } else { 0 };
+            }
+            Start::Door(moment) => {
+                return if left == 0 && k < moment { people } else { 0 };
+            }
+        }
+    }
+    0
+}
+
+/// Sends people to a moment along guessed paths, until a guess is wrong or there is none.
+pub fn send_guessed<L: Ledger>(
+    net: &mut Net,
+    labels: &Labels,
+    work: &mut Work,
+    scout: &mut Scout,
+    k: u16,
+    steps: &mut Steps<L>,
+) -> u32
+    requires within { IsWithinLimits net.old }
+    requires net { IsNet net.old }
+    requires moment { k ≤ net.old.site.shape.horizon }
+    requires work { IsWork net.old.site.shape.nodes net.old.site.shape.horizon work.old }
+    ensures work { IsWork net.new.site.shape.nodes net.new.site.shape.horizon work.new }
+    ensures pushed { IsPushedOn net.old net.new k result }
+    ensures ticked { steps.new ≡ steps.old + result }
+{
+    scout.begin(net, labels, k);
+    let mut pushes = 0;
+    for _ in 0..FUEL {
+        if !scout.find(net) {
+            return pushes;
+        }
+        scout.lay(&mut work.path);
+        work.marks.clear();
+        let people = carried(net, &mut work.marks, work.path.steps(), scout.most(), k);
+        if people == 0 {
+            return pushes;
+        }
+        net.push(&work.path, people, steps);
+        scout.sent(net, people);
+        pushes += 1;
+    }
+    pushes
+}
