@@ -1,0 +1,6 @@
+pub mod Saved
+pub mod Thrifty
+pub mod Ring
+pub mod Standing
+pub mod Going
+pub mod Worked

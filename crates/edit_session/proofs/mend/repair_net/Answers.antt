@@ -1,0 +1,157 @@
+use Rattle.std.proofs.Common.{◌≡◌, ℕ, ◌+◌, ◌-◌, ◌≤◌, ap, ap₂, subst, refl, sym, arith, ◌∙◌}
+use Rattle.evac_law.specs.Plans.{violation}
+use Rattle.residual_net.specs.Network.{Network, arrived_by, flow_at, saved_of}
+use Rattle.residual_net.specs.OfModel.{IsNetOf, last_move, plan_of}
+use Rattle.residual_net.specs.Site.{Site, IsPlace}
+use Rattle.residual_net.proofs.Effects.{arrived_all_sent}
+use Rattle.residual_net.proofs.Kept.{same_saved}
+use Rattle.terminal_augment.specs.Settled.{IsClosedBelow}
+use Rattle.lex_flow.specs.declared.outcome.Outcome.{Outcome}
+use Rattle.lex_flow.specs.declared.outcome.Outcome.TheVariants.{Cleared, Short}
+use Rattle.lex_flow.specs.Outcomes.{IsAnswer, IsBounded, IsCleared, last_settled, pushes_of}
+use Rattle.lex_flow.specs.Settling.{arrivals_below}
+use Rattle.lex_flow.proofs.SettleLemmas.{net_of_kept}
+use Rattle.flow_repair.proofs.Whole.{last_in, valid_now}
+use Rattle.edit_session.specs.declared.work.Work.{Work}
+use Rattle.edit_session.specs.Mended.{last_of}
+use Rattle.edit_session.proofs.Saved.{arrived_saved, closed_saved, edit_saved, flow_saved, of_saved, plan_saved, sent_saved, within_saved}
+use Rattle.edit_session.proofs.Thrifty.{spent, thrifty}
+use Rattle.edit_session.proofs.mend.repair_net.Goals as goal
+
+pub reshape-taken-requires-clause-edited : goal.reshape-taken-requires-clause-edited
+reshape-taken-requires-clause-edited g c =
+    rw c.save.ensures (edit_saved c.args.model.now c.args.edit c.args.net.now c.args.labels.now c.requires.repairable)
+
+pub reshape-taken-requires-clause-within : goal.reshape-taken-requires-clause-within
+reshape-taken-requires-clause-within g c = rw c.save.ensures (within_saved c.args.net.now c.requires.repairable.standing.within)
+
+pub reshape-taken-requires-clause-sent : goal.reshape-taken-requires-clause-sent
+reshape-taken-requires-clause-sent g c = rw c.save.ensures (sent_saved c.args.net.now c.requires.repairable.standing.sent)
+
+pub reshape-taken-requires-clause-closed : goal.reshape-taken-requires-clause-closed
+reshape-taken-requires-clause-closed g c =
+    rw (c.save.ensures, c.copy_from.ensures) (closed_saved c.args.net.now c.args.labels.now c.requires.repairable.standing.closed)
+
+pub settle_all-requires-clause-from : goal.settle_all-requires-clause-from
+settle_all-requires-clause-from g c =
+    let w = c.args.net.now in
+    let s = c.save.new.self in
+    let site : c.reshape-taken.new.net.site ≡ s.site = c.reshape-taken.ensures.site in
+    let same : s.site ≡ w.site = ap (λ (z : Network). z.site) c.save.ensures in
+    let plan : plan_of s ≡ plan_of w = ap plan_of c.save.ensures ∙ plan_saved w in
+    let last : last_move s.site (plan_of s) ≡ last_move w.site (plan_of w) = ap₂ last_move same plan in
+    omega (arith, c.reshape-taken.ensures.least.most, last, last_in w c.shape.ensures.net, ap (λ (z : Site). z.shape.horizon) (site ∙ same))
+
+pub returns-in-Cleared-clause-mended : goal.returns-in-Cleared-clause-mended
+returns-in-Cleared-clause-mended g c =
+    let m = c.args.model.now in
+    let w = c.args.net.now in
+    let s = c.save.new.self in
+    let v = c.reshape-taken.new.net in
+    let u = c.settle_all.new.net in
+    let l = c.settle_all.new.labels in
+    let moment = c.in-Cleared.moment in
+    let pushes = c.in-Cleared.pushes in
+    let done = c.settle_all.ensures in
+    let taken = c.reshape-taken.ensures in
+    let valid = valid_now m c.args.edit s (rw c.save.ensures (edit_saved m c.args.edit w c.args.labels.now c.requires.repairable)) in
+    let of_u = net_of_kept m v u done.limits taken.of in
+    let answer : IsAnswer m u l (Cleared moment pushes) = subst (λ (o : Outcome). IsAnswer m u l o) c.in-Cleared.is (done.answer m valid taken.of) in
+    let bounded : IsBounded v u (Cleared moment pushes) = subst (λ (o : Outcome). IsBounded v u o) c.in-Cleared.is (done.bounded m valid taken.of) in
+    let closed : IsClosedBelow u l (moment + 1) =
+    subst (λ (o : Outcome). IsClosedBelow u l (last_settled u.site.shape.horizon o + 1)) c.in-Cleared.is done.closed in
+    let idle : pushes ≡ 0 → u ≡ v = λ e. done.idle (ap pushes_of c.in-Cleared.is ∙ e) in
+    let same : s.site ≡ w.site = ap (λ (z : Network). z.site) c.save.ensures in
+    let site : u.site ≡ w.site = done.limits.site ∙ taken.site ∙ same in
+    let last : moment ≡ last_of u = answer.last in
+    rw c.copy_from-in-Cleared.ensures (record {
+      site = site;
+      standing = record {
+        valid = valid;
+        net = c.shape-in-Cleared.ensures.net;
+        of = of_u;
+        within = done.within;
+        sent = arrived_all_sent m u c.shape-in-Cleared.ensures.net of_u done.within answer.arrived;
+        cleared = subst (λ (k : ℕ). IsCleared m u l k) last answer;
+        labels = record {
+          nodes = done.labels.nodes ∙ ap (λ z. z.nodes) c.copy_from.ensures ∙ c.requires.repairable.standing.labels.nodes ∙ ap (λ (z : Site). z.shape.nodes) (sym site);
+          horizon = done.labels.horizon
+              ∙ ap (λ z. z.horizon) c.copy_from.ensures
+              ∙ c.requires.repairable.standing.labels.horizon
+              ∙ ap (λ (z : Site). z.shape.horizon) (sym site);
+        };
+        closed = subst (λ (k : ℕ). IsClosedBelow u l (k + 1)) last closed;
+      };
+      thrifty = λ b valid_b of_b.
+          let of_s : IsNetOf b s = rw c.save.ensures (of_saved b w of_b) in
+          let work : Work = record { cancelled = c.reshape-taken.result.cancelled; pushes = pushes } in
+          thrifty b m w v u (last_of u) work valid_b valid c.shape.ensures.net c.shape-in-Cleared.ensures.net of_b of_u (taken.site ∙ same)
+          (subst (λ z. c.reshape-taken.result.cancelled ≤ violation b z m) (ap plan_of c.save.ensures ∙ plan_saved w) (taken.few b valid_b of_s))
+          (λ k. omega (arith, taken.arrivals k, ap (λ (z : Network). arrived_by z k) c.save.ensures, arrived_saved w k))
+          (λ e p i. taken.idle e p (subst (λ (z : Site). IsPlace z p) (sym same) i) ∙ ap (λ (z : Network). flow_at z p) c.save.ensures ∙ flow_saved w p)
+          (subst (λ (k : ℕ). pushes + arrivals_below v (k + 1) ≤ arrivals_below u (k + 1)) last bounded) idle;
+    })
+
+pub returns-in-Short-clause-mended : goal.returns-in-Short-clause-mended
+returns-in-Short-clause-mended g c =
+    let m = c.args.model.now in
+    let w = c.args.net.now in
+    let s = c.save.new.self in
+    let v = c.reshape-taken.new.net in
+    let u = c.settle_all.new.net in
+    let l = c.settle_all.new.labels in
+    let valid = valid_now m c.args.edit s (rw c.save.ensures (edit_saved m c.args.edit w c.args.labels.now c.requires.repairable)) in
+    let answer : IsAnswer m u l (Short c.in-Short.most c.in-Short.pushes) =
+    subst (λ (o : Outcome). IsAnswer m u l o) c.in-Short.is (c.settle_all.ensures.answer m valid c.reshape-taken.ensures.of) in
+    let same : s.site ≡ w.site = ap (λ (z : Network). z.site) c.save.ensures in
+    let of_w = sym (c.reshape-taken.ensures.site ∙ same) ∙ c.reshape-taken.ensures.of.site in
+    record {
+      net = c.restore.ensures
+          ∙ same_saved s u (c.settle_all.ensures.limits.site ∙ c.reshape-taken.ensures.site) (c.settle_all.ensures.limits.saved ∙ c.reshape-taken.ensures.saved)
+          ∙ ap saved_of c.save.ensures;
+      labels = refl;
+      table = record {
+        nodes = c.settle_all.ensures.labels.nodes
+            ∙ ap (λ z. z.nodes) c.copy_from.ensures
+            ∙ c.requires.repairable.standing.labels.nodes
+            ∙ ap (λ (z : Site). z.shape.nodes) of_w;
+        horizon = c.settle_all.ensures.labels.horizon
+            ∙ ap (λ z. z.horizon) c.copy_from.ensures
+            ∙ c.requires.repairable.standing.labels.horizon
+            ∙ ap (λ (z : Site). z.shape.horizon) of_w;
+      };
+      shortfall = answer.1;
+    }
+
+pub returns-in-Short-clause-counted : goal.returns-in-Short-clause-counted
+returns-in-Short-clause-counted g c =
+    let m = c.args.model.now in
+    let w = c.args.net.now in
+    let s = c.save.new.self in
+    let v = c.reshape-taken.new.net in
+    let u = c.settle_all.new.net in
+    let l = c.settle_all.new.labels in
+    let most = c.in-Short.most in
+    let pushes = c.in-Short.pushes in
+    let taken = c.reshape-taken.ensures in
+    let done = c.settle_all.ensures in
+    let valid = valid_now m c.args.edit s (rw c.save.ensures (edit_saved m c.args.edit w c.args.labels.now c.requires.repairable)) in
+    let answer : IsAnswer m u l (Short most pushes) = subst (λ (o : Outcome). IsAnswer m u l o) c.in-Short.is (done.answer m valid taken.of) in
+    let bounded : IsBounded v u (Short most pushes) = subst (λ (o : Outcome). IsBounded v u o) c.in-Short.is (done.bounded m valid taken.of) in
+    let count : pushes_of c.settle_all.result ≡ pushes = ap pushes_of c.in-Short.is in
+    let rise : c.args.steps.now ≤ c.settle_all.new.steps = omega (arith, taken.counted, done.ticked) in
+    let fewer : c.settle_all.new.steps - c.args.steps.now ≤ c.reshape-taken.result.cancelled + pushes = omega (arith, taken.ticked, done.ticked, count) in (
+      rise,
+      λ b valid_b of_b.
+          let of_s : IsNetOf b s = rw c.save.ensures (of_saved b w of_b) in
+          let same : u.site.shape.horizon ≡ b.horizon =
+          ap (λ (z : Site). z.shape.horizon) (done.limits.site ∙ taken.site ∙ of_s.site) in
+          let other : m.horizon ≡ b.horizon = ap (λ (z : Site). z.shape.horizon) (sym taken.of.site ∙ taken.site ∙ of_s.site) in
+          let all : arrived_by u b.horizon ≡ most = ap (arrived_by u) (sym other) ∙ answer.0 in
+          let bound : pushes + arrivals_below v (b.horizon + 1) ≤ arrivals_below u (b.horizon + 1) =
+          subst (λ h. pushes + arrivals_below v (h + 1) ≤ arrivals_below u (h + 1)) same bounded in
+          spent b m w v u c.reshape-taken.result.cancelled pushes most (c.settle_all.new.steps - c.args.steps.now) valid_b c.shape.ensures.net of_b
+          (subst (λ z. c.reshape-taken.result.cancelled ≤ violation b z m) (ap plan_of c.save.ensures ∙ plan_saved w) (taken.few b valid_b of_s))
+          (λ k. omega (arith, taken.arrivals k, ap (λ (z : Network). arrived_by z k) c.save.ensures, arrived_saved w k))
+          bound all fewer,
+    )

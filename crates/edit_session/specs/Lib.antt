@@ -1,0 +1,15 @@
+pub use Rattle.evac_law.specs.Building
+pub use Rattle.evac_law.specs.Certificates
+pub use Rattle.evac_law.specs.Edits
+pub use Rattle.evac_law.specs.LabelTable
+pub use Rattle.evac_law.specs.Plans
+pub use Rattle.evac_law.specs.Stands
+pub use Rattle.residual_net.specs.Network
+pub use Rattle.residual_net.specs.OfModel
+pub use Rattle.flow_repair.specs.Refit
+pub use Rattle.lex_flow.specs.Outcomes
+pub mod Thrift
+pub mod Sessions
+pub mod Kept
+pub mod Mended
+pub mod Worked

@@ -1,0 +1,18 @@
+//! An editing session: a model with its best plan, repaired after each edit, and edits undone.
+//!
+//! `Session::begin` takes all memory. After each edit and undo the standing net is brought under the edited model's limits, and settled
+//! from the first moment that the edit may have touched; where not everybody can get out any more, all is left as it was.
+#![tactic(auto)]
+
+mod faults;
+mod mend;
+mod repaired;
+mod scratch;
+mod session;
+#[cfg(test)]
+mod tests;
+mod work;
+
+pub use faults::{BeginFault, EditRefusal, Short, UndoRefusal};
+pub use session::Session;
+pub use work::Work;

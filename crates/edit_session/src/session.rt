@@ -1,0 +1,215 @@
+// The session: a model, the net that stands for its plan, and the edits that lead back.
+ghost use Rattle.std.specs.Prelude.{◌≡◌, ℕ, ◌+◌, OnErr, length};
+ghost use Rattle.evac_law.specs.Building.{IsValid};
+ghost use Rattle.evac_law.specs.Certificates.{IsTableOf};
+ghost use Rattle.evac_law.specs.Edits.{IsEditOf};
+ghost use Rattle.evac_law.specs.Stands.{Fits};
+ghost use Rattle.edit_session.specs.Sessions.{BeginEnds, EditEnds, IsNetOfState, IsSolved, UndoEnds, stand_of_state};
+
+use crate::faults::{BeginFault, EditRefusal, Short, UndoRefusal};
+use crate::mend::repair_net;
+use crate::repaired::Repaired;
+use crate::scratch::Scratch;
+use crate::work::Work;
+use circular_buffer::HeapCircularBuffer;
+use evac_law::{Edit, Labels, Model, Standing, Steps, apply};
+use lex_flow::{Outcome, settle_all};
+use residual_net::Net;
+use std::alloc::Global;
+use std::sync::ledger::Ledger;
+
+/// The most edits that are kept for undo.
+pub const KEPT_LIMIT: usize = 64;
+
+/// A model with its best plan, which is repaired after each edit. All memory that a session needs is taken when it begins.
+#[derive(Drop)]
+pub struct Session {
+    model: Model,
+    net: Net,
+    labels: Labels,
+    refused: Labels,
+    ring: HeapCircularBuffer<Edit>,
+    work: Work,
+    scratch: Scratch,
+}
+
+impl std::marker::Model for Session {
+    ghost use Rattle.edit_session.specs.Kept.{IsSession, view_of};
+    ghost use Rattle.edit_session.specs.Sessions.{SessionView};
+
+    ghost Value = { SessionView };
+
+    ghost view = { λ s. view_of s.model s.net s.labels s.refused s.ring.items s.work };
+
+    ghost invariant = { λ s. IsSession s.model s.net s.labels s.refused s.ring.items s.ring.capacity s.scratch };
+}
+
+impl Session {
+    /// A session on a model, with its best plan; or the model back, where not everybody can get out.
+    pub fn begin<L: Ledger>(
+        alloc: Global,
+        model: Model,
+        steps: &mut Steps<L>,
+    ) -> Result<Session, BeginFault>
+        requires { IsValid model }
+        ensures { (n : ℕ) × (steps.new ≡ steps.old + n) × BeginEnds model result n }
+    {
+        let nodes = model.node_count();
+        let (Ok(mut net), Ok(mut labels), Ok(refused), Ok(mut scratch), Ok(ring)) = (
+            Net::new(alloc, &model),
+            Labels::new(alloc, nodes, model.horizon),
+            Labels::new(alloc, nodes, model.horizon),
+            Scratch::new(alloc, &model),
+            HeapCircularBuffer::with_capacity(alloc, KEPT_LIMIT),
+        ) else {
+            return Err(BeginFault::Memory);
+        };
+        match settle_all(&mut net, &mut labels, &mut scratch.search, 0, steps) {
+            Outcome::Cleared { pushes, .. } => {
+                // a net keeps its flow in balance
+                let _ = net.shape();
+                let work = Work {
+                    cancelled: 0,
+                    pushes,
+                };
+                Ok(Session {
+                    model,
+                    net,
+                    labels,
+                    refused,
+                    ring,
+                    work,
+                    scratch,
+                })
+            }
+            Outcome::Short { most, .. } => Err(BeginFault::NotCleared(Short {
+                model,
+                labels,
+                most,
+            })),
+        }
+    }
+
+    /// Makes an edit and repairs the plan. Where it is refused, all stays as it was but the refused cut.
+    pub fn edit<L: Ledger>(&mut self, edit: Edit, steps: &mut Steps<L>) -> Result<Work, EditRefusal>
+        requires { IsEditOf self.old.state.model edit }
+        ensures ends { (n : ℕ) × (steps.new ≡ steps.old + n) × EditEnds self.old edit result self.new n }
+        ensures unchanged { OnErr result (self.new.state ≡ self.old.state) }
+    {
+        let inverse = match apply(&mut self.model, edit) {
+            Ok(inverse) => inverse,
+            Err(fault) => return Err(EditRefusal::Fault(fault)),
+        };
+        match repair_net(
+            &mut self.net,
+            &self.model,
+            edit,
+            &mut self.labels,
+            &mut self.scratch,
+            steps,
+        ) {
+            Repaired::Cleared { work } => {
+                self.ring.push_front(inverse);
+                self.work = work;
+                Ok(work)
+            }
+            Repaired::Short { most } => {
+                let people = self.model.people();
+                self.refused.copy_from(&self.scratch.labels);
+                // the inverse of an edit that was just made is accepted
+                let _ = apply(&mut self.model, inverse);
+                Err(EditRefusal::NotCleared { people, most })
+            }
+        }
+    }
+
+    /// Goes back to the model before the last kept edit.
+    pub fn undo<L: Ledger>(&mut self, steps: &mut Steps<L>) -> Result<Work, UndoRefusal>
+        ensures ends { (n : ℕ) × (steps.new ≡ steps.old + n) × UndoEnds self.old result self.new n }
+        ensures unchanged { OnErr result (self.new ≡ self.old) }
+    {
+        let Some(back) = self.ring.pop_front() else {
+            return Err(UndoRefusal::NothingToUndo);
+        };
+        // a kept edit is accepted where it stands
+        let _ = apply(&mut self.model, back);
+        match repair_net(
+            &mut self.net,
+            &self.model,
+            back,
+            &mut self.labels,
+            &mut self.scratch,
+            steps,
+        ) {
+            Repaired::Cleared { work } => {
+                self.work = work;
+                Ok(work)
+            }
+            // the model before had its plan
+            Repaired::Short { .. } => unreachable!(),
+        }
+    }
+
+    /// The model as it stands.
+    pub fn model(&self) -> &Model
+        ensures model { result.now ≡ self.now.state.model }
+        ensures solved { IsSolved self.now.state }
+        ensures stands { Fits self.now.state.model (stand_of_state self.now.state) }
+    {
+        &self.model
+    }
+
+    /// The labels, which make a cut for each period.
+    pub fn labels(&self) -> &Labels
+        ensures { result.now ≡ self.now.state.labels }
+    {
+        &self.labels
+    }
+
+    /// How many edits can be undone.
+    pub fn kept(&self) -> usize
+        ensures { result ≡ length self.now.state.former }
+    {
+        self.ring.len()
+    }
+
+    /// The work of the last accepted edit or undo, and before the first that of the beginning.
+    pub fn work(&self) -> Work
+        ensures { result ≡ self.now.state.work }
+    {
+        self.work
+    }
+
+    /// The labels whose cut at the horizon shows why the last such edit was refused.
+    pub fn refused_cut(&self) -> &Labels
+        ensures labels { result.now ≡ self.now.refused }
+        ensures table { IsTableOf self.now.state.model result.now }
+    {
+        &self.refused
+    }
+
+    /// The net that is repaired.
+    pub fn net(&self) -> &Net
+        ensures { IsNetOfState self.now.state result.now }
+    {
+        &self.net
+    }
+}
+
+impl Standing for Session {
+    ghost use Rattle.edit_session.specs.Sessions.{stand_of_state};
+
+    ghost stand = { λ v. stand_of_state v.state };
+
+    fn moved(&self, arc: u32, moment: u16) -> u32 {
+        self.net.moved(arc, moment)
+    }
+
+    fn held(&self, node: u32, moment: u16) -> u32 {
+        self.net.held(node, moment)
+    }
+
+    fn cleared(&self) -> u16 {
+        self.net.last_arrival()
+    }
+}

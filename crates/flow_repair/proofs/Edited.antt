@@ -1,0 +1,175 @@
+-- What an edit leaves of the limits of a model.
+use Rattle.std.proofs.Common.{◌≡◌, ◌≢◌, ℕ, zero, suc, ◌+◌, ◌-◌, ◌<◌, Bool, true, false, cond, ◌&&◌, ◌||◌, eqb, ltb, List, [], ◌∷◌, length, map, get_or, set, refl, ap, ap₂, sym, ◌∙◌, arith, subst, Ok}
+use Rattle.std.proofs.lemmas.List.{get_or-set_other, length-set, length-map}
+use Rattle.std.proofs.lemmas.Bool.{eqb-false}
+use Rattle.evac_law.specs.declared.model.NodeRow.{NodeRow}
+use Rattle.evac_law.specs.declared.model.ArcRow.{ArcRow}
+use Rattle.evac_law.specs.declared.model.Model.{Model}
+use Rattle.evac_law.specs.declared.edit.Edit.{Edit}
+use Rattle.evac_law.specs.declared.edit.Edit.TheVariants.{Shut, Reopen, ShutExit, ReopenExit, Rate, Room, Shift, Enter, Leave}
+use Rattle.evac_law.specs.Building.{IsValid, arc_at, arrival, capacity, head, no_arc, no_node, node_at, rate, start}
+use Rattle.evac_law.specs.Names.{is_exit}
+use Rattle.evac_law.specs.Edits.{IsEditOf, applied, checks, edited, inverse_of, with_arc, with_node, with_start}
+use Rattle.evac_law.proofs.EditLemmas.{at-set, unless-Ok, valid_edited}
+use Rattle.time_expansion.specs.Expansion.{to_at}
+use Rattle.residual_net.specs.declared.place.Place.{Place}
+use Rattle.residual_net.specs.declared.place.Place.TheVariants as places
+use Rattle.residual_net.specs.declared.start.Kind.TheVariants as kinds
+use Rattle.residual_net.specs.Site.{Site, IsPlace}
+use Rattle.residual_net.specs.OfModel.{model_limit, site_of}
+use Rattle.residual_net.specs.Start.{is_kind, number_of}
+use Rattle.residual_net.proofs.Begin.{joined}
+use Rattle.residual_net.proofs.Held.{to_is}
+use Rattle.flow_repair.specs.Touched.{touches}
+
+-- ---- the network stays
+
+map-set_same : {X Y : Type 0} (f : X → Y) (xs : List X) (n : ℕ) (y d : X) → f y ≡ f (get_or xs n d) → map f (set xs n y) ≡ map f xs
+map-set_same f [] n y d e = refl
+map-set_same f (x ∷ xs) zero y d e = ap (λ z. z ∷ map f xs) e
+map-set_same f (x ∷ xs) (suc n) y d e = ap (λ z. f x ∷ z) (map-set_same f xs n y d e)
+
+abbrev with_parts : ℕ → List Rattle.time_expansion.specs.declared.ends.Ends.Ends → ℕ → List Bool → List ℕ → Site
+with_parts n ends horizon exits travels = record { shape = record { nodes = n; ends = ends; horizon = horizon }; exits = exits; travels = travels }
+
+site_arc : (m : Model) (a : ℕ) (row : ArcRow) → joined row ≡ joined (arc_at m a) → row.travel ≡ (arc_at m a).travel → site_of (with_arc m a row) ≡ site_of m
+site_arc m a row ends travel =
+    let exits = (site_of m).exits in
+    ap (λ z. with_parts (length m.nodes) z m.horizon exits (site_of (with_arc m a row)).travels) (map-set_same joined m.arcs a row no_arc ends)
+    ∙ ap (λ z. with_parts (length m.nodes) (site_of m).shape.ends m.horizon exits z) (map-set_same (λ (r : ArcRow). r.travel) m.arcs a row no_arc travel)
+
+site_node : (m : Model) (n : ℕ) (row : NodeRow) → row.name ≡ (node_at m n).name → site_of (with_node m n row) ≡ site_of m
+site_node m n row name =
+    let travels = (site_of m).travels in
+    ap (λ z. with_parts z (site_of m).shape.ends m.horizon (site_of (with_node m n row)).exits travels) (length-set m.nodes n row)
+    ∙ ap (λ z. with_parts (length m.nodes) (site_of m).shape.ends m.horizon z travels)
+    (map-set_same (λ (r : NodeRow). is_exit r.name.kind) m.nodes n row no_node (ap (λ z. is_exit z.kind) name))
+
+pub site_edited : (m : Model) (e : Edit) → site_of (edited m e) ≡ site_of m
+site_edited m (Shut a) = site_arc m a (record (arc_at m a) { shut = true }) refl refl
+site_edited m (Reopen a) = site_arc m a (record (arc_at m a) { shut = false }) refl refl
+site_edited m (ShutExit n) = site_node m n (record (node_at m n) { shut = true }) refl
+site_edited m (ReopenExit n) = site_node m n (record (node_at m n) { shut = false }) refl
+site_edited m (Rate a r) = site_arc m a (record (arc_at m a) { rate = r }) refl refl
+site_edited m (Room n c) = site_node m n (record (node_at m n) { capacity = c }) refl
+site_edited m (Shift a b p) =
+    let less = with_start m a (start m a - p) in
+    site_node less b (record (node_at less b) { start = start m b + p }) refl ∙ site_node m a (record (node_at m a) { start = start m a - p }) refl
+site_edited m (Enter n p) = site_node m n (record (node_at m n) { start = start m n + p }) refl
+site_edited m (Leave n p) = site_node m n (record (node_at m n) { start = start m n - p }) refl
+
+-- ---- limits that stay
+
+-- the test fails and the place is of that kind
+not_number : (a b : ℕ) → (true && eqb a b) ≡ false → a ≢ b
+not_number a b e = eqb-false a b e
+
+arc_limit_kept : (m m' : Model) (a t : ℕ) → m'.horizon ≡ m.horizon → arc_at m' a ≡ arc_at m a → (node_at m' (head m a)).shut ≡ (node_at m (head m a)).shut
+    → model_limit m' (places.Arc a t) ≡ model_limit m (places.Arc a t)
+arc_limit_kept m m' a t h e s =
+    let same : rate m' a t ≡ rate m a t =
+    ap (λ (r : ArcRow). cond (r.shut || (node_at m' r.to).shut) 0 r.rate) e ∙ ap (λ b. cond ((arc_at m a).shut || b) 0 (arc_at m a).rate) s in
+    let late : ltb m'.horizon (arrival m' a t) ≡ ltb m.horizon (arrival m a t) = ap₂ ltb h (ap (λ (r : ArcRow). t + r.travel) e) in
+    ap (λ b. cond b 0 (rate m' a t)) late ∙ ap (λ z. cond (ltb m.horizon (arrival m a t)) 0 z) same
+
+hold_limit_kept : (m m' : Model) (n t : ℕ) → m'.horizon ≡ m.horizon → capacity m' n ≡ capacity m n → model_limit m' (places.Hold n t) ≡ model_limit m (places.Hold n t)
+hold_limit_kept m m' n t h e = ap (λ z. cond (eqb t z) 0 (capacity m' n)) h ∙ ap (λ z. cond (eqb t m.horizon) 0 z) e
+
+entry_kept : (m m' : Model) (n t : ℕ) → start m' n ≡ start m n → model_limit m' (places.Supply n t) ≡ model_limit m (places.Supply n t)
+entry_kept m m' n t e = ap (λ z. cond (eqb t 0) z 0) e
+
+-- another arc at a place
+after_arc : (m : Model) (a : ℕ) (row : ArcRow) (p : Place) → (is_kind kinds.Arc p && eqb (number_of p) a) ≡ false
+    → model_limit (with_arc m a row) p ≡ model_limit m p
+after_arc m a row (places.Arc b t) e =
+    arc_limit_kept m (with_arc m a row) b t refl (get_or-set_other m.arcs a b row no_arc (not_number b a e)) refl
+after_arc m a row (places.Hold n t) e = refl
+after_arc m a row (places.Supply n t) e = refl
+
+-- another mark at an exit
+after_exit : (m : Model) (n : ℕ) (b : Bool) (p : Place) → IsPlace (site_of m) p → (is_kind kinds.Arc p && eqb (to_at (site_of m).shape (number_of p)) n) ≡ false
+    → model_limit (with_node m n (record (node_at m n) { shut = b })) p ≡ model_limit m p
+after_exit m n b (places.Arc a t) i e =
+    let in_arcs : a < length m.arcs = omega (arith, length-map m.arcs joined, i.0) in
+    let other : head m a ≢ n = λ f. not_number (to_at (site_of m).shape a) n e (to_is m a in_arcs ∙ f) in
+    let row = record (node_at m n) { shut = b } in
+    arc_limit_kept m (with_node m n row) a t refl refl (ap (λ (r : NodeRow). r.shut) (get_or-set_other m.nodes n (head m a) row no_node other))
+after_exit m n b (places.Hold k t) i e =
+    let row = record (node_at m n) { shut = b } in
+    hold_limit_kept m (with_node m n row) k t refl (at-set (λ (r : NodeRow). r.capacity) m.nodes n row no_node refl k)
+after_exit m n b (places.Supply k t) i e =
+    let row = record (node_at m n) { shut = b } in
+    entry_kept m (with_node m n row) k t (at-set (λ (r : NodeRow). r.start) m.nodes n row no_node refl k)
+
+-- another capacity
+after_room : (m : Model) (n c : ℕ) (p : Place) → (is_kind kinds.Hold p && eqb (number_of p) n) ≡ false
+    → model_limit (with_node m n (record (node_at m n) { capacity = c })) p ≡ model_limit m p
+after_room m n c (places.Arc a t) e =
+    let row = record (node_at m n) { capacity = c } in
+    arc_limit_kept m (with_node m n row) a t refl refl (at-set (λ (r : NodeRow). r.shut) m.nodes n row no_node refl (head m a))
+after_room m n c (places.Hold k t) e =
+    let row = record (node_at m n) { capacity = c } in
+    hold_limit_kept m (with_node m n row) k t refl (ap (λ (r : NodeRow). r.capacity) (get_or-set_other m.nodes n k row no_node (not_number k n e)))
+after_room m n c (places.Supply k t) e =
+    let row = record (node_at m n) { capacity = c } in
+    entry_kept m (with_node m n row) k t (at-set (λ (r : NodeRow). r.start) m.nodes n row no_node refl k)
+
+-- another start
+after_start : (m : Model) (n s : ℕ) (p : Place) → (is_kind kinds.Supply p && eqb (number_of p) n) ≡ false → model_limit (with_start m n s) p ≡ model_limit m p
+after_start m n s (places.Arc a t) e =
+    let row = record (node_at m n) { start = s } in
+    arc_limit_kept m (with_node m n row) a t refl refl (at-set (λ (r : NodeRow). r.shut) m.nodes n row no_node refl (head m a))
+after_start m n s (places.Hold k t) e =
+    let row = record (node_at m n) { start = s } in
+    hold_limit_kept m (with_node m n row) k t refl (at-set (λ (r : NodeRow). r.capacity) m.nodes n row no_node refl k)
+after_start m n s (places.Supply k t) e =
+    let row = record (node_at m n) { start = s } in
+    entry_kept m (with_node m n row) k t (ap (λ (r : NodeRow). r.start) (get_or-set_other m.nodes n k row no_node (not_number k n e)))
+
+neither : (b c : Bool) → (b || c) ≡ false → (b ≡ false) × (c ≡ false)
+neither false false e = (refl, refl)
+neither true c e = absurd (cc)
+neither false true e = absurd (cc)
+
+pub untouched : (m : Model) (e : Edit) (p : Place) → IsPlace (site_of m) p → touches (site_of m) e p ≡ false → model_limit (edited m e) p ≡ model_limit m p
+untouched m (Shut a) p i t = after_arc m a (record (arc_at m a) { shut = true }) p t
+untouched m (Reopen a) p i t = after_arc m a (record (arc_at m a) { shut = false }) p t
+untouched m (ShutExit n) p i t = after_exit m n true p i t
+untouched m (ReopenExit n) p i t = after_exit m n false p i t
+untouched m (Rate a r) p i t = after_arc m a (record (arc_at m a) { rate = r }) p t
+untouched m (Room n c) p i t = after_room m n c p t
+untouched m (Shift a b x) p i t =
+    let none = neither (is_kind kinds.Supply p && eqb (number_of p) b) (is_kind kinds.Supply p && eqb (number_of p) a) t in
+    after_start (with_start m a (start m a - x)) b (start m b + x) p none.0 ∙ after_start m a (start m a - x) p none.1
+untouched m (Enter n x) p i t = after_start m n (start m n + x) p t
+untouched m (Leave n x) p i t = after_start m n (start m n - x) p t
+
+-- ---- places of the edit
+
+nodes_long : (m : Model) (e : Edit) → length (edited m e).nodes ≡ length m.nodes
+nodes_long m e = ap (λ (s : Site). s.shape.nodes) (site_edited m e)
+
+arcs_long : (m : Model) (e : Edit) → length (edited m e).arcs ≡ length m.arcs
+arcs_long m e =
+    sym (length-map (edited m e).arcs joined) ∙ ap (λ (s : Site). length s.shape.ends) (site_edited m e) ∙ length-map m.arcs joined
+
+pub still_edit : (m : Model) (e : Edit) → IsEditOf m e → IsEditOf (edited m e) e
+still_edit m (Shut a) i = omega (arith, arcs_long m (Shut a), i)
+still_edit m (Reopen a) i = omega (arith, arcs_long m (Reopen a), i)
+still_edit m (ShutExit n) i = omega (arith, nodes_long m (ShutExit n), i)
+still_edit m (ReopenExit n) i = omega (arith, nodes_long m (ReopenExit n), i)
+still_edit m (Rate a r) i = omega (arith, arcs_long m (Rate a r), i)
+still_edit m (Room n c) i = omega (arith, nodes_long m (Room n c), i)
+still_edit m (Shift a b x) i = (omega (arith, nodes_long m (Shift a b x), i.0), omega (arith, nodes_long m (Shift a b x), i.1))
+still_edit m (Enter n x) i = omega (arith, nodes_long m (Enter n x), i)
+still_edit m (Leave n x) i = omega (arith, nodes_long m (Leave n x), i)
+
+-- ---- an edit that is accepted
+
+pub is_edited : (m m' : Model) (e e' : Edit) → applied m e ≡ Ok (m', e') → edited m e ≡ m'
+is_edited m m' e e' h = ap (λ t. t.0) (unless-Ok (checks m e) (edited m e, inverse_of m e) (m', e') h).1
+
+pub valid_after : (m m' : Model) (e e' : Edit) → IsValid m → IsEditOf m e → applied m e ≡ Ok (m', e') → IsValid m'
+valid_after m m' e e' v i h =
+    let done = unless-Ok (checks m e) (edited m e, inverse_of m e) (m', e') h in
+    subst IsValid (ap (λ t. t.0) done.1) (valid_edited m e v i done.0)

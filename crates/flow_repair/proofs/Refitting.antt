@@ -1,0 +1,318 @@
+-- Limits set and people taken off, one after another.
+use Rattle.std.proofs.Common.{◌≡◌, ℕ, ◌+◌, ◌-◌, ◌<◌, ◌≤◌, Bool, true, false, cond, not, ◌||◌, leb, List, get_or, min, refl, ap, sym, ◌∙◌, arith, inl, inr, ◌⊎◌, subst}
+use Rattle.std.specs.List.{All, Any}
+use Rattle.std.proofs.lemmas.Bool.{cases_Bool, cases_lt}
+use Rattle.evac_law.specs.declared.model.Model.{Model}
+use Rattle.evac_law.specs.LabelTable.{LabelTable}
+use Rattle.residual_net.specs.declared.place.Place.{Place}
+use Rattle.residual_net.specs.declared.place.PathStep.{PathStep}
+use Rattle.residual_net.specs.Site.{Site, IsPlace, door_by, is_source, same_place, sum_places}
+use Rattle.residual_net.specs.Network.{Network, flow_at, limit_at}
+use Rattle.residual_net.specs.Change.{IsCancelled, IsLimitSet}
+use Rattle.residual_net.specs.OfModel.{model_limit}
+use Rattle.residual_net.proofs.Effects.{cancel_lowers, fewer_sent}
+use Rattle.residual_net.proofs.Kept.{into_same, out_same}
+use Rattle.residual_net.proofs.Places.{place-same, same-place, sum_places-add, sum_places-le, sum_places-pick, sum_places-same}
+use Rattle.flow_repair.specs.declared.reshaped.Reshaped.{Reshaped}
+use Rattle.flow_repair.specs.Opened.{IsLeastOpened, IsOpened, head_number}
+use Rattle.flow_repair.specs.Refit.{IsRefitted, IsThinned, overrun}
+use Rattle.residual_net.proofs.Steps.{added_some}
+use Rattle.flow_repair.proofs.Cancelling.{falls, less_over, on_path}
+
+-- ---- one cancel
+
+at_most : (b : Bool) (x : ℕ) → cond b x 0 ≤ x
+at_most true x = omega arith
+at_most false x = omega arith
+
+pub one_cancelled : (l : LabelTable) (w v : Network) (p : Place) (path : List PathStep) (x : ℕ) (before after : Reshaped)
+    → IsCancelled w v p path x → after.cancelled ≡ before.cancelled + x
+    → after.least_label ≤ before.least_label
+    → All (λ r. after.least_label ≤ head_number l v.site r.place) path
+    → (after.least_label ≡ before.least_label) ⊎ Any (λ r. after.least_label ≡ head_number l v.site r.place) path
+    → IsThinned p l w v before after
+one_cancelled l w v p path x before after c sum most all one = record {
+  site = c.taken.site;
+  saved = c.taken.saved;
+  limits = c.taken.limits;
+  flows = falls w v p path x c;
+  more = omega (arith, sum);
+  sent = omega (arith, sum, fewer_sent w v p path x c);
+  bounded = omega (arith, sum, less_over w v p path x c);
+  arrivals = λ k. omega (arith, sum, cancel_lowers w v p path x c.arrives.0 c c.arrives.1 k, at_most (leb c.arrives.0 k) x);
+  idle = λ e. absurd (omega (arith, e, sum, c.some));
+  least = record {
+    most = most;
+    places = λ q j o. elim o [
+      | inl rose ↦ absurd (omega (arith, rose, c.taken.limits q j))
+      | inr fell ↦
+          let on = added_some path x q (omega (arith, fell, c.taken.flows q j)) in
+          let same : (get_or path on.0 on.1).place ≡ q = ap (λ (r : PathStep). r.place) on.3 ∙ on.4 in
+          let there : after.least_label ≤ head_number l v.site q = subst (λ z. after.least_label ≤ head_number l v.site z) same (all on.0 on.1 on.2) in
+          subst (λ (s : Site). after.least_label ≤ head_number l s q) c.taken.site there
+    ];
+    one = elim one [
+      | inl e ↦ inl e
+      | inr a ↦
+          let place = c.arrives.1.places a.0 a.1 a.2 in
+          let fell = on_path w v p path x c a.0 a.1 a.2 in
+          let same : (get_or path a.0 a.1).place ≡ a.1.place = ap (λ (r : PathStep). r.place) a.3 in
+          let at : IsPlace w.site a.1.place = subst (λ z. IsPlace w.site z) same place in
+          let less : flow_at v a.1.place + x ≤ flow_at w a.1.place = subst (λ z. flow_at v z + x ≤ flow_at w z) same fell in
+          inr (a.1.place, at, inr (omega (arith, less, c.some)), subst (λ (s : Site). after.least_label ≡ head_number l s a.1.place) c.taken.site a.4)
+    ];
+  };
+}
+
+-- ---- one after another
+
+pub least_none : (l : LabelTable) (w : Network) (first : ℕ) → IsLeastOpened l w w first first
+least_none l w first = record {
+  most = omega arith;
+  places = λ p i o. elim o [ inl rose ↦ absurd (omega (arith, rose)) | inr fell ↦ absurd (omega (arith, fell)) ];
+  one = inl refl;
+}
+
+-- what two changes open together is what the one or the other opens, where flows only fall and a limit that rose stays
+pub least_then : (l : LabelTable) (w v u : Network) (a b c : ℕ) → v.site ≡ w.site
+    → ((p : Place) → IsPlace w.site p → flow_at v p ≤ flow_at w p) → ((p : Place) → IsPlace w.site p → flow_at u p ≤ flow_at v p)
+    → ((p : Place) → IsPlace w.site p → limit_at w p < limit_at v p → limit_at w p < limit_at u p)
+    → ((p : Place) → IsPlace w.site p → limit_at v p < limit_at u p → limit_at w p < limit_at u p)
+    → IsLeastOpened l w v a b → IsLeastOpened l v u b c → IsLeastOpened l w u a c
+least_then l w v u a b c site falls_v falls_u stays late h g = record {
+  most = omega (arith, h.most, g.most);
+  places = λ p i o. split p i (apart p i o);
+  one = elim g.one [
+    | inl e ↦ elim h.one [
+      | inl f ↦ inl (e ∙ f)
+      | inr f ↦ inr (f.0, f.1, first f.0 f.1 f.2, e ∙ f.3)
+    ]
+    | inr e ↦
+        let at : IsPlace w.site e.0 = subst (λ (z : Site). IsPlace z e.0) site e.1 in
+        inr (e.0, at, second e.0 at e.2, subst (λ (z : Site). c ≡ head_number l z e.0) site e.3)
+  ];
+}
+  where
+    apart : (p : Place) → IsPlace w.site p → IsOpened w u p → IsOpened w v p ⊎ IsOpened v u p
+    apart p i (inl rose) = elim (cases_lt (limit_at w p) (limit_at v p)) [
+      | inl one ↦ inl (inl one)
+      | inr not ↦ inr (inl (omega (arith, rose, not)))
+    ]
+    apart p i (inr fell) = elim (cases_lt (flow_at v p) (flow_at w p)) [
+      | inl one ↦ inl (inr one)
+      | inr not ↦ inr (inr (omega (arith, fell, not)))
+    ]
+
+    split : (p : Place) → IsPlace w.site p → IsOpened w v p ⊎ IsOpened v u p → c ≤ head_number l w.site p
+    split p i (inl o) = omega (arith, h.places p i o, g.most)
+    split p i (inr o) = subst (λ (z : Site). c ≤ head_number l z p) site (g.places p (subst (λ (z : Site). IsPlace z p) (sym site) i) o)
+
+    first : (p : Place) → IsPlace w.site p → IsOpened w v p → IsOpened w u p
+    first p i (inl rose) = inl (stays p i rose)
+    first p i (inr fell) = inr (omega (arith, fell, falls_u p i))
+
+    second : (p : Place) → IsPlace w.site p → IsOpened v u p → IsOpened w u p
+    second p i (inl rose) = inl (late p i rose)
+    second p i (inr fell) = inr (omega (arith, fell, falls_v p i))
+
+pub thinned_then : (l : LabelTable) (w v u : Network) (p : Place) (r s t : Reshaped) → IsThinned p l w v r s → IsThinned p l v u s t → IsThinned p l w u r t
+thinned_then l w v u p r s t h g = record {
+  site = g.site ∙ h.site;
+  saved = g.saved ∙ h.saved;
+  limits = λ q i. g.limits q (mid q i) ∙ h.limits q i;
+  flows = λ q i. omega (arith, h.flows q i, g.flows q (mid q i));
+  more = omega (arith, h.more, g.more);
+  sent = omega (arith, h.sent, g.sent);
+  bounded = omega (arith, h.bounded, g.bounded);
+  arrivals = λ k. omega (arith, h.arrivals k, g.arrivals k);
+  idle = λ e q i. g.idle (omega (arith, e, h.more, g.more)) q (mid q i) ∙ h.idle (omega (arith, e, h.more, g.more)) q i;
+  least = least_then l w v u r.least_label s.least_label t.least_label h.site (λ q i. omega (arith, h.flows q i)) (λ q i. omega (arith, g.flows q (mid q i)))
+      (λ q i rose. absurd (omega (arith, rose, h.limits q i))) (λ q i rose. absurd (omega (arith, rose, g.limits q (mid q i)))) h.least g.least;
+}
+  where
+    mid : (q : Place) → IsPlace w.site q → IsPlace v.site q
+    mid q i = subst (λ (z : Site). IsPlace z q) (sym h.site) i
+
+either : (c b : Bool) (x y : ℕ) → cond c x (cond b x y) ≡ cond (c || b) x y
+either true b x y = refl
+either false b x y = refl
+
+-- what was opened stays so, and no more is opened than one by one
+rose_stays : (b c : Bool) (x old mid new : ℕ) → mid ≡ cond b x old → new ≡ cond c x mid → old < mid → old < new
+rose_stays true true x o m n e f l = omega (arith, e, f, l)
+rose_stays true false x o m n e f l = omega (arith, e, f, l)
+rose_stays false c x o m n e f l = absurd (omega (arith, e, l))
+
+rose_late : (b c : Bool) (x old mid new : ℕ) → mid ≡ cond b x old → new ≡ cond c x mid → mid < new → old < new
+rose_late true true x o m n e f l = absurd (omega (arith, e, f, l))
+rose_late false true x o m n e f l = omega (arith, e, f, l)
+rose_late b false x o m n e f l = absurd (omega (arith, f, l))
+
+pub refitted_then : (m : Model) (l : LabelTable) (w v u : Network) (b c d : Place → Bool) (r s t : Reshaped) → IsRefitted m l w v b r s
+    → IsRefitted m l v u c s t → ((p : Place) → IsPlace w.site p → d p ≡ (c p || b p)) → IsRefitted m l w u d r t
+refitted_then m l w v u b c d r s t h g or = record {
+  site = g.site ∙ h.site;
+  saved = g.saved ∙ h.saved;
+  limits = λ p i.
+      g.limits p (mid p i)
+      ∙ ap (λ z. cond (c p) (model_limit m p) z) (h.limits p i)
+      ∙ either (c p) (b p) (model_limit m p) (limit_at w p)
+      ∙ ap (λ z. cond z (model_limit m p) (limit_at w p)) (sym (or p i));
+  flows = λ p i. omega (arith, h.flows p i, g.flows p (mid p i));
+  more = omega (arith, h.more, g.more);
+  sent = omega (arith, h.sent, g.sent);
+  bounded = omega (arith, h.bounded, g.bounded);
+  arrivals = λ k. omega (arith, h.arrivals k, g.arrivals k);
+  idle = λ e p i. g.idle (omega (arith, e, h.more, g.more)) p (mid p i) ∙ h.idle (omega (arith, e, h.more, g.more)) p i;
+  least = least_then l w v u r.least_label s.least_label t.least_label h.site h.flows (λ p i. g.flows p (mid p i))
+      (λ p i. rose_stays (b p) (c p) (model_limit m p) (limit_at w p) (limit_at v p) (limit_at u p) (h.limits p i) (g.limits p (mid p i)))
+      (λ p i. rose_late (b p) (c p) (model_limit m p) (limit_at w p) (limit_at v p) (limit_at u p) (h.limits p i) (g.limits p (mid p i))) h.least g.least;
+}
+  where
+    mid : (p : Place) → IsPlace w.site p → IsPlace v.site p
+    mid p i = subst (λ (z : Site). IsPlace z p) (sym h.site) i
+
+-- ---- people taken off until a place fits
+
+over_at : (m : Model) (w v : Network) (p : Place) (x : ℕ) → IsPlace w.site p → ((q : Place) → IsPlace w.site q → flow_at v q ≤ flow_at w q)
+    → (flow_at v p - model_limit m p) + x ≤ flow_at w p - model_limit m p
+    → (q : Place) → IsPlace w.site q → (flow_at v q - model_limit m q) + cond (same_place p q) x 0 ≤ flow_at w q - model_limit m q
+over_at m w v p x i flows at_p q j = by (cases_Bool (same_place p q))
+  where
+    by : (same_place p q ≡ true) ⊎ (same_place p q ≡ false) → (flow_at v q - model_limit m q) + cond (same_place p q) x 0 ≤ flow_at w q - model_limit m q
+    by (inl e) = rw e (subst (λ z. (flow_at v z - model_limit m z) + x ≤ flow_at w z - model_limit m z) (same-place p q e) at_p)
+    by (inr e) = rw e (omega (arith, flows q j))
+
+over_falls : (m : Model) (w v : Network) (p : Place) (x : ℕ) → v.site ≡ w.site → IsPlace w.site p
+    → ((q : Place) → IsPlace w.site q → flow_at v q ≤ flow_at w q)
+    → (flow_at v p - model_limit m p) + x ≤ flow_at w p - model_limit m p → x + overrun m v ≤ overrun m w
+unfolding overrun
+over_falls m w v p x site i flows at_p =
+    let same = ap (λ s. sum_places s (λ q. flow_at v q - model_limit m q)) site in
+    let le = sum_places-le w.site (λ q. (flow_at v q - model_limit m q) + cond (same_place p q) x 0) (λ q. flow_at w q - model_limit m q)
+    (over_at m w v p x i flows at_p) in
+    let add = sum_places-add w.site (λ q. flow_at v q - model_limit m q) (λ q. cond (same_place p q) x 0) in
+    let one : sum_places w.site (λ q. cond (same_place p q) x 0) ≡ x = sum_places-pick w.site p i (λ _. true) x in
+    omega (arith, same, le, add, one)
+
+pub thinned_refits : (m : Model) (l : LabelTable) (w v : Network) (p : Place) (before after : Reshaped) → IsPlace w.site p → limit_at w p ≡ model_limit m p
+    → IsThinned p l w v before after → IsRefitted m l w v (λ _. false) before after
+thinned_refits m l w v p before after i limit h =
+    let x = after.cancelled - before.cancelled in
+    let at_p : (flow_at v p - model_limit m p) + x ≤ flow_at w p - model_limit m p = omega (arith, h.bounded, h.more, h.limits p i, limit) in
+    let less = over_falls m w v p x h.site i h.flows at_p in
+    record {
+      site = h.site;
+      saved = h.saved;
+      limits = h.limits;
+      flows = h.flows;
+      more = h.more;
+      sent = h.sent;
+      bounded = omega (arith, less, h.more);
+      arrivals = h.arrivals;
+      idle = h.idle;
+      least = h.least;
+    }
+
+-- ---- one limit set
+
+over_same : (m : Model) (w v : Network) → v.site ≡ w.site → ((q : Place) → IsPlace w.site q → flow_at v q ≡ flow_at w q) → overrun m v ≡ overrun m w
+unfolding overrun
+over_same m w v e h =
+    ap (λ s. sum_places s (λ q. flow_at v q - model_limit m q)) e
+    ∙ sum_places-same w.site _ _ (λ q i. ap (λ z. z - model_limit m q) (h q i))
+
+swap_limit : (m : Model) (w : Network) (p q : Place) → cond (same_place p q) (model_limit m p) (limit_at w q) ≡ cond (same_place p q) (model_limit m q) (limit_at w q)
+swap_limit m w p q = elim (cases_Bool (same_place p q)) [
+  | inl e ↦ rw e (ap (model_limit m) (same-place p q e))
+  | inr e ↦ rw e refl
+]
+
+pub set_refitted : (m : Model) (l : LabelTable) (w v : Network) (p : Place) (before after : Reshaped) → IsLimitSet w v p (model_limit m p)
+    → after.cancelled ≡ before.cancelled → IsLeastOpened l w v before.least_label after.least_label → IsRefitted m l w v (same_place p) before after
+set_refitted m l w v p before after set same least = record {
+  site = set.site;
+  saved = set.saved;
+  limits = λ q i. set.limits q i ∙ swap_limit m w p q;
+  flows = λ q i. omega (arith, set.flows q i);
+  more = omega (arith, same);
+  sent = omega (arith, same, out_same w v set.site set.flows is_source);
+  bounded = omega (arith, same, over_same m w v set.site set.flows);
+  arrivals = λ k. omega (arith, same, into_same w v set.site set.flows (door_by k));
+  idle = λ e. set.flows;
+  least = least;
+}
+
+-- only the place itself is opened, where its limit rises
+opened_one : (m : Model) (w v : Network) (p q : Place) → IsLimitSet w v p (model_limit m p) → IsPlace w.site q → IsOpened w v q
+    → (p ≡ q) × (limit_at w q < model_limit m p)
+opened_one m w v p q set i (inr fell) = absurd (omega (arith, fell, set.flows q i))
+opened_one m w v p q set i (inl rose) = elim (cases_Bool (same_place p q)) [
+  | inl e ↦
+      let new : limit_at v q ≡ model_limit m p = set.limits q i ∙ ap (λ b. cond b (model_limit m p) (limit_at w q)) e in
+      (same-place p q e, omega (arith, rose, new))
+  | inr e ↦
+      let old : limit_at v q ≡ limit_at w q = set.limits q i ∙ ap (λ b. cond b (model_limit m p) (limit_at w q)) e in
+      absurd (omega (arith, rose, old))
+]
+
+pub least_raised : (m : Model) (l : LabelTable) (w v : Network) (p : Place) (first x least : ℕ) → IsLimitSet w v p (model_limit m p) → IsPlace w.site p
+    → limit_at w p < model_limit m p → x ≡ head_number l w.site p → least ≡ min first x → IsLeastOpened l w v first least
+least_raised m l w v p first x least set i rose e f = record {
+  most = low_left least first x f;
+  places = λ q j o.
+      let one = opened_one m w v p q set j o in
+      subst (λ z. least ≤ head_number l w.site z) one.0 (omega (arith, e, low_right least first x f));
+  one = elim (which least first x f) [
+    | inl g ↦ inl g
+    | inr g ↦
+        let new : limit_at v p ≡ model_limit m p = set.limits p i ∙ ap (λ b. cond b (model_limit m p) (limit_at w p)) (place-same p) in
+        inr (p, i, inl (omega (arith, rose, new)), g ∙ e)
+  ];
+}
+  where
+    low_left : (z a b : ℕ) → z ≡ min a b → z ≤ a
+    low_left z a b h = grind arith
+
+    low_right : (z a b : ℕ) → z ≡ min a b → z ≤ b
+    low_right z a b h = grind arith
+
+    which : (z a b : ℕ) → z ≡ min a b → (z ≡ a) ⊎ (z ≡ b)
+    which z a b h = elim (cases_lt a b) [ inl s ↦ inl (omega (arith, h, s)) | inr s ↦ inr (omega (arith, h, s)) ]
+
+pub least_lowered : (m : Model) (l : LabelTable) (w v : Network) (p : Place) (first : ℕ) → IsLimitSet w v p (model_limit m p)
+    → model_limit m p ≤ limit_at w p → IsLeastOpened l w v first first
+least_lowered m l w v p first set low = record {
+  most = omega arith;
+  places = λ q j o.
+      let one = opened_one m w v p q set j o in
+      absurd (omega (arith, low, one.1, ap (limit_at w) one.0));
+  one = inl refl;
+}
+
+-- a limit that is right already
+pub right_already : (m : Model) (l : LabelTable) (w : Network) (p : Place) (r : Reshaped) → limit_at w p ≡ model_limit m p → IsRefitted m l w w (same_place p) r r
+right_already m l w p r e = record {
+  site = refl;
+  saved = refl;
+  limits = λ q i. elim (cases_Bool (same_place p q)) [
+    | inl s ↦ rw s (subst (λ z. limit_at w z ≡ model_limit m z) (same-place p q s) e)
+    | inr s ↦ rw s refl
+  ];
+  flows = λ q i. omega arith;
+  more = omega arith;
+  sent = refl;
+  bounded = omega arith;
+  arrivals = λ k. omega arith;
+  idle = λ _ q i. refl;
+  least = least_none l w r.least_label;
+}
+
+-- a limit that falls, and then as many people taken off as are above it
+pub lowered_refits : (m : Model) (l : LabelTable) (w v u : Network) (p : Place) (r s : Reshaped) → IsLimitSet w v p (model_limit m p) → IsPlace w.site p
+    → model_limit m p ≤ limit_at w p → IsThinned p l v u r s → IsRefitted m l w u (same_place p) r s
+lowered_refits m l w v u p r s set i low thin =
+    let lower = set_refitted m l w v p r r set refl (least_lowered m l w v p r.least_label set low) in
+    let there : IsPlace v.site p = subst (λ (z : Site). IsPlace z p) (sym set.site) i in
+    let new : limit_at v p ≡ model_limit m p = set.limits p i ∙ ap (λ b. cond b (model_limit m p) (limit_at w p)) (place-same p) in
+    refitted_then m l w v u (same_place p) (λ _. false) (same_place p) r r s lower (thinned_refits m l v u p r s there new thin) (λ q _. refl)

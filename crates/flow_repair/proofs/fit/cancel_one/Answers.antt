@@ -1,0 +1,41 @@
+use Rattle.std.proofs.Common.{◌+◌, List, refl, subst, sym, arith}
+use Rattle.residual_net.specs.declared.place.PathStep.{PathStep}
+use Rattle.residual_net.specs.Change.{IsCancelled}
+use Rattle.residual_net.specs.Limits.{supply_limit}
+use Rattle.residual_net.proofs.Effects.{fewer_sent}
+use Rattle.flow_repair.proofs.Cancelling.{here, open_path}
+use Rattle.flow_repair.proofs.Refitting.{one_cancelled}
+use Rattle.flow_repair.proofs.fit.cancel_one.Goals as goal
+
+pub least_on-least_label-requires-clause-open : goal.least_on-least_label-requires-clause-open
+least_on-least_label-requires-clause-open g c =
+    let w = c.args.net.now in
+    let v = c.cancel-people.new.self in
+    let x = c.cancel-people.result in
+    let made = subst (λ (z : List PathStep). IsCancelled w v c.args.place z x) (sym c.steps.ensures) c.cancel-people.ensures.cancelled in
+    open_path w v c.args.place c.steps.result.now x made c.shape.ensures.net
+
+pub overflow_add-result : goal.overflow_add-result
+unfolding supply_limit
+overflow_add-result g c =
+    let w = c.args.net.now in
+    let v = c.cancel-people.new.self in
+    let sent = fewer_sent w v c.args.place c.cancel-people.new.path.steps c.cancel-people.result c.cancel-people.ensures.cancelled in
+    omega (arith, sent, c.requires.few)
+
+pub returns-clause-thinned : goal.returns-clause-thinned
+returns-clause-thinned g c =
+    let w = c.args.net.now in
+    let v = c.cancel-people.new.self in
+    let x = c.cancel-people.result in
+    let made = subst (λ (z : List PathStep). IsCancelled w v c.args.place z x) (sym c.steps.ensures) c.cancel-people.ensures.cancelled in
+    let least = c.least_on-least_label.ensures in
+    one_cancelled c.args.labels.now w v c.args.place c.steps.result.now x c.args.done
+    (record { cancelled = c.args.done.cancelled + x; least_label = c.least_on-least_label.result }) made refl least.first least.all least.one
+
+pub returns-clause-less : goal.returns-clause-less
+returns-clause-less g c =
+    let w = c.args.net.now in
+    let v = c.cancel-people.new.self in
+    let made = c.cancel-people.ensures.cancelled in
+    omega (arith, here w v c.args.place c.cancel-people.new.path.steps c.cancel-people.result made, made.some)

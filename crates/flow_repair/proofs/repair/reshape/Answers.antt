@@ -1,0 +1,38 @@
+use Rattle.std.proofs.Common.{◌≡◌, ◌+◌, ap, subst, arith}
+use Rattle.residual_net.specs.OfModel.{last_move, plan_of}
+use Rattle.flow_repair.specs.Opened.{IsLeastOpened}
+use Rattle.flow_repair.proofs.Numbers.{horizon_small}
+use Rattle.flow_repair.proofs.Whole.{between_now, closed_stays, few_over, last_in, now_of, valid_now}
+use Rattle.flow_repair.proofs.repair.reshape.Goals as goal
+
+pub overflow_add-first : goal.overflow_add-first
+overflow_add-first g c =
+    let w = c.args.net.now in
+    omega (arith, last_in w c.shape.ensures.net, horizon_small w.site c.shape.ensures.net.site, c.last_arrival-first.ensures)
+
+pub fit_edit-requires-clause-valid : goal.fit_edit-requires-clause-valid
+fit_edit-requires-clause-valid g c = valid_now c.args.model.now c.args.edit c.args.net.now c.requires.edited
+
+pub fit_edit-requires-clause-between : goal.fit_edit-requires-clause-between
+fit_edit-requires-clause-between g c = between_now c.args.model.now c.args.edit c.args.net.now c.requires.edited
+
+pub returns-clause-of : goal.returns-clause-of
+returns-clause-of g c =
+    now_of c.args.model.now c.args.labels.now c.args.edit c.args.net.now c.fit_edit.new.net
+    (record { cancelled = 0; least_label = c.last_arrival-first.result + 1 }) c.fit_edit.result c.requires.edited c.fit_edit.ensures.refitted
+
+pub returns-clause-few : goal.returns-clause-few
+returns-clause-few g c m valid of =
+    let w = c.args.net.now in
+    let n = c.args.model.now in
+    let between = between_now n c.args.edit w c.requires.edited in
+    let over = few_over m n w valid c.shape.ensures.net of c.requires.within c.requires.sent between.of_model in
+    omega (arith, c.fit_edit.ensures.refitted.bounded, over)
+
+pub returns-clause-closed : goal.returns-clause-closed
+returns-clause-closed g c =
+    let w = c.args.net.now in
+    let done = c.fit_edit.ensures.refitted in
+    let first : c.last_arrival-first.result + 1 ≡ last_move w.site (plan_of w) + 1 = ap (λ z. z + 1) c.last_arrival-first.ensures in
+    let least = subst (λ z. IsLeastOpened c.args.labels.now w c.fit_edit.new.net z c.fit_edit.result.least_label) first done.least in
+    closed_stays c.args.labels.now w c.fit_edit.new.net (last_move w.site (plan_of w) + 1) c.fit_edit.result.least_label done.site done.flows least c.requires.closed

@@ -1,0 +1,39 @@
+use Rattle.std.proofs.Common.{◌+◌, subst, arith, ◌∙◌}
+use Rattle.evac_law.specs.Limits.{horizon_limit}
+use Rattle.residual_net.specs.declared.place.Place.{Place}
+use Rattle.residual_net.specs.Site.{same_place}
+use Rattle.residual_net.specs.Start.{place_of}
+use Rattle.residual_net.proofs.Begin.{row_so_far, row_step}
+use Rattle.flow_repair.specs.Refit.{IsRefitted}
+use Rattle.flow_repair.proofs.Between.{still_between}
+use Rattle.flow_repair.proofs.Refitting.{refitted_then}
+use Rattle.flow_repair.proofs.row.fit_row.Goals as goal
+
+pub overflow_add-moment-end : goal.overflow_add-moment-end
+unfolding horizon_limit
+overflow_add-moment-end g c = omega (arith, c.requires.valid.horizon)
+
+pub fit_place-now-requires-clause-between : goal.fit_place-now-requires-clause-between
+fit_place-now-requires-clause-between g c =
+    still_between c.args.model.now c.args.labels.now c.args.net.now c.loop-moment.net (row_so_far c.args.kind c.args.number c.loop-moment.moment) c.args.done
+    c.loop-moment.now c.requires.between c.loop-moment.invariant.refitted
+
+pub loop-moment-preserved : goal.loop-moment-preserved
+loop-moment-preserved g c =
+    let old = c.loop-moment.invariant in
+    let done = c.fit_place-now.ensures in
+    let m = c.args.model.now in
+    let l = c.args.labels.now in
+    let u = c.loop-moment.net in
+    let v = c.fit_place-now.new.net in
+    let t = c.loop-moment.moment in
+    let p = place_of c.args.kind c.args.number t in
+    let here = subst (λ (q : Place). IsRefitted m l u v (same_place q) c.loop-moment.now c.fit_place-now.result) c.place_of-place.ensures done.refitted in
+    record {
+      refitted = refitted_then m l c.args.net.now u v (row_so_far c.args.kind c.args.number t) (same_place p) (row_so_far c.args.kind c.args.number (t + 1))
+          c.args.done c.loop-moment.now c.fit_place-now.result old.refitted here (λ q _. row_step c.args.kind c.args.number t q);
+      within = done.within;
+      room = done.room ∙ old.room;
+      counted = omega (arith, done.counted, old.counted);
+      ticked = omega (arith, done.ticked, old.ticked);
+    }

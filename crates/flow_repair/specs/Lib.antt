@@ -1,0 +1,5 @@
+pub use Rattle.residual_net.specs.NetLaws
+pub use Rattle.residual_net.specs.Start
+pub mod Opened
+pub mod Refit
+pub mod Touched

@@ -1,0 +1,118 @@
+// A net brought under the limits of an edited model.
+ghost use Rattle.std.specs.Prelude.{◌≡◌, ℕ, ◌+◌, ◌<◌, ◌≤◌};
+ghost use Rattle.evac_law.specs.declared.model.Model.{Model};
+ghost use Rattle.evac_law.specs.Building.{IsValid};
+ghost use Rattle.evac_law.specs.Edits.{IsEditOf};
+ghost use Rattle.evac_law.specs.Plans.{violation};
+ghost use Rattle.residual_net.specs.declared.place.Place.{Place};
+ghost use Rattle.residual_net.specs.Limits.{supply_limit};
+ghost use Rattle.residual_net.specs.Network.{IsAllSent, IsWithinLimits, arrived_by, flow_at, flow_out};
+ghost use Rattle.residual_net.specs.OfModel.{IsNetOf, last_move, plan_of};
+ghost use Rattle.residual_net.specs.Site.{IsPlace, is_source};
+ghost use Rattle.flow_repair.specs.Opened.{IsClosedBelow, IsLabelsOf, IsLeastOpened};
+ghost use Rattle.flow_repair.specs.Refit.{IsBetween, IsEditOfNet, IsRefitted};
+ghost use Rattle.flow_repair.specs.Touched.{touches};
+
+use crate::reshaped::Reshaped;
+use crate::row::{fit_arcs_into, fit_row};
+use evac_law::{Edit, Labels, Model, Steps};
+use residual_net::{Kind, Net, Path};
+use std::sync::ledger::Ledger;
+
+/// Brings what an edit changes under the edited model.
+fn fit_edit<L: Ledger>(
+    net: &mut Net,
+    model: &Model,
+    edit: Edit,
+    labels: &Labels,
+    path: &mut Path,
+    steps: &mut Steps<L>,
+    done: Reshaped,
+) -> Reshaped
+    requires valid { IsValid model.now }
+    requires between { IsBetween model.now net.old }
+    requires in_range { IsEditOf model.now edit }
+    requires within { IsWithinLimits net.old }
+    requires labels { IsLabelsOf net.old.site labels.now }
+    requires room { net.old.site.shape.horizon + 2 ≤ path.old.room }
+    requires few { done.cancelled + flow_out net.old is_source ≤ supply_limit }
+    ensures refitted { IsRefitted model.now labels.now net.old net.new (touches net.old.site edit) done result }
+    ensures within { IsWithinLimits net.new }
+    ensures room { path.new.room ≡ path.old.room }
+    ensures counted { steps.old ≤ steps.new }
+    ensures ticked { steps.new + done.cancelled ≤ steps.old + result.cancelled }
+{
+    match edit {
+        Edit::Shut { arc } => fit_row(net, model, labels, Kind::Arc, arc, path, steps, done),
+        Edit::Reopen { arc } => fit_row(net, model, labels, Kind::Arc, arc, path, steps, done),
+        Edit::Rate { arc, .. } => fit_row(net, model, labels, Kind::Arc, arc, path, steps, done),
+        Edit::ShutExit { node } => fit_arcs_into(net, model, labels, node, path, steps, done),
+        Edit::ReopenExit { node } => fit_arcs_into(net, model, labels, node, path, steps, done),
+        Edit::Room { node, .. } => fit_row(net, model, labels, Kind::Hold, node, path, steps, done),
+        Edit::Enter { node, .. } => fit_row(
+            net,
+            model,
+            labels,
+            Kind::Supply,
+            node,
+            path,
+            steps,
+            done,
+        ),
+        Edit::Leave { node, .. } => fit_row(
+            net,
+            model,
+            labels,
+            Kind::Supply,
+            node,
+            path,
+            steps,
+            done,
+        ),
+        Edit::Shift { from, to, .. } => {
+            let left = fit_row(net, model, labels, Kind::Supply, from, path, steps, done);
+            fit_row(net, model, labels, Kind::Supply, to, path, steps, left)
+        }
+    }
+}
+
+/// Brings a standing net under the limits of an edited model: sets the limits that changed, and takes people off whole flow paths
+/// until every place fits.
+///
+/// `labels` prove the net best up to its last arrival before the edit; below `least_label` they still do.
+pub fn reshape<L: Ledger>(
+    net: &mut Net,
+    model: &Model,
+    edit: Edit,
+    labels: &Labels,
+    path: &mut Path,
+    steps: &mut Steps<L>,
+) -> Reshaped
+    requires edited { IsEditOfNet model.now edit net.old }
+    requires within { IsWithinLimits net.old }
+    requires sent { IsAllSent net.old }
+    requires labels { IsLabelsOf net.old.site labels.now }
+    requires closed { IsClosedBelow net.old labels.now (last_move net.old.site (plan_of net.old) + 1) }
+    requires room { net.old.site.shape.horizon + 2 ≤ path.old.room }
+    ensures site { net.new.site ≡ net.old.site }
+    ensures of { IsNetOf model.now net.new }
+    ensures within { IsWithinLimits net.new }
+    ensures saved { net.new.saved ≡ net.old.saved }
+    ensures few { (m : Model) → IsValid m → IsNetOf m net.old → result.cancelled ≤ violation m (plan_of net.old) model.now }
+    ensures flows { (p : Place) → IsPlace net.old.site p → flow_at net.new p ≤ flow_at net.old p }
+    ensures arrivals { (k : ℕ) → arrived_by net.old k ≤ arrived_by net.new k + result.cancelled }
+    ensures idle { result.cancelled ≡ 0 → (p : Place) → IsPlace net.old.site p → flow_at net.new p ≡ flow_at net.old p }
+    ensures least { IsLeastOpened labels.now net.old net.new (last_move net.old.site (plan_of net.old) + 1) result.least_label }
+    ensures closed { IsClosedBelow net.new labels.now result.least_label }
+    ensures counted { steps.old ≤ steps.new }
+    ensures ticked { steps.new ≤ steps.old + result.cancelled }
+    ensures room { path.new.room ≡ path.old.room }
+{
+    let _ = net.shape();
+    let first = net.last_arrival() + 1;
+    let none = Reshaped {
+        cancelled: 0,
+        least_label: first,
+    };
+    fit_edit(net, model, edit, labels, path, steps, none)
+}

@@ -1,0 +1,109 @@
+// All moments of an arc or a node, and all arcs into an exit.
+ghost use Rattle.std.specs.Prelude.{◌≡◌, ◌+◌, ◌<◌, ◌≤◌, ◌==◌, ◌&&◌, length};
+ghost use Rattle.evac_law.specs.Building.{IsValid};
+ghost use Rattle.residual_net.specs.Limits.{supply_limit};
+ghost use Rattle.residual_net.specs.Network.{IsWithinLimits, flow_out};
+ghost use Rattle.residual_net.specs.Site.{IsPlace, is_source};
+ghost use Rattle.residual_net.specs.Start.{is_kind, number_of, place_of};
+ghost use Rattle.residual_net.specs.declared.start.Kind.TheVariants as kinds;
+ghost use Rattle.time_expansion.specs.Expansion.{to_at};
+ghost use Rattle.flow_repair.specs.Opened.{IsLabelsOf};
+ghost use Rattle.flow_repair.specs.Refit.{IsBetween, IsRefitted};
+
+use crate::fit::fit_place;
+use crate::reshaped::Reshaped;
+use evac_law::{Labels, Model, Steps};
+use residual_net::{Kind, Net, Path, place_of};
+use std::sync::ledger::Ledger;
+
+/// Brings an arc's or a node's places of a kind under a model at each moment.
+pub fn fit_row<L: Ledger>(
+    net: &mut Net,
+    model: &Model,
+    labels: &Labels,
+    kind: Kind,
+    number: u32,
+    path: &mut Path,
+    steps: &mut Steps<L>,
+    done: Reshaped,
+) -> Reshaped
+    requires valid { IsValid model.now }
+    requires between { IsBetween model.now net.old }
+    requires within { IsWithinLimits net.old }
+    requires number { IsPlace net.old.site (place_of kind number 0) }
+    requires labels { IsLabelsOf net.old.site labels.now }
+    requires room { net.old.site.shape.horizon + 2 ≤ path.old.room }
+    requires few { done.cancelled + flow_out net.old is_source ≤ supply_limit }
+    ensures refitted { IsRefitted model.now labels.now net.old net.new (λ p. is_kind kind p && number_of p == number) done result }
+    ensures within { IsWithinLimits net.new }
+    ensures room { path.new.room ≡ path.old.room }
+    ensures counted { steps.old ≤ steps.new }
+    ensures ticked { steps.new + done.cancelled ≤ steps.old + result.cancelled }
+{
+    let mut now = done;
+    for moment in 0..model.horizon + 1 {
+        let place = place_of(kind, number, moment);
+        now = fit_place(net, model, labels, place, path, steps, now);
+    }
+    now
+}
+
+/// Brings an arc under a model at each moment, where it leads into a node.
+fn fit_arc_into<L: Ledger>(
+    net: &mut Net,
+    model: &Model,
+    labels: &Labels,
+    node: u32,
+    arc: u32,
+    path: &mut Path,
+    steps: &mut Steps<L>,
+    done: Reshaped,
+) -> Reshaped
+    requires valid { IsValid model.now }
+    requires between { IsBetween model.now net.old }
+    requires within { IsWithinLimits net.old }
+    requires arc { arc < length model.now.arcs }
+    requires labels { IsLabelsOf net.old.site labels.now }
+    requires room { net.old.site.shape.horizon + 2 ≤ path.old.room }
+    requires few { done.cancelled + flow_out net.old is_source ≤ supply_limit }
+    ensures refitted { IsRefitted model.now labels.now net.old net.new (λ p. (is_kind kinds.Arc p && number_of p == arc) && to_at net.old.site.shape arc == node) done result }
+    ensures within { IsWithinLimits net.new }
+    ensures room { path.new.room ≡ path.old.room }
+    ensures counted { steps.old ≤ steps.new }
+    ensures ticked { steps.new + done.cancelled ≤ steps.old + result.cancelled }
+{
+    if model.arc(arc).to == node {
+        fit_row(net, model, labels, Kind::Arc, arc, path, steps, done)
+    } else {
+        done
+    }
+}
+
+/// Brings the arcs into a node under a model at each moment.
+pub fn fit_arcs_into<L: Ledger>(
+    net: &mut Net,
+    model: &Model,
+    labels: &Labels,
+    node: u32,
+    path: &mut Path,
+    steps: &mut Steps<L>,
+    done: Reshaped,
+) -> Reshaped
+    requires valid { IsValid model.now }
+    requires between { IsBetween model.now net.old }
+    requires within { IsWithinLimits net.old }
+    requires labels { IsLabelsOf net.old.site labels.now }
+    requires room { net.old.site.shape.horizon + 2 ≤ path.old.room }
+    requires few { done.cancelled + flow_out net.old is_source ≤ supply_limit }
+    ensures refitted { IsRefitted model.now labels.now net.old net.new (λ p. is_kind kinds.Arc p && to_at net.old.site.shape (number_of p) == node) done result }
+    ensures within { IsWithinLimits net.new }
+    ensures room { path.new.room ≡ path.old.room }
+    ensures counted { steps.old ≤ steps.new }
+    ensures ticked { steps.new + done.cancelled ≤ steps.old + result.cancelled }
+{
+    let mut now = done;
+    for arc in 0..model.arcs.len() as u32 {
+        now = fit_arc_into(net, model, labels, node, arc, path, steps, now);
+    }
+    now
+}
