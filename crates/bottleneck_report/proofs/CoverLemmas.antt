@@ -1,0 +1,165 @@
+-- Spans that begin by a period and reach past it.
+use Rattle.std.proofs.Common.{◌≡◌, ℕ, zero, suc, ◌+◌, ◌<◌, ◌≤◌, ◌⊎◌, inl, inr, Bool, true, false, cond, ◌&&◌, ◌||◌, eqb, leb, ltb, max, List, [], ◌∷◌, ◌++◌, length, get_or, refl, ap, ap₂, sym, ◌∙◌, arith, add-one, subst}
+use Rattle.std.proofs.Math.ListN.{set}
+use Rattle.std.specs.List.{filter, list_any}
+use Rattle.std.proofs.lemmas.Bool.{cases_Bool}
+use Rattle.std.proofs.lemmas.Bool.Decides.{nat_tests}
+use Rattle.std.proofs.lemmas.Grind.{common_steps}
+use Rattle.std.proofs.lemmas.List.{get_or-set_other, get_or-set_same}
+use Rattle.std.proofs.lemmas.List.Elements.{filter-append}
+use Rattle.std.proofs.lemmas.List.Folds.{list_any-append}
+use Rattle.evac_law.specs.Sums.{below}
+use Rattle.evac_law.proofs.SumLemmas.{below-suc}
+use Rattle.bottleneck_report.specs.Covers.{covers}
+
+or_false : (b : Bool) → (b || false) ≡ b
+or_false true = refl
+or_false false = refl
+
+or_assoc : (a b c : Bool) → (a || (b || c)) ≡ ((a || b) || c)
+or_assoc true b c = refl
+or_assoc false b c = refl
+
+pub any-below : (p : ℕ → Bool) (n : ℕ) → list_any p (below (suc n)) ≡ (list_any p (below n) || p n)
+any-below p n = ap (list_any p) (below-suc n) ∙ list_any-append p (below n) (n ∷ []) ∙ ap (λ b. list_any p (below n) || b) (or_false (p n))
+
+pub any-none : (p : ℕ → Bool) (n : ℕ) → ((i : ℕ) → i < n → p i ≡ false) → list_any p (below n) ≡ false
+any-none p zero h = refl
+any-none p (suc n) h =
+    any-below p n ∙ ap₂ (λ x y. x || y) (any-none p n (λ i l. h i (omega (arith, l)))) (h n (omega arith))
+
+pub any-same : (p q : ℕ → Bool) (n : ℕ) → ((i : ℕ) → i < n → p i ≡ q i) → list_any p (below n) ≡ list_any q (below n)
+any-same p q zero h = refl
+any-same p q (suc n) h =
+    any-below p n ∙ ap₂ (λ x y. x || y) (any-same p q n (λ i l. h i (omega (arith, l)))) (h n (omega arith)) ∙ sym (any-below q n)
+
+-- what fails from a number on needs no test there
+pub any-short : (p : ℕ → Bool) (n d : ℕ) → ((i : ℕ) → n ≤ i → p i ≡ false) → list_any p (below (n + d)) ≡ list_any p (below n)
+any-short p n zero h = ap (λ i. list_any p (below i)) (omega arith)
+any-short p n (suc d) h =
+    ap (λ i. list_any p (below i)) (plus n d)
+    ∙ any-below p (n + d)
+    ∙ ap₂ (λ x y. x || y) (any-short p n d h) (h (n + d) (omega arith))
+    ∙ or_false (list_any p (below n))
+  where
+    plus : (x y : ℕ) → x + suc y ≡ suc (x + y)
+    plus x y = omega arith
+
+-- ---- a span more
+
+-- one list reaches further at one place
+widen_step : (i n k to x : ℕ) (r s : Bool) → r ≡ (s || (ltb i n && ltb k to)) → (y : ℕ) → (i ≡ n → y ≡ max x to) → ((i ≡ n → ⊥) → y ≡ x)
+    → (r || ltb k y) ≡ ((s || ltb k x) || (ltb i (suc n) && ltb k to))
+widen_step i n k to x r s e y here there = split (cases_Bool (eqb i n))
+  where
+    both : (a b c : Bool) → (a || (b || c)) ≡ ((a || b) || c)
+    both true b c = refl
+    both false b c = refl
+
+    same : eqb i n ≡ true → i ≡ n
+    same f = grind (arith, nat_tests)
+
+    apart : eqb i n ≡ false → i ≡ n → ⊥
+    apart f g = grind (arith, nat_tests)
+
+    test_max : (a b c : ℕ) → ltb c (max a b) ≡ (ltb c a || ltb c b)
+    test_max a b c = grind (arith, nat_tests)
+
+    not_before : i ≡ n → ltb i n ≡ false
+    not_before f = grind (arith, nat_tests)
+
+    before : i ≡ n → ltb i (suc n) ≡ true
+    before f = grind (arith, nat_tests)
+
+    next : (i ≡ n → ⊥) → ltb i (suc n) ≡ ltb i n
+    next f = grind (arith, nat_tests)
+
+    swap : (a b c : Bool) → ((a || b) || c) ≡ ((a || c) || b)
+    swap true b c = refl
+    swap false true true = refl
+    swap false true false = refl
+    swap false false c = sym (or_false c)
+
+    split : (eqb i n ≡ true) ⊎ (eqb i n ≡ false) → (r || ltb k y) ≡ ((s || ltb k x) || (ltb i (suc n) && ltb k to))
+    split (inl f) =
+        let g = same f in
+        let r_is : r ≡ s = e ∙ ap (λ b. s || (b && ltb k to)) (not_before g) ∙ or_false s in
+        ap₂ (λ a b. a || ltb k b) r_is (here g) ∙ ap (λ b. s || b) (test_max x to k) ∙ or_assoc s (ltb k x) (ltb k to)
+        ∙ ap (λ b. (s || ltb k x) || (b && ltb k to)) (sym (before g))
+    split (inr f) =
+        let g = apart f in
+        ap₂ (λ a b. a || ltb k b) e (there g) ∙ swap s (ltb i n && ltb k to) (ltb k x) ∙ ap (λ b. (s || ltb k x) || (b && ltb k to)) (sym (next g))
+
+pub widened : (xs : List ℕ) (i to k n : ℕ) → i < length xs
+    → list_any (λ f. ltb k (get_or (set xs i (max (get_or xs i 0) to)) f 0)) (below n) ≡ (list_any (λ f. ltb k (get_or xs f 0)) (below n) || (ltb i n && ltb k to))
+widened xs i to k zero l = sym (ap (λ b. b && ltb k to) (none i))
+  where
+    none : (i : ℕ) → ltb i 0 ≡ false
+    none i = grind (arith, nat_tests)
+widened xs i to k (suc n) l =
+    any-below (λ f. ltb k (get_or (set xs i (max (get_or xs i 0) to)) f 0)) n
+    ∙ widen_step i n k to (get_or xs n 0) (list_any (λ f. ltb k (get_or (set xs i (max (get_or xs i 0) to)) f 0)) (below n)) (list_any (λ f. ltb k (get_or xs f 0)) (below n))
+    (widened xs i to k n l) (get_or (set xs i (max (get_or xs i 0) to)) n 0)
+    (λ e. subst (λ j. get_or (set xs i (max (get_or xs i 0) to)) j 0 ≡ max (get_or xs j 0) to) e (get_or-set_same xs i (max (get_or xs i 0) to) 0 l))
+    (λ d. get_or-set_other xs i n (max (get_or xs i 0) to) 0 (λ e. d (sym e)))
+    ∙ ap (λ b. b || (ltb i (suc n) && ltb k to)) (sym (any-below (λ f. ltb k (get_or xs f 0)) n))
+
+-- the periods in a span, with one span more
+pub covers_more : (xs : List ℕ) (i to k : ℕ) → i < length xs → covers (set xs i (max (get_or xs i 0) to)) k ≡ (covers xs k || (leb i k && ltb k to))
+covers_more xs i to k l = widened xs i to k (k + 1) l ∙ ap (λ b. covers xs k || (b && ltb k to)) (by_next i k)
+  where
+    by_next : (x y : ℕ) → ltb x (y + 1) ≡ leb x y
+    by_next x y = grind (arith, nat_tests)
+
+pub covers_same : (xs : List ℕ) (i to k : ℕ) → length xs ≤ i → k < length xs → covers xs k ≡ (covers xs k || (leb i k && ltb k to))
+covers_same xs i to k l h = sym (ap (λ b. covers xs k || (b && ltb k to)) (later i k (omega (arith, l, h))) ∙ or_false (covers xs k))
+  where
+    later : (x y : ℕ) → y < x → leb x y ≡ false
+    later x y e = grind (arith, nat_tests)
+
+pub covers_none : (xs : List ℕ) (k : ℕ) → ((f : ℕ) → get_or xs f 0 ≡ 0) → covers xs k ≡ false
+covers_none xs k h = any-none (λ f. ltb k (get_or xs f 0)) (k + 1) (λ i l. nobody k (get_or xs i 0) (h i))
+  where
+    nobody : (x y : ℕ) → y ≡ 0 → ltb x y ≡ false
+    nobody x y e = grind (arith, nat_tests)
+
+-- ---- counting
+
+pub filter-below : (p : ℕ → Bool) (n : ℕ) → length (filter p (below (n + 1))) ≡ length (filter p (below n)) + cond (p n) 1 0
+filter-below p n =
+    ap (λ i. length (filter p (below i))) (add-one n) ∙ ap (λ l. length (filter p l)) (below-suc n) ∙ ap length (filter-append p (below n) (n ∷ []))
+    ∙ last (p n) (filter p (below n))
+  where
+    last : (b : Bool) (l : List ℕ) → length (l ++ cond b (n ∷ []) []) ≡ length l + cond b 1 0
+    last true l = grind (arith, common_steps)
+    last false l = grind (arith, common_steps)
+
+pub filter-same : (p q : ℕ → Bool) (n : ℕ) → ((i : ℕ) → i < n → p i ≡ q i) → length (filter p (below n)) ≡ length (filter q (below n))
+filter-same p q zero h = refl
+filter-same p q (suc n) h =
+    ap (λ i. length (filter p (below i))) (sym (add-one n)) ∙ filter-below p n
+    ∙ ap₂ (λ x y. x + cond y 1 0) (filter-same p q n (λ i l. h i (omega (arith, l)))) (h n (omega arith))
+    ∙ sym (filter-below q n) ∙ ap (λ i. length (filter q (below i))) (add-one n)
+
+-- how far the spans that begin before a period reach
+pub record IsFar (xs : List ℕ) (n far : ℕ) : Type 0 where
+  pub tests : (j : ℕ) → ltb j far ≡ list_any (λ f. ltb j (get_or xs f 0)) (below n)
+
+pub far_first : (xs : List ℕ) → IsFar xs 0 0
+far_first xs = record { tests = none }
+  where
+    none : (j : ℕ) → ltb j 0 ≡ false
+    none j = grind (arith, nat_tests)
+
+pub far_next : (xs : List ℕ) (n far : ℕ) → IsFar xs n far → IsFar xs (n + 1) (max far (get_or xs n 0))
+far_next xs n far h = record {
+  tests = λ j.
+      test_max far (get_or xs n 0) j ∙ ap (λ b. b || ltb j (get_or xs n 0)) (h.tests j) ∙ sym (any-below (λ f. ltb j (get_or xs f 0)) n)
+      ∙ ap (λ i. list_any (λ f. ltb j (get_or xs f 0)) (below i)) (sym (add-one n));
+}
+  where
+    test_max : (a b c : ℕ) → ltb c (max a b) ≡ (ltb c a || ltb c b)
+    test_max a b c = grind (arith, nat_tests)
+
+pub far_covers : (xs : List ℕ) (n far : ℕ) → IsFar xs (n + 1) far → covers xs n ≡ ltb n far
+far_covers xs n far h = sym (h.tests n)

@@ -1,0 +1,4 @@
+pub mod TimeLemmas
+pub mod Reach
+pub mod MomentLemmas
+pub mod PeriodLemmas

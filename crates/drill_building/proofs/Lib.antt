@@ -1,0 +1,5 @@
+pub mod ArcLemmas
+pub mod Floors
+pub mod NodeLemmas
+pub mod Storeys
+pub mod Validity

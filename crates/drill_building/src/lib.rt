@@ -1,0 +1,14 @@
+//! The building of a drill, a tower with a number of storeys, and the summary of a plan that clears it.
+#![tactic(auto)]
+
+mod building;
+mod laws;
+mod rows;
+mod summary;
+#[cfg(test)]
+mod tests;
+
+pub use building::drill_model;
+pub use laws::drills_are_valid;
+pub use rows::STOREY_LIMIT;
+pub use summary::{Figures, write_drill};

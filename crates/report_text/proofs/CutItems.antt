@@ -1,0 +1,82 @@
+-- The items of a cut, and those of the cut of no pair.
+use Rattle.std.proofs.Common.{◌≡◌, ℕ, zero, suc, ◌+◌, ◌<◌, Bool, true, false, cond, eqb, List, [], ◌∷◌, ◌++◌, length, refl, ap, ap₂, sym, ◌∙◌, subst, arith, append-nil}
+use Rattle.std.specs.List.{All, flat_map}
+use Rattle.std.proofs.lemmas.Grind.{flat_map-append}
+use Rattle.std.proofs.lemmas.List.Elements.{All-append, All-cons, All-nil}
+use Rattle.evac_law.specs.declared.cut.CutItem.{CutItem}
+use Rattle.evac_law.specs.declared.cut.CutItem.TheVariants.{Arc, Entry, Hold}
+use Rattle.evac_law.specs.declared.model.Model.{Model}
+use Rattle.evac_law.specs.Building.{capacity, entry, rate}
+use Rattle.evac_law.specs.Cuts.{Cut, arc_items, arc_part, cut_items, entry_items, entry_part, hold_items, hold_part}
+use Rattle.evac_law.specs.Sums.{below, moments_to, places}
+use Rattle.evac_law.proofs.PartLemmas.{flat_map-suc}
+use Rattle.certificate_text.specs.BlockText.{name_of_node}
+use Rattle.report_text.specs.Parts.{IsItemOf, entry_text, no_pair}
+use Rattle.report_text.specs.ReportText.{entry_line, item_line}
+use Rattle.report_text.proofs.Parts.{parts-flat, parts-nothing, parts-same}
+
+-- ---- the items are of the model
+
+all_parts : {X : Type 0} (P : X → Type 0) (g : ℕ → List X) (n : ℕ) → ((i : ℕ) → i < n → All P (g i)) → All P (flat_map g (below n))
+all_parts P g zero h = All-nil P
+all_parts P g (suc n) h =
+    rw (flat_map-suc g n) (All-append P (flat_map g (below n)) (g n) (all_parts P g n (λ i l. h i (omega (arith, l)))) (h n (omega arith)))
+
+all_one : {X : Type 0} (P : X → Type 0) (b : Bool) (x : X) → P x → All P (cond b (x ∷ []) [])
+all_one P true x h = All-cons P x [] h (All-nil P)
+all_one P false x h = All-nil P
+
+all_other : {X : Type 0} (P : X → Type 0) (b : Bool) (x : X) → P x → All P (cond b [] (x ∷ []))
+all_other P true x h = All-nil P
+all_other P false x h = All-cons P x [] h (All-nil P)
+
+pub items_are : (m : Model) (x : Cut) (k : ℕ) → All (IsItemOf m) (cut_items m x k)
+unfolding cut_items
+items_are m x k =
+    All-append (IsItemOf m) (entry_items m x k) (hold_items m x k ++ arc_items m x k)
+    (all_parts (IsItemOf m) _ (length m.nodes) (λ n l. all_parts (IsItemOf m) _ (k + 1) (λ t h. all_other (IsItemOf m) _ (Entry n (entry m n t)) l)))
+    (All-append (IsItemOf m) (hold_items m x k) (arc_items m x k)
+    (all_parts (IsItemOf m) _ (length m.nodes) (λ n l. all_parts (IsItemOf m) _ k (λ t h. all_one (IsItemOf m) _ (Hold n t (capacity m n)) l)))
+    (all_parts (IsItemOf m) _ (k + 1) (λ t h. all_parts (IsItemOf m) _ (length m.arcs) (λ a l. all_one (IsItemOf m) _ (Arc a t (rate m a t)) l))))
+
+-- ---- the first of some items
+
+pub head_is : (m : Model) (items more : List CutItem) (item : CutItem) → items ≡ item ∷ more → All (IsItemOf m) items → IsItemOf m item
+head_is m items more item e h = let all : All (IsItemOf m) (item ∷ more) = subst (All (IsItemOf m)) e h in all 0 item (omega arith)
+
+pub tail_is : (m : Model) (items more : List CutItem) (item : CutItem) → items ≡ item ∷ more → All (IsItemOf m) items → All (IsItemOf m) more
+tail_is m items more item e h =
+    let all : All (IsItemOf m) (item ∷ more) = subst (All (IsItemOf m)) e h in λ k d l. all (suc k) d (omega (arith, l))
+
+-- those before it, it and those behind it
+pub parted : (m : Model) (done items more whole : List CutItem) (item : CutItem) → items ≡ item ∷ more → done ++ items ≡ whole
+    → flat_map (item_line m) done ++ (item_line m item ++ flat_map (item_line m) more) ≡ flat_map (item_line m) whole
+parted m done items more whole item e h =
+    sym (flat_map-append (item_line m) done (item ∷ more)) ∙ ap (flat_map (item_line m)) (ap (λ l. done ++ l) (sym e) ∙ h)
+
+-- ---- the cut of no pair
+
+one_line : (m : Model) (n t : ℕ) (b : Bool) → flat_map (item_line m) (cond b [] (Entry n (entry m n t) ∷ [])) ≡ cond b [] (entry_line (name_of_node m n) (entry m n t))
+one_line m n t true = refl
+one_line m n t false = append-nil (entry_line (name_of_node m n) (entry m n t))
+
+node_lines : (m : Model) (n k : ℕ) → flat_map (item_line m) (flat_map (entry_part m no_pair n) (moments_to k)) ≡ flat_map (entry_text m n) (moments_to k)
+node_lines m n k =
+    parts-flat (item_line m) (entry_part m no_pair n) (moments_to k)
+    ∙ parts-same (λ t. flat_map (item_line m) (entry_part m no_pair n t)) (entry_text m n) (moments_to k) (λ t. one_line m n t (eqb (entry m n t) 0))
+
+no_holds : (m : Model) (k : ℕ) → hold_items m no_pair k ≡ []
+no_holds m k = parts-same _ (λ _. []) (places m.nodes) (λ n. parts-nothing (below k)) ∙ parts-nothing (places m.nodes)
+
+no_arcs : (m : Model) (k : ℕ) → arc_items m no_pair k ≡ []
+no_arcs m k = parts-same _ (λ _. []) (moments_to k) (λ t. parts-nothing (places m.arcs)) ∙ parts-nothing (moments_to k)
+
+pub entry_lines : (m : Model) (k : ℕ) → flat_map (λ n. flat_map (entry_text m n) (moments_to k)) (places m.nodes) ≡ flat_map (item_line m) (cut_items m no_pair k)
+unfolding cut_items
+entry_lines m k =
+    let entries : flat_map (item_line m) (entry_items m no_pair k) ≡ flat_map (λ n. flat_map (entry_text m n) (moments_to k)) (places m.nodes) =
+    parts-flat (item_line m) (λ n. flat_map (entry_part m no_pair n) (moments_to k)) (places m.nodes)
+    ∙ parts-same (λ n. flat_map (item_line m) (flat_map (entry_part m no_pair n) (moments_to k))) (λ n. flat_map (entry_text m n) (moments_to k)) (places m.nodes) (λ n. node_lines m n k) in
+    let alone : entry_items m no_pair k ++ (hold_items m no_pair k ++ arc_items m no_pair k) ≡ entry_items m no_pair k =
+    ap₂ (λ h a. entry_items m no_pair k ++ (h ++ a)) (no_holds m k) (no_arcs m k) ∙ append-nil (entry_items m no_pair k) in
+    sym (ap (flat_map (item_line m)) alone ∙ entries)

@@ -1,0 +1,5 @@
+pub mod Parts
+pub mod CutItems
+pub mod Given
+pub mod Clears
+pub mod Periods

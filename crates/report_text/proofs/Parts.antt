@@ -1,0 +1,63 @@
+-- Texts of parts: the same parts spelled otherwise, and parts of parts.
+use Rattle.std.proofs.Common.{◌≡◌, ℕ, zero, suc, ◌+◌, ◌<◌, List, [], ◌∷◌, ◌++◌, length, take, drop, get_or, refl, ap, sym, subst, ◌∙◌, arith, Result, Ok, Err, append_assoc, append-nil, take-append-drop}
+use Rattle.std.specs.List.{All, flat_map}
+use Rattle.std.specs.declared.option.Option.{Option}
+use Rattle.std.proofs.lemmas.Grind.{flat_map-append}
+use Rattle.std.proofs.lemmas.List.{take_more}
+use Rattle.line_io.specs.Writer.{Puts, PutsFront, PutsText}
+use Rattle.line_io.proofs.TextLemmas.{front-is, front-whole, puts-is, puts-then}
+use Rattle.evac_law.specs.Sums.{below}
+use Rattle.evac_law.proofs.PartLemmas.{flat_map-suc}
+
+pub parts-same : {X Y : Type 0} (f g : X → List Y) (xs : List X) → ((x : X) → f x ≡ g x) → flat_map f xs ≡ flat_map g xs
+parts-same f g [] h = refl
+parts-same f g (x ∷ xs) h = ap (λ l. l ++ flat_map f xs) (h x) ∙ ap (λ l. g x ++ l) (parts-same f g xs h)
+
+pub parts-same_below : {Y : Type 0} (f g : ℕ → List Y) (n : ℕ) → ((i : ℕ) → i < n → f i ≡ g i) → flat_map f (below n) ≡ flat_map g (below n)
+parts-same_below f g zero h = refl
+parts-same_below f g (suc n) h =
+    flat_map-suc f n ∙ ap (λ l. l ++ f n) (parts-same_below f g n (λ i l. h i (omega (arith, l)))) ∙ ap (λ l. flat_map g (below n) ++ l) (h n (omega arith))
+    ∙ sym (flat_map-suc g n)
+
+pub parts-same_all : {X Y : Type 0} (f g : X → List Y) (xs : List X) → All (λ x. f x ≡ g x) xs → flat_map f xs ≡ flat_map g xs
+parts-same_all f g [] h = refl
+parts-same_all f g (x ∷ xs) h =
+    ap (λ l. l ++ flat_map f xs) (h 0 x (omega arith)) ∙ ap (λ l. g x ++ l) (parts-same_all f g xs (λ i d l. h (suc i) d (omega (arith, l))))
+
+-- one part behind others
+pub parts-one : {X Y : Type 0} (f : X → List Y) (xs : List X) (x : X) → flat_map f (xs ++ x ∷ []) ≡ flat_map f xs ++ f x
+parts-one f xs x = flat_map-append f xs (x ∷ []) ∙ ap (λ l. flat_map f xs ++ l) (append-nil (f x))
+
+pub parts-nothing : {X Y : Type 0} (xs : List X) → flat_map {X = X} {A = Y} (λ _. []) xs ≡ []
+parts-nothing [] = refl
+parts-nothing (x ∷ xs) = parts-nothing xs
+
+pub parts-flat : {X Y Z : Type 0} (f : Y → List Z) (g : X → List Y) (xs : List X) → flat_map f (flat_map g xs) ≡ flat_map (λ x. flat_map f (g x)) xs
+parts-flat f g [] = refl
+parts-flat f g (x ∷ xs) = flat_map-append f (g x) (flat_map g xs) ∙ ap (λ l. flat_map f (g x) ++ l) (parts-flat f g xs)
+
+-- bytes up to one, and that one
+pub puts-byte : (xs : List ℕ) (i : ℕ) {a : Option (List ℕ)} {p : List ℕ} {b : Option (List ℕ)} {q : List ℕ} {c : Option (List ℕ)} {r : List ℕ}
+    → i < length xs → Puts a p (take i xs) b q → Puts b q (get_or xs i 0 ∷ []) c r → Puts a p (take (i + 1) xs) c r
+puts-byte xs i l before this = puts-is (sym (take_more xs i 0 l)) (puts-then before this)
+
+-- where no further byte was put
+pub front-bytes : (xs : List ℕ) (i : ℕ) {a : Option (List ℕ)} {p : List ℕ} {b : Option (List ℕ)} {q : List ℕ} {c : Option (List ℕ)} {r : List ℕ}
+    → Puts a p (take i xs) b q → Puts b q [] c r → PutsFront a p xs c r
+front-bytes xs i before none = front-is (take-append-drop i xs) (front-whole (drop i xs) (puts-is (append-nil (take i xs)) (puts-then before none)))
+
+-- a text that was put, spelled as it is wanted
+pub puts-as : (u : List ℕ) {t : List ℕ} {a : Option (List ℕ)} {p : List ℕ} {b : Option (List ℕ)} {q : List ℕ} → t ≡ u → Puts a p t b q → Puts a p u b q
+puts-as u e h = puts-is e h
+
+pub front-as : (u : List ℕ) {t : List ℕ} {a : Option (List ℕ)} {p : List ℕ} {b : Option (List ℕ)} {q : List ℕ} → t ≡ u → PutsFront a p t b q → PutsFront a p u b q
+front-as u e h = front-is e h
+
+-- what is known of an answer that is told apart
+pub text-ok : {T E : Type 0} (r : Result T E) (x : T) {a : Option (List ℕ)} {p t : List ℕ} {b : Option (List ℕ)} {q : List ℕ}
+    → r ≡ Ok x → PutsText a p t b q r → Puts a p t b q
+text-ok {T} {E} r x {a} {p} {t} {b} {q} e h = let g = subst (λ (z : Result T E). PutsText a p t b q z) e h in g.ok
+
+pub text-err : {T E : Type 0} (r : Result T E) (x : E) {a : Option (List ℕ)} {p t : List ℕ} {b : Option (List ℕ)} {q : List ℕ}
+    → r ≡ Err x → PutsText a p t b q r → PutsFront a p t b q
+text-err {T} {E} r x {a} {p} {t} {b} {q} e h = let g = subst (λ (z : Result T E). PutsText a p t b q z) e h in g.err

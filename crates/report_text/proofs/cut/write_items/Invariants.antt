@@ -1,0 +1,17 @@
+-- The items are those that were put, and those that are still to come.
+use Rattle.std.proofs.Common.{◌≡◌, ◌++◌, List, length}
+use Rattle.std.specs.List.{All, flat_map}
+use Rattle.evac_law.specs.declared.cut.CutItem.{CutItem}
+use Rattle.line_io.specs.Writer.{Puts}
+use Rattle.report_text.specs.Parts.{IsItemOf}
+use Rattle.report_text.specs.ReportText.{item_line}
+use Rattle.report_text.proofs.cut.write_items.Given as goal
+
+abbrev pub invariant-loop-item : goal.invariant-loop-item
+invariant-loop-item g l =
+    (done : List CutItem) × (done ++ l.items ≡ l.initial.items) × All (IsItemOf l.model) l.items
+    × Puts (g.K.Sink.held l.initial.sink) l.initial.out (flat_map (item_line l.model) done) (g.K.Sink.held l.sink) l.out
+    × (g.K.Sink.faults l.sink ≡ g.K.Sink.faults l.initial.sink)
+
+abbrev pub decreases-loop-item : goal.decreases-loop-item
+decreases-loop-item g l = length l.items

@@ -1,0 +1,41 @@
+use Rattle.std.proofs.Common.{◌<◌, ◌∙◌, ap, arith, length, subst, sym}
+use Rattle.std.specs.List.{All, flat_map}
+use Rattle.line_io.proofs.TextLemmas.{front-more, front-then, puts-then, text-failed, text-is, text-last}
+use Rattle.evac_law.specs.declared.model.NodeRow.{NodeRow}
+use Rattle.evac_law.specs.Building.{node_at}
+use Rattle.evac_law.specs.Names.{IsName}
+use Rattle.evac_law.proofs.ValidLemmas.{name_is}
+use Rattle.certificate_text.specs.BlockText.{name_of_node}
+use Rattle.report_text.specs.ReportText.{route_line, step_part}
+use Rattle.route_decompose.specs.declared.route.RouteStep.{RouteStep}
+use Rattle.report_text.proofs.Given.{start_in, steps_are}
+use Rattle.report_text.proofs.Parts.{front-as, puts-as}
+use Rattle.report_text.proofs.routes.write_route.Goals as goal
+
+pub returns-in_err-write_route_line-clause-text : goal.returns-in_err-write_route_line-clause-text
+returns-in_err-write_route_line-clause-text g c =
+    let m = c.args.model.now in
+    let r = c.args.route.now in
+    text-failed c.from_residual.result c.from_residual.ensures.0
+    (front-more (flat_map (step_part m) r.steps) (front-as (route_line r.people (name_of_node m r.start) r.entered) (cc) c.in_err-write_route_line.ensures.text.err))
+
+pub returns-clause-text : goal.returns-clause-text
+returns-clause-text g c =
+    let m = c.args.model.now in
+    let r = c.args.route.now in
+    text-last c.write_steps.result (puts-as (route_line r.people (name_of_node m r.start) r.entered) (cc) c.in_ok-write_route_line.ensures.text.ok) (text-is (ap (flat_map (step_part m)) c.steps.ensures) c.write_steps.ensures.text)
+
+pub node-requires : goal.node-requires
+node-requires g c = let inside = start_in c.args.model.now c.args.route.now c.requires.valid c.requires.route in omega (arith, inside, c.start.ensures)
+
+pub write_route_line-requires : goal.write_route_line-requires
+write_route_line-requires g c =
+    let m = c.args.model.now in
+    let r = c.args.route.now in
+    subst (λ (row : NodeRow). IsName row.name) (sym (c.node.ensures ∙ ap (node_at m) c.start.ensures)) (name_is m r.start c.requires.valid (start_in m r c.requires.valid c.requires.route))
+
+pub write_steps-requires-clause-steps : goal.write_steps-requires-clause-steps
+write_steps-requires-clause-steps g c =
+    let m = c.args.model.now in
+    let r = c.args.route.now in
+    subst (All (λ (s : RouteStep). s.arc < length m.arcs)) (sym c.steps.ensures) (steps_are m r.start r.entered r.steps c.requires.route.leads_out)

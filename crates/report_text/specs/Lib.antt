@@ -1,0 +1,14 @@
+pub use Rattle.evac_law.specs.Building
+pub use Rattle.evac_law.specs.Certificates
+pub use Rattle.evac_law.specs.LabelTable
+pub use Rattle.evac_law.specs.Plans
+pub use Rattle.evac_law.specs.Stands
+pub use Rattle.line_io.specs.Causes
+pub use Rattle.line_io.specs.Writer
+pub use Rattle.floor_index.specs.Floors
+pub use Rattle.building_table.specs.Names
+pub use Rattle.route_decompose.specs.Routes
+pub use Rattle.clearing_report.specs.Clearing
+pub use Rattle.bottleneck_report.specs.Crossings
+pub mod ReportText
+pub mod Parts

@@ -1,0 +1,30 @@
+-- What the writers of the reports put one part of after another.
+use Rattle.std.specs.Prelude.{ℕ, ◌<◌, ◌==◌, false, if◌then◌else◌, List, [], ◌++◌, length, Result}
+use Rattle.std.specs.declared.option.Option.{Option}
+use Rattle.line_io.specs.Writer.{PutsText}
+use Rattle.evac_law.specs.declared.cut.CutItem.{CutItem}
+use Rattle.evac_law.specs.declared.cut.CutItem.TheVariants.{Arc, Entry, Hold}
+use Rattle.evac_law.specs.declared.model.Model.{Model}
+use Rattle.evac_law.specs.Building.{entry}
+use Rattle.evac_law.specs.Cuts.{Cut}
+use Rattle.certificate_text.specs.BlockText.{name_of_node}
+use Rattle.report_text.specs.ReportText.{entry_line}
+
+-- the cut of no pair
+abbrev pub no_pair : Cut
+no_pair _ _ = false
+
+-- the node or the arc of an item is one of the model
+abbrev pub IsItemOf : Model → CutItem → Type 0
+IsItemOf m (Entry n p) = n < length m.nodes
+IsItemOf m (Hold n t c) = n < length m.nodes
+IsItemOf m (Arc a t r) = a < length m.arcs
+
+-- the line of the people who come into a node at a moment, where there are any
+abbrev pub entry_text : Model → ℕ → ℕ → List ℕ
+entry_text m n t = if entry m n t == 0 then [] else entry_line (name_of_node m n) (entry m n t)
+
+-- whatever was put before, this text was put behind it, if that could be put
+abbrev pub PutsOn : {T E : Type 0} → Result T E → Option (List ℕ) → List ℕ → List ℕ → Option (List ℕ) → List ℕ → Result T E → Type 0
+PutsOn before held pending text held' pending' result =
+    (h : Option (List ℕ)) (p t : List ℕ) → PutsText h p t held pending before → PutsText h p (t ++ text) held' pending' result

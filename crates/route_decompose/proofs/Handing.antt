@@ -1,0 +1,173 @@
+-- The whole of a plan as routes see it, and the handing out of one route.
+use Rattle.std.proofs.Common.{◌≡◌, ℕ, zero, suc, ◌+◌, ◌<◌, ◌≤◌, ◌⊎◌, inl, inr, Bool, true, false, cond, ◌&&◌, eqb, List, [], ◌∷◌, length, get_or, ap, sym, ◌∙◌, arith, subst}
+use Rattle.std.specs.List.{All}
+use Rattle.std.proofs.lemmas.Bool.{cases_lt}
+use Rattle.std.proofs.lemmas.List.{get_or_past}
+use Rattle.std.proofs.lemmas.Bool.Decides.{nat_tests}
+use Rattle.evac_law.specs.declared.model.Model.{Model}
+use Rattle.evac_law.specs.declared.plan.Move.{Move}
+use Rattle.evac_law.specs.Building.{IsValid, entry, is_exit_at, no_node, people, start}
+use Rattle.evac_law.specs.Plans.{IsFeasible, moved, out_by}
+use Rattle.evac_law.specs.Stands.{Fits, Stand}
+use Rattle.evac_law.proofs.SumLemmas.{sum_by-le_all, sum_by-nothing}
+use Rattle.route_decompose.specs.declared.route.RouteStep.{RouteStep}
+use Rattle.route_decompose.specs.Routes.{HandsOut, IsWhole, LeadsOut, RouteView}
+use Rattle.route_decompose.specs.Tables.{IsLess, PeopleTable, people_at}
+use Rattle.route_decompose.specs.Stocks.{IsEmpty, IsLedOn, IsOpen, IsRoutes, IsStock, IsStockOf, Stock, TrailView, before}
+use Rattle.route_decompose.proofs.Balance.{coming_all_none, going_none, wait_step}
+use Rattle.route_decompose.proofs.Begin.{IsTaken, whole_of}
+use Rattle.route_decompose.proofs.Leading.{closing_less, led_closing, stock_on}
+use Rattle.route_decompose.proofs.TableLemmas.{past_last, past_rows}
+
+nothing : (b : Bool) → ◌≡◌ {A = ℕ} (cond b 0 0) 0
+nothing b = grind arith
+
+-- ---- nobody
+
+pub empty_is_open : (s : Stock) → IsStock s → IsEmpty s → IsOpen s
+empty_is_open s stock e = record {
+  stock = stock;
+  balanced = λ n t l f k. omega (arith, none_before n t, coming_all_none s n t e.0, going_none s n t (λ a h g. e.0 a t), e.1 n t, nothing (eqb 0 n && eqb 0 t));
+  closing = record {
+    none_stay = λ n l f. e.1 n s.model.horizon;
+    in_time = λ a t l some. absurd (omega (arith, e.0 a t, some));
+    from_inside = λ n l some. absurd (omega (arith, e.2 n 0, some));
+  };
+}
+  where
+    none_before : (n t : ℕ) → before s n t ≡ 0
+    none_before n zero = e.2 n 0
+    none_before n (suc t) = e.1 n t
+
+-- ---- the whole of a plan
+
+none_there : (va a vm t w : ℕ) → ((va ≡ a → vm ≡ t → ⊥)) → cond (eqb va a && eqb vm t) w 0 ≤ 0
+none_there va a vm t w e = grind (arith, nat_tests)
+
+none_later : (t v : ℕ) → cond (eqb (suc t) 0) v 0 ≡ 0
+none_later t v = grind (arith, nat_tests)
+
+pub moved_none : (p : List Move) (arcs horizon a t : ℕ) → All (λ (v : Move). (v.arc < arcs) × (v.moment ≤ horizon)) p
+    → (arcs ≤ a) ⊎ (horizon < t) → moved p a t ≡ 0
+unfolding moved
+moved_none p arcs horizon a t h past =
+    let le = sum_by-le_all (λ (v : Move). cond (eqb v.arc a && eqb v.moment t) v.people 0) (λ _. 0) p
+    (λ i d l. let v = get_or p i d in none_there v.arc a v.moment t v.people (other past (h i d l))) in
+    omega (arith, le, sum_by-nothing p)
+  where
+    other : {x y : ℕ} → (arcs ≤ a) ⊎ (horizon < t) → (x < arcs) × (y ≤ horizon) → x ≡ a → y ≡ t → ⊥
+    other (inl e) b c d = omega (arith, e, b.0, c)
+    other (inr e) b c d = omega (arith, e, b.1, d)
+
+module _ (m : Model) (f : Stand) (s : Stock) (valid : IsValid m) (fits : Fits m f) (feasible : IsFeasible m f.plan m.horizon)
+    (all_out : out_by m f.plan m.horizon ≡ people m) (same : s.model ≡ m) (stock : IsStock s) (of : IsStockOf f s) where
+  arcs_same : s.left.rows ≡ length m.arcs
+  arcs_same = stock.left_rows ∙ ap (λ (w : Model). length w.arcs) same
+
+  horizon_same : s.left.last ≡ m.horizon
+  horizon_same = stock.left_last ∙ ap (λ (w : Model). w.horizon) same
+
+  nodes_same : length s.model.nodes ≡ length m.nodes
+  nodes_same = ap (λ (w : Model). length w.nodes) same
+
+  all_left : (a t : ℕ) → people_at s.left a t ≡ moved f.plan a t
+  all_left a t = split (cases_lt a s.left.rows) (cases_lt s.left.last t)
+    where
+      split : (a < s.left.rows) ⊎ (s.left.rows ≤ a) → (s.left.last < t) ⊎ (t ≤ s.left.last) → people_at s.left a t ≡ moved f.plan a t
+      split (inr l) h =
+          past_rows s.left a t l ∙ sym (moved_none f.plan f.arcs f.horizon a t fits.ordered.in_range (inl (omega (arith, l, arcs_same, fits.arcs_same))))
+      split (inl l) (inl h) =
+          past_last s.left a t h ∙ sym (moved_none f.plan f.arcs f.horizon a t fits.ordered.in_range (inr (omega (arith, h, horizon_same, fits.horizon_same))))
+      split (inl l) (inr h) = of.moves a t l h
+
+  start_same : (n : ℕ) → start s.model n ≡ start m n
+  start_same n = ap (λ (w : Model). start w n) same
+
+  starts_wait : (n : ℕ) → people_at s.waiting n 0 ≡ start m n
+  starts_wait n = split (cases_lt n s.waiting.rows)
+    where
+      split : (n < s.waiting.rows) ⊎ (s.waiting.rows ≤ n) → people_at s.waiting n 0 ≡ start m n
+      split (inl l) = of.starts n l ∙ start_same n
+      split (inr l) = past_rows s.waiting n 0 l ∙ sym (no_start n (omega (arith, l, stock.wait_rows, nodes_same)))
+        where
+          no_start : (i : ℕ) → length m.nodes ≤ i → start m i ≡ 0
+          no_start i k = ap (λ z. z.start) (get_or_past m.nodes i no_node k)
+
+  all_wait : (n t : ℕ) → people_at s.waiting n t ≡ entry m n t
+  all_wait n zero = starts_wait n
+  all_wait n (suc t) = past_last s.waiting n (suc t) (omega (arith, stock.wait_last)) ∙ sym (none_later t (start m n))
+
+  taken : IsTaken m f s
+  taken = record {
+    valid = valid;
+    fits = fits;
+    feasible = feasible;
+    all_out = all_out;
+    same = same;
+    moves = all_left;
+    stays = λ n t l k. of.stays n t (omega (arith, l, stock.hold_rows, nodes_same)) (omega (arith, k, stock.hold_last, ap (λ (w : Model). w.horizon) same));
+    starts = λ n l. starts_wait n;
+  }
+
+  pub opens : IsOpen s
+  opens = whole_of m f s taken stock
+
+  pub whole : (r : RouteView) → IsWhole m f.plan (record { model = s.model; left = s.left; waiting = s.waiting; route = r })
+  whole r = record { same_model = same; all_left = all_left; all_wait = all_wait }
+
+-- ---- one route
+
+clash : (b : Bool) → b ≡ true → b ≡ false → ⊥
+clash b e f = apart (sym e ∙ f)
+  where
+    apart : true ≡ false → ⊥
+    apart x = cc
+
+some_step : (m : Model) (n : ℕ) (steps : List RouteStep) → LeadsOut m n 0 steps → is_exit_at m n ≡ false → 1 ≤ length steps
+some_step m n [] leads e = absurd (clash (is_exit_at m n) leads e)
+some_step m n (x ∷ xs) leads e = omega arith
+
+module _ (s v w : Stock) (n p : ℕ) (t u : TrailView) (before : IsRoutes s t) (l : n < length s.model.nodes) (some : 0 < people_at s.waiting n 0)
+    (on : IsLedOn s v n 0 p (record { steps = []; room = t.room }) u) (one : 1 ≤ p)
+    (same : w.model ≡ v.model) (left : w.left ≡ v.left) (holds : w.holds ≡ v.holds) (less : IsLess v.waiting w.waiting n 0 p) where
+  trail_is : u ≡ record { steps = on.more; room = t.room }
+  trail_is = on.trail
+
+  inside : is_exit_at s.model n ≡ false
+  inside = before.left.closing.from_inside n l some
+
+  fewer_wait : (i k : ℕ) → people_at w.waiting i k + cond (eqb n i && eqb 0 k) p 0 ≡ people_at s.waiting i k
+  fewer_wait i k = less.cells i k ∙ ap (λ (c : PeopleTable). people_at c i k) on.led.same_waiting
+
+  pub hands_out : (r : RouteView) → HandsOut (record { model = s.model; left = s.left; waiting = s.waiting; route = r })
+      (record { model = w.model; left = w.left; waiting = w.waiting; route = record { people = p; start = n; entered = 0; steps = u.steps } })
+  hands_out r =
+      let steps : u.steps ≡ on.more = ap (λ (x : TrailView). x.steps) trail_is in
+      subst (λ (x : List RouteStep). HandsOut (record { model = s.model; left = s.left; waiting = s.waiting; route = r })
+      (record { model = w.model; left = w.left; waiting = w.waiting; route = record { people = p; start = n; entered = 0; steps = x } })) (sym steps)
+      (record {
+        same_model = same ∙ on.led.same_model;
+        right = record { somebody = one; some_step = some_step s.model n on.more on.led.leads inside; leads_out = on.led.leads };
+        fewer = λ a k. let e = ap (λ (c : PeopleTable). people_at c a k) left in omega (arith, e, on.led.left a k);
+        fewer_wait = fewer_wait;
+      })
+
+  wait_le : (i k : ℕ) → people_at w.waiting i k ≤ people_at s.waiting i k
+  wait_le i k = omega (arith, less.cells i k, ap (λ (c : PeopleTable). people_at c i k) on.led.same_waiting)
+
+  pub routes_on : IsRoutes w u
+  routes_on =
+      let stock = stock_on v w same (ap (λ (c : PeopleTable). c.rows) left) (ap (λ (c : PeopleTable). c.last) left) (ap (λ (c : PeopleTable). c.rows) holds)
+      (ap (λ (c : PeopleTable). c.last) holds) less.rows less.last on.led.stock in
+      let led = led_closing s v n 0 p on.more on.led before.left.closing in
+      let room : u.room ≡ t.room = ap (λ (x : TrailView). x.room) trail_is in
+      let horizon : w.model.horizon ≡ s.model.horizon = ap (λ (x : Model). x.horizon) (same ∙ on.led.same_model) in
+      record {
+        left = record {
+          stock = stock;
+          balanced = wait_step v w n p same left holds less on.led.balanced;
+          closing = closing_less v w same (λ a k. omega (arith, ap (λ (c : PeopleTable). people_at c a k) left)) (λ i k. omega (arith, ap (λ (c : PeopleTable). people_at c i k) holds))
+              (λ i. omega (arith, less.cells i 0)) led;
+        };
+        room = omega (arith, before.room, room, horizon);
+      }

@@ -1,0 +1,156 @@
+-- A route grows from its end to its start.
+use Rattle.std.proofs.Common.{◌≡◌, ℕ, ◌+◌, ◌<◌, ◌≤◌, Bool, true, false, cond, ◌&&◌, ◌||◌, eqb, List, [], ◌∷◌, length, refl, ap, sym, ◌∙◌, arith, subst, ◌⊎◌, inl}
+use Rattle.std.proofs.lemmas.List.Elements.{All-get_or}
+use Rattle.std.proofs.lemmas.Bool.Decides.{nat_tests}
+use Rattle.evac_law.specs.declared.model.Model.{Model}
+use Rattle.evac_law.specs.Building.{IsArc, IsValid, arc_at, arrival, head, is_exit_at, no_arc, tail}
+use Rattle.route_decompose.specs.declared.route.RouteStep.{RouteStep}
+use Rattle.route_decompose.specs.Routes.{LeadsOut, enters}
+use Rattle.route_decompose.specs.Tables.{IsLess, PeopleTable, people_at}
+use Rattle.route_decompose.specs.Stocks.{IsBalancedBut, IsClosing, IsLedOut, IsStock, Stock}
+use Rattle.route_decompose.proofs.Balance.{exit_step, hold_step, move_step}
+
+-- ---- steps
+
+-- who may leave at a moment may have come earlier
+pub leads_earlier : (m : Model) (n t u : ℕ) (steps : List RouteStep) → u ≤ t → LeadsOut m n t steps → LeadsOut m n u steps
+leads_earlier m n t u [] l h = h
+leads_earlier m n t u (x ∷ xs) l h = (h.0, h.1, omega (arith, l, h.2), h.3)
+
+not_here : (b a t k : ℕ) → k < t → (eqb b a && eqb t k) ≡ false
+not_here b a t k l = grind (arith, nat_tests)
+
+joined : (x y : Bool) → x ≡ false → y ≡ false → (x || y) ≡ false
+joined x y e f = grind arith
+
+-- no step comes before the moment from which they lead out
+pub not_entered : (m : Model) (n t : ℕ) (steps : List RouteStep) (a k : ℕ) → LeadsOut m n t steps → k < t → enters steps a k ≡ false
+not_entered m n t [] a k h l = refl
+not_entered m n t (x ∷ xs) a k h l =
+    joined (eqb x.arc a && eqb x.moment k) (enters xs a k) (not_here x.arc a x.moment k (omega (arith, h.2, l)))
+    (not_entered m (head m x.arc) (arrival m x.arc x.moment) xs a k h.3 (omega (arith, h.2, l)))
+
+pub takes_time : (m : Model) (a : ℕ) → IsValid m → a < length m.arcs → 1 ≤ (arc_at m a).travel
+takes_time m a valid l = (All-get_or (IsArc m.nodes) m.arcs a no_arc l valid.arcs).travel_fits.0
+
+-- ---- on
+
+pub closing_less : (s v : Stock) → v.model ≡ s.model
+    → ((a k : ℕ) → people_at v.left a k ≤ people_at s.left a k) → ((i k : ℕ) → people_at v.holds i k ≤ people_at s.holds i k)
+    → ((i : ℕ) → people_at v.waiting i 0 ≤ people_at s.waiting i 0) → IsClosing s → IsClosing v
+closing_less s v same left holds waiting h =
+    let P : Model → Type 0 = λ w. (n : ℕ) → n < length w.nodes → is_exit_at w n ≡ false → people_at v.holds n w.horizon ≡ 0 in
+    let Q : Model → Type 0 = λ w. (a t : ℕ) → a < length w.arcs → 0 < people_at v.left a t → arrival w a t ≤ w.horizon in
+    let R : Model → Type 0 = λ w. (n : ℕ) → n < length w.nodes → 0 < people_at v.waiting n 0 → is_exit_at w n ≡ false in
+    record {
+      none_stay = subst P (sym same) (λ n l e. omega (arith, holds n s.model.horizon, h.none_stay n l e));
+      in_time = subst Q (sym same) (λ a t l e. h.in_time a t l (omega (arith, e, left a t)));
+      from_inside = subst R (sym same) (λ n l e. h.from_inside n l (omega (arith, e, waiting n)));
+    }
+
+pub led_closing : (s v : Stock) (n t p : ℕ) (steps : List RouteStep) → IsLedOut s v n t p steps → IsClosing s → IsClosing v
+led_closing s v n t p steps h c = closing_less s v h.same_model (λ a k. omega (arith, h.left a k)) h.holds (λ i. omega (arith, ap (λ (x : PeopleTable). people_at x i 0) h.same_waiting)) c
+
+pub stock_on : (s v : Stock) → v.model ≡ s.model → v.left.rows ≡ s.left.rows → v.left.last ≡ s.left.last → v.holds.rows ≡ s.holds.rows → v.holds.last ≡ s.holds.last
+    → v.waiting.rows ≡ s.waiting.rows → v.waiting.last ≡ s.waiting.last → IsStock s → IsStock v
+stock_on s v same a b c d e f h =
+    let horizon = ap (λ (w : Model). w.horizon) same in
+    let nodes = ap (λ (w : Model). length w.nodes) same in
+    let arcs = ap (λ (w : Model). length w.arcs) same in
+    record {
+      valid = subst IsValid (sym same) h.valid;
+      left_rows = omega (arith, a, h.left_rows, arcs);
+      left_last = omega (arith, b, h.left_last, horizon);
+      hold_rows = omega (arith, c, h.hold_rows, nodes);
+      hold_last = omega (arith, d, h.hold_last, horizon);
+      wait_rows = omega (arith, e, h.wait_rows, nodes);
+      wait_last = omega (arith, f, h.wait_last);
+    }
+
+less_le : (c d : PeopleTable) (n t p : ℕ) → IsLess c d n t p → (i k : ℕ) → people_at d i k ≤ people_at c i k
+less_le c d n t p h i k = omega (arith, h.cells i k)
+
+other_cell : (x y n t p i k : ℕ) → (k < t ⊎ (i ≡ n → ⊥)) → x + cond (eqb n i && eqb t k) p 0 ≡ y → x ≡ y
+other_cell x y n t p i k d e = grind (arith, nat_tests)
+
+-- ---- people who first stay, and then are led out from the next moment on
+
+module _ (s v w : Stock) (n t p : ℕ) (steps : List RouteStep) (led : IsLedOut s v n (t + 1) p steps)
+    (same : w.model ≡ v.model) (left : w.left ≡ v.left) (waiting : w.waiting ≡ v.waiting) (less : IsLess v.holds w.holds n t p) where
+  stay_earlier : (i k : ℕ) → k < t → people_at w.holds i k ≡ people_at s.holds i k
+  stay_earlier i k l =
+      other_cell (people_at w.holds i k) (people_at v.holds i k) n t p i k (inl l) (less.cells i k) ∙ led.earlier_holds i k (omega (arith, l))
+
+  pub led_by_hold : IsLedOut s w n t p steps
+  led_by_hold = record {
+    same_model = same ∙ led.same_model;
+    same_waiting = waiting ∙ led.same_waiting;
+    leads = leads_earlier s.model n (t + 1) t steps (omega arith) led.leads;
+    left = λ a k. let e = ap (λ (c : PeopleTable). people_at c a k) left in omega (arith, e, led.left a k);
+    holds = λ i k. omega (arith, less_le v.holds w.holds n t p less i k, led.holds i k);
+    earlier_holds = stay_earlier;
+    stock = stock_on v w same (ap (λ (c : PeopleTable). c.rows) left) (ap (λ (c : PeopleTable). c.last) left) less.rows less.last
+        (ap (λ (c : PeopleTable). c.rows) waiting) (ap (λ (c : PeopleTable). c.last) waiting) led.stock;
+    balanced = hold_step v w n t p same left waiting less led.balanced;
+  }
+
+-- ---- people who enter an arc
+
+abbrev pub step_of : ℕ → ℕ → RouteStep
+step_of a t = record { moment = t; arc = a }
+
+first_or_rest : (x y : Bool) (p l m r : ℕ) → (x ≡ true → y ≡ false) → m + cond x p 0 ≡ l → l + cond y p 0 ≡ r → m + cond (x || y) p 0 ≡ r
+first_or_rest true true p l m r d e f = absurd (clash (d refl))
+  where
+    clash : true ≡ false → ⊥
+    clash c = cc
+first_or_rest true false p l m r d e f = omega (arith, e, f)
+first_or_rest false true p l m r d e f = omega (arith, e, f)
+first_or_rest false false p l m r d e f = omega (arith, e, f)
+
+at_moment : (a b t k : ℕ) → (eqb a b && eqb t k) ≡ true → t ≡ k
+at_moment a b t k e = grind (arith, nat_tests)
+
+module _ (s v w : Stock) (a t p : ℕ) (here : a < length s.model.arcs) (steps : List RouteStep)
+    (same : w.model ≡ v.model) (holds : w.holds ≡ v.holds) (waiting : w.waiting ≡ v.waiting) (less : IsLess v.left w.left a t p) where
+  -- and are led out from where it leads
+  pub led_by_move : IsStock s → IsLedOut s v (head s.model a) (arrival s.model a t) p steps → IsLedOut s w (tail s.model a) t p (step_of a t ∷ steps)
+  led_by_move stock led =
+      let m = s.model in
+      let time = takes_time m a stock.valid here in
+      let heads : head v.model a ≡ head m a = ap (λ (x : Model). head x a) led.same_model in
+      let tails : tail v.model a ≡ tail m a = ap (λ (x : Model). tail x a) led.same_model in
+      let arrivals : arrival v.model a t ≡ arrival m a t = ap (λ (x : Model). arrival x a t) led.same_model in
+      let there : a < length v.model.arcs = subst (λ (x : Model). a < length x.arcs) (sym led.same_model) here in
+      let from : IsBalancedBut v (head v.model a) (arrival v.model a t) p =
+      subst (λ z. IsBalancedBut v z (arrival v.model a t) p) (sym heads) (subst (λ z. IsBalancedBut v (head m a) z p) (sym arrivals) led.balanced) in
+      record {
+        same_model = same ∙ led.same_model;
+        same_waiting = waiting ∙ led.same_waiting;
+        leads = (here, refl, omega arith, led.leads);
+        left = λ b k.
+            first_or_rest (eqb a b && eqb t k) (enters steps b k) p (people_at v.left b k) (people_at w.left b k) (people_at s.left b k)
+            (λ e. not_entered m (head m a) (arrival m a t) steps b k led.leads (omega (arith, at_moment a b t k e, time)))
+            (less.cells b k) (led.left b k);
+        holds = λ i k. let e = ap (λ (c : PeopleTable). people_at c i k) holds in omega (arith, e, led.holds i k);
+        earlier_holds = λ i k l. let e = ap (λ (c : PeopleTable). people_at c i k) holds in e ∙ led.earlier_holds i k (omega (arith, l));
+        stock = stock_on v w same less.rows less.last (ap (λ (c : PeopleTable). c.rows) holds) (ap (λ (c : PeopleTable). c.last) holds)
+            (ap (λ (c : PeopleTable). c.rows) waiting) (ap (λ (c : PeopleTable). c.last) waiting) led.stock;
+        balanced = subst (λ z. IsBalancedBut w z t p) tails (move_step v w a t p same less there holds waiting from);
+      }
+
+-- an arc into an exit
+module _ (s w : Stock) (a t p : ℕ) (here : a < length s.model.arcs)
+    (same : w.model ≡ s.model) (holds : w.holds ≡ s.holds) (waiting : w.waiting ≡ s.waiting) (less : IsLess s.left w.left a t p) where
+  pub led_to_exit : IsStock s → IsBalancedBut s 0 0 0 → is_exit_at s.model (head s.model a) ≡ true → IsLedOut s w (tail s.model a) t p (step_of a t ∷ [])
+  led_to_exit stock balanced exit = record {
+    same_model = same;
+    same_waiting = waiting;
+    leads = (here, refl, omega arith, exit);
+    left = λ b k. first_or_rest (eqb a b && eqb t k) false p (people_at s.left b k) (people_at w.left b k) (people_at s.left b k) (λ e. refl) (less.cells b k) (omega arith);
+    holds = λ i k. let e = ap (λ (c : PeopleTable). people_at c i k) holds in omega (arith, e);
+    earlier_holds = λ i k l. ap (λ (c : PeopleTable). people_at c i k) holds;
+    stock = stock_on s w same less.rows less.last (ap (λ (c : PeopleTable). c.rows) holds) (ap (λ (c : PeopleTable). c.last) holds)
+        (ap (λ (c : PeopleTable). c.rows) waiting) (ap (λ (c : PeopleTable). c.last) waiting) stock;
+    balanced = exit_step s w a t p same less here holds waiting exit balanced;
+  }

@@ -1,0 +1,9 @@
+pub mod TableLemmas
+pub mod Given
+pub mod Balance
+pub mod Leading
+pub mod Going
+pub mod ShapeLemmas
+pub mod UsedUp
+pub mod Begin
+pub mod Handing

@@ -1,0 +1,98 @@
+use Rattle.std.proofs.Common.{rules, IsFalse, true, ◌++◌, [], ◌∷◌, ◌≡◌, ◌+◌, ◌<◌, ◌≤◌, ◌∙◌, length, ap, sym, arith, subst}
+use Rattle.std.proofs.lemmas.List.{length-append}
+use Rattle.evac_law.specs.Building.{arrival, head, is_exit_at}
+use Rattle.evac_law.specs.Limits.{horizon_limit, travel_limit}
+use Rattle.evac_law.specs.declared.model.ArcRow.{ArcRow}
+use Rattle.route_decompose.specs.Stocks.{TrailView, IsLedOn, before, coming}
+use Rattle.route_decompose.specs.Tables.{people_at}
+use Rattle.route_decompose.proofs.Going.{arc_of, arrives_in_time, comes, on_by_hold, on_by_move, on_to_exit, stays, stays_before, still_left}
+use Rattle.route_decompose.proofs.Leading.{step_of}
+use Rattle.route_decompose.proofs.lead.+lead_out.Goals as goal
+
+pub overflow_add-moment : goal.overflow_add-moment
+unfolding horizon_limit
+overflow_add-moment t c = omega (arith, c.requires.moment_in, c.requires.left.stock.valid.horizon)
+
+pub lead_out-people-requires : goal.lead_out-people-requires
+lead_out-people-requires t c =
+    let s = c.args.store.now in
+    let some : 0 < people_at s.holds c.args.node c.args.moment = omega (arith, c.hold-held.ensures, c.if-held-gt0.true) in
+    let within = stays_before s c.requires.left c.args.node c.args.moment c.requires.node_in c.requires.inside c.requires.moment_in some in
+    let someone = stays s c.requires.left c.args.node c.args.moment c.requires.node_in c.requires.inside some in
+    search rules
+
+pub returns-then-held-gt0-clause-led : goal.returns-then-held-gt0-clause-led
+returns-then-held-gt0-clause-led t c =
+    on_by_hold c.args.store.now c.lead_out-people.new.store c.take_hold.new.self c.args.node c.args.moment c.lead_out-people.result c.args.trail.now
+    c.lead_out-people.new.trail c.lead_out-people.ensures.led c.take_hold.ensures.model c.take_hold.ensures.left c.take_hold.ensures.waiting c.take_hold.ensures.less
+
+pub overflow_add-moment-2 : goal.overflow_add-moment-2
+unfolding horizon_limit travel_limit
+overflow_add-moment-2 t c =
+    let s = c.args.store.now in
+    let arc = arc_of s c.requires.left c.in-Some.arc c.args.moment c.in-Some.ensures.some.0 c.in-Some.ensures.some.2 in
+    let row = ap (λ (r : ArcRow). r.travel) c.arc-row.ensures in
+    omega (arith, c.requires.moment_in, c.requires.left.stock.valid.horizon, arc.travel_fits.1, row)
+
+pub lead_out-people-requires-2 : goal.lead_out-people-requires-2
+lead_out-people-requires-2 t c =
+    let s = c.args.store.now in
+    let a = c.in-Some.arc in
+    let m = c.args.moment in
+    let facts = c.in-Some.ensures.some in
+    let arc = arc_of s c.requires.left a m facts.0 facts.2 in
+    let row = c.arc-row.ensures in
+    let to_in : c.arc-row.result.to < length s.model.nodes = subst (λ (r : ArcRow). r.to < length s.model.nodes) (sym row) arc.to_in in
+    let inside : IsFalse (is_exit_at s.model c.arc-row.result.to) = sym c.is_exit.ensures ∙ c.if-is_exit.false in
+    let time : 1 ≤ c.arc-row.result.travel = subst (λ (r : ArcRow). 1 ≤ r.travel) (sym row) arc.travel_fits.0 in
+    let within : m + c.arc-row.result.travel ≤ s.model.horizon = subst (λ (r : ArcRow). m + r.travel ≤ s.model.horizon) (sym row) (arrives_in_time s c.requires.left a m facts.0 facts.2) in
+    let someone : 0 < before s c.arc-row.result.to (m + c.arc-row.result.travel) + coming s c.arc-row.result.to (m + c.arc-row.result.travel) =
+    subst (λ (r : ArcRow). 0 < before s r.to (m + r.travel) + coming s r.to (m + r.travel)) (sym row) (comes s c.requires.left a m facts.0 facts.2) in
+    let some : 1 ≤ c.min-2.result = omega (arith, c.min-2.ensures, c.requires.some, c.left-left.ensures, facts.2) in
+    let longer : length c.add.new.self.steps ≡ length c.args.trail.now.steps + 1 =
+    ap (λ (x : TrailView). length x.steps) c.add.ensures ∙ length-append c.args.trail.now.steps (record { moment = m; arc = a } ∷ []) in
+    let same_room : c.add.new.self.room ≡ c.args.trail.now.room = ap (λ (x : TrailView). x.room) c.add.ensures in
+    let room : length c.add.new.self.steps + s.model.horizon ≤ c.add.new.self.room + (m + c.arc-row.result.travel) =
+    omega (arith, longer, same_room, time, c.requires.room) in
+    search rules
+
+pub take_left-requires-2-clause-enough : goal.take_left-requires-2-clause-enough
+take_left-requires-2-clause-enough t c =
+    let s = c.args.store.now in
+    let a = c.in-Some.arc in
+    let v = c.lead_out-people-2.new.store in
+    let p = c.lead_out-people-2.result in
+    let on : IsLedOn s v (head s.model a) (arrival s.model a c.args.moment) p c.add.new.self c.lead_out-people-2.new.trail =
+    subst (λ (r : ArcRow). IsLedOn s v r.to (c.args.moment + r.travel) p c.add.new.self c.lead_out-people-2.new.trail) c.arc-row.ensures c.lead_out-people-2.ensures.led in
+    let still = still_left s v a c.args.moment p c.add.new.self c.lead_out-people-2.new.trail c.requires.left.stock c.in-Some.ensures.some.0 on in
+    omega (arith, still, c.lead_out-people-2.ensures.most, c.min-2.ensures, c.left-left.ensures)
+
+pub returns-then-is_exit-clause-led : goal.returns-then-is_exit-clause-led
+returns-then-is_exit-clause-led t c =
+    let s = c.args.store.now in
+    let a = c.in-Some.arc in
+    let w = c.take_left.new.self in
+    let exit : is_exit_at s.model (head s.model a) ≡ true =
+    subst (λ (r : ArcRow). is_exit_at s.model r.to ≡ true) c.arc-row.ensures (sym c.is_exit.ensures ∙ c.if-is_exit.true) in
+    let on = on_to_exit s w a c.args.moment c.min-people.result c.args.trail.now c.requires.left c.in-Some.ensures.some.0 exit c.take_left.ensures.model
+    c.take_left.ensures.less c.take_left.ensures.holds c.take_left.ensures.waiting in
+    subst (λ (x : TrailView). IsLedOn s w c.args.node c.args.moment c.min-people.result c.args.trail.now x) (sym c.add.ensures)
+    (subst (λ n. IsLedOn s w n c.args.moment c.min-people.result c.args.trail.now (record { steps = c.args.trail.now.steps ++ step_of a c.args.moment ∷ []; room = c.args.trail.now.room }))
+    c.in-Some.ensures.some.1 on)
+
+pub returns-clause-led : goal.returns-clause-led
+returns-clause-led t c =
+    let s = c.args.store.now in
+    let a = c.in-Some.arc in
+    let m = c.args.moment in
+    let v = c.lead_out-people-2.new.store in
+    let w = c.take_left-2.new.self in
+    let p = c.lead_out-people-2.result in
+    let u = c.lead_out-people-2.new.trail in
+    let on : IsLedOn s v (head s.model a) (arrival s.model a m) p c.add.new.self u =
+    subst (λ (r : ArcRow). IsLedOn s v r.to (m + r.travel) p c.add.new.self u) c.arc-row.ensures c.lead_out-people-2.ensures.led in
+    let from : IsLedOn s v (head s.model a) (arrival s.model a m) p (record { steps = c.args.trail.now.steps ++ step_of a m ∷ []; room = c.args.trail.now.room }) u =
+    subst (λ (x : TrailView). IsLedOn s v (head s.model a) (arrival s.model a m) p x u) c.add.ensures on in
+    subst (λ n. IsLedOn s w n m p c.args.trail.now u) c.in-Some.ensures.some.1
+    (on_by_move s v w a m p c.args.trail.now u c.requires.left.stock c.in-Some.ensures.some.0 from c.take_left-2.ensures.model c.take_left-2.ensures.less
+    c.take_left-2.ensures.holds c.take_left-2.ensures.waiting)

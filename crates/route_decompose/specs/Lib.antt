@@ -1,0 +1,6 @@
+pub use Rattle.evac_law.specs.Building
+pub use Rattle.evac_law.specs.Plans
+pub use Rattle.evac_law.specs.Stands
+pub mod Routes
+pub mod Tables
+pub mod Stocks

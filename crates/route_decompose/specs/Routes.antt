@@ -1,0 +1,94 @@
+-- Routes: people who go from a node along arcs into an exit, and routes that make up a plan.
+use Rattle.std.specs.Prelude.{◌≡◌, ℕ, ◌+◌, ◌≤◌, ◌<◌, Bool, ◌&&◌, ◌==◌, if◌then◌else◌, List, [], ◌∷◌, length, map, IsTrue}
+use Rattle.std.specs.List.{All, list_any, sum_by}
+use Rattle.evac_law.specs.declared.model.Model.{Model}
+use Rattle.evac_law.specs.declared.model.ArcRow.{ArcRow}
+use Rattle.evac_law.specs.declared.plan.Move.{Move}
+use Rattle.evac_law.specs.Building.{arrival, entry, head, is_exit_at, tail}
+use Rattle.evac_law.specs.Plans.{moved}
+use Rattle.time_expansion.specs.declared.ends.Ends.{Ends}
+use Rattle.route_decompose.specs.Tables.{PeopleTable, people_at}
+use Rattle.route_decompose.specs.declared.route.RouteStep.{RouteStep}
+
+-- some people, the node and the moment at which they come in, and the arcs that they enter, each with its moment
+pub record RouteView : Type 0 where
+  pub people : ℕ
+  pub start : ℕ
+  pub entered : ℕ
+  pub steps : List RouteStep
+
+-- from a node, and not before a moment, the steps lead from arc to arc into an exit
+abbrev pub LeadsOut : Model → ℕ → ℕ → List RouteStep → Type 0
+LeadsOut m n t [] = IsTrue (is_exit_at m n)
+LeadsOut m n t (s ∷ steps) =
+    (s.arc < length m.arcs) × (tail m s.arc ≡ n) × (t ≤ s.moment) × LeadsOut m (head m s.arc) (arrival m s.arc s.moment) steps
+
+-- somebody goes, by at least one step
+pub record IsRoute (m : Model) (r : RouteView) : Type 0 where
+  pub somebody : 1 ≤ r.people
+  pub some_step : 1 ≤ length r.steps
+  pub leads_out : LeadsOut m r.start r.entered r.steps
+
+-- whether some steps enter an arc at a moment
+abbrev pub enters : List RouteStep → ℕ → ℕ → Bool
+enters steps a t = list_any (λ s. s.arc == a && s.moment == t) steps
+
+-- whether a route begins in a node at a moment
+abbrev pub begins : RouteView → ℕ → ℕ → Bool
+begins r n t = r.start == n && r.entered == t
+
+-- the people of the routes that enter an arc at a moment, and of those that begin in a node at a moment
+abbrev pub routed : List RouteView → ℕ → ℕ → ℕ
+routed routes a t = sum_by (λ r. if enters r.steps a t then r.people else 0) routes
+
+abbrev pub started : List RouteView → ℕ → ℕ → ℕ
+started routes n t = sum_by (λ r. if begins r n t then r.people else 0) routes
+
+-- the routes make up a plan: as many enter each arc at each moment as in the plan, and as many begin in each node at each moment as
+-- come in there in the model
+pub record Covers (m : Model) (p : List Move) (routes : List RouteView) : Type 0 where
+  pub ways : All (IsRoute m) routes
+  pub arcs : (a t : ℕ) → routed routes a t ≡ moved p a t
+  pub starts : (n t : ℕ) → started routes n t ≡ entry m n t
+
+-- what is left to hand out: by moves and by entries, of a model; and the route handed out last
+pub record RoutesView : Type 0 where
+  pub model : Model
+  pub left : PeopleTable
+  pub waiting : PeopleTable
+  pub route : RouteView
+
+-- the people of a move that are left, and those of an entry
+abbrev pub left_at : RoutesView → ℕ → ℕ → ℕ
+left_at w a t = people_at w.left a t
+
+abbrev pub waiting_at : RoutesView → ℕ → ℕ → ℕ
+waiting_at w n t = people_at w.waiting n t
+
+-- nothing of a plan is handed out yet
+pub record IsWhole (m : Model) (p : List Move) (w : RoutesView) : Type 0 where
+  pub same_model : w.model ≡ m
+  pub all_left : (a t : ℕ) → left_at w a t ≡ moved p a t
+  pub all_wait : (n t : ℕ) → waiting_at w n t ≡ entry m n t
+
+-- a route is handed out: its people are left no more
+pub record HandsOut (w v : RoutesView) : Type 0 where
+  pub same_model : v.model ≡ w.model
+  pub right : IsRoute w.model v.route
+  pub fewer : (a t : ℕ) → left_at v a t + (if enters v.route.steps a t then v.route.people else 0) ≡ left_at w a t
+  pub fewer_wait : (n t : ℕ) → waiting_at v n t + (if begins v.route n t then v.route.people else 0) ≡ waiting_at w n t
+
+-- nothing is left
+pub record IsUsedUp (w : RoutesView) : Type 0 where
+  pub none_left : (a t : ℕ) → left_at w a t ≡ 0
+  pub none_wait : (n t : ℕ) → waiting_at w n t ≡ 0
+
+-- the ends of an arc
+abbrev pub ends_of : ArcRow → Ends
+ends_of a = record { from = a.from; to = a.to }
+
+-- another model of the same building: only capacities, starts, rates and marks may differ
+pub record IsSameSite (m o : Model) : Type 0 where
+  pub horizon : m.horizon ≡ o.horizon
+  pub nodes : length m.nodes ≡ length o.nodes
+  pub ends : map ends_of m.arcs ≡ map ends_of o.arcs

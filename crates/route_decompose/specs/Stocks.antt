@@ -1,0 +1,102 @@
+-- What is left of a plan while it is handed out, and its balance.
+use Rattle.std.specs.Prelude.{◌≡◌, ℕ, zero, suc, ◌+◌, ◌-◌, ◌<◌, ◌≤◌, ◌&&◌, if◌then◌else◌, ◌==◌, nat_le, List, ◌++◌, length, map, Bool, IsFalse}
+use Rattle.std.specs.List.{sum_by}
+use Rattle.evac_law.specs.declared.model.Model.{Model}
+use Rattle.evac_law.specs.Building.{IsValid, arc_at, arrival, head, is_exit_at, start, tail}
+use Rattle.evac_law.specs.Plans.{moved}
+use Rattle.evac_law.specs.Stands.{Stand}
+use Rattle.evac_law.specs.Sums.{places}
+use Rattle.time_expansion.specs.Expansion.{Expansion}
+use Rattle.route_decompose.specs.declared.route.RouteStep.{RouteStep}
+use Rattle.route_decompose.specs.Routes.{LeadsOut, ends_of, enters}
+use Rattle.route_decompose.specs.Tables.{PeopleTable, people_at}
+
+-- of a model: the people left on each arc at each moment, those who stay in each node from a moment to the next, and those who start
+pub record Stock : Type 0 where
+  pub model : Model
+  pub left : PeopleTable
+  pub holds : PeopleTable
+  pub waiting : PeopleTable
+
+-- the model is valid, and the tables have its sizes
+pub record IsStock (s : Stock) : Type 0 where
+  pub valid : IsValid s.model
+  pub left_rows : s.left.rows ≡ length s.model.arcs
+  pub left_last : s.left.last ≡ s.model.horizon
+  pub hold_rows : s.holds.rows ≡ length s.model.nodes
+  pub hold_last : s.holds.last ≡ s.model.horizon
+  pub wait_rows : s.waiting.rows ≡ length s.model.nodes
+  pub wait_last : s.waiting.last ≡ 0
+
+-- the network of a model
+abbrev pub shape_of : Model → Expansion
+shape_of m = record { nodes = length m.nodes; ends = map ends_of m.arcs; horizon = m.horizon }
+
+-- the people who come to a node at a moment along arcs
+unfoldable pub coming : Stock → ℕ → ℕ → ℕ
+coming s n t =
+    sum_by (λ a. if head s.model a == n && nat_le (arc_at s.model a).travel t then people_at s.left a (t - (arc_at s.model a).travel) else 0) (places s.model.arcs)
+
+-- the people who leave a node at a moment along arcs
+unfoldable pub going : Stock → ℕ → ℕ → ℕ
+going s n t = sum_by (λ a. if tail s.model a == n then people_at s.left a t else 0) (places s.model.arcs)
+
+-- the people who are in a node before those of a moment come
+abbrev pub before : Stock → ℕ → ℕ → ℕ
+before s n zero = people_at s.waiting n 0
+before s n (suc t) = people_at s.holds n t
+
+-- whoever comes to a node leaves it or stays; but for some people, who are gone from one node at one moment
+abbrev pub IsBalancedBut : Stock → ℕ → ℕ → ℕ → Type 0
+IsBalancedBut s c u p =
+    (n t : ℕ) → n < length s.model.nodes → IsFalse (is_exit_at s.model n) → t ≤ s.model.horizon
+    → before s n t + coming s n t ≡ people_at s.holds n t + going s n t + (if c == n && u == t then p else 0)
+
+-- everybody gets out in time
+pub record IsClosing (s : Stock) : Type 0 where
+  pub none_stay : (n : ℕ) → n < length s.model.nodes → IsFalse (is_exit_at s.model n) → people_at s.holds n s.model.horizon ≡ 0
+  pub in_time : (a t : ℕ) → a < length s.model.arcs → 0 < people_at s.left a t → arrival s.model a t ≤ s.model.horizon
+  pub from_inside : (n : ℕ) → n < length s.model.nodes → 0 < people_at s.waiting n 0 → IsFalse (is_exit_at s.model n)
+
+-- what is left is itself a plan that has everybody out
+pub record IsOpen (s : Stock) : Type 0 where
+  pub stock : IsStock s
+  pub balanced : IsBalancedBut s 0 0 0
+  pub closing : IsClosing s
+
+-- some people went from a node at a moment into an exit, along steps and holds, and are taken off these
+pub record IsLedOut (s v : Stock) (n t p : ℕ) (steps : List RouteStep) : Type 0 where
+  pub same_model : v.model ≡ s.model
+  pub same_waiting : v.waiting ≡ s.waiting
+  pub leads : LeadsOut s.model n t steps
+  pub left : (a k : ℕ) → people_at v.left a k + (if enters steps a k then p else 0) ≡ people_at s.left a k
+  pub holds : (i k : ℕ) → people_at v.holds i k ≤ people_at s.holds i k
+  pub earlier_holds : (i k : ℕ) → k < t → people_at v.holds i k ≡ people_at s.holds i k
+  pub stock : IsStock v
+  pub balanced : IsBalancedBut v n t p
+
+-- the stock has the people of a standing plan of its model
+pub record IsStockOf (f : Stand) (s : Stock) : Type 0 where
+  pub moves : (a t : ℕ) → a < s.left.rows → t ≤ s.left.last → people_at s.left a t ≡ moved f.plan a t
+  pub stays : (n t : ℕ) → n < s.holds.rows → t ≤ s.holds.last → people_at s.holds n t ≡ f.contents n t
+  pub starts : (n : ℕ) → n < s.waiting.rows → people_at s.waiting n 0 ≡ start s.model n
+
+-- nobody is in the stock
+abbrev pub IsEmpty : Stock → Type 0
+IsEmpty s = ((a t : ℕ) → people_at s.left a t ≡ 0) × ((n t : ℕ) → people_at s.holds n t ≡ 0) × ((n t : ℕ) → people_at s.waiting n t ≡ 0)
+
+-- a list of steps in memory that is reserved once
+pub record TrailView : Type 0 where
+  pub steps : List RouteStep
+  pub room : ℕ
+
+-- what is kept between routes: what is left is a plan, and there is room for the steps of a route
+pub record IsRoutes (s : Stock) (t : TrailView) : Type 0 where
+  pub left : IsOpen s
+  pub room : s.model.horizon ≤ t.room
+
+-- people were led out, and their steps added to a trail
+pub record IsLedOn (s v : Stock) (n t p : ℕ) (r u : TrailView) : Type 0 where
+  pub more : List RouteStep
+  pub led : IsLedOut s v n t p more
+  pub trail : u ≡ record { steps = r.steps ++ more; room = r.room }

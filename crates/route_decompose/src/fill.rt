@@ -1,0 +1,80 @@
+// How tables take the people of a plan.
+ghost use Rattle.std.specs.Prelude.{◌≡◌, ℕ, ◌<◌, ◌≤◌, ◌&&◌, if◌then◌else◌, ◌==◌, nat_le, length, slice_index_or};
+ghost use Rattle.evac_law.specs.Building.{no_node};
+ghost use Rattle.evac_law.specs.Plans.{moved};
+ghost use Rattle.route_decompose.specs.Tables.{people_at};
+
+use crate::table::Table;
+use evac_law::{NodeRow, Standing};
+
+/// Puts the people who enter an arc.
+fn fill_left_row<F: Standing>(table: &mut Table, standing: &F, arc: u32)
+    requires arc_in { arc < table.old.rows }
+    requires arcs { table.old.rows ≡ (F.stand standing.now).arcs }
+    requires horizon { table.old.last ≡ (F.stand standing.now).horizon }
+    requires short { table.old.last < 1000 }
+    ensures rows { table.new.rows ≡ table.old.rows }
+    ensures last { table.new.last ≡ table.old.last }
+    ensures row { (k : ℕ) → k ≤ table.old.last → people_at table.new arc k ≡ moved (F.stand standing.now).plan arc k }
+    ensures others { (i k : ℕ) → i < arc → people_at table.new i k ≡ people_at table.old i k }
+{
+    for moment in 0..table.last() + 1 {
+        table.put(arc, moment, standing.moved(arc, moment));
+    }
+}
+
+/// Puts the people who enter the arcs.
+pub fn fill_left<F: Standing>(table: &mut Table, standing: &F)
+    requires arcs { table.old.rows ≡ (F.stand standing.now).arcs }
+    requires horizon { table.old.last ≡ (F.stand standing.now).horizon }
+    requires short { table.old.last < 1000 }
+    ensures rows { table.new.rows ≡ table.old.rows }
+    ensures last { table.new.last ≡ table.old.last }
+    ensures cells { (a t : ℕ) → a < table.old.rows → t ≤ table.old.last → people_at table.new a t ≡ moved (F.stand standing.now).plan a t }
+{
+    for arc in 0..table.rows() {
+        fill_left_row(table, standing, arc);
+    }
+}
+
+/// Puts the people who stay in a node.
+fn fill_holds_row<F: Standing>(table: &mut Table, standing: &F, node: u32)
+    requires node_in { node < table.old.rows }
+    requires nodes { table.old.rows ≡ (F.stand standing.now).nodes }
+    requires horizon { table.old.last ≡ (F.stand standing.now).horizon }
+    requires short { table.old.last < 1000 }
+    ensures rows { table.new.rows ≡ table.old.rows }
+    ensures last { table.new.last ≡ table.old.last }
+    ensures row { (k : ℕ) → k ≤ table.old.last → people_at table.new node k ≡ (F.stand standing.now).contents node k }
+    ensures others { (i k : ℕ) → i < node → people_at table.new i k ≡ people_at table.old i k }
+{
+    for moment in 0..table.last() + 1 {
+        table.put(node, moment, standing.held(node, moment));
+    }
+}
+
+/// Puts the people who stay in the nodes.
+pub fn fill_holds<F: Standing>(table: &mut Table, standing: &F)
+    requires nodes { table.old.rows ≡ (F.stand standing.now).nodes }
+    requires horizon { table.old.last ≡ (F.stand standing.now).horizon }
+    requires short { table.old.last < 1000 }
+    ensures rows { table.new.rows ≡ table.old.rows }
+    ensures last { table.new.last ≡ table.old.last }
+    ensures cells { (n t : ℕ) → n < table.old.rows → t ≤ table.old.last → people_at table.new n t ≡ (F.stand standing.now).contents n t }
+{
+    for node in 0..table.rows() {
+        fill_holds_row(table, standing, node);
+    }
+}
+
+/// Puts the people who start in the nodes.
+pub fn fill_starts(table: &mut Table, nodes: &[NodeRow])
+    requires rows { table.old.rows ≡ length nodes.now }
+    ensures rows { table.new.rows ≡ table.old.rows }
+    ensures last { table.new.last ≡ table.old.last }
+    ensures cells { (n : ℕ) → n < table.old.rows → people_at table.new n 0 ≡ (slice_index_or nodes.now n no_node).start }
+{
+    for node in 0..table.rows() {
+        table.put(node, 0, nodes[node as usize].start);
+    }
+}
