@@ -18,15 +18,16 @@ use Rattle.certificate_text.specs.BlockGrammar.{IsStated, block_of}
 use Rattle.certificate_text.specs.BlockReads.{ReadsBlock}
 use Rattle.plan_checker.specs.declared.verdict.Verdict.{Verdict}
 use Rattle.plan_checker.specs.declared.verdict.Verdict.TheVariants.{Yes, PeopleWrong, RateBroken, HeldBroken, NotAllOut, OutWrong, CutWrong}
-use Rattle.plan_checker.specs.Verdicts.{IsVerdict}
+use Rattle.plan_checker.specs.Verdicts.{IsRight, IsVerdict}
 use Rattle.plan_checker.proofs.LawLemmas.{one_verdict, yes_is_certified}
-use Rattle.evac_top.specs.Checks.{IsChecked, IsRight, IsVerdictOf, verdict_status, verdict_text}
-use Rattle.evac_top.specs.Endings.{EndsClaim}
+use Rattle.evac_top.specs.Accounts.{Account}
+use Rattle.evac_top.specs.Answers.{Answers}
+use Rattle.evac_top.specs.Check.{Checks, IsChecked, IsVerdictOf, verdict_status, verdict_text}
 use Rattle.evac_top.specs.Inputs.{Claimed, claim_behind, claim_by, claim_of, unless}
 use Rattle.evac_top.specs.Reads.{ClaimIs, ReadsTail, fault_of}
 use Rattle.evac_top.specs.declared.claim.Claim.{Claim}
-use Rattle.evac_top.specs.declared.mode.Mode.TheVariants.{Check}
-use Rattle.evac_top.proofs.AnswerLemmas.{FaultIs}
+use Rattle.evac_top.specs.declared.words.Mode.TheVariants.{Check}
+use Rattle.evac_top.proofs.TellLemmas.{FaultIs}
 
 -- ---- reading
 
@@ -115,21 +116,26 @@ status-few NotAllOut = omega arith
 status-few (OutWrong k) = omega arith
 status-few (CutWrong k) = omega arith
 
+pub status-small : (v : Verdict) → verdict_status v ≤ 2
+status-small v = omega (arith, status-few v)
+
 -- a verdict is the answer to its block
-pub checked : (m : Model) (b : Block) (v : Verdict) → IsValid m → IsBlockOf m b → IsVerdict m b v → IsChecked m b (verdict_status v) (verdict_text m v)
-checked m b v valid of first =
+pub checked : (m : Model) (b : Block) (v : Verdict) (taken : List ℕ) → IsValid m → IsBlockOf m b → IsVerdict m b v
+    → IsChecked m b (record { status = verdict_status v; taken = taken; written = verdict_text m v; steps = 0 })
+checked m b v taken valid of first =
     let law = yes_is_certified m b valid of in
-    let right : verdict_status v ≡ 0 → IsRight m b =
-    λ e. (let all = law.0 (subst (IsVerdict m b) (yes-by v e) first) in record { people = all.0; outs = all.1; certified = all.2 }) in
+    let right : verdict_status v ≡ 0 → IsRight m b = λ e. law.0 (subst (IsVerdict m b) (yes-by v e) first) in
     record {
       verdict = v;
       first = first;
-      ends = refl;
-      line = refl;
+      ends = record { over = refl; text_whole = refl; counted = refl };
       yes = right;
-      right = λ r. ap verdict_status (one_verdict m b v Yes first (law.1 (r.people, r.outs, r.certified)));
+      right = λ r. ap verdict_status (one_verdict m b v Yes first (law.1 r));
       best = λ e other k f. certified_is_best m b.moves b.labels b.cleared valid (right e).certified other k f;
     }
+
+pub checked-few : (m : Model) (b : Block) (x : Account) → IsChecked m b x → x.status ≤ 1
+checked-few m b x h = omega (arith, h.ends.over, status-few h.verdict)
 
 -- the place of a verdict is the model's
 pub verdict-of : (m : Model) (b : Block) (v : Verdict) → IsVerdict m b v → IsVerdictOf m v
@@ -141,12 +147,12 @@ verdict-of m b NotAllOut h = tt
 verdict-of m b (OutWrong k) h = tt
 verdict-of m b (CutWrong k) h = tt
 
-pub said-checked : (claim : Claim) (bytes : List ℕ) → ClaimIs (Ok claim) bytes → (s : ℕ) (t : List ℕ) → IsChecked claim.building.model claim.block s t
-    → EndsClaim (claim_of (lines_of bytes)) s t
-said-checked claim bytes (c, e, is, stated) s t checked =
-    subst (λ (r : _). EndsClaim r s t) (sym e) (claim.block, stated, subst (λ (m : Model). IsChecked m claim.block s t) is.model checked)
+pub said-checked : (claim : Claim) (bytes : List ℕ) → ClaimIs (Ok claim) bytes → (x : Account) → x.taken ≡ bytes → IsChecked claim.building.model claim.block x
+    → Answers (Some Check) bytes x
+said-checked claim bytes (c, e, is, stated) x all checked =
+    subst (λ (r : _). Checks bytes r x) (sym e) (all, (claim.block, stated, subst (λ (m : Model). IsChecked m claim.block x) is.model checked))
 
 pub check-fault : (fault : ModelFault) (bytes : List ℕ) → ClaimIs (Err fault) bytes → FaultIs Check fault bytes
-check-fault (Named code line) bytes e = λ s t is. subst (λ (r : _). EndsClaim r s t) (sym e) is
+check-fault (Named code line) bytes e = λ x is. subst (λ (r : _). Checks bytes r x) (sym e) is
 check-fault ReadFault bytes e = tt
 check-fault Memory bytes e = tt

@@ -8,7 +8,7 @@ use Rattle.building_table.specs.Passes.{ReadsModel}
 use Rattle.building_table.specs.declared.building.Building.{Building}
 use Rattle.evac_top.specs.Inputs.{Asked, input_by, unless}
 use Rattle.evac_top.specs.Reads.{InputIs, IsFresh, ReadsTail}
-use Rattle.evac_top.specs.Runs.{Told}
+use Rattle.evac_top.specs.Accounts.{Told}
 
 -- the building that a fresh reader gave is that of the bytes
 pub told-model : (r : Reader) (left : Option (List ℕ)) (building : Building) (n : ℕ) (b : Option (List Line)) (P : List ℕ → Type 0) → IsFresh r

@@ -1,7 +1,10 @@
-pub mod AnswerLemmas
+pub mod BlockOpenLemmas
 pub mod ClaimLemmas
+pub mod CompleteLemmas
 pub mod InputLemmas
 pub mod OpenLemmas
-pub mod PassLemmas
 pub mod SendLemmas
+pub mod SolveLemmas
 pub mod TailLemmas
+pub mod TakeLemmas
+pub mod TellLemmas

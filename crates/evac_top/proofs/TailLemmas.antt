@@ -1,87 +1,88 @@
 -- The lines behind a model's end, one by one.
-use Rattle.std.proofs.Common.{◌≡◌, ℕ, ◌+◌, true, false, List, [], ◌∷◌, ◌++◌, Result, Ok, Err, Some, None, refl, sym, ap, ◌∙◌, append_assoc}
+use Rattle.std.proofs.Common.{◌≡◌, ℕ, ◌+◌, false, List, [], ◌∷◌, ◌++◌, length, Result, Ok, Err, Some, None, refl, sym, ap, subst, ◌∙◌}
 use Rattle.std.specs.declared.option.Option.{Option}
+use Rattle.line_io.specs.Hearing.{Hearing, Listens}
 use Rattle.line_io.specs.Line.{text_lines}
-use Rattle.line_io.specs.Reader.{Answers, GivesAway, is_settled, lines_left, settled_answer}
+use Rattle.line_io.specs.Passes.{Follows, IsLeft}
+use Rattle.line_io.specs.Reader.{lines_left}
 use Rattle.line_io.specs.View.{Reader}
-use Rattle.line_io.specs.declared.lines.Found.{Found}
-use Rattle.line_io.specs.declared.lines.Found.TheVariants.{Text, End}
-use Rattle.line_io.specs.declared.lines.LineFault.{LineFault}
+use Rattle.line_io.specs.declared.hearing.Ending.{Ending}
+use Rattle.line_io.specs.declared.hearing.Ending.TheVariants.{Finished, Failed, InputEnded, Fault}
 use Rattle.line_io.specs.declared.lines.LineFault.TheVariants as faults
-use Rattle.line_io.proofs.LineLemmas.{text_lines-push}
-use Rattle.building_table.specs.Passes.{Follows}
+use Rattle.line_io.proofs.HearingLemmas.{Comes, GoesOn, comes, last-number, means-last, means-rest}
 use Rattle.building_table.specs.declared.faults.ModelFault.{ModelFault}
-use Rattle.building_table.specs.declared.faults.ModelFault.TheVariants.{Named, ReadFault, Memory}
-use Rattle.building_table.proofs.PassLemmas.{passes-none}
+use Rattle.building_table.specs.declared.faults.ModelFault.TheVariants.{ReadFault}
 use Rattle.model_text.specs.Grammar.{statement_of}
 use Rattle.model_text.specs.Readings.{Line}
+use Rattle.evac_top.specs.declared.read.Tail.{Tail}
+use Rattle.evac_top.specs.declared.read.TextFound.{TextFound}
 use Rattle.evac_top.specs.Inputs.{says_nothing, tail_fault}
-use Rattle.evac_top.specs.Reads.{PassesNothing, ReadsTail}
-use Rattle.evac_top.proofs.PassLemmas.{passes-fault, passes-next}
+use Rattle.evac_top.specs.Reads.{HearsTail, PassesTail, ReadsTail, TailIs, tail_by}
 
-pub nothing-none : (r : Reader) (left : Option (List ℕ)) → PassesNothing r r left left
-nothing-none r left = record { texts = []; passes = passes-none r left; nothing = λ rest. refl }
+abbrev pub Hears : Hearing Tail TextFound
+Hears tail line text result new = HearsTail (statement_of text) result
 
-one_nothing : (n m : ℕ) (text : List ℕ) (rest : List Line) → says_nothing (statement_of text) ≡ true → m ≡ n + 1
-    → tail_fault n (Ok text ∷ rest) ≡ tail_fault m rest
+abbrev pub IsAt : Tail → Unit {0} → Type 0
+IsAt r u = Unit {0}
+
+abbrev pub meaning : Unit {0} → ℕ → List Line → Option (ℕ × ℕ)
+meaning u n lines = tail_fault n lines
+
+goes-on : GoesOn Hears IsAt meaning
 unfolding tail_fault
-one_nothing n m text rest e i = rw e (ap (λ k. tail_fault k rest) (sym i))
+goes-on s s' x n t is heard = (tt, tt, λ rest. rw heard refl)
 
--- one line more that says nothing
-pub nothing-next : (r0 r r' : Reader) (l0 l l' : Option (List ℕ)) → PassesNothing r0 r l0 l → GivesAway (Ok Text) r r' l l'
-    → Answers (Ok Text) r'.text (lines_left r l) (lines_left r' l') → r'.number ≡ r.number + 1
-    → (is_settled r ≡ true → ◌≡◌ {A = Result Found LineFault} (Ok Text) (settled_answer r)) → says_nothing (statement_of r'.text) ≡ true
-    → PassesNothing r0 r' l0 l'
-nothing-next r0 r r' l0 l l' p g answers number settled blank = record {
-  texts = p.texts ++ r'.text ∷ [];
-  passes = passes-next r0 r r' l0 l l' p.texts p.passes g answers number settled;
-  nothing = λ rest.
-      ap (λ b. tail_fault r0.number (b ++ rest)) (text_lines-push p.texts r'.text)
-      ∙ ap (tail_fault r0.number) (append_assoc (text_lines p.texts) (Ok r'.text ∷ []) rest)
-      ∙ p.nothing (Ok r'.text ∷ rest)
-      ∙ one_nothing r.number r'.number r'.text rest blank number;
+found-text : (n : ℕ) (t : List ℕ) (rest : List Line) → says_nothing (statement_of t) ≡ false → tail_fault n (Ok t ∷ rest) ≡ Some (23, n + 1)
+unfolding tail_fault
+found-text n t rest e = rw e refl
+
+no-line : (n : ℕ) → tail_fault n [] ≡ None
+unfolding tail_fault
+no-line n = refl
+
+bad-line : (n k : ℕ) → tail_fault n (Err k ∷ []) ≡ Some (k, n + 1)
+unfolding tail_fault
+bad-line n k = refl
+
+tail-is : (ending : Ending TextFound) (from to : Tail) (a c : Reader) (l n : Option (List ℕ)) (h : Listens Hears ending from to a c l n) → Comes IsAt meaning tt a.number h.texts h.at
+    → TailIs (tail_by ending c.number) a.number (text_lines (h.texts ++ h.last) ++ h.rest)
+tail-is InputEnded from to a c l n h w = means-rest IsAt meaning h tt w h.ends.0 h.rest ∙ ap (tail_fault c.number) h.ends.1 ∙ no-line c.number
+tail-is Finished from to a c l n h w = absurd h.ends.2
+tail-is (Failed f) from to a c l n h w =
+    means-last IsAt meaning h tt w h.ends.0 h.ends.1 h.rest ∙ found-text (a.number + length h.texts) h.ends.0 h.rest h.ends.2 ∙ ap (λ k. Some (23, k)) (last-number h h.ends.0 h.ends.1)
+tail-is (Fault faults.LineTooLong) from to a c l n h w = means-rest IsAt meaning h tt w h.ends.0 h.rest ∙ ap (tail_fault c.number) h.ends.1 ∙ bad-line c.number 2
+tail-is (Fault faults.InputTooLong) from to a c l n h w = means-rest IsAt meaning h tt w h.ends.0 h.rest ∙ ap (tail_fault c.number) h.ends.1 ∙ bad-line c.number 3
+tail-is (Fault faults.ReadFault) from to a c l n h w = tt
+
+tail-told : (texts : List (List ℕ)) (k : ℕ) (x y : Option (List Line)) (rest : List Line) (result : Result (Unit {0}) ModelFault) → Follows texts x y → IsLeft x y rest
+    → TailIs result k (text_lines texts ++ rest) → ReadsTail result k x
+tail-told texts k None y rest result f e h = tt
+tail-told texts k (Some x) None rest result f e h = absurd f
+tail-told texts k (Some x) (Some y) rest result f e h = subst (TailIs result k) (sym (f ∙ ap (λ z. text_lines texts ++ z) e)) h
+
+-- the first fault of the lines
+pub reads-tail : (ending : Ending TextFound) (from to : Tail) (a c : Reader) (l n : Option (List ℕ)) → Listens Hears ending from to a c l n → (k : ℕ) (result : Result (Unit {0}) ModelFault)
+    → result ≡ tail_by ending k → k ≡ c.number → ReadsTail result a.number (lines_left a l)
+reads-tail ending from to a c l n h k result is at =
+    let by : result ≡ tail_by ending c.number = is ∙ ap (tail_by ending) at in
+    tail-told (h.texts ++ h.last) a.number (lines_left a l) (lines_left c n) h.rest result h.passes.follows h.is_left
+    (subst (λ (r : Result (Unit {0}) ModelFault). TailIs r a.number (text_lines (h.texts ++ h.last) ++ h.rest)) (sym by)
+    (tail-is ending from to a c l n h (comes Hears IsAt meaning goes-on h tt tt)))
+
+-- the reader went on by the lines; where the source failed, they say nothing
+pub passes-tail : (ending : Ending TextFound) (from to : Tail) (a c : Reader) (l n : Option (List ℕ)) (result : Result (Unit {0}) ModelFault)
+    → Listens Hears ending from to a c l n → (result ≡ Err ReadFault → ending ≡ Fault faults.ReadFault) → PassesTail result a c l n
+passes-tail ending from to a c l n result h caused = record {
+  texts = h.texts ++ h.last;
+  passes = h.passes;
+  nothing = λ is. nothing ending (caused is) h;
 }
-
--- what holds of the lines left now holds of those left before
-pub tail-told : (texts : List (List ℕ)) (n m : ℕ) (a b : Option (List Line)) (result : Result (Unit {0}) ModelFault) → Follows texts a b
-    → ((rest : List Line) → tail_fault n (text_lines texts ++ rest) ≡ tail_fault m rest) → ReadsTail result m b → ReadsTail result n a
-tail-told texts n m None b result f e h = tt
-tail-told texts n m (Some x) None result f e h = absurd f
-tail-told texts n m (Some x) (Some y) (Ok done) f e h = ap (tail_fault n) f ∙ e y ∙ h
-tail-told texts n m (Some x) (Some y) (Err (Named code line)) f e h = ap (tail_fault n) f ∙ e y ∙ h
-tail-told texts n m (Some x) (Some y) (Err ReadFault) f e h = tt
-tail-told texts n m (Some x) (Some y) (Err Memory) f e h = tt
-
-pub tail-end : (n : ℕ) (text : List ℕ) (b c : Option (List Line)) → Answers (Ok End) text b c → ReadsTail (Ok tt) n b
-unfolding tail_fault
-tail-end n text None c h = tt
-tail-end n text (Some x) None h = absurd h
-tail-end n text (Some x) (Some y) h = ap (tail_fault n) h.0
-
-pub tail-text : (n : ℕ) (text : List ℕ) (b c : Option (List Line)) → says_nothing (statement_of text) ≡ false → Answers (Ok Text) text b c
-    → ReadsTail (Err (Named 23 (n + 1))) n b
-unfolding tail_fault
-tail-text n text None c e h = tt
-tail-text n text (Some x) None e h = absurd h
-tail-text n text (Some x) (Some y) e h = ap (tail_fault n) h ∙ rw e refl
-
-pub tail-long : (n : ℕ) (text : List ℕ) (b c : Option (List Line)) → Answers (Err faults.LineTooLong) text b c → ReadsTail (Err (Named 2 (n + 1))) n b
-unfolding tail_fault
-tail-long n text None c h = tt
-tail-long n text (Some x) None h = absurd h
-tail-long n text (Some x) (Some y) h = ap (tail_fault n) h.0
-
-pub tail-far : (n : ℕ) (text : List ℕ) (b c : Option (List Line)) → Answers (Err faults.InputTooLong) text b c → ReadsTail (Err (Named 3 (n + 1))) n b
-unfolding tail_fault
-tail-far n text None c h = tt
-tail-far n text (Some x) None h = absurd h
-tail-far n text (Some x) (Some y) h = ap (tail_fault n) h.0
-
-pub nothing-fault : (r0 r r' : Reader) (l0 l l' : Option (List ℕ)) → PassesNothing r0 r l0 l → GivesAway (Err faults.ReadFault) r r' l l'
-    → Answers (Err faults.ReadFault) r'.text (lines_left r l) (lines_left r' l') → r'.number ≡ r.number
-    → (is_settled r ≡ true → ◌≡◌ {A = Result Found LineFault} (Err faults.ReadFault) (settled_answer r)) → PassesNothing r0 r' l0 l'
-nothing-fault r0 r r' l0 l l' p g answers number settled = record {
-  texts = p.texts;
-  passes = passes-fault r0 r r' l0 l l' p.texts p.passes g answers number settled;
-  nothing = λ rest. p.nothing rest ∙ ap (λ k. tail_fault k rest) (sym number);
-}
+  where
+    nothing : (ending : Ending TextFound) → ending ≡ Fault faults.ReadFault → (h : Listens Hears ending from to a c l n) → (rest : List Line)
+        → tail_fault a.number (text_lines (h.texts ++ h.last) ++ rest) ≡ tail_fault c.number rest
+    nothing InputEnded e h = cc
+    nothing Finished e h = cc
+    nothing (Failed f) e h = cc
+    nothing (Fault faults.LineTooLong) e h = cc
+    nothing (Fault faults.InputTooLong) e h = cc
+    nothing (Fault faults.ReadFault) e h = means-rest IsAt meaning h tt (comes Hears IsAt meaning goes-on h tt tt) h.ends.0

@@ -1,8 +1,11 @@
-pub mod Answering
-pub mod Checks
-pub mod Endings
+pub mod Accounts
+pub mod Answers
+pub mod Check
+pub mod Complete
 pub mod Inputs
-pub mod Modes
 pub mod Reads
 pub mod Runs
 pub mod Sends
+pub mod Solve
+pub mod Tells
+pub mod Words

@@ -1,10 +1,12 @@
 -- What the parts of a run read.
-use Rattle.std.specs.Prelude.{◌≡◌, ℕ, true, false, List, [], ◌++◌, Result, Ok, Err, Some, None, ⊤}
+use Rattle.std.specs.Prelude.{◌≡◌, ℕ, ◌+◌, ◌≤◌, true, false, List, [], ◌++◌, length, Result, Ok, Err, OnOk, Some, None, ⊤}
 use Rattle.std.specs.declared.option.Option.{Option}
-use Rattle.line_io.specs.Line.{Line, input_too_long, line_too_long, lines_of, text_lines}
+use Rattle.std.specs.Io.KnownBytes.{Consumes, IsAtEnd}
+use Rattle.line_io.specs.Line.{Line, input_limit, input_too_long, line_too_long, lines_of, text_lines, whole_part}
+use Rattle.line_io.specs.declared.limits.TheConstants.{BUFFER_SIZE}
 use Rattle.line_io.specs.View.{Reader}
 use Rattle.building_table.specs.Built.{IsBuilding}
-use Rattle.building_table.specs.Passes.{Passes}
+use Rattle.line_io.specs.Passes.{Passes}
 use Rattle.building_table.specs.declared.faults.ModelFault.{ModelFault}
 use Rattle.building_table.specs.declared.faults.ModelFault.TheVariants.{Named, ReadFault, Memory}
 use Rattle.certificate_text.specs.declared.fault.BlockFault.{BlockFault}
@@ -12,7 +14,15 @@ use Rattle.certificate_text.specs.declared.fault.BlockFault.TheVariants as block
 use Rattle.certificate_text.specs.BlockGrammar.{IsStated, bad_block}
 use Rattle.evac_top.specs.declared.claim.Claim.{Claim}
 use Rattle.evac_top.specs.declared.read.Input.{Input}
-use Rattle.evac_top.specs.Inputs.{Asked, Claimed, claim_of, input_of, tail_fault}
+use Rattle.line_io.specs.declared.hearing.Ending.{Ending}
+use Rattle.line_io.specs.declared.hearing.Ending.TheVariants as endings
+use Rattle.line_io.specs.declared.hearing.Heard.{Heard}
+use Rattle.line_io.specs.declared.hearing.Heard.TheVariants.{More, Last}
+use Rattle.line_io.specs.declared.lines.LineFault.TheVariants as line_faults
+use Rattle.model_text.specs.declared.fault.TextFault.{TextFault}
+use Rattle.model_text.specs.Grammar.{Said}
+use Rattle.evac_top.specs.declared.read.TextFound.{TextFound}
+use Rattle.evac_top.specs.Inputs.{Asked, Claimed, claim_of, input_of, says_nothing, tail_fault, text_after_end}
 
 -- the first fault behind a model's end, by the lines left before the call
 abbrev pub TailIs : Result (Unit {0}) ModelFault → ℕ → List Line → Type 0
@@ -26,11 +36,35 @@ abbrev pub ReadsTail : Result (Unit {0}) ModelFault → ℕ → Option (List Lin
 ReadsTail result first None = ⊤
 ReadsTail result first (Some before) = TailIs result first before
 
--- a reader went on by lines that say nothing
-pub record PassesNothing (before after : Reader) (left left' : Option (List ℕ)) : Type 0 where
+-- what the lines behind a model's end are heard as
+abbrev pub HearsTail : Result Said TextFault → Result Heard TextFound → Type 0
+HearsTail said (Ok More) = says_nothing said ≡ true
+HearsTail said (Ok Last) = ⊥
+HearsTail said (Err found) = says_nothing said ≡ false
+
+-- the answer where so many lines went by
+abbrev pub tail_by : Ending TextFound → ℕ → Result (Unit {0}) ModelFault
+tail_by endings.InputEnded number = Ok tt
+tail_by endings.Finished number = Err (Named text_after_end number)
+tail_by (endings.Failed found) number = Err (Named text_after_end number)
+tail_by (endings.Fault line_faults.LineTooLong) number = Err (Named line_too_long (number + 1))
+tail_by (endings.Fault line_faults.InputTooLong) number = Err (Named input_too_long (number + 1))
+tail_by (endings.Fault line_faults.ReadFault) number = Err ReadFault
+
+-- a reader went on by some lines behind a model's end; where the source failed, they say nothing
+pub record PassesTail (result : Result (Unit {0}) ModelFault) (before after : Reader) (left left' : Option (List ℕ)) : Type 0 where
   pub texts : List (List ℕ)
   pub passes : Passes before after left left' texts
-  pub nothing : (rest : List Line) → tail_fault before.number (text_lines texts ++ rest) ≡ tail_fault after.number rest
+  pub nothing : result ≡ Err ReadFault → (rest : List Line) → tail_fault before.number (text_lines texts ++ rest) ≡ tail_fault after.number rest
+
+-- what was taken of an input: no more than the limit and one buffer, and all of it where it is read; where the source failed, no whole line
+-- of it ended the run
+pub record Takes {T : Type 0} (IsOpen : List Line → Type 0) (result : Result T ModelFault) (left left' : Option (List ℕ)) : Type 0 where
+  pub taken : List ℕ
+  pub consumed : Consumes left left' taken
+  pub few : length taken ≤ input_limit + BUFFER_SIZE
+  pub all : OnOk result (IsAtEnd left')
+  pub open_lines : result ≡ Err ReadFault → IsOpen (lines_of (whole_part taken))
 
 -- what an input says, by its bytes
 abbrev pub InputIs : Result Input ModelFault → List ℕ → Type 0

@@ -1,84 +1,43 @@
--- What a run took, wrote and answered, by its words and its input. Each mode is one case of each definition.
-use Rattle.std.specs.Prelude.{◌≡◌, ◌≢◌, ℕ, ◌≤◌, List, [], ◌++◌, length, Some, None, ⊤}
+-- A run, from outside: what it took, wrote and counted, its status, and the causes of its failures.
+use Rattle.std.specs.Prelude.{◌≡◌, ◌≢◌, ℕ, ◌+◌, ◌≤◌, Bool, true, false, List, [], length, None}
 use Rattle.std.specs.declared.option.Option.{Option}
-use Rattle.std.specs.Io.KnownBytes.{Appends, Consumes, IsAtEnd}
+use Rattle.std.specs.Io.KnownBytes.{Appends, Consumes}
 use Rattle.line_io.specs.Causes.{Rose}
-use Rattle.line_io.specs.Line.{Line, lines_of, whole_part}
-use Rattle.certificate_text.specs.BlockText.{refusal_line}
-use Rattle.evac_top.specs.Endings.{Answers}
-use Rattle.evac_top.specs.Inputs.{NoneRefused, claim_of, input_of}
-use Rattle.evac_top.specs.declared.mode.Mode.{Mode}
-use Rattle.evac_top.specs.declared.mode.Mode.TheVariants.{Solve, Check}
+use Rattle.line_io.specs.Line.{input_limit, lines_of, whole_part}
+use Rattle.line_io.specs.declared.limits.TheConstants.{BUFFER_SIZE}
+use Rattle.evac_top.specs.Accounts.{Account, Outside, Told}
+use Rattle.evac_top.specs.Answers.{Answers, AnswersFront, AnswersMemory, AnswersSoFar}
+use Rattle.evac_top.specs.Words.{reads}
+use Rattle.evac_top.specs.declared.words.Mode.{Mode}
 
--- what holds of the bytes of the input, where the source tells them
-abbrev pub Told : Option (List ℕ) → (List ℕ → Type 0) → Type 0
-Told None P = ⊤
-Told (Some bytes) P = P bytes
+-- an account of a run from one state of the outside to the next: of an input without an end, it takes no more than the limit and one buffer
+pub record IsAccount (before after : Outside) (status : ℕ) (x : Account) : Type 0 where
+  pub answered : x.status ≡ status
+  pub taken : Consumes before.source.bytes after.source.bytes x.taken
+  pub few_taken : length x.taken ≤ input_limit + BUFFER_SIZE
+  pub written : Appends before.sink.bytes after.sink.bytes x.written
+  pub counted : after.steps ≡ before.steps + x.steps
 
--- the sink took a text of which this holds
-abbrev pub Wrote : Option (List ℕ) → Option (List ℕ) → (List ℕ → Type 0) → Type 0
-Wrote held held' P = (written : List ℕ) × Appends held held' written × P written
+-- the causes of a status: each count of faults rose where its object ended the run, and is the same else
+pub record HasCauses (status : ℕ) (before after : Outside) : Type 0 where
+  pub known : status ≤ 5
+  pub reads_same : status ≢ 3 → after.source.faults ≡ before.source.faults
+  pub reads_rose : status ≡ 3 → Rose before.source.faults after.source.faults
+  pub writes_same : status ≢ 4 → after.sink.faults ≡ before.sink.faults
+  pub writes_rose : status ≡ 4 → Rose before.sink.faults after.sink.faults
 
--- a front of a text of which this holds
-abbrev pub IsFront : (List ℕ → Type 0) → List ℕ → Type 0
-IsFront P written = (rest : List ℕ) × P (written ++ rest)
+-- what holds of an input: of the bytes left, where the source tells them; who reads nothing asks for none
+abbrev pub OfInput : Bool → Option (List ℕ) → (List ℕ → Type 0) → Type 0
+OfInput false left Holds = Holds []
+OfInput true left Holds = Told left Holds
 
--- ---- by mode
-
--- how much of the input was taken at status 0: all of it
-abbrev pub TakesAll : Mode → Option (List ℕ) → Type 0
-TakesAll Solve left' = IsAtEnd left'
-TakesAll Check left' = IsAtEnd left'
-
--- what was written when the source failed: nothing
-abbrev pub WroteSoFar : Mode → List ℕ → Type 0
-WroteSoFar Solve written = written ≡ []
-WroteSoFar Check written = written ≡ []
-
--- lines that don't end a run: none of them is refused
-abbrev pub IsOpen : Mode → List Line → Type 0
-IsOpen Solve lines = NoneRefused (input_of lines) (length lines)
-IsOpen Check lines = NoneRefused (claim_of lines) (length lines)
-
--- the bytes taken when the source failed: the lines of them that ended in LF don't end the run
-pub record StaysOpen (mode : Mode) (left left' : Option (List ℕ)) : Type 0 where
-  pub taken : List ℕ
-  pub consumed : Consumes left left' taken
-  pub open_lines : IsOpen mode (lines_of (whole_part taken))
-
--- ---- a run
-
--- a run of a mode: 0 and 1 answered, 3 the source failed, 4 the sink failed, 5 there was no memory
-pub record Ends (mode : Mode) (status : ℕ) (left left' held held' : Option (List ℕ)) (reads reads' writes writes' : ℕ) : Type 0 where
-  -- the status is one of these
-  pub known : (status ≤ 5) × (status ≢ 2)
-  -- the counts of faults are the same as before, but for that of the object that failed
-  pub reads_same : status ≢ 3 → reads' ≡ reads
-  pub writes_same : status ≢ 4 → writes' ≡ writes
-  -- the text is the answer to the input, whole
-  pub answered : status ≤ 1 → Told left (λ input. Wrote held held' (Answers mode (lines_of input) status))
-  pub whole : status ≡ 0 → TakesAll mode left'
-  -- a failing source: its count rose, nothing was written, and no line had ended the run
-  pub source : status ≡ 3 → Rose reads reads' × Wrote held held' (WroteSoFar mode) × StaysOpen mode left left'
-  -- a failing sink: its count rose, and it has a front of the answer to the input
-  pub sink : status ≡ 4 → Rose writes writes'
-      × Told left (λ input. Wrote held held' (IsFront (λ text. (answer : ℕ) × Answers mode (lines_of input) answer text)))
-  -- without memory nothing was written
-  pub memory : status ≡ 5 → Wrote held held' (λ written. written ≡ [])
-
--- the text for words that ask for nothing
-abbrev pub words_text : List ℕ
-words_text = refusal_line 40 0
-
--- a run whose words ask for nothing: 2 refused, 4 the sink failed, 5 there was no memory
-pub record Refuses (status : ℕ) (held held' : Option (List ℕ)) (writes writes' : ℕ) : Type 0 where
-  pub known : (status ≤ 5) × (status ≢ 0) × (status ≢ 1) × (status ≢ 3)
-  pub writes_same : status ≢ 4 → writes' ≡ writes
-  pub text : status ≡ 2 → Wrote held held' (λ written. written ≡ words_text)
-  pub sink : status ≡ 4 → Rose writes writes' × Wrote held held' (IsFront (λ text. text ≡ words_text))
-  pub memory : status ≡ 5 → Wrote held held' (λ written. written ≡ [])
-
--- a run, by the mode that its words ask for
-abbrev pub Runs : Option Mode → ℕ → Option (List ℕ) → Option (List ℕ) → Option (List ℕ) → Option (List ℕ) → ℕ → ℕ → ℕ → ℕ → Type 0
-Runs None status left left' held held' reads reads' writes writes' = Refuses status held held' writes writes'
-Runs (Some mode) status left left' held held' reads reads' writes writes' = Ends mode status left left' held held' reads reads' writes writes'
+-- a run in the mode that its words ask for: 0 done, 1 refused, 2 the words are refused, 3 the source failed, 4 the sink failed, 5 there was no memory
+pub record Runs (mode : Option Mode) (status : ℕ) (before after : Outside) : Type 0 where
+  pub words : status ≡ 2 → mode ≡ None
+  pub causes : HasCauses status before after
+  pub did : Account
+  pub account : IsAccount before after status did
+  pub answered : status ≤ 2 → OfInput (reads mode) before.source.bytes (λ input. Answers mode input did)
+  pub source : status ≡ 3 → AnswersSoFar mode (lines_of (whole_part did.taken)) did
+  pub sink : status ≡ 4 → OfInput (reads mode) before.source.bytes (λ input. AnswersFront mode input did)
+  pub memory : status ≡ 5 → AnswersMemory mode before.source.bytes did

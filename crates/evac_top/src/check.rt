@@ -1,15 +1,16 @@
 // The mode `check`: a model and a block are read, and the checker's verdict is sent.
-ghost use Rattle.std.specs.Prelude.{◌≡◌, []};
+ghost use Rattle.std.specs.Prelude.{◌≡◌, ℕ, [], Some};
 ghost use Rattle.evac_law.specs.Building.{IsValid};
 ghost use Rattle.certificate_text.specs.Block.{IsBlockOf};
-ghost use Rattle.evac_top.specs.Answering.{AnswersOne};
-ghost use Rattle.evac_top.specs.Checks.{IsChecked, verdict_status};
-ghost use Rattle.evac_top.specs.Runs.{Ends};
-ghost use Rattle.evac_top.specs.declared.mode.Mode.TheVariants.{Check};
+ghost use Rattle.evac_top.specs.Accounts.{side};
+ghost use Rattle.evac_top.specs.Check.{IsChecked, verdict_status};
+ghost use Rattle.evac_top.specs.Runs.{Runs};
+ghost use Rattle.evac_top.specs.Tells.{Tells};
+ghost use Rattle.evac_top.specs.declared.words.Mode.TheVariants.{Check};
 
 use crate::claim::read_claim;
-use crate::status::{DONE, NO_MEMORY, REFUSED, SINK_FAILED};
-use crate::stop::stop;
+use crate::status::{DONE, NO_MEMORY, REFUSED};
+use crate::stop::{status_after, stop};
 use crate::verdict::send_verdict;
 use certificate_text::Block;
 use evac_law::Model;
@@ -31,21 +32,19 @@ fn judge<K: Sink>(alloc: Global, out: &mut Out, sink: &mut K, model: &Model, blo
     requires fresh { out.old ≡ [] }
     requires valid { IsValid model.now }
     requires block { IsBlockOf model.now block.now }
-    ensures { AnswersOne (IsChecked model.now block.now) result (K.held sink.old) (K.held sink.new) (K.faults sink.old) (K.faults sink.new) }
+    ensures { Tells (IsChecked model.now block.now) result 0 (side (K.held sink.old) (K.faults sink.old)) (side (K.held sink.new) (K.faults sink.new)) }
 {
     let Ok(verdict) = plan_checker::check(alloc, model, block) else {
         return NO_MEMORY;
     };
-    match send_verdict(out, sink, model, verdict) {
-        Ok(()) => status_of(verdict),
-        Err(_) => SINK_FAILED,
-    }
+    status_after(send_verdict(out, sink, model, verdict), status_of(verdict))
 }
 
-/// Runs the mode.
+/// Runs the mode. It counts no steps.
 pub(crate) fn check<S: Source, K: Sink>(alloc: Global, source: &mut S, sink: &mut K) -> u8
-    ensures { Ends Check result (S.left source.old) (S.left source.new) (K.held sink.old) (K.held sink.new)
-        (S.faults source.old) (S.faults source.new) (K.faults sink.old) (K.faults sink.new) }
+    ensures { (steps : ℕ) → Runs (Some Check) result
+        (record { source = side (S.left source.old) (S.faults source.old); sink = side (K.held sink.old) (K.faults sink.old); steps = steps })
+        (record { source = side (S.left source.new) (S.faults source.new); sink = side (K.held sink.new) (K.faults sink.new); steps = steps }) }
 {
     let (Ok(mut lines), Ok(mut out)) = (Lines::new(alloc), Out::new(alloc)) else {
         return NO_MEMORY;

@@ -1,7 +1,9 @@
 // Answer blocks, each behind its model, and what the checker says of them.
 use crate::tests::{
-    ONE_ROOM, ONE_ROOM_BLOCK, TWO_EXITS, TWO_EXITS_BLOCK, check, check_failing_source, with_line,
+    ONE_ROOM, ONE_ROOM_BLOCK, TWO_EXITS, TWO_EXITS_BLOCK, check, check_failing_source, status_of,
+    with_line,
 };
+use line_io::{CleanSource, MemSink};
 use std::alloc::{AllocError, Global};
 use std::process::Abort;
 use std::test::Fail;
@@ -90,4 +92,23 @@ fn blocks_of_two_exits_are_checked(rt: HostRuntime) -> Result<(), Fail> {
 fn a_failing_source_gets_no_verdict(rt: HostRuntime) -> Result<(), Fail> {
     let whole = joined(rt.alloc(), ONE_ROOM, ONE_ROOM_BLOCK)?;
     check_failing_source(&rt, &["check"], whole.as_str(), "yes\n", 7)
+}
+
+// Three storeys with two stairs.
+const OFFICE: &str =
+    "evacplan 1\ntitle Three storey office\nperiod 5\nhorizon 120\nfloor 1 Ground\nfloor 2 Second\nfloor 3 Third\nnode WP1.1 80 60\nnode LO1.1 40 0\nnode DS1.1\nnode DS2.1\nnode WP1.2 60 45\nnode WP2.2 60 45\nnode HA1.2 30 0\nnode SW1.2 16 0\nnode SW2.2 16 0\nnode WP1.3 60 45\nnode WP2.3 60 45\nnode HA1.3 30 0\nnode SW1.3 16 0\nnode SW2.3 16 0\narc WP1.1 LO1.1 1 10\narc LO1.1 DS1.1 1 8\narc WP1.2 HA1.2 1 6\narc WP2.2 HA1.2 1 6\narc HA1.2 SW1.2 1 4\narc HA1.2 SW2.2 1 4\narc SW1.2 LO1.1 3 4\narc SW2.2 DS2.1 4 4\narc WP1.3 HA1.3 1 6\narc WP2.3 HA1.3 1 6\narc HA1.3 SW1.3 1 4\narc HA1.3 SW2.3 1 4\narc SW1.3 SW1.2 3 4\narc SW2.3 SW2.2 3 4\nend\n";
+
+#[test]
+fn the_block_of_an_office_is_right(rt: HostRuntime) -> Result<(), Fail> {
+    let alloc = rt.alloc();
+    let mut source = CleanSource::new(alloc, OFFICE.as_bytes())?;
+    let mut sink = MemSink::new(alloc, 100_000, 4096, &[])?;
+    assert_eq!(rt; status_of(alloc, &["solve"], &mut source, &mut sink)?, 0);
+    let mut input = Vec::from_slice(alloc, OFFICE.as_bytes())?;
+    input.extend_from_slice(sink.bytes())?;
+    let mut source = CleanSource::new(alloc, input.as_slice())?;
+    let mut sink = MemSink::new(alloc, 100, 4096, &[])?;
+    assert_eq!(rt; status_of(alloc, &["check"], &mut source, &mut sink)?, 0);
+    assert_eq!(rt; sink.bytes(), b"yes\n".as_slice());
+    Ok(())
 }

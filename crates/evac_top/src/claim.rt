@@ -1,12 +1,11 @@
 // The building and the block that an input of `check` states.
-ghost use Rattle.std.specs.Prelude.{◌≡◌, Err, IfOk, OnOk};
-ghost use Rattle.std.specs.Io.KnownBytes.{IsAtEnd};
+ghost use Rattle.std.specs.Prelude.{◌≡◌, Err, IfOk};
 ghost use Rattle.evac_law.specs.Building.{IsValid};
 ghost use Rattle.line_io.specs.Causes.{Rose};
 ghost use Rattle.certificate_text.specs.Block.{IsBlockOf};
-ghost use Rattle.evac_top.specs.declared.mode.Mode.TheVariants.{Check};
-ghost use Rattle.evac_top.specs.Reads.{ClaimIs, IsFresh, fault_of};
-ghost use Rattle.evac_top.specs.Runs.{StaysOpen, Told};
+ghost use Rattle.evac_top.specs.Inputs.{IsOpenClaim};
+ghost use Rattle.evac_top.specs.Accounts.{Told};
+ghost use Rattle.evac_top.specs.Reads.{ClaimIs, IsFresh, Takes, fault_of};
 
 use crate::read::{INPUT_TOO_LONG, LINE_TOO_LONG, read_tail};
 use building_table::{Building, ModelFault, read_model};
@@ -47,8 +46,7 @@ pub(crate) fn read_claim<S: Source>(
     ensures input { Told (S.left source.old) (ClaimIs result) }
     ensures valid { IfOk result (λ claim. IsValid claim.building.model) }
     ensures block { IfOk result (λ claim. IsBlockOf claim.building.model claim.block) }
-    ensures whole { OnOk result (IsAtEnd (S.left source.new)) }
-    ensures open_lines { result ≡ Err ModelFault.ReadFault → StaysOpen Check (S.left source.old) (S.left source.new) }
+    ensures takes { Takes IsOpenClaim result (S.left source.old) (S.left source.new) }
     ensures failed { result ≡ Err ModelFault.ReadFault → Rose (S.faults source.old) (S.faults source.new) }
     ensures quiet { (result ≡ Err ModelFault.ReadFault → ⊥) → S.faults source.new ≡ S.faults source.old }
 {

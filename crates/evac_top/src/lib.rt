@@ -1,14 +1,14 @@
 //! The top call: words, an input read to its end, an answer and a status.
 //!
-//! `run` is a function of what it is given, a source, a sink and the words. What it wrote and answered is said in `specs/Runs`: the text is
-//! the answer to the lines of the input, whole at statuses 0 and 1, and each other status has its cause.
+//! `run` is a function of what it is given, a source, a sink and the words. What it did is said in `specs/Runs`: what it took, wrote and
+//! counted, and its status with its cause. At statuses 0, 1 and 2 that is the whole answer to the input, by the mode that the words ask for.
 #![tactic(auto)]
 
 mod check;
 #[cfg(test)]
 mod check_tests;
 mod claim;
-mod mode;
+mod laws;
 mod read;
 mod reply;
 mod solve;
@@ -18,5 +18,7 @@ mod stop;
 mod tests;
 mod top;
 mod verdict;
+mod words;
 
+pub use laws::runs_answer;
 pub use top::run;

@@ -1,17 +1,16 @@
 // The building that an input describes.
-ghost use Rattle.std.specs.Prelude.{◌≡◌, Err, IfOk, IsTrue, Ok, OnOk, false, true};
-ghost use Rattle.std.specs.Io.KnownBytes.{IsAtEnd};
+ghost use Rattle.std.specs.Prelude.{◌≡◌, ◌≤◌, Err, IfOk, Ok, OnOk, false, true};
 ghost use Rattle.evac_law.specs.Building.{IsValid};
 ghost use Rattle.line_io.specs.Causes.{Rose};
 ghost use Rattle.line_io.specs.Reader.{Drained, is_settled, lines_left};
 ghost use Rattle.model_text.specs.Grammar.{statement_of};
-ghost use Rattle.evac_top.specs.Inputs.{says_nothing};
-ghost use Rattle.evac_top.specs.declared.mode.Mode.TheVariants.{Solve};
-ghost use Rattle.evac_top.specs.Reads.{InputIs, IsFresh, PassesNothing, ReadsTail};
-ghost use Rattle.evac_top.specs.Runs.{StaysOpen, Told};
+ghost use Rattle.evac_top.specs.Inputs.{IsOpenInput, says_nothing};
+ghost use Rattle.evac_top.specs.Accounts.{Told};
+ghost use Rattle.evac_top.specs.Reads.{InputIs, IsFresh, PassesTail, ReadsTail, Takes, tail_by};
+ghost use Rattle.line_io.specs.Line.{input_limit};
 
 use building_table::{Building, ModelFault, read_model};
-use line_io::{Found, LineFault, Lines, Source};
+use line_io::{Ending, Heard, LineFault, Lines, Listener, Source, listen};
 use model_text::{Statement, read_line};
 use std::alloc::Global;
 
@@ -27,33 +26,76 @@ fn says_nothing(line: &[u8]) -> bool
     matches!(read_line(line), Ok(Statement::Blank))
 }
 
+// What hears lines that say nothing.
+#[derive(Drop)]
+struct Tail;
+
+// A line says something.
+#[derive(Clone, Copy, PartialEq, Eq, Debug)]
+struct TextFound;
+
+impl Listener for Tail {
+    ghost use Rattle.std.specs.Prelude.{⊤};
+    ghost use Rattle.evac_top.specs.Reads.{HearsTail};
+
+    type Fault = TextFound;
+
+    ghost kept = { λ _. tt };
+
+    ghost ready = { λ _. ⊤ };
+
+    ghost hears = { λ tail line text result new. HearsTail (statement_of text) result };
+
+    fn hear(&mut self, text: &[u8], line: u32) -> Result<Heard, TextFound> {
+        let _ = line;
+        if says_nothing(text) {
+            Ok(Heard::More)
+        } else {
+            Err(TextFound)
+        }
+    }
+}
+
+// The answer where so many lines went by.
+#[tactic(auto, unfolding(line_io::specs::Line::input_limit))]
+fn conclude_tail(ending: Ending<TextFound>, number: u32) -> Result<(), ModelFault>
+    requires { number ≤ input_limit }
+    ensures answer { result ≡ tail_by ending number }
+    ensures caused { result ≡ Err ModelFault.ReadFault → ending ≡ Ending.Fault LineFault.ReadFault }
+{
+    let code = match ending {
+        Ending::InputEnded => return Ok(()),
+        Ending::Failed(_) | Ending::Finished => {
+            return Err(ModelFault::Named {
+                code: TEXT_AFTER_END,
+                line: number,
+            });
+        }
+        Ending::Fault(LineFault::LineTooLong) => LINE_TOO_LONG,
+        Ending::Fault(LineFault::InputTooLong) => INPUT_TOO_LONG,
+        Ending::Fault(LineFault::ReadFault) => return Err(ModelFault::ReadFault),
+    };
+    Err(ModelFault::Named {
+        code,
+        line: number + 1,
+    })
+}
+
 /// Reads to the end of the input, where only blank lines and comments may stand.
 pub(crate) fn read_tail<S: Source>(lines: &mut Lines, source: &mut S) -> Result<(), ModelFault>
     ensures tail { ReadsTail result lines.old.number (lines_left lines.old (S.left source.old)) }
-    ensures passed { result ≡ Err ModelFault.ReadFault → PassesNothing lines.old lines.new (S.left source.old) (S.left source.new) }
+    ensures passes { PassesTail result lines.old lines.new (S.left source.old) (S.left source.new) }
     ensures ended { OnOk result (lines.new.ended ≡ true) }
     ensures drained { Drained lines.old (S.left source.old) → Drained lines.new (S.left source.new) }
 
+    // a read fault has its cause
     ensures failed { result ≡ Err ModelFault.ReadFault → Rose (S.faults source.old) (S.faults source.new) }
     ensures unfinished { result ≡ Err ModelFault.ReadFault → is_settled lines.new ≡ false }
     ensures quiet { (result ≡ Err ModelFault.ReadFault → ⊥) → S.faults source.new ≡ S.faults source.old }
     ensures in_memory { result ≡ Err ModelFault.Memory → ⊥ }
 {
-    loop {
-        let number = lines.number();
-        let code = match lines.next(source) {
-            Ok(Found::Text) if says_nothing(lines.text()) => continue,
-            Ok(Found::Text) => TEXT_AFTER_END,
-            Ok(Found::End) => return Ok(()),
-            Err(LineFault::LineTooLong) => LINE_TOO_LONG,
-            Err(LineFault::InputTooLong) => INPUT_TOO_LONG,
-            Err(LineFault::ReadFault) => return Err(ModelFault::ReadFault),
-        };
-        return Err(ModelFault::Named {
-            code,
-            line: number + 1,
-        });
-    }
+    let ending = listen(lines, source, &mut Tail);
+    conclude_tail(ending, lines.number())
 }
 
 /// A building with the line of its end.
@@ -72,8 +114,7 @@ pub(crate) fn read_input<S: Source>(
     requires { IsFresh lines.old }
     ensures input { Told (S.left source.old) (InputIs result) }
     ensures valid { IfOk result (λ input. IsValid input.building.model) }
-    ensures whole { OnOk result (IsAtEnd (S.left source.new)) }
-    ensures open_lines { result ≡ Err ModelFault.ReadFault → StaysOpen Solve (S.left source.old) (S.left source.new) }
+    ensures takes { Takes IsOpenInput result (S.left source.old) (S.left source.new) }
     ensures failed { result ≡ Err ModelFault.ReadFault → Rose (S.faults source.old) (S.faults source.new) }
     ensures quiet { (result ≡ Err ModelFault.ReadFault → ⊥) → S.faults source.new ≡ S.faults source.old }
 {

@@ -1,19 +1,19 @@
-// The end of a run whose input isn't read.
+// The end of a run: the status behind what was sent, and what a fault of the input gives.
 ghost use Rattle.std.specs.Prelude.{◌≡◌, []};
-ghost use Rattle.evac_top.specs.Answering.{AnswersOne, EndsFault, StopsAt};
+ghost use Rattle.evac_top.specs.Accounts.{side};
+ghost use Rattle.evac_top.specs.Tells.{Stops, status_after};
 
 use crate::reply::send_refusal;
 use crate::status::{NO_MEMORY, REFUSED, SINK_FAILED, SOURCE_FAILED};
 use building_table::ModelFault;
-use line_io::{Out, Sink};
+use line_io::{Out, Sink, WriteFault};
 
-// Sends the line of a fault.
-fn refuse<K: Sink>(out: &mut Out, sink: &mut K, code: u8, line: u32) -> u8
-    requires { out.old ≡ [] }
-    ensures { AnswersOne (EndsFault code line) result (K.held sink.old) (K.held sink.new) (K.faults sink.old) (K.faults sink.new) }
+/// The status behind a text that was sent.
+pub(crate) fn status_after(sent: Result<(), WriteFault>, status: u8) -> u8
+    ensures { result ≡ status_after sent status }
 {
-    match send_refusal(out, sink, code, line) {
-        Ok(()) => REFUSED,
+    match sent {
+        Ok(()) => status,
         Err(_) => SINK_FAILED,
     }
 }
@@ -21,10 +21,12 @@ fn refuse<K: Sink>(out: &mut Out, sink: &mut K, code: u8, line: u32) -> u8
 /// Ends a run whose input isn't read: a named fault is answered by its line.
 pub(crate) fn stop<K: Sink>(out: &mut Out, sink: &mut K, fault: ModelFault) -> u8
     requires { out.old ≡ [] }
-    ensures { StopsAt fault result (K.held sink.old) (K.held sink.new) (K.faults sink.old) (K.faults sink.new) }
+    ensures { Stops fault result (side (K.held sink.old) (K.faults sink.old)) (side (K.held sink.new) (K.faults sink.new)) }
 {
     match fault {
-        ModelFault::Named { code, line } => refuse(out, sink, code, line),
+        ModelFault::Named { code, line } => {
+            status_after(send_refusal(out, sink, code, line), REFUSED)
+        }
         ModelFault::ReadFault => SOURCE_FAILED,
         ModelFault::Memory => NO_MEMORY,
     }

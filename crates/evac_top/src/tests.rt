@@ -39,7 +39,7 @@ fn run_uncounted<S: Source, K: Sink, L: Ledger>(
 }
 
 // The status of a run with these words.
-fn status_of<S: Source, K: Sink>(
+pub(crate) fn status_of<S: Source, K: Sink>(
     alloc: Global,
     words: &[&str],
     source: &mut S,
@@ -195,6 +195,7 @@ fn the_first_fault_of_a_model_is_named(rt: HostRuntime) -> Result<(), Fail> {
         ),
         (2, "", "refused 18 7\n"),
         (6, "", "refused 13 6\n"),
+        (6, "end", "refused 19 6\n"),
         (8, "", "refused 21 8\n"),
         (8, "end\nnode WP2.1 1 1", "refused 23 9\n"),
     ] {
@@ -204,6 +205,22 @@ fn the_first_fault_of_a_model_is_named(rt: HostRuntime) -> Result<(), Fail> {
     }
     check(&rt, &["solve"], "", 1, "refused 21 1\n")?;
     check(&rt, &["solve"], "# x", 1, "refused 21 2\n")
+}
+
+// A comment of 200 bytes.
+const LONG_COMMENT: &str =
+    "#23456789_123456789_123456789_123456789_123456789_123456789_123456789_123456789_123456789_1234567890123456789_123456789_123456789_123456789_123456789_123456789_123456789_123456789_123456789_1234567890";
+
+#[test]
+fn a_line_has_at_most_200_bytes(rt: HostRuntime) -> Result<(), Fail> {
+    let alloc = rt.alloc();
+    let mut lines = String::from_str(alloc, "evacplan 1\n")?;
+    lines.push_str(LONG_COMMENT)?;
+    let input = changed(alloc, 1, lines.as_str())?;
+    check(&rt, &["solve"], input.as_str(), 0, ONE_ROOM_BLOCK)?;
+    lines.push_str("#")?;
+    let input = changed(alloc, 1, lines.as_str())?;
+    check(&rt, &["solve"], input.as_str(), 1, "refused 2 2\n")
 }
 
 // A source that fails at its j-th call, for every j of a whole run, gives status 3 and nothing is written.

@@ -1,14 +1,15 @@
 // The top call.
-ghost use Rattle.std.specs.Prelude.{◌≡◌, ◌≢◌, [], None, Some, map, string_bytes};
-ghost use Rattle.evac_top.specs.Modes.{mode_of};
-ghost use Rattle.evac_top.specs.Runs.{Refuses, Runs};
-ghost use Rattle.evac_top.specs.declared.mode.Mode.TheVariants.{Solve};
+ghost use Rattle.std.specs.Prelude.{◌≡◌, ℕ, [], None, false, map, string_bytes};
+ghost use Rattle.evac_top.specs.Accounts.{Side, side};
+ghost use Rattle.evac_top.specs.Runs.{Runs};
+ghost use Rattle.evac_top.specs.Words.{mode_of, reads};
 
 use crate::check::check;
-use crate::mode::{Mode, mode_of};
 use crate::reply::send_refusal;
 use crate::solve::solve;
-use crate::status::{NO_MEMORY, SINK_FAILED, WORDS_REFUSED};
+use crate::status::{NO_MEMORY, WORDS_REFUSED};
+use crate::stop::status_after;
+use crate::words::{Mode, mode_of};
 use evac_law::Steps;
 use line_io::{Out, Sink, Source};
 use std::alloc::Global;
@@ -25,10 +26,10 @@ pub fn run<S: Source, K: Sink, L: Ledger>(
     sink: &mut K,
     steps: &mut Steps<L>,
 ) -> u8
-    ensures run { Runs (mode_of (map string_bytes words.now)) result (S.left source.old) (S.left source.new) (K.held sink.old) (K.held sink.new)
-        (S.faults source.old) (S.faults source.new) (K.faults sink.old) (K.faults sink.new) }
-    ensures untouched { mode_of (map string_bytes words.now) ≡ None → source.new ≡ source.old }
-    ensures uncounted { mode_of (map string_bytes words.now) ≢ Some Solve → steps.new ≡ steps.old }
+    ensures run { Runs (mode_of (map string_bytes words.now)) result
+        (record { source = side (S.left source.old) (S.faults source.old); sink = side (K.held sink.old) (K.faults sink.old); steps = steps.old })
+        (record { source = side (S.left source.new) (S.faults source.new); sink = side (K.held sink.new) (K.faults sink.new); steps = steps.new }) }
+    ensures untouched { reads (mode_of (map string_bytes words.now)) ≡ false → source.new ≡ source.old }
 {
     match mode_of(words) {
         Some(Mode::Solve) => solve(alloc, source, sink, steps),
@@ -37,14 +38,15 @@ pub fn run<S: Source, K: Sink, L: Ledger>(
     }
 }
 
+// Refuses the words, whatever the source has and the steps are.
 fn refuse_words<K: Sink>(alloc: Global, sink: &mut K) -> u8
-    ensures { Refuses result (K.held sink.old) (K.held sink.new) (K.faults sink.old) (K.faults sink.new) }
+    ensures { (source : Side) (steps : ℕ) → Runs None result
+        (record { source = source; sink = side (K.held sink.old) (K.faults sink.old); steps = steps })
+        (record { source = source; sink = side (K.held sink.new) (K.faults sink.new); steps = steps }) }
 {
     let Ok(mut out) = Out::new(alloc) else {
         return NO_MEMORY;
     };
-    match send_refusal(&mut out, sink, UNKNOWN_WORDS, 0) {
-        Ok(()) => WORDS_REFUSED,
-        Err(_) => SINK_FAILED,
-    }
+    let sent = send_refusal(&mut out, sink, UNKNOWN_WORDS, 0);
+    status_after(sent, WORDS_REFUSED)
 }

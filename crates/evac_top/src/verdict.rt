@@ -3,7 +3,7 @@ ghost use Rattle.std.specs.Prelude.{◌≡◌, ◌≤◌, [], ◌++◌, length};
 ghost use Rattle.evac_law.specs.Building.{IsValid};
 ghost use Rattle.line_io.specs.Causes.{HasCause};
 ghost use Rattle.line_io.specs.Text.{fields};
-ghost use Rattle.evac_top.specs.Checks.{IsVerdictOf, no_fields, verdict_fields, verdict_text};
+ghost use Rattle.evac_top.specs.Check.{IsVerdictOf, no_fields, verdict_fields, verdict_text};
 ghost use Rattle.evac_top.specs.Sends.{Sends};
 
 use certificate_text::put_name;

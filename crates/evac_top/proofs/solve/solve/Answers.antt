@@ -1,18 +1,23 @@
-use Rattle.std.proofs.Common.{Err, ap}
-use Rattle.evac_top.specs.Endings.{EndsModel}
-use Rattle.evac_top.specs.declared.mode.Mode.TheVariants.{Solve}
-use Rattle.evac_top.proofs.AnswerLemmas.{ends, said-building, solve-fault, stopped, told-map}
+use Rattle.std.proofs.Common.{Err, ap, refl}
+use Rattle.evac_top.specs.Solve.{IsSolved}
+use Rattle.evac_top.specs.declared.words.Mode.TheVariants.{Solve}
+use Rattle.evac_top.proofs.SolveLemmas.{said-building, solve-fault, solved-few}
+use Rattle.evac_top.proofs.TellLemmas.{no-memory, read-told, solve-reads, stopped, told-map}
 use Rattle.evac_top.proofs.solve.solve.Goals as goal
+
+pub returns-in_default : goal.returns-in_default
+returns-in_default g c = no-memory Solve solve-reads _
 
 pub returns-in-Ok : goal.returns-in-Ok
 returns-in-Ok g c =
     let input = c.in-Ok.input in
-    ends Solve (EndsModel input.building.model input.last) c.answer.result _ _ _ _ _ _ _ _ c.answer.ensures
-    (told-map _ _ _ (said-building input) c.in-Ok.ensures.input) (λ e. c.in-Ok.ensures.whole) (c.in-Ok.ensures.quiet (λ e. cc))
+    let told = c.answer.ensures in
+    read-told Solve solve-reads (IsSolved input.building.model input.last) input c.answer.result told.0 _ _ c.in-Ok.ensures.takes
+    (c.in-Ok.ensures.quiet (λ e. cc)) told.1 told.2 (solved-few input.building.model input.last)
+    (told-map _ _ _ (said-building input) c.in-Ok.ensures.input)
 
 pub returns : goal.returns
 returns g c =
     let read = c.in-Err.ensures in
-    stopped Solve c.in-Err.fault c.stop.result _ _ _ _ _ _ _ _ c.stop.ensures
+    stopped Solve solve-reads c.in-Err.fault c.stop.result _ _ read.takes (λ e. read.failed (ap Err e)) (λ n. read.quiet (λ e. n cc)) refl c.stop.ensures
     (told-map _ _ _ (solve-fault c.in-Err.fault) read.input)
-    (λ e. (let is = ap Err e in (read.failed is, read.open_lines is))) (λ n. read.quiet (λ e. n cc))

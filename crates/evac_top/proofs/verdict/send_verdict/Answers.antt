@@ -1,6 +1,6 @@
 use Rattle.std.proofs.Common.{◌≡◌, List, ℕ, [], ◌∷◌, ◌++◌, ap, subst}
 use Rattle.line_io.specs.Writer.{Puts, PutsFront}
-use Rattle.evac_top.specs.Checks.{verdict_text}
+use Rattle.evac_top.specs.Check.{verdict_text}
 use Rattle.evac_top.proofs.SendLemmas.{sends-failed, sends-flushed}
 use Rattle.evac_top.proofs.verdict.send_verdict.Goals as goal
 

@@ -1,6 +1,6 @@
 // The modes of the program, and the words that ask for them.
 ghost use Rattle.std.specs.Prelude.{◌≡◌, map, string_bytes};
-ghost use Rattle.evac_top.specs.Modes.{is_only, mode_of};
+ghost use Rattle.evac_top.specs.Words.{is_only, mode_of};
 
 /// What the program does.
 #[derive(Clone, Copy)]

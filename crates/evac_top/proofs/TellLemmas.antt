@@ -1,0 +1,226 @@
+-- What a run tells once it has read, and the run then.
+use Rattle.std.proofs.Common.{◌≡◌, ℕ, ◌+◌, ◌≤◌, Bool, true, false, List, [], ◌++◌, length, Result, Ok, Err, Some, None, refl, sym, ap, subst, ◌∙◌, arith, append-nil}
+use Rattle.std.specs.declared.option.Option.{Option}
+use Rattle.std.specs.Io.KnownBytes.{Appends, Consumes, IsAtEnd}
+use Rattle.std.proofs.KnownBytes.{Appends-nil, Consumes-nil}
+use Rattle.line_io.specs.Causes.{HasCause, Rose}
+use Rattle.line_io.specs.Line.{Line, input_limit, lines_of, whole_part}
+use Rattle.line_io.specs.declared.limits.TheConstants.{BUFFER_SIZE}
+use Rattle.building_table.specs.declared.faults.ModelFault.{ModelFault}
+use Rattle.building_table.specs.declared.faults.ModelFault.TheVariants.{Named, ReadFault, Memory}
+use Rattle.certificate_text.specs.BlockText.{refusal_line}
+use Rattle.evac_top.specs.Accounts.{Account, Ends, IsFront, IsRefused, Outside, Side, Told}
+use Rattle.evac_top.specs.Answers.{Answers, AnswersFront, AnswersMemory, AnswersSoFar, WritesNothing, words_text}
+use Rattle.evac_top.specs.Inputs.{IsOpenClaim, IsOpenInput}
+use Rattle.evac_top.specs.Reads.{Takes}
+use Rattle.evac_top.specs.Runs.{OfInput, Runs}
+use Rattle.evac_top.specs.Sends.{Sends}
+use Rattle.evac_top.specs.Tells.{Stops, Tells, status_after}
+use Rattle.evac_top.specs.Words.{reads}
+use Rattle.evac_top.specs.declared.words.Mode.{Mode}
+use Rattle.evac_top.specs.declared.words.Mode.TheVariants.{Solve, Check}
+
+-- ---- telling
+
+-- a text was sent, or a front of it
+sent-told : {T E : Type 0} (Holds : Account → Type 0) (status steps : ℕ) (text : List ℕ) (r : Result T E) (before after : Side) → status ≤ 2
+    → Sends before.bytes after.bytes text r → HasCause before.faults after.faults r
+    → ((taken : List ℕ) → Holds (record { status = status; taken = taken; written = text; steps = steps })) → Tells Holds (status_after r status) steps before after
+sent-told Holds status steps text (Ok done) before after few sent cause holds = record {
+  known = (omega (arith, few), λ e. omega (arith, few, e));
+  written = text;
+  over = sent.ok;
+  same = λ e. cause.same;
+  rose = λ e. absurd (omega (arith, few, e));
+  whole = λ l taken. holds taken;
+  front = λ e. absurd (omega (arith, few, e));
+  nothing = λ e. absurd (omega (arith, few, e));
+}
+sent-told Holds status steps text (Err fault) before after few sent cause holds = record {
+  known = (omega arith, λ e. omega (arith, e));
+  written = sent.err.front;
+  over = sent.err.over;
+  same = λ e. absurd (e refl);
+  rose = λ e. cause.failed;
+  whole = λ l. absurd (omega (arith, l));
+  front = λ e taken. (
+    status,
+    sent.err.rest,
+    subst (λ (t : List ℕ). Holds (record { status = status; taken = taken; written = t; steps = steps })) sent.err.parts (holds taken),
+  );
+  nothing = λ e. absurd (omega (arith, e));
+}
+
+pub tells-sent : {T E : Type 0} (Holds : Account → Type 0) (status steps : ℕ) (text : List ℕ) (r : Result T E) (before after : Side) (ended : ℕ) → ended ≡ status_after r status
+    → status ≤ 2 → Sends before.bytes after.bytes text r → HasCause before.faults after.faults r
+    → ((taken : List ℕ) → Holds (record { status = status; taken = taken; written = text; steps = steps })) → Tells Holds ended steps before after
+tells-sent Holds status steps text r before after ended is few sent cause holds =
+    subst (λ (s : ℕ). Tells Holds s steps before after) (sym is) (sent-told Holds status steps text r before after few sent cause holds)
+
+-- the line of a fault was sent, or a front of it
+pub stops-named : {T E : Type 0} (fault : ModelFault) (code line : ℕ) (r : Result T E) (before after : Side) (ended : ℕ) → fault ≡ Named code line
+    → ended ≡ status_after r 1 → Sends before.bytes after.bytes (refusal_line code line) r → HasCause before.faults after.faults r → Stops fault ended before after
+stops-named fault code line r before after ended named is sent cause =
+    subst (λ (f : ModelFault). Stops f ended before after) (sym named)
+    (tells-sent (IsRefused (code, line)) 1 0 (refusal_line code line) r before after ended is (omega arith) sent cause
+    (λ taken. record { over = refl; text_whole = refl; counted = refl }))
+
+-- there was no memory
+pub tells-nothing : (Holds : Account → Type 0) (at : Side) → Tells Holds 5 0 at at
+tells-nothing Holds at = record {
+  known = (omega arith, λ e. omega (arith, e));
+  written = [];
+  over = Appends-nil at.bytes;
+  same = λ e. refl;
+  rose = λ e. absurd (omega (arith, e));
+  whole = λ l. absurd (omega (arith, l));
+  front = λ e. absurd (omega (arith, e));
+  nothing = λ e. refl;
+}
+
+-- ---- a run that has read
+
+pub told-map : (left : Option (List ℕ)) (P Q : List ℕ → Type 0) → ((input : List ℕ) → P input → Q input) → Told left P → Told left Q
+told-map None P Q f t = tt
+told-map (Some bytes) P Q f t = f bytes t
+
+pub of-input : (b : Bool) (left : Option (List ℕ)) (P Q : List ℕ → Type 0) → ((input : List ℕ) → P input → Q input) → OfInput b left P → OfInput b left Q
+of-input false left P Q f t = f [] t
+of-input true left P Q f t = told-map left P Q f t
+
+pub runs-told : (mode : Option Mode) (Holds : Account → Type 0) (status steps : ℕ) (before after : Outside) (taken : List ℕ)
+    → Consumes before.source.bytes after.source.bytes taken → length taken ≤ input_limit + BUFFER_SIZE → after.source.faults ≡ before.source.faults
+    → after.steps ≡ before.steps + steps → Tells Holds status steps before.sink after.sink
+    → ((x : Account) → Holds x → x.status ≡ 2 → mode ≡ None)
+    → OfInput (reads mode) before.source.bytes (λ input. (x : Account) → x.taken ≡ taken → Holds x → Answers mode input x)
+    → ((input : List ℕ) (x : Account) → IsFront (Answers mode input) x → AnswersFront mode input x)
+    → ((x : Account) → x.taken ≡ taken → x.written ≡ [] → AnswersMemory mode before.source.bytes x) → Runs mode status before after
+runs-told mode Holds status steps before after taken consumed few same counted tells words holds front memory =
+    let x : Account = record { status = status; taken = taken; written = tells.written; steps = steps } in
+    record {
+      words = λ e. words x (tells.whole (omega (arith, e)) taken) e;
+      causes = record {
+        known = tells.known.0;
+        reads_same = λ e. same;
+        reads_rose = λ e. absurd (tells.known.1 e);
+        writes_same = tells.same;
+        writes_rose = tells.rose;
+      };
+      did = x;
+      account = record { answered = refl; taken = consumed; few_taken = few; written = tells.over; counted = counted };
+      answered = λ l. of-input (reads mode) before.source.bytes _ _ (λ input h. h x refl (tells.whole l taken)) holds;
+      source = λ e. absurd (tells.known.1 e);
+      sink = λ e. of-input (reads mode) before.source.bytes _ _ (λ input h.
+          let f = tells.front e taken in
+          front input x (f.0, f.1, h (record x { status = f.0; written = x.written ++ f.1 }) refl f.2)) holds;
+      memory = λ e. memory x refl (tells.nothing e);
+    }
+
+-- ---- a mode that reads all before it writes
+
+pub record ReadsFirst (mode : Mode) (IsOpen : List Line → Type 0) : Type 0 where
+  pub front : (input : List ℕ) (x : Account) → IsFront (Answers (Some mode) input) x → AnswersFront (Some mode) input x
+  pub so_far : (lines : List Line) (x : Account) → IsOpen lines → WritesNothing x → AnswersSoFar (Some mode) lines x
+  pub memory : (left : Option (List ℕ)) (x : Account) → x.written ≡ [] → AnswersMemory (Some mode) left x
+
+-- there was no memory to read with
+pub no-memory : {IsOpen : List Line → Type 0} (mode : Mode) → ReadsFirst mode IsOpen → (at : Outside) → Runs (Some mode) 5 at at
+no-memory mode m at = runs-told (Some mode) (λ x. ⊥) 5 0 at at [] (Consumes-nil at.source.bytes) (omega arith) refl (omega arith)
+    (tells-nothing (λ x. ⊥) at.sink) (λ x h. absurd h) (nothing at.source.bytes) m.front (λ x e w. m.memory at.source.bytes x w)
+  where
+    nothing : (left : Option (List ℕ)) → Told left (λ input. (x : Account) → x.taken ≡ [] → ⊥ → Answers (Some mode) input x)
+    nothing None = tt
+    nothing (Some bytes) = λ x e h. absurd h
+
+-- what was taken of an input that was read is all of it
+all-taken : (left left' : Option (List ℕ)) (taken : List ℕ) (P : List ℕ → Account → Type 0) → Consumes left left' taken → IsAtEnd left'
+    → Told left (λ input. (x : Account) → x.taken ≡ input → P input x) → Told left (λ input. (x : Account) → x.taken ≡ taken → P input x)
+all-taken None left' taken P consumed end told = tt
+all-taken (Some xs) None taken P consumed end told = absurd consumed
+all-taken (Some xs) (Some ys) taken P consumed end told =
+    λ x e. told x (e ∙ sym (append-nil taken) ∙ ap (λ l. taken ++ l) (sym end) ∙ sym consumed)
+
+-- an input was read
+pub read-told : {T : Type 0} {IsOpen : List Line → Type 0} (mode : Mode) → ReadsFirst mode IsOpen → (Holds : Account → Type 0) (value : T) (status steps : ℕ)
+    (before after : Outside) → Takes {T = T} IsOpen (Ok value) before.source.bytes after.source.bytes → after.source.faults ≡ before.source.faults
+    → after.steps ≡ before.steps + steps → Tells Holds status steps before.sink after.sink → ((x : Account) → Holds x → x.status ≤ 1)
+    → Told before.source.bytes (λ input. (x : Account) → x.taken ≡ input → Holds x → Answers (Some mode) input x) → Runs (Some mode) status before after
+read-told mode m Holds value status steps before after t same counted tells few holds =
+    runs-told (Some mode) Holds status steps before after t.taken t.consumed t.few same counted tells (λ x h e. absurd (omega (arith, few x h, e)))
+    (all-taken before.source.bytes after.source.bytes t.taken (λ input x. Holds x → Answers (Some mode) input x) t.consumed t.all holds) m.front
+    (λ x e w. m.memory before.source.bytes x w)
+
+-- an input isn't read: what its fault says of it
+abbrev pub FaultIs : Mode → ModelFault → List ℕ → Type 0
+FaultIs mode (Named code line) input = (x : Account) → IsRefused (code, line) x → Answers (Some mode) input x
+FaultIs mode ReadFault input = Unit {0}
+FaultIs mode Memory input = Unit {0}
+
+written-none : (b a : Side) → a ≡ b → Appends b.bytes a.bytes []
+written-none b a e = subst (λ (s : Side). Appends b.bytes s.bytes []) (sym e) (Appends-nil b.bytes)
+
+pub stopped : {T : Type 0} {IsOpen : List Line → Type 0} (mode : Mode) → ReadsFirst mode IsOpen → (fault : ModelFault) (status : ℕ) (before after : Outside)
+    → Takes {T = T} IsOpen (Err fault) before.source.bytes after.source.bytes → (fault ≡ ReadFault → Rose before.source.faults after.source.faults)
+    → ((fault ≡ ReadFault → ⊥) → after.source.faults ≡ before.source.faults) → after.steps ≡ before.steps → Stops fault status before.sink after.sink
+    → Told before.source.bytes (FaultIs mode fault) → Runs (Some mode) status before after
+stopped mode m (Named code line) status before after t rose quiet kept tells told =
+    runs-told (Some mode) (IsRefused (code, line)) status 0 before after t.taken t.consumed t.few (quiet (λ e. cc)) (omega (arith, kept)) tells
+    (λ x h e. absurd (omega (arith, h.over, e))) (told-map before.source.bytes _ _ (λ input h x e. h x) told) m.front (λ x e w. m.memory before.source.bytes x w)
+stopped mode m ReadFault status before after t rose quiet kept (three, same) told =
+    let x : Account = record { status = status; taken = t.taken; written = []; steps = 0 } in
+    record {
+      words = λ e. absurd (omega (arith, three, e));
+      causes = record {
+        known = omega (arith, three);
+        reads_same = λ e. absurd (e three);
+        reads_rose = λ e. rose refl;
+        writes_same = λ e. ap (λ (s : Side). s.faults) same;
+        writes_rose = λ e. absurd (omega (arith, three, e));
+      };
+      did = x;
+      account = record { answered = refl; taken = t.consumed; few_taken = t.few; written = written-none before.sink after.sink same; counted = omega (arith, kept) };
+      answered = λ l. absurd (omega (arith, three, l));
+      source = λ e. m.so_far (lines_of (whole_part t.taken)) x (t.open_lines refl) (refl, refl);
+      sink = λ e. absurd (omega (arith, three, e));
+      memory = λ e. absurd (omega (arith, three, e));
+    }
+stopped mode m Memory status before after t rose quiet kept (five, same) told =
+    let x : Account = record { status = status; taken = t.taken; written = []; steps = 0 } in
+    record {
+      words = λ e. absurd (omega (arith, five, e));
+      causes = record {
+        known = omega (arith, five);
+        reads_same = λ e. quiet (λ e. cc);
+        reads_rose = λ e. absurd (omega (arith, five, e));
+        writes_same = λ e. ap (λ (s : Side). s.faults) same;
+        writes_rose = λ e. absurd (omega (arith, five, e));
+      };
+      did = x;
+      account = record { answered = refl; taken = t.consumed; few_taken = t.few; written = written-none before.sink after.sink same; counted = omega (arith, kept) };
+      answered = λ l. absurd (omega (arith, five, l));
+      source = λ e. absurd (omega (arith, five, e));
+      sink = λ e. absurd (omega (arith, five, e));
+      memory = λ e. m.memory before.source.bytes x refl;
+    }
+
+-- ---- the modes
+
+pub solve-reads : ReadsFirst Solve IsOpenInput
+solve-reads = record { front = λ input x h. h; so_far = λ lines x is nothing. (is, nothing); memory = λ left x e. e }
+
+pub check-reads : ReadsFirst Check IsOpenClaim
+check-reads = record { front = λ input x h. h; so_far = λ lines x is nothing. (is, nothing); memory = λ left x e. e }
+
+-- ---- words that ask for nothing
+
+abbrev pub RefusesBy : Account → Type 0
+RefusesBy x = Ends x 2 words_text 0
+
+pub words-told : (status : ℕ) (source : Side) (steps : ℕ) (before after : Side) → Tells RefusesBy status 0 before after
+    → Runs None status (record { source = source; sink = before; steps = steps }) (record { source = source; sink = after; steps = steps })
+words-told status source steps before after tells =
+    runs-told None RefusesBy status 0 (record { source = source; sink = before; steps = steps }) (record { source = source; sink = after; steps = steps }) []
+    (Consumes-nil source.bytes) (omega arith) refl (omega arith) tells (λ x h e. refl) (λ x none h. (none, h)) (λ input x h. h) (λ x none nothing. (none, nothing))
+
+pub runs-by : (m n : Option Mode) (status : ℕ) (before after : Outside) → m ≡ n → Runs n status before after → Runs m status before after
+runs-by m n status before after same runs = subst (λ (k : Option Mode). Runs k status before after) (sym same) runs

@@ -1,0 +1,7 @@
+use Rattle.evac_top.proofs.TellLemmas.{stops-named}
+use Rattle.evac_top.proofs.stop.stop.Goals as goal
+
+pub returns-in-Named : goal.returns-in-Named
+returns-in-Named g c =
+    stops-named c.args.fault c.in-Named.code c.in-Named.line c.send_refusal.result _ _ c.status_after.result c.in-Named.is c.status_after.ensures
+    c.send_refusal.ensures.text c.send_refusal.ensures.cause

@@ -1,0 +1,13 @@
+use Rattle.std.proofs.Common.{arith, refl}
+use Rattle.evac_top.specs.Answers.{words_text}
+use Rattle.evac_top.proofs.TellLemmas.{RefusesBy, tells-nothing, tells-sent, words-told}
+use Rattle.evac_top.proofs.top.refuse_words.Goals as goal
+
+pub returns-in_default : goal.returns-in_default
+returns-in_default g c = λ source steps. words-told 5 source steps _ _ (tells-nothing RefusesBy _)
+
+pub returns : goal.returns
+returns g c = λ source steps.
+    words-told c.status_after.result source steps _ _
+    (tells-sent RefusesBy 2 0 words_text c.send_refusal-sent.result _ _ c.status_after.result c.status_after.ensures (omega arith)
+    c.send_refusal-sent.ensures.text c.send_refusal-sent.ensures.cause (λ taken. record { over = refl; text_whole = refl; counted = refl }))

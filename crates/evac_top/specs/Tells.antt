@@ -1,0 +1,29 @@
+-- How a run goes on once it has read: what it tells the sink, and how that ends.
+use Rattle.std.specs.Prelude.{◌≡◌, ◌≢◌, ℕ, ◌≤◌, List, [], Result, Ok, Err}
+use Rattle.std.specs.Io.KnownBytes.{Appends}
+use Rattle.line_io.specs.Causes.{Rose}
+use Rattle.building_table.specs.declared.faults.ModelFault.{ModelFault}
+use Rattle.building_table.specs.declared.faults.ModelFault.TheVariants.{Named, ReadFault, Memory}
+use Rattle.evac_top.specs.Accounts.{Account, IsFront, IsRefused, Side}
+
+-- the status behind a text that was sent
+abbrev pub status_after : {T E : Type 0} → Result T E → ℕ → ℕ
+status_after (Ok done) status = status
+status_after (Err fault) status = 4
+
+-- the sink was told what an account of this kind says: all of it at statuses 0, 1 and 2, a front of it where the sink failed, and nothing without memory
+pub record Tells (Holds : Account → Type 0) (status steps : ℕ) (before after : Side) : Type 0 where
+  pub known : (status ≤ 5) × (status ≢ 3)
+  pub written : List ℕ
+  pub over : Appends before.bytes after.bytes written
+  pub same : status ≢ 4 → after.faults ≡ before.faults
+  pub rose : status ≡ 4 → Rose before.faults after.faults
+  pub whole : status ≤ 2 → (taken : List ℕ) → Holds (record { status = status; taken = taken; written = written; steps = steps })
+  pub front : status ≡ 4 → (taken : List ℕ) → IsFront Holds (record { status = status; taken = taken; written = written; steps = steps })
+  pub nothing : status ≡ 5 → written ≡ []
+
+-- the end of a run whose input isn't read: a named fault is told, otherwise nothing
+abbrev pub Stops : ModelFault → ℕ → Side → Side → Type 0
+Stops (Named code line) status before after = Tells (IsRefused (code, line)) status 0 before after
+Stops ReadFault status before after = (status ≡ 3) × (after ≡ before)
+Stops Memory status before after = (status ≡ 5) × (after ≡ before)
