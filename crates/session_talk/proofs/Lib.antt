@@ -1,3 +1,0 @@
-pub mod Bridge
-pub mod Same
-pub mod TalkLemmas
