@@ -72,15 +72,29 @@ pub fn stretch_mut(cells: &mut [Cell], first: u32, count: u32) -> &mut [Cell] {
     }
 }
 
-/// Whether people come in and all of them are sent.
-pub fn is_all_sent(cells: &[Cell], sizes: Sizes) -> bool {
-    let supplies = stretch(
+/// The cells of the people who come in.
+fn supplies(cells: &[Cell], sizes: Sizes) -> &[Cell] {
+    stretch(
         cells,
         sizes.cell(sizes.supplies(0), 0),
         number(sizes.pairs()),
-    );
+    )
+}
+
+/// Whether anybody is sent.
+pub fn is_any_sent(cells: &[Cell], sizes: Sizes) -> bool {
+    for cell in supplies(cells, sizes) {
+        if cell.flow > 0 {
+            return true;
+        }
+    }
+    false
+}
+
+/// Whether people come in and all of them are sent.
+pub fn is_all_sent(cells: &[Cell], sizes: Sizes) -> bool {
     let mut some = false;
-    for cell in supplies {
+    for cell in supplies(cells, sizes) {
         if cell.flow < cell.limit {
             return false;
         }

@@ -1,15 +1,19 @@
 //! Who guesses at the next path: a walk by bounds where people are unsent, else one along what is to change.
 ghost use Rattle.std.specs.Prelude.{◌≡◌};
 
-use crate::cells::is_all_sent;
+use crate::cells::{is_all_sent, is_any_sent};
 use crate::goal::Goal;
 use crate::guide::Guide;
+use crate::lists::short;
 use evac_law::{Labels, Model as Building};
-use residual_net::{Net, Path};
+use residual_net::{Cell, Net, Path};
 use std::alloc::{AllocError, Global};
 
 /// At how many moments people may be sent otherwise before a goal is sought.
 const PATIENCE: u32 = 4;
+
+/// One of how many pairs may be mended in a net from which some people were taken, before a goal is sought.
+const FEW: usize = 4;
 
 /// Which of the two walks guesses.
 #[derive(Clone, Copy, PartialEq, Eq)]
@@ -18,15 +22,17 @@ enum Way {
     Goal,
 }
 
-/// The two walks, which of them guesses, the moment that comes next if the net stays as it is left, and at how many moments
-/// people were sent otherwise.
+/// The two walks, which of them guesses, the moment that comes next if the net stays as it is left, the one at which everybody is
+/// still sent if it does, at how many moments people were sent otherwise, and how many more pairs the guide may mend.
 #[derive(Drop)]
 pub struct Scout {
     guide: Guide,
     goal: Goal,
     way: Way,
     next: u32,
+    idle: u32,
     missed: u32,
+    left: usize,
 }
 
 impl Scout {
@@ -39,18 +45,28 @@ impl Scout {
             goal,
             way: Way::Guide,
             next: u32::MAX,
+            idle: u32::MAX,
             missed: 0,
+            left: usize::MAX,
         })
     }
 
     /// Forgets what it knows: the net isn't what it was.
     pub fn renew(&mut self) {
         self.next = u32::MAX;
+        self.idle = u32::MAX;
     }
 
-    /// Whether everybody is sent and nothing is known yet, so that it is worth a search whether anybody can arrive sooner.
-    pub fn waits(&self, net: &Net, k: u16) -> bool {
-        self.next != k as u32 && is_all_sent(net.cells(), self.guide.sizes())
+    /// Whether everybody is sent and nothing is known yet, so that it is worth a search whether anybody can arrive sooner. Until
+    /// somebody is found by it, the moments after it need no further look.
+    pub fn waits(&mut self, net: &Net, k: u16) -> bool {
+        let moment = k as u32;
+        if self.next == moment {
+            return false;
+        }
+        let sent = self.idle == moment || is_all_sent(net.cells(), self.guide.sizes());
+        self.idle = if sent { moment + 1 } else { u32::MAX };
+        sent
     }
 
     /// Begins with an arrival moment.
@@ -63,6 +79,7 @@ impl Scout {
                 self.goal.seek(&mut self.guide, cells);
             } else {
                 self.way = Way::Guide;
+                self.left = self.most_mended(cells);
                 self.guide.renew(cells, labels, k);
             }
         } else if self.missed >= PATIENCE && self.way == Way::Guide {
@@ -84,12 +101,43 @@ impl Scout {
         }
     }
 
+    /// How many pairs the guide may mend from now on: few where people were taken from a net that is almost full, since it would
+    /// mend the same pairs again and again.
+    fn most_mended(&self, cells: &[Cell]) -> usize {
+        if is_any_sent(cells, self.guide.sizes()) {
+            self.guide.sizes().pairs() / FEW
+        } else {
+            usize::MAX
+        }
+    }
+
     /// Walks on to people who can be sent. Whether there are any.
     pub fn find(&mut self, net: &Net) -> bool {
         match self.way {
-            Way::Guide => self.guide.find(net.cells(), self.guide.patience()),
+            Way::Guide => self.find_by_guide(net.cells())
+                || self.left == 0 && self.turn(net.cells()),
             Way::Goal => self.goal.find(self.guide.ways(), net.cells()),
         }
+    }
+
+    /// Walks on by the guide, until it has mended all that it may.
+    fn find_by_guide(&mut self, cells: &[Cell]) -> bool {
+        let before = self.guide.mended();
+        let most = before.saturating_add(self.left).min(self.guide.patience());
+        let found = self.guide.find(cells, most);
+        let mended = self.guide.mended().saturating_sub(before);
+        if self.left < usize::MAX {
+            self.left = self.left.saturating_sub(mended);
+        }
+        found
+    }
+
+    /// Seeks a goal in the middle of a moment, and walks on by it.
+    fn turn(&mut self, cells: &[Cell]) -> bool {
+        self.way = Way::Goal;
+        self.goal.seek(&mut self.guide, cells);
+        self.goal.begin(short(self.next.wrapping_sub(1)));
+        self.goal.find(self.guide.ways(), cells)
     }
 
     /// The most people to send along the guess.
