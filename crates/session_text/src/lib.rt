@@ -1,0 +1,16 @@
+//! What a session says of where it stands: its answer block, the reports on it, the cut of a period, and its work.
+//!
+//! Each function puts one text, by the definitions of `specs/StateTexts`; a sink that fails has a front of it.
+#![tactic(auto)]
+
+mod laws;
+mod reports;
+mod texts;
+
+pub use laws::{
+    begins_of_building, edit_keeps_building, edit_serves, shape_serves, undo_keeps_building,
+};
+pub use reports::{
+    ReportSpace, put_reports, write_bottlenecks, write_clearing, write_reports, write_summary,
+};
+pub use texts::{write_barred, write_block, write_cut, write_routes, write_work};
