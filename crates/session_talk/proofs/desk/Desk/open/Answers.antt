@@ -1,0 +1,9 @@
+use Rattle.std.proofs.Common.{refl}
+use Rattle.session_talk.proofs.DeskLemmas.{desk_opened}
+use Rattle.session_talk.proofs.desk.Desk.open.Goals as goal
+
+pub invariant_of-result : goal.invariant_of-result
+invariant_of-result g c =
+    let made = c.in-Ok-Ok in
+    let begun = c.in-Ok.ensures in
+    desk_opened _ _ _ _ _ c.requires.names made.ensures.model made.ensures' begun.2.0

@@ -1,0 +1,9 @@
+pub use Rattle.evac_law.specs.Building
+pub use Rattle.line_io.specs.Calls
+pub use Rattle.line_io.specs.Reader
+pub use Rattle.building_table.specs.Names
+pub mod Talks
+pub mod Sessions
+pub mod SessionLaws
+pub mod Desks
+pub mod Held

@@ -1,0 +1,40 @@
+-- The laws on sessions.
+use Rattle.std.specs.Prelude.{◌≡◌, ℕ, ◌+◌, List, ◌++◌, length}
+use Rattle.evac_law.specs.declared.model.Model.{Model}
+use Rattle.evac_law.specs.Plans.{out_by}
+use Rattle.building_table.specs.Names.{NameTable}
+use Rattle.session_talk.specs.Sessions.{Advances, SessionGoes, State, StaysBefore, session}
+use Rattle.session_talk.specs.Talks.{RepliesTo, Reply, Talk, TalkGoes, followed}
+
+-- an edited model that a session goes on to isn't refused as well
+abbrev pub EditsApart : Type 0
+EditsApart =
+    (s : State) (m : Model) (earlier : List Model) (line : ℕ) (r q : Reply State) → Advances s m earlier r → StaysBefore s m line q → ⊥
+
+-- a talk over lines is one over the first of them, with the replies to the others behind it
+pub record IsParted {S : Type 0} (talk : Talk S) (before : ℕ) (xs ys : List (List ℕ)) (r : Reply S) : Type 0 where
+  pub first : Reply S
+  pub more : Reply S
+  pub goes : TalkGoes talk before xs first
+  pub replies : RepliesTo talk.Gets (before + length xs) first.after ys more
+  pub all : r ≡ followed first more
+
+-- so is a session
+abbrev pub SessionsPart : Type 0
+SessionsPart =
+    (names : NameTable) (m : Model) (before : ℕ) (xs ys : List (List ℕ)) (r : Reply State) → SessionGoes names m before (xs ++ ys) r
+    → IsParted (session names m) before xs ys r
+
+-- two states have the same index, model and models before, and plans with the same people out by each period
+pub record AreAlike (s t : State) : Type 0 where
+  pub index : s.index ≡ t.index
+  pub model : s.standing.model ≡ t.standing.model
+  pub former : s.standing.former ≡ t.standing.former
+  pub last : s.standing.last ≡ t.standing.last
+  pub outs : (k : ℕ) → out_by s.standing.model s.standing.plan k ≡ out_by t.standing.model t.standing.plan k
+
+-- whatever plans, labels, routes and cuts are chosen, sessions over the same lines come to states that are alike
+abbrev pub SessionsAgree : Type 0
+SessionsAgree =
+    (names : NameTable) (m : Model) (before : ℕ) (lines : List (List ℕ)) (r q : Reply State) → SessionGoes names m before lines r
+    → SessionGoes names m before lines q → AreAlike r.after q.after

@@ -1,0 +1,152 @@
+-- A session over lines: what each line gets, by what it commands.
+use Rattle.std.specs.Prelude.{◌≡◌, ℕ, ◌+◌, ◌≤◌, nat_lt, if◌then◌else◌, List, [], ◌∷◌, Result, Ok, Err, ◌⊎◌}
+use Rattle.evac_law.specs.declared.edit.Edit.{Edit}
+use Rattle.evac_law.specs.declared.edit.EditFault.{EditFault}
+use Rattle.evac_law.specs.declared.model.Model.{Model}
+use Rattle.evac_law.specs.declared.plan.Move.{Move}
+use Rattle.evac_law.specs.Certificates.{IsClearable, IsShortfall}
+use Rattle.evac_law.specs.Cuts.{Cut}
+use Rattle.evac_law.specs.Edits.{applied, fault_code}
+use Rattle.evac_law.specs.Plans.{IsFeasible, out_by}
+use Rattle.line_io.specs.Line.{Line}
+use Rattle.model_text.specs.declared.command.Command.{Command}
+use Rattle.model_text.specs.declared.command.Command.TheVariants.{Blank, Undo, Cut as CutAt, Routes, Clearing, Bottlenecks, Summary, Work, Quit}
+use Rattle.model_text.specs.declared.fault.TextFault.{TextFault}
+use Rattle.model_text.specs.Codes.{text_fault_code, unknown_node}
+use Rattle.model_text.specs.Commands.{command_of}
+use Rattle.building_table.specs.declared.faults.NameFault.{NameFault}
+use Rattle.building_table.specs.declared.faults.NameFault.TheVariants.{UnknownNode, NoArc}
+use Rattle.building_table.specs.EditNames.{edit_named}
+use Rattle.building_table.specs.Names.{NameTable}
+use Rattle.certificate_text.specs.BlockLaws.{ReadsBack}
+use Rattle.certificate_text.specs.BlockText.{shortfall_text}
+use Rattle.edit_session.specs.Sessions.{Begins, GoesOn, SessionState, with_former}
+use Rattle.edit_session.specs.Thrift.{IsCounted, IsSpent, IsSpentOpening}
+use Rattle.session_text.specs.StateTexts.{SaysRoutesOf, SaysSummary, block_text, bottlenecks_of, clearing_of, cut_of, work_of}
+use Rattle.session_talk.specs.Talks.{Reply, Spoken, Talk, TalkGoes, TalkRun, refuses, says}
+
+-- where a session is between two lines: the index of the block written last, and what stands since then
+pub record State : Type 0 where
+  pub index : ℕ
+  pub standing : SessionState
+
+-- ---- codes
+
+-- an arc that isn't there, a period that isn't there, and an undo where no edit is kept
+abbrev pub no_arc_code : ℕ
+no_arc_code = 32
+
+abbrev pub no_period_code : ℕ
+no_period_code = 33
+
+abbrev pub no_undo_code : ℕ
+no_undo_code = 39
+
+-- a name that isn't there
+abbrev pub name_code : NameFault → ℕ
+name_code UnknownNode = unknown_node
+name_code NoArc = no_arc_code
+
+-- ---- blocks
+
+-- the text is the block of a state. Its plan takes everybody out, with a cut for each period that is worth as many as are out by then, so no
+-- feasible plan has more people out by that period; and the block reads back
+pub record IsAnswer (s : State) (text : List ℕ) : Type 0 where
+  pub block : text ≡ block_text s.index s.standing
+  pub best : (other : List Move) (k : ℕ) → IsFeasible s.standing.model other k
+      → out_by s.standing.model other k ≤ out_by s.standing.model s.standing.plan k
+  pub reads_back : ReadsBack s.index s.standing.model s.standing.plan s.standing.labels s.standing.last
+
+-- the text is the refusal of a model that can't be cleared, at a line, with a cut that is worth `most` at the horizon, fewer than the people
+pub record IsShort (m : Model) (line most : ℕ) (text : List ℕ) : Type 0 where
+  pub cut : Cut
+  pub shortfall : IsShortfall m cut most
+  pub barred : ¬ IsClearable m
+  pub block : text ≡ shortfall_text line m cut most
+
+-- ---- the opening
+
+-- a model is opened with block 0, which takes the pushes of its plan
+pub record Opens (m : Model) (r : Reply State) : Type 0 where
+  pub begins : Begins m r.after.standing
+  pub first : r.after.index ≡ 0
+  pub answer : IsAnswer r.after r.text
+  pub counted : r.steps ≡ r.after.standing.work.pushes
+
+-- a model is refused at a line, as one that can't be cleared
+pub record OpensShort (m : Model) (line : ℕ) (x : Spoken) : Type 0 where
+  pub most : ℕ
+  pub refused : x.status ≡ 1
+  pub short : IsShort m line most x.text
+  pub spent : IsSpentOpening m most x.steps
+
+-- ---- the replies
+
+-- the session goes on to a model with its next block, and with these models before it
+pub record Advances (s : State) (m : Model) (earlier : List Model) (r : Reply State) : Type 0 where
+  pub goes_on : GoesOn s.standing m earlier r.after.standing
+  pub next : r.after.index ≡ s.index + 1
+  pub answer : IsAnswer r.after r.text
+  pub counted : IsCounted r.after.standing.work r.steps
+
+-- a model can't be cleared, and everything is as it was
+pub record StaysBefore (s : State) (m : Model) (line : ℕ) (r : Reply State) : Type 0 where
+  pub most : ℕ
+  pub short : IsShort m line most r.text
+  pub same : r.after ≡ s
+  pub spent : IsSpent s.standing.model s.standing.plan m most r.steps
+
+-- an edit, by what it makes of the model: a fault, or a model that is either reached or refused
+abbrev pub Edits : ℕ → State → Result (Model × Edit) EditFault → Reply State → Type 0
+Edits line s (Err fault) r = r ≡ refuses s (fault_code fault) line
+Edits line s (Ok edited) r = Advances s edited.0 (with_former s.standing) r ⊎ StaysBefore s edited.0 line r
+
+-- a command that edits, by the edit that it names
+abbrev pub AsksEdit : ℕ → State → Result Edit NameFault → Reply State → Type 0
+AsksEdit line s (Err fault) r = r ≡ refuses s (name_code fault) line
+AsksEdit line s (Ok e) r = Edits line s (applied s.standing.model e) r
+
+-- an undo, by the models before
+abbrev pub Undoes : ℕ → State → List Model → Reply State → Type 0
+Undoes line s [] r = r ≡ refuses s no_undo_code line
+Undoes line s (m ∷ earlier) r = Advances s m earlier r
+
+-- the cut of a period, where there is the period
+abbrev pub cut_reply : ℕ → State → ℕ → Reply State
+cut_reply line s k = if nat_lt s.standing.model.horizon k then refuses s no_period_code line else says s (cut_of s.standing k)
+
+-- what a line gets, by what it commands; a line that quits gets nothing
+abbrev pub Replies : NameTable → ℕ → State → Result Command TextFault → Reply State → Type 0
+Replies names line s (Err fault) r = r ≡ refuses s (text_fault_code fault) line
+Replies names line s (Ok Blank) r = r ≡ says s []
+Replies names line s (Ok Undo) r = Undoes line s s.standing.former r
+Replies names line s (Ok (CutAt k)) r = r ≡ cut_reply line s k
+Replies names line s (Ok Routes) r = (text : List ℕ) × SaysRoutesOf s.index s.standing text × (r ≡ says s text)
+Replies names line s (Ok Clearing) r = r ≡ says s (clearing_of names s.index s.standing)
+Replies names line s (Ok Bottlenecks) r = r ≡ says s (bottlenecks_of s.index s.standing)
+Replies names line s (Ok Summary) r = (text : List ℕ) × SaysSummary names s.index s.standing text × (r ≡ says s text)
+Replies names line s (Ok Work) r = r ≡ says s (work_of s.standing)
+Replies names line s (Ok Quit) r = ⊥
+Replies names line s (Ok edit) r = AsksEdit line s (edit_named names edit) r
+
+-- ---- runs
+
+-- a session on a model, whose commands name by these names
+abbrev pub session : NameTable → Model → Talk State
+session names m = record {
+  Opens = Opens m;
+  Gets = λ line s text r. Replies names line s (command_of text) r;
+  Quits = λ text. command_of text ≡ Ok Quit;
+}
+
+-- a session over some lines: all are answered, and none of them ends it
+abbrev pub SessionGoes : NameTable → Model → ℕ → List (List ℕ) → Reply State → Type 0
+SessionGoes names m before lines r = TalkGoes (session names m) before lines r
+
+-- a session over lines up to its end
+abbrev pub SessionRun : NameTable → Model → ℕ → List Line → Spoken → Type 0
+SessionRun names m before lines x = TalkRun (session names m) before lines x
+
+-- a building is opened and the lines behind it are answered, or it is refused at the line of its end
+abbrev pub SessionAnswers : NameTable → Model → ℕ → List Line → Spoken → Type 0
+SessionAnswers names m before lines x = SessionRun names m before lines x ⊎ OpensShort m before x
