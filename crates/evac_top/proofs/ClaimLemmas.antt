@@ -23,7 +23,7 @@ use Rattle.plan_checker.proofs.LawLemmas.{one_verdict, yes_is_certified}
 use Rattle.evac_top.specs.Accounts.{Account}
 use Rattle.evac_top.specs.Answers.{Answers}
 use Rattle.evac_top.specs.Check.{Checks, IsChecked, IsVerdictOf, verdict_status, verdict_text}
-use Rattle.evac_top.specs.Inputs.{Claimed, claim_behind, claim_by, claim_of, unless}
+use Rattle.evac_top.specs.Inputs.{Claimed, claim_behind, claim_by, unless}
 use Rattle.evac_top.specs.Reads.{ClaimIs, ReadsTail, fault_of}
 use Rattle.evac_top.specs.declared.claim.Claim.{Claim}
 use Rattle.evac_top.specs.declared.words.Mode.TheVariants.{Check}

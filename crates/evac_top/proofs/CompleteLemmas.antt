@@ -1,36 +1,46 @@
 -- A run in which neither count of faults rose answers its input.
-use Rattle.std.proofs.Common.{◌≡◌, ℕ, ◌≤◌, Bool, true, false, List, Result, Ok, Err, Some, None, refl, subst, arith, inl, inr, ◌⊎◌}
+use Rattle.std.proofs.Common.{◌≡◌, ℕ, ◌≤◌, List, Result, Ok, Err, Some, None, subst, arith, inl, inr}
 use Rattle.std.specs.declared.option.Option.{Option}
-use Rattle.evac_law.specs.Certificates.{IsClearable}
-use Rattle.evac_law.proofs.Optimal.{certified_is_clearable}
+use Rattle.evac_law.specs.declared.model.Model.{Model}
 use Rattle.line_io.specs.Line.{lines_of}
+use Rattle.model_text.specs.Readings.{Reading, Described, Refused, model_of}
 use Rattle.evac_top.specs.Accounts.{Account}
 use Rattle.evac_top.specs.Answers.{Answers}
+use Rattle.building_table.specs.Names.{NameTable, names_of}
 use Rattle.certificate_text.specs.declared.block.Block.{Block}
 use Rattle.certificate_text.specs.BlockGrammar.{IsStated}
 use Rattle.certificate_text.proofs.OneBlock.{states_one}
+use Rattle.drill_building.specs.Drill.{drill_model}
 use Rattle.plan_checker.specs.Verdicts.{IsRight}
 use Rattle.evac_top.specs.Check.{Checks, IsChecked, verdict_status}
-use Rattle.evac_top.specs.Complete.{AnswersAll, ChecksAll, RunsAnswer, SolvesAll}
+use Rattle.evac_top.specs.Complete.{AnswersAll, ChecksAll, PlansAll, RunsAnswer, SessionsAll, SolvesAll}
+use Rattle.evac_top.specs.Drill.{IsDrillSolved}
 use Rattle.evac_top.specs.Inputs.{Asked, Claimed, claim_of, input_of}
-use Rattle.evac_top.specs.Runs.{HasCauses, OfInput}
+use Rattle.evac_top.specs.Session.{Sessions}
 use Rattle.evac_top.specs.Solve.{IsSolved, Solves}
 use Rattle.evac_top.specs.Words.{reads}
+use Rattle.evac_top.specs.declared.words.Flags.{Flags}
 use Rattle.evac_top.specs.declared.words.Mode.{Mode}
-use Rattle.evac_top.specs.declared.words.Mode.TheVariants.{Solve, Check}
+use Rattle.evac_top.specs.declared.words.Mode.TheVariants.{Solve, Check, Session, Drill}
 use Rattle.evac_top.proofs.ClaimLemmas.{status-few}
+use Rattle.evac_top.proofs.SolveLemmas.{opening-clears}
 use Rattle.evac_top.proofs.TellLemmas.{of-input}
 
-solves-building : (asked : Asked) (x : Account) → IsSolved asked.building.model asked.last x → SolvesAll (Ok asked) x
-solves-building asked x (inl h) =
-    let m = asked.building.model in
-    let clearable = certified_is_clearable m h.plan h.labels h.last h.valid h.certified in
+plans-all : (flags : Flags) (names : NameTable) (m : Model) (line : ℕ) (x : Account) → IsSolved flags names m line x → PlansAll m line x
+plans-all flags names m line x (inl h) =
+    let clearable = opening-clears m h.opening h.begins in
     (λ can. h.done, λ cannot. absurd (cannot clearable), λ one. absurd (omega (arith, h.done, one)))
-solves-building asked x (inr h) = (λ can. absurd (h.barred can), λ cannot. h.refused, λ one. h)
+plans-all flags names m line x (inr h) = (λ can. absurd (h.barred can), λ cannot. h.refused, λ one. h)
 
-solves-all : (input : List ℕ) (result : Result Asked (ℕ × ℕ)) (x : Account) → Solves input result x → SolvesAll result x
-solves-all input (Ok asked) x h = solves-building asked x h.1
-solves-all input (Err fault) x h = h
+solves-all : (flags : Flags) (input : List ℕ) (result : Result Asked (ℕ × ℕ)) (x : Account) → Solves flags input result x → SolvesAll result x
+solves-all flags input (Ok asked) x h = plans-all flags (names_of asked.building) asked.building.model asked.last x h.1
+solves-all flags input (Err fault) x h = h
+
+drills-all : (n : ℕ) (x : Account) → IsDrillSolved n x → PlansAll (drill_model n) 0 x
+drills-all n x (inl h) =
+    let clearable = opening-clears (drill_model n) h.opening h.begins in
+    (λ can. h.ends.over, λ cannot. absurd (cannot clearable), λ one. absurd (omega (arith, h.ends.over, one)))
+drills-all n x (inr h) = (λ can. absurd (h.barred can), λ cannot. h.refused, λ one. h)
 
 -- the block of an input is the one that its lines state
 checks-block : (claimed : Claimed) (block other : Block) (x : Account) → let m = claimed.building.model in IsStated m claimed.draft block → IsStated m claimed.draft other
@@ -47,10 +57,19 @@ checks-all : (input : List ℕ) (result : Result Claimed (ℕ × ℕ)) (x : Acco
 checks-all input (Ok claimed) x h = λ other also. checks-block claimed h.1.0 other x h.1.1 also h.1.2
 checks-all input (Err fault) x h = h
 
+sessions-all : (r : Reading) (x : Account) → Sessions r x → SessionsAll r x
+sessions-all (Described d last rest) x (inl run) =
+    let opening = run.goes.opening.after.standing in
+    (λ can. run, λ cannot. absurd (cannot (opening-clears d.model opening run.goes.opens.begins)))
+sessions-all (Described d last rest) x (inr short) = (λ can. absurd (short.short.barred can), λ cannot. short)
+sessions-all (Refused code line) x h = h
+
 answers-all : (mode : Option Mode) (input : List ℕ) (x : Account) → Answers mode input x → AnswersAll mode input x
 answers-all None input x h = h.1.over
-answers-all (Some Solve) input x h = solves-all input (input_of (lines_of input)) x h
+answers-all (Some (Solve flags)) input x h = solves-all flags input (input_of (lines_of input)) x h
 answers-all (Some Check) input x h = checks-all input (claim_of (lines_of input)) x h
+answers-all (Some Session) input x h = sessions-all (model_of (lines_of input)) x h.0
+answers-all (Some (Drill n)) input x h = drills-all n x h.1
 
 pub runs-answer : RunsAnswer
 runs-answer mode status before after r reads_kept writes_kept memory =

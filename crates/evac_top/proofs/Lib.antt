@@ -1,9 +1,12 @@
 pub mod BlockOpenLemmas
 pub mod ClaimLemmas
 pub mod CompleteLemmas
+pub mod HeadlineLemmas
 pub mod InputLemmas
 pub mod OpenLemmas
+pub mod PlanLemmas
 pub mod SendLemmas
+pub mod SessionLemmas
 pub mod SolveLemmas
 pub mod TailLemmas
 pub mod TakeLemmas

@@ -27,7 +27,7 @@ whole-there r gone (inl whole) u = whole
 whole-there r gone (inr over) u = absurd (true-false over.0 (unsettled-open r u).0)
 
 -- up to their last LF they are the lines that went by
-whole-lines : (r0 r1 : Reader) (l0 l1 : Option (List ℕ)) (texts : List (List ℕ)) → IsFresh r0 → (p : Passes r0 r1 l0 l1 texts)
+pub whole-lines : (r0 r1 : Reader) (l0 l1 : Option (List ℕ)) (texts : List (List ℕ)) → IsFresh r0 → (p : Passes r0 r1 l0 l1 texts)
     → is_settled r1 ≡ false → lines_of (whole_part p.taken) ≡ text_lines texts
 whole-lines r0 r1 l0 l1 texts fresh p u =
     let bytes : p.taken ≡ p.gone ++ r1.pending = ap (λ r. r.pending ++ p.taken) (sym fresh) ∙ p.tied in
@@ -44,7 +44,7 @@ fresh-room : (r : Reader) → IsFresh r → HasRoom r
 unfolding input_limit
 fresh-room r fresh = subst HasRoom (sym fresh) (record { pending = omega arith; given = omega arith })
 
-few-taken : (r0 r1 : Reader) (l0 l1 : Option (List ℕ)) (texts : List (List ℕ)) → IsFresh r0 → (p : Passes r0 r1 l0 l1 texts)
+pub few-taken : (r0 r1 : Reader) (l0 l1 : Option (List ℕ)) (texts : List (List ℕ)) → IsFresh r0 → (p : Passes r0 r1 l0 l1 texts)
     → length p.taken ≤ input_limit + BUFFER_SIZE
 few-taken r0 r1 l0 l1 texts fresh p = omega (arith, passes-few r0 r1 l0 l1 texts p (fresh-room r0 fresh))
 

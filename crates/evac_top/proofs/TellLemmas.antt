@@ -11,14 +11,16 @@ use Rattle.building_table.specs.declared.faults.ModelFault.TheVariants.{Named, R
 use Rattle.certificate_text.specs.BlockText.{refusal_line}
 use Rattle.evac_top.specs.Accounts.{Account, Ends, IsFront, IsRefused, Outside, Side, Told}
 use Rattle.evac_top.specs.Answers.{Answers, AnswersFront, AnswersMemory, AnswersSoFar, WritesNothing, words_text}
+use Rattle.evac_top.specs.Drill.{IsDrillSolved}
 use Rattle.evac_top.specs.Inputs.{IsOpenClaim, IsOpenInput}
 use Rattle.evac_top.specs.Reads.{Takes}
 use Rattle.evac_top.specs.Runs.{OfInput, Runs}
 use Rattle.evac_top.specs.Sends.{Sends}
 use Rattle.evac_top.specs.Tells.{Stops, Tells, status_after}
 use Rattle.evac_top.specs.Words.{reads}
+use Rattle.evac_top.specs.declared.words.Flags.{Flags}
 use Rattle.evac_top.specs.declared.words.Mode.{Mode}
-use Rattle.evac_top.specs.declared.words.Mode.TheVariants.{Solve, Check}
+use Rattle.evac_top.specs.declared.words.Mode.TheVariants.{Solve, Check, Drill}
 
 -- ---- telling
 
@@ -66,8 +68,8 @@ stops-named fault code line r before after ended named is sent cause =
     (λ taken. record { over = refl; text_whole = refl; counted = refl }))
 
 -- there was no memory
-pub tells-nothing : (Holds : Account → Type 0) (at : Side) → Tells Holds 5 0 at at
-tells-nothing Holds at = record {
+pub tells-nothing : (Holds : Account → Type 0) (steps : ℕ) (at : Side) → Tells Holds 5 steps at at
+tells-nothing Holds steps at = record {
   known = (omega arith, λ e. omega (arith, e));
   written = [];
   over = Appends-nil at.bytes;
@@ -119,14 +121,18 @@ runs-told mode Holds status steps before after taken consumed few same counted t
 -- ---- a mode that reads all before it writes
 
 pub record ReadsFirst (mode : Mode) (IsOpen : List Line → Type 0) : Type 0 where
+  pub input : reads (Some mode) ≡ true
   pub front : (input : List ℕ) (x : Account) → IsFront (Answers (Some mode) input) x → AnswersFront (Some mode) input x
   pub so_far : (lines : List Line) (x : Account) → IsOpen lines → WritesNothing x → AnswersSoFar (Some mode) lines x
   pub memory : (left : Option (List ℕ)) (x : Account) → x.written ≡ [] → AnswersMemory (Some mode) left x
 
+told-input : {IsOpen : List Line → Type 0} (mode : Mode) → ReadsFirst mode IsOpen → (left : Option (List ℕ)) (P : List ℕ → Type 0) → Told left P → OfInput (reads (Some mode)) left P
+told-input mode m left P t = subst (λ (b : Bool). OfInput b left P) (sym m.input) t
+
 -- there was no memory to read with
 pub no-memory : {IsOpen : List Line → Type 0} (mode : Mode) → ReadsFirst mode IsOpen → (at : Outside) → Runs (Some mode) 5 at at
 no-memory mode m at = runs-told (Some mode) (λ x. ⊥) 5 0 at at [] (Consumes-nil at.source.bytes) (omega arith) refl (omega arith)
-    (tells-nothing (λ x. ⊥) at.sink) (λ x h. absurd h) (nothing at.source.bytes) m.front (λ x e w. m.memory at.source.bytes x w)
+    (tells-nothing (λ x. ⊥) 0 at.sink) (λ x h. absurd h) (told-input mode m at.source.bytes _ (nothing at.source.bytes)) m.front (λ x e w. m.memory at.source.bytes x w)
   where
     nothing : (left : Option (List ℕ)) → Told left (λ input. (x : Account) → x.taken ≡ [] → ⊥ → Answers (Some mode) input x)
     nothing None = tt
@@ -147,7 +153,8 @@ pub read-told : {T : Type 0} {IsOpen : List Line → Type 0} (mode : Mode) → R
     → Told before.source.bytes (λ input. (x : Account) → x.taken ≡ input → Holds x → Answers (Some mode) input x) → Runs (Some mode) status before after
 read-told mode m Holds value status steps before after t same counted tells few holds =
     runs-told (Some mode) Holds status steps before after t.taken t.consumed t.few same counted tells (λ x h e. absurd (omega (arith, few x h, e)))
-    (all-taken before.source.bytes after.source.bytes t.taken (λ input x. Holds x → Answers (Some mode) input x) t.consumed t.all holds) m.front
+    (told-input mode m before.source.bytes _
+    (all-taken before.source.bytes after.source.bytes t.taken (λ input x. Holds x → Answers (Some mode) input x) t.consumed t.all holds)) m.front
     (λ x e w. m.memory before.source.bytes x w)
 
 -- an input isn't read: what its fault says of it
@@ -165,7 +172,7 @@ pub stopped : {T : Type 0} {IsOpen : List Line → Type 0} (mode : Mode) → Rea
     → Told before.source.bytes (FaultIs mode fault) → Runs (Some mode) status before after
 stopped mode m (Named code line) status before after t rose quiet kept tells told =
     runs-told (Some mode) (IsRefused (code, line)) status 0 before after t.taken t.consumed t.few (quiet (λ e. cc)) (omega (arith, kept)) tells
-    (λ x h e. absurd (omega (arith, h.over, e))) (told-map before.source.bytes _ _ (λ input h x e. h x) told) m.front (λ x e w. m.memory before.source.bytes x w)
+    (λ x h e. absurd (omega (arith, h.over, e))) (told-input mode m before.source.bytes _ (told-map before.source.bytes (FaultIs mode (Named code line)) _ (λ input h x e. h x) told)) m.front (λ x e w. m.memory before.source.bytes x w)
 stopped mode m ReadFault status before after t rose quiet kept (three, same) told =
     let x : Account = record { status = status; taken = t.taken; written = []; steps = 0 } in
     record {
@@ -205,11 +212,35 @@ stopped mode m Memory status before after t rose quiet kept (five, same) told =
 
 -- ---- the modes
 
-pub solve-reads : ReadsFirst Solve IsOpenInput
-solve-reads = record { front = λ input x h. h; so_far = λ lines x is nothing. (is, nothing); memory = λ left x e. e }
+pub solve-reads : (flags : Flags) → ReadsFirst (Solve flags) IsOpenInput
+solve-reads flags = record { input = refl; front = λ input x h. h; so_far = λ lines x is nothing. (is, nothing); memory = λ left x e. e }
 
 pub check-reads : ReadsFirst Check IsOpenClaim
-check-reads = record { front = λ input x h. h; so_far = λ lines x is nothing. (is, nothing); memory = λ left x e. e }
+check-reads = record { input = refl; front = λ input x h. h; so_far = λ lines x is nothing. (is, nothing); memory = λ left x e. e }
+
+-- what is told of one account of a building is told of an account of it
+pub tells-as : (Holds Others : Account → Type 0) (status steps : ℕ) (before after : Side) → ((x : Account) → Holds x → Others x) → Tells Holds status steps before after
+    → Tells Others status steps before after
+tells-as Holds Others status steps before after f t = record {
+  known = t.known;
+  written = t.written;
+  over = t.over;
+  same = t.same;
+  rose = t.rose;
+  whole = λ l taken. f _ (t.whole l taken);
+  front = λ e taken. (let h = t.front e taken in (h.0, h.1, f _ h.2));
+  nothing = t.nothing;
+}
+
+-- ---- a mode that reads nothing
+
+pub drill-told : (n status steps : ℕ) (source before after : Side) (old new : ℕ) → new ≡ old + steps → ((x : Account) → IsDrillSolved n x → x.status ≤ 1)
+    → Tells (IsDrillSolved n) status steps before after
+    → Runs (Some (Drill n)) status (record { source = source; sink = before; steps = old }) (record { source = source; sink = after; steps = new })
+drill-told n status steps source before after old new counted few tells =
+    runs-told (Some (Drill n)) (IsDrillSolved n) status steps (record { source = source; sink = before; steps = old }) (record { source = source; sink = after; steps = new }) []
+    (Consumes-nil source.bytes) (omega arith) refl counted tells (λ x h e. absurd (omega (arith, few x h, e))) (λ x none h. (none, h)) (λ input x h. h)
+    (λ x none nothing. (none, nothing))
 
 -- ---- words that ask for nothing
 

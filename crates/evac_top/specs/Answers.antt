@@ -1,14 +1,17 @@
 -- What a run does, by its mode and its input. Each mode is one case of each definition.
-use Rattle.std.specs.Prelude.{◌≡◌, ℕ, List, [], Some, None}
+use Rattle.std.specs.Prelude.{◌≡◌, ℕ, List, [], length, Some, None}
 use Rattle.std.specs.declared.option.Option.{Option}
 use Rattle.line_io.specs.Line.{Line, lines_of}
+use Rattle.model_text.specs.Readings.{model_of}
 use Rattle.certificate_text.specs.BlockText.{refusal_line}
 use Rattle.evac_top.specs.Accounts.{Account, Ends, IsFront}
 use Rattle.evac_top.specs.Check.{Checks}
+use Rattle.evac_top.specs.Drill.{Drills}
 use Rattle.evac_top.specs.Inputs.{IsOpenClaim, IsOpenInput, claim_of, input_of}
+use Rattle.evac_top.specs.Session.{ReadsOn, Sessions, SessionsFront, SessionsSoFar}
 use Rattle.evac_top.specs.Solve.{Solves}
 use Rattle.evac_top.specs.declared.words.Mode.{Mode}
-use Rattle.evac_top.specs.declared.words.Mode.TheVariants.{Solve, Check}
+use Rattle.evac_top.specs.declared.words.Mode.TheVariants.{Solve, Check, Session, Drill}
 
 -- the text for words that ask for nothing
 abbrev pub words_text : List ℕ
@@ -21,8 +24,10 @@ RefusesWords x = (x.taken ≡ []) × Ends x 2 words_text 0
 -- a run that is over, at statuses 0, 1 and 2
 abbrev pub Answers : Option Mode → List ℕ → Account → Type 0
 Answers None input x = RefusesWords x
-Answers (Some Solve) input x = Solves input (input_of (lines_of input)) x
+Answers (Some (Solve flags)) input x = Solves flags input (input_of (lines_of input)) x
 Answers (Some Check) input x = Checks input (claim_of (lines_of input)) x
+Answers (Some Session) input x = Sessions (model_of (lines_of input)) x × ReadsOn input x
+Answers (Some (Drill number)) input x = Drills number x
 
 -- nothing was written, and no step counted
 abbrev pub WritesNothing : Account → Type 0
@@ -31,17 +36,23 @@ WritesNothing x = (x.written ≡ []) × (x.steps ≡ 0)
 -- a run whose source failed behind these whole lines, none of which ended it; a mode that doesn't read has no such run
 abbrev pub AnswersSoFar : Option Mode → List Line → Account → Type 0
 AnswersSoFar None lines x = ⊥
-AnswersSoFar (Some Solve) lines x = IsOpenInput lines × WritesNothing x
+AnswersSoFar (Some (Solve flags)) lines x = IsOpenInput lines × WritesNothing x
 AnswersSoFar (Some Check) lines x = IsOpenClaim lines × WritesNothing x
+AnswersSoFar (Some Session) lines x = SessionsSoFar (model_of lines) (length lines) x
+AnswersSoFar (Some (Drill number)) lines x = ⊥
 
 -- a run whose sink failed: the front of an answer
 abbrev pub AnswersFront : Option Mode → List ℕ → Account → Type 0
 AnswersFront None input x = IsFront (Answers None input) x
-AnswersFront (Some Solve) input x = IsFront (Answers (Some Solve) input) x
+AnswersFront (Some (Solve flags)) input x = IsFront (Answers (Some (Solve flags)) input) x
 AnswersFront (Some Check) input x = IsFront (Answers (Some Check) input) x
+AnswersFront (Some Session) input x = SessionsFront (model_of (lines_of input)) x
+AnswersFront (Some (Drill number)) input x = IsFront (Answers (Some (Drill number)) input) x
 
 -- a run without memory, by the bytes left before it, where they are told: nothing was written
 abbrev pub AnswersMemory : Option Mode → Option (List ℕ) → Account → Type 0
 AnswersMemory None left x = (x.taken ≡ []) × (x.written ≡ [])
-AnswersMemory (Some Solve) left x = x.written ≡ []
+AnswersMemory (Some (Solve flags)) left x = x.written ≡ []
 AnswersMemory (Some Check) left x = x.written ≡ []
+AnswersMemory (Some Session) left x = x.written ≡ []
+AnswersMemory (Some (Drill number)) left x = (x.taken ≡ []) × (x.written ≡ [])

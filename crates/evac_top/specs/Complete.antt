@@ -1,24 +1,33 @@
 -- What a run must answer in which neither count of faults rose and there was memory.
 use Rattle.std.specs.Prelude.{◌≡◌, ◌≢◌, ℕ, List, Result, Ok, Err, None, Some}
 use Rattle.std.specs.declared.option.Option.{Option}
+use Rattle.evac_law.specs.declared.model.Model.{Model}
 use Rattle.evac_law.specs.Certificates.{IsClearable}
 use Rattle.line_io.specs.Causes.{Rose}
 use Rattle.line_io.specs.Line.{lines_of}
 use Rattle.certificate_text.specs.declared.block.Block.{Block}
 use Rattle.certificate_text.specs.BlockGrammar.{IsStated}
+use Rattle.drill_building.specs.Drill.{drill_model}
+use Rattle.model_text.specs.Readings.{Reading, Described, Refused, model_of}
+use Rattle.building_table.specs.Names.{names_of}
 use Rattle.plan_checker.specs.Verdicts.{IsRight}
+use Rattle.session_talk.specs.Sessions.{OpensShort, SessionRun}
 use Rattle.evac_top.specs.Accounts.{Account, IsRefused, Outside}
 use Rattle.evac_top.specs.Inputs.{Asked, Claimed, claim_of, input_of}
 use Rattle.evac_top.specs.Runs.{OfInput, Runs}
+use Rattle.evac_top.specs.Session.{spoken}
 use Rattle.evac_top.specs.Solve.{IsShort}
 use Rattle.evac_top.specs.Words.{reads}
 use Rattle.evac_top.specs.declared.words.Mode.{Mode}
-use Rattle.evac_top.specs.declared.words.Mode.TheVariants.{Solve, Check}
+use Rattle.evac_top.specs.declared.words.Mode.TheVariants.{Solve, Check, Session, Drill}
 
--- a building is planned where it can be cleared, and refused with its shortfall exactly where it can't; an input with a fault is refused by it
+-- a building whose end is at a line is planned where it can be cleared, and refused with its shortfall exactly where it can't
+abbrev pub PlansAll : Model → ℕ → Account → Type 0
+PlansAll m line x = (IsClearable m → x.status ≡ 0) × (¬ IsClearable m → x.status ≡ 1) × (x.status ≡ 1 → IsShort m line x)
+
+-- the building of an input is planned or refused; an input with a fault is refused by it
 abbrev pub SolvesAll : Result Asked (ℕ × ℕ) → Account → Type 0
-SolvesAll (Ok asked) x =
-    let m = asked.building.model in (IsClearable m → x.status ≡ 0) × (¬ IsClearable m → x.status ≡ 1) × (x.status ≡ 1 → IsShort m asked.last x)
+SolvesAll (Ok asked) x = PlansAll asked.building.model asked.last x
 SolvesAll (Err fault) x = IsRefused fault x
 
 -- a block is answered by yes exactly where it is right, and else by no; an input with a fault is refused by it
@@ -28,11 +37,20 @@ ChecksAll (Ok claimed) x =
     (block : Block) → IsStated m claimed.draft block → (IsRight m block → x.status ≡ 0) × (¬ IsRight m block → x.status ≡ 1)
 ChecksAll (Err fault) x = IsRefused fault x
 
+-- a building is opened and the lines behind it are answered up to the end, exactly where it can be cleared, and it is refused with its shortfall exactly
+-- where it can't; a model with a fault is refused by it
+abbrev pub SessionsAll : Reading → Account → Type 0
+SessionsAll (Described d last rest) x =
+    (IsClearable d.model → SessionRun (names_of d) d.model last rest (spoken x)) × (¬ IsClearable d.model → OpensShort d.model last (spoken x))
+SessionsAll (Refused code line) x = IsRefused (code, line) x
+
 -- an input is answered, by the mode that the words ask for; other words are refused
 abbrev pub AnswersAll : Option Mode → List ℕ → Account → Type 0
 AnswersAll None input x = x.status ≡ 2
-AnswersAll (Some Solve) input x = SolvesAll (input_of (lines_of input)) x
+AnswersAll (Some (Solve flags)) input x = SolvesAll (input_of (lines_of input)) x
 AnswersAll (Some Check) input x = ChecksAll (claim_of (lines_of input)) x
+AnswersAll (Some Session) input x = SessionsAll (model_of (lines_of input)) x
+AnswersAll (Some (Drill number)) input x = PlansAll (drill_model number) 0 x
 
 -- a run in which neither the source's count of faults rose nor the sink's, and there was memory, answers its input
 abbrev pub RunsAnswer : Type 0

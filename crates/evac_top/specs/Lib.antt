@@ -2,10 +2,14 @@ pub mod Accounts
 pub mod Answers
 pub mod Check
 pub mod Complete
+pub mod Drill
+pub mod Headline
 pub mod Inputs
 pub mod Reads
 pub mod Runs
 pub mod Sends
+pub mod Session
 pub mod Solve
+pub mod Tables
 pub mod Tells
 pub mod Words

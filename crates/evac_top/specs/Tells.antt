@@ -4,6 +4,10 @@ use Rattle.std.specs.Io.KnownBytes.{Appends}
 use Rattle.line_io.specs.Causes.{Rose}
 use Rattle.building_table.specs.declared.faults.ModelFault.{ModelFault}
 use Rattle.building_table.specs.declared.faults.ModelFault.TheVariants.{Named, ReadFault, Memory}
+use Rattle.edit_session.specs.Sessions.{BeginEnds, SessionView}
+use Rattle.edit_session.specs.declared.faults.BeginFault.{BeginFault}
+use Rattle.evac_law.specs.declared.model.Model.{Model}
+use Rattle.evac_law.specs.Building.{IsValid}
 use Rattle.evac_top.specs.Accounts.{Account, IsFront, IsRefused, Side}
 
 -- the status behind a text that was sent
@@ -27,3 +31,7 @@ abbrev pub Stops : ModelFault → ℕ → Side → Side → Type 0
 Stops (Named code line) status before after = Tells (IsRefused (code, line)) status 0 before after
 Stops ReadFault status before after = (status ≡ 3) × (after ≡ before)
 Stops Memory status before after = (status ≡ 5) × (after ≡ before)
+
+-- a session has begun on a valid model, or there is none
+abbrev pub HasBegun : Model → Result SessionView BeginFault → Type 0
+HasBegun m begun = (steps : ℕ) × IsValid m × BeginEnds m begun steps

@@ -1,20 +1,64 @@
 -- The modes of the program, and the words that ask for them.
-use Rattle.std.specs.Prelude.{ℕ, Bool, true, false, if◌then◌else◌, List, [], ◌∷◌, Some, None, codes}
+use Rattle.std.specs.Prelude.{ℕ, ◌≤◌, Bool, true, false, ◌&&◌, ◌||◌, if◌then◌else◌, List, [], ◌∷◌, Some, None, codes, option_map, ⊤}
 use Rattle.std.specs.declared.option.Option.{Option}
 use Rattle.std.specs.Str.{bytes_eq}
+use Rattle.drill_building.specs.declared.rows.TheConstants.{STOREY_LIMIT}
+use Rattle.model_text.specs.NameFields.{plain_within}
+use Rattle.evac_top.specs.declared.words.Flags.{Flags}
 use Rattle.evac_top.specs.declared.words.Mode.{Mode}
-use Rattle.evac_top.specs.declared.words.Mode.TheVariants.{Solve, Check}
+use Rattle.evac_top.specs.declared.words.Mode.TheVariants.{Solve, Check, Session, Drill}
 
--- whether words are this one alone
-abbrev pub is_only : List (List ℕ) → List ℕ → Bool
-is_only (w ∷ []) word = bytes_eq w word
-is_only _ word = false
+-- whether the routes are asked for, and the reports
+abbrev pub asking : Bool → Bool → Flags
+asking routes reports = record { routes = routes; reports = reports }
 
--- the mode that words ask for; other words ask for none
+-- one word behind `solve`
+abbrev pub one_flag : List ℕ → Option Flags
+one_flag v =
+    if bytes_eq v (codes "--routes") then Some (asking true false) else if bytes_eq v (codes "--reports") then Some (asking false true) else None
+
+-- two words behind `solve`: each of the two once, in either order
+abbrev pub two_flags : List ℕ → List ℕ → Option Flags
+two_flags v w =
+    if (bytes_eq v (codes "--routes") && bytes_eq w (codes "--reports")) || (bytes_eq v (codes "--reports") && bytes_eq w (codes "--routes"))
+    then Some (asking true true) else None
+
+-- what the words behind `solve` ask for
+abbrev pub flags_of : List (List ℕ) → Option Flags
+flags_of [] = Some (asking false false)
+flags_of (v ∷ []) = one_flag v
+flags_of (v ∷ w ∷ []) = two_flags v w
+flags_of (v ∷ w ∷ x ∷ more) = None
+
+-- the number of storeys that the words behind `drill` ask for: from 1 to 40, without leading zeros
+abbrev pub storeys_of : List (List ℕ) → Option ℕ
+storeys_of (v ∷ w ∷ []) = if bytes_eq v (codes "--number") then plain_within 1 40 w else None
+storeys_of _ = None
+
+-- a mode whose word has none behind it
+abbrev pub alone : Mode → List (List ℕ) → Option Mode
+alone mode [] = Some mode
+alone mode (v ∷ more) = None
+
+-- the mode that words ask for, by the first of them; other words ask for none
 abbrev pub mode_of : List (List ℕ) → Option Mode
-mode_of words = if is_only words (codes "solve") then Some Solve else if is_only words (codes "check") then Some Check else None
+mode_of [] = None
+mode_of (v ∷ more) =
+    if bytes_eq v (codes "solve") then option_map Solve (flags_of more)
+    else if bytes_eq v (codes "check") then alone Check more
+    else if bytes_eq v (codes "session") then alone Session more
+    else if bytes_eq v (codes "drill") then option_map Drill (storeys_of more)
+    else None
+
+-- a drill has no more storeys than can be built
+abbrev pub IsWithin : Mode → Type 0
+IsWithin (Drill number) = number ≤ STOREY_LIMIT
+IsWithin mode = ⊤
 
 -- whether a mode reads its input
 abbrev pub reads : Option Mode → Bool
 reads None = false
-reads (Some mode) = true
+reads (Some (Solve flags)) = true
+reads (Some Check) = true
+reads (Some Session) = true
+reads (Some (Drill number)) = false

@@ -12,7 +12,7 @@ use std::test::Fail;
 const WIDE_EXIT_BLOCK: &str =
     "answer 0\npeople 8\ncleared 4\nout 0 0\nout 1 0\nout 2 0\nout 3 5\nout 4 8\nlabel WP1.1 0 4\nmove 0 WP1.1 DS2.1 5\nmove 1 WP1.1 DS2.1 3\nend\n";
 
-fn joined(alloc: Global, model: &str, block: &str) -> Result<String, AllocError> {
+pub(crate) fn joined(alloc: Global, model: &str, block: &str) -> Result<String, AllocError> {
     let mut text = String::from_str(alloc, model)?;
     text.push_str(block)?;
     Ok(text)
@@ -95,7 +95,7 @@ fn a_failing_source_gets_no_verdict(rt: HostRuntime) -> Result<(), Fail> {
 }
 
 // Three storeys with two stairs.
-const OFFICE: &str =
+pub(crate) const OFFICE: &str =
     "evacplan 1\ntitle Three storey office\nperiod 5\nhorizon 120\nfloor 1 Ground\nfloor 2 Second\nfloor 3 Third\nnode WP1.1 80 60\nnode LO1.1 40 0\nnode DS1.1\nnode DS2.1\nnode WP1.2 60 45\nnode WP2.2 60 45\nnode HA1.2 30 0\nnode SW1.2 16 0\nnode SW2.2 16 0\nnode WP1.3 60 45\nnode WP2.3 60 45\nnode HA1.3 30 0\nnode SW1.3 16 0\nnode SW2.3 16 0\narc WP1.1 LO1.1 1 10\narc LO1.1 DS1.1 1 8\narc WP1.2 HA1.2 1 6\narc WP2.2 HA1.2 1 6\narc HA1.2 SW1.2 1 4\narc HA1.2 SW2.2 1 4\narc SW1.2 LO1.1 3 4\narc SW2.2 DS2.1 4 4\narc WP1.3 HA1.3 1 6\narc WP2.3 HA1.3 1 6\narc HA1.3 SW1.3 1 4\narc HA1.3 SW2.3 1 4\narc SW1.3 SW1.2 3 4\narc SW2.3 SW2.2 3 4\nend\n";
 
 #[test]

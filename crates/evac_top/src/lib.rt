@@ -8,17 +8,25 @@ mod check;
 #[cfg(test)]
 mod check_tests;
 mod claim;
+mod drill;
 mod laws;
+mod plan;
 mod read;
 mod reply;
+#[cfg(test)]
+mod report_tests;
+mod session;
+#[cfg(test)]
+mod session_tests;
 mod solve;
 mod status;
 mod stop;
+mod tables;
 #[cfg(test)]
 mod tests;
 mod top;
 mod verdict;
 mod words;
 
-pub use laws::runs_answer;
+pub use laws::{runs_answer, sessions_keep_promise};
 pub use top::run;

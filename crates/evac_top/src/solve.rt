@@ -1,67 +1,113 @@
 // The mode `solve`: a model is read, all arrival moments are settled, and the plan or the shortfall is sent.
 ghost use Rattle.std.specs.Prelude.{◌≡◌, ℕ, ◌+◌, [], Some};
 ghost use Rattle.evac_law.specs.Building.{IsValid};
+ghost use Rattle.edit_session.specs.Sessions.{BeginEnds, Begins};
+ghost use Rattle.evac_law.specs.declared.model.Model.{Model as ModelValue};
 ghost use Rattle.evac_top.specs.Accounts.{side};
 ghost use Rattle.evac_top.specs.Runs.{Runs};
-ghost use Rattle.evac_top.specs.Solve.{IsSolved};
-ghost use Rattle.evac_top.specs.Tells.{Tells};
+ghost use Rattle.evac_top.specs.Solve.{IsPlanned, IsSolved};
+ghost use Rattle.evac_top.specs.Tells.{HasBegun, Tells};
 ghost use Rattle.evac_top.specs.declared.words.Mode.TheVariants.{Solve};
 
+use crate::plan::send_plan;
 use crate::read::{Input, read_input};
-use crate::reply::{send_answer, send_short};
-use crate::status::{DONE, NO_MEMORY, REFUSED};
-use crate::stop::{status_after, stop};
-use evac_law::{Labels, Steps};
-use lex_flow::{Outcome, settle_all};
+use crate::status::{DONE, NO_MEMORY};
+use crate::stop::{status_after, stop, stop_short};
+use crate::tables::Tables;
+use crate::words::Flags;
+use building_table::Names;
+use edit_session::{BeginFault, Session};
+use evac_law::Steps;
 use line_io::{Lines, Out, Sink, Source};
-use residual_net::Net;
 use std::alloc::Global;
 use std::sync::ledger::Ledger;
-use terminal_augment::Search;
 
-// Sends the answer for a building whose end is at a line.
-fn answer<K: Sink, L: Ledger>(
+// Sends the plan with which a session begins. All memory is taken before.
+fn answer_plan<K: Sink>(
     alloc: Global,
+    flags: Flags,
     out: &mut Out,
     sink: &mut K,
-    input: &Input,
+    session: &Session,
+    names: &Names,
+) -> u8
+    requires fresh { out.old ≡ [] }
+    requires begins { Begins session.now.state.model session.now.state }
+    ensures { Tells (IsPlanned flags names.now session.now.state.model) result session.now.state.work.pushes
+        (side (K.held sink.old) (K.faults sink.old)) (side (K.held sink.new) (K.faults sink.new)) }
+{
+    let Ok(mut tables) = Tables::new(alloc, flags, session, names) else {
+        return NO_MEMORY;
+    };
+    status_after(send_plan(out, sink, session, names, &mut tables), DONE)
+}
+
+// Sends the plan with which a session begins, and ends the session.
+fn answer_begun<K: Sink>(
+    alloc: Global,
+    flags: Flags,
+    out: &mut Out,
+    sink: &mut K,
+    session: Session,
+    names: &Names,
+) -> u8
+    requires fresh { out.old ≡ [] }
+    requires begins { Begins session.state.model session.state }
+    ensures { Tells (IsPlanned flags names.now session.state.model) result session.state.work.pushes
+        (side (K.held sink.old) (K.faults sink.old)) (side (K.held sink.new) (K.faults sink.new)) }
+{
+    answer_plan(alloc, flags, out, sink, &session, names)
+}
+
+// Sends what a session begins with, or why there is none on a building whose end is at a line.
+fn tell<K: Sink>(
+    alloc: Global,
+    flags: Flags,
+    out: &mut Out,
+    sink: &mut K,
+    begun: Result<Session, BeginFault>,
+    names: &Names,
+    line: u32,
+) -> u8
+    requires fresh { out.old ≡ [] }
+    requires begun { (m : ModelValue) × HasBegun m begun }
+    ensures { (m : ModelValue) (steps : ℕ) → BeginEnds m begun steps → Tells (IsSolved flags names.now m line) result steps
+        (side (K.held sink.old) (K.faults sink.old)) (side (K.held sink.new) (K.faults sink.new)) }
+{
+    match begun {
+        Ok(session) => answer_begun(alloc, flags, out, sink, session, names),
+        Err(fault) => stop_short(out, sink, line, fault),
+    }
+}
+
+// Sends the answer for a building.
+fn answer<K: Sink, L: Ledger>(
+    alloc: Global,
+    flags: Flags,
+    out: &mut Out,
+    sink: &mut K,
+    input: Input,
     steps: &mut Steps<L>,
 ) -> u8
     requires fresh { out.old ≡ [] }
-    requires valid { IsValid input.now.building.model }
-    ensures { (count : ℕ) × (steps.new ≡ steps.old + count) × Tells (IsSolved input.now.building.model input.now.last) result count
+    requires valid { IsValid input.building.model }
+    ensures { (count : ℕ) × (steps.new ≡ steps.old + count) × Tells (IsSolved flags input.building.names input.building.model input.last) result count
         (side (K.held sink.old) (K.faults sink.old)) (side (K.held sink.new) (K.faults sink.new)) }
 {
-    let model = &input.building.model;
-    let (Ok(mut net), Ok(mut labels), Ok(mut search)) = (
-        Net::new(alloc, model),
-        Labels::new(alloc, model.node_count(), model.horizon),
-        Search::new(alloc, model),
-    ) else {
-        return NO_MEMORY;
-    };
-    let outcome = settle_all(&mut net, &mut labels, &mut search, 0, steps);
-    // what is settled is a net: its arrivals are those of its plan
-    let _ = net.shape();
-    match outcome {
-        Outcome::Cleared { .. } => {
-            status_after(send_answer(out, sink, model, &net, &labels), DONE)
-        }
-        Outcome::Short { most, .. } => {
-            let sent = send_short(out, sink, model, input.last, most, &labels);
-            status_after(sent, REFUSED)
-        }
-    }
+    let names = input.building.names;
+    let begun = Session::begin(alloc, input.building.model, steps);
+    tell(alloc, flags, out, sink, begun, &names, input.last)
 }
 
 /// Runs the mode.
 pub(crate) fn solve<S: Source, K: Sink, L: Ledger>(
     alloc: Global,
+    flags: Flags,
     source: &mut S,
     sink: &mut K,
     steps: &mut Steps<L>,
 ) -> u8
-    ensures { Runs (Some Solve) result
+    ensures { Runs (Some (Solve flags)) result
         (record { source = side (S.left source.old) (S.faults source.old); sink = side (K.held sink.old) (K.faults sink.old); steps = steps.old })
         (record { source = side (S.left source.new) (S.faults source.new); sink = side (K.held sink.new) (K.faults sink.new); steps = steps.new }) }
 {
@@ -69,7 +115,7 @@ pub(crate) fn solve<S: Source, K: Sink, L: Ledger>(
         return NO_MEMORY;
     };
     match read_input(alloc, &mut lines, source) {
-        Ok(input) => answer(alloc, &mut out, sink, &input, steps),
+        Ok(input) => answer(alloc, flags, &mut out, sink, input, steps),
         Err(fault) => stop(&mut out, sink, fault),
     }
 }

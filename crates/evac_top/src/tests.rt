@@ -117,14 +117,6 @@ fn one_room_is_answered(rt: HostRuntime) -> Result<(), Fail> {
 }
 
 #[test]
-fn other_words_are_refused(rt: HostRuntime) -> Result<(), Fail> {
-    check(&rt, &["fly"], ONE_ROOM, 2, "refused 40 0\n")?;
-    check(&rt, &[], ONE_ROOM, 2, "refused 40 0\n")?;
-    check(&rt, &["solve", "solve"], ONE_ROOM, 2, "refused 40 0\n")?;
-    check(&rt, &["--help"], ONE_ROOM, 2, "refused 40 0\n")
-}
-
-#[test]
 fn buildings_that_cannot_be_cleared_have_a_cut(rt: HostRuntime) -> Result<(), Fail> {
     let alloc = rt.alloc();
     let short = changed(alloc, 3, "horizon 1")?;
@@ -155,6 +147,17 @@ fn worked_buildings_are_answered(rt: HostRuntime) -> Result<(), Fail> {
     check(&rt, &["solve"], TWO_EXITS, 0, TWO_EXITS_BLOCK)?;
     check(&rt, &["solve"], HALL, 0, HALL_BLOCK)?;
     check(&rt, &["solve"], TWO_ROOMS, 0, TWO_ROOMS_BLOCK)
+}
+
+// A model as it is solved and as a session begins: no line stands behind it, and the answer is the same.
+fn check_model(
+    rt: &(impl Abort + AllocGlobal),
+    input: &str,
+    status: u8,
+    text: &str,
+) -> Result<(), Fail> {
+    check(rt, &["solve"], input, status, text)?;
+    check(rt, &["session"], input, status, text)
 }
 
 #[test]
@@ -197,18 +200,19 @@ fn the_first_fault_of_a_model_is_named(rt: HostRuntime) -> Result<(), Fail> {
         (6, "", "refused 13 6\n"),
         (6, "end", "refused 19 6\n"),
         (8, "", "refused 21 8\n"),
-        (8, "end\nnode WP2.1 1 1", "refused 23 9\n"),
     ] {
         let input = changed(alloc, number, line)?;
         let status = if text.len() > 20 { 0 } else { 1 };
-        check(&rt, &["solve"], input.as_str(), status, text)?;
+        check_model(&rt, input.as_str(), status, text)?;
     }
-    check(&rt, &["solve"], "", 1, "refused 21 1\n")?;
-    check(&rt, &["solve"], "# x", 1, "refused 21 2\n")
+    check_model(&rt, "", 1, "refused 21 1\n")?;
+    check_model(&rt, "# x", 1, "refused 21 2\n")?;
+    let behind = changed(alloc, 8, "end\nnode WP2.1 1 1")?;
+    check(&rt, &["solve"], behind.as_str(), 1, "refused 23 9\n")
 }
 
 // A comment of 200 bytes.
-const LONG_COMMENT: &str =
+pub(crate) const LONG_COMMENT: &str =
     "#23456789_123456789_123456789_123456789_123456789_123456789_123456789_123456789_123456789_1234567890123456789_123456789_123456789_123456789_123456789_123456789_123456789_123456789_123456789_1234567890";
 
 #[test]
@@ -259,30 +263,36 @@ fn a_failing_source_writes_nothing(rt: HostRuntime) -> Result<(), Fail> {
 }
 
 // A sink that fails at its j-th call, for every j of a whole run, gives status 4 and has a front of the text.
-fn check_failing_sink(rt: &(impl Abort + AllocGlobal), piece: usize) -> Result<(), Fail>
+pub(crate) fn check_failing_sink(
+    rt: &(impl Abort + AllocGlobal),
+    words: &[&str],
+    input: &str,
+    text: &str,
+    piece: usize,
+) -> Result<(), Fail>
     requires some { 0 < piece }
     requires few { piece < 2 ^ 16 }
 {
     let alloc = rt.alloc();
     for call in 1..200u32 {
-        let mut source = CleanSource::new(alloc, ONE_ROOM.as_bytes())?;
+        let mut source = CleanSource::new(alloc, input.as_bytes())?;
         let mut sink = MemSink::new(alloc, 1000, piece, &[call])?;
-        let status = status_of(alloc, &["solve"], &mut source, &mut sink)?;
+        let status = status_of(alloc, words, &mut source, &mut sink)?;
         let count = (call as usize - 1) * piece;
         if status == 0 {
-            assert!(rt; count >= ONE_ROOM_BLOCK.len());
+            assert!(rt; count >= text.len());
             break;
         }
         assert_eq!(rt; status, 4, "at call {call}");
-        assert_eq!(rt; Some(sink.bytes()), ONE_ROOM_BLOCK.as_bytes().get(..count));
+        assert_eq!(rt; Some(sink.bytes()), text.as_bytes().get(..count));
     }
     Ok(())
 }
 
 #[test]
 fn a_failing_sink_has_a_front(rt: HostRuntime) -> Result<(), Fail> {
-    check_failing_sink(&rt, 1)?;
-    check_failing_sink(&rt, 10)?;
+    check_failing_sink(&rt, &["solve"], ONE_ROOM, ONE_ROOM_BLOCK, 1)?;
+    check_failing_sink(&rt, &["solve"], ONE_ROOM, ONE_ROOM_BLOCK, 10)?;
     let alloc = rt.alloc();
     let mut source = CleanSource::new(alloc, ONE_ROOM.as_bytes())?;
     let mut sink = MemSink::new(alloc, 12, 5, &[])?;

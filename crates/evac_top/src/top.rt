@@ -5,7 +5,9 @@ ghost use Rattle.evac_top.specs.Runs.{Runs};
 ghost use Rattle.evac_top.specs.Words.{mode_of, reads};
 
 use crate::check::check;
+use crate::drill::drill;
 use crate::reply::send_refusal;
+use crate::session::session;
 use crate::solve::solve;
 use crate::status::{NO_MEMORY, WORDS_REFUSED};
 use crate::stop::status_after;
@@ -32,8 +34,10 @@ pub fn run<S: Source, K: Sink, L: Ledger>(
     ensures untouched { reads (mode_of (map string_bytes words.now)) ≡ false → source.new ≡ source.old }
 {
     match mode_of(words) {
-        Some(Mode::Solve) => solve(alloc, source, sink, steps),
+        Some(Mode::Solve(flags)) => solve(alloc, flags, source, sink, steps),
         Some(Mode::Check) => check(alloc, source, sink),
+        Some(Mode::Session) => session(alloc, source, sink, steps),
+        Some(Mode::Drill(number)) => drill(alloc, number, sink, steps),
         None => refuse_words(alloc, sink),
     }
 }

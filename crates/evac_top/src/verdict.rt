@@ -6,6 +6,7 @@ ghost use Rattle.line_io.specs.Text.{fields};
 ghost use Rattle.evac_top.specs.Check.{IsVerdictOf, no_fields, verdict_fields, verdict_text};
 ghost use Rattle.evac_top.specs.Sends.{Sends};
 
+use crate::reply::flush_behind;
 use certificate_text::put_name;
 use evac_law::Model;
 use line_io::{Out, Sink, TextLine, WriteFault};
@@ -83,6 +84,6 @@ pub(crate) fn send_verdict<K: Sink>(
     ensures text { Sends (K.held sink.old) (K.held sink.new) (verdict_text model.now verdict) result }
     ensures cause { HasCause (K.faults sink.old) (K.faults sink.new) result }
 {
-    line_of(model, verdict).put(out, sink)?;
-    out.flush(sink)
+    let put = line_of(model, verdict).put(out, sink);
+    flush_behind(put, out, sink)
 }

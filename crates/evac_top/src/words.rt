@@ -1,32 +1,130 @@
 // The modes of the program, and the words that ask for them.
-ghost use Rattle.std.specs.Prelude.{◌≡◌, map, string_bytes};
-ghost use Rattle.evac_top.specs.Words.{is_only, mode_of};
+ghost use Rattle.std.specs.Prelude.{◌≡◌, ◌≤◌, IfSome, map, string_bytes};
+ghost use Rattle.model_text.specs.NameFields.{plain_within};
+ghost use Rattle.evac_top.specs.Words.{IsWithin, alone, flags_of, mode_of, one_flag, storeys_of, two_flags};
+
+use drill_building::STOREY_LIMIT;
+use model_text::read_number;
+
+/// The reports that are put behind a plan.
+#[derive(Clone, Copy)]
+pub struct Flags {
+    /// Who goes which way.
+    pub routes: bool,
+    /// When each part is empty, what holds people up, and a summary.
+    pub reports: bool,
+}
 
 /// What the program does.
 #[derive(Clone, Copy)]
 pub enum Mode {
     /// Plans the building of a model.
-    Solve,
+    Solve(Flags),
     /// Checks an answer block for the model before it.
     Check,
+    /// Keeps the plan of a model while it is edited line by line.
+    Session,
+    /// Plans the building of a drill with so many storeys.
+    Drill(u32),
 }
 
-// Whether the words are this one alone.
-fn is_only(words: &[String], word: &str) -> bool
-    ensures { result ≡ is_only (map string_bytes words.now) word.now }
+// One word behind `solve`.
+fn one_flag(word: &str) -> Option<Flags>
+    ensures { result ≡ one_flag word.now }
 {
-    words.len() == 1 && words[0].as_str() == word
+    if word == "--routes" {
+        Some(Flags {
+            routes: true,
+            reports: false,
+        })
+    } else if word == "--reports" {
+        Some(Flags {
+            routes: false,
+            reports: true,
+        })
+    } else {
+        None
+    }
+}
+
+// Two words behind `solve`.
+fn two_flags(first: &str, second: &str) -> Option<Flags>
+    ensures { result ≡ two_flags first.now second.now }
+{
+    if (first == "--routes" && second == "--reports")
+        || (first == "--reports" && second == "--routes")
+    {
+        Some(Flags {
+            routes: true,
+            reports: true,
+        })
+    } else {
+        None
+    }
+}
+
+// What the words behind `solve` ask for.
+fn flags_of(words: &[String]) -> Option<Flags>
+    ensures { result ≡ flags_of (map string_bytes words.now) }
+{
+    match words {
+        [] => Some(Flags {
+            routes: false,
+            reports: false,
+        }),
+        [word] => one_flag(word.as_str()),
+        [first, second] => two_flags(first.as_str(), second.as_str()),
+        _ => None,
+    }
+}
+
+// A number of storeys without leading zeros.
+fn number_of(word: &str) -> Option<u32>
+    ensures number { result ≡ plain_within 1 40 word.now }
+    ensures few { IfSome result (λ n. n ≤ STOREY_LIMIT) }
+{
+    let number = match word.as_bytes() {
+        [b'0', _, ..] => return None,
+        digits => read_number(digits)?,
+    };
+    if number < 1 || number > u32::from(STOREY_LIMIT) {
+        None
+    } else {
+        Some(number)
+    }
+}
+
+// The number of storeys that the words behind `drill` ask for.
+fn storeys_of(words: &[String]) -> Option<u32>
+    ensures number { result ≡ storeys_of (map string_bytes words.now) }
+    ensures few { IfSome result (λ n. n ≤ STOREY_LIMIT) }
+{
+    match words {
+        [word, number] if word.as_str() == "--number" => number_of(number.as_str()),
+        _ => None,
+    }
+}
+
+// A mode whose word has none behind it.
+fn alone(mode: Mode, words: &[String]) -> Option<Mode>
+    ensures { result ≡ alone mode (map string_bytes words.now) }
+{
+    if words.is_empty() { Some(mode) } else { None }
 }
 
 /// The mode that words ask for.
 pub(crate) fn mode_of(words: &[String]) -> Option<Mode>
-    ensures { result ≡ mode_of (map string_bytes words.now) }
+    ensures mode { result ≡ mode_of (map string_bytes words.now) }
+    ensures few { IfSome result IsWithin }
 {
-    if is_only(words, "solve") {
-        Some(Mode::Solve)
-    } else if is_only(words, "check") {
-        Some(Mode::Check)
-    } else {
-        None
+    let [word, more @ ..] = words else {
+        return None;
+    };
+    match word.as_str() {
+        "solve" => flags_of(more).map(Mode::Solve),
+        "check" => alone(Mode::Check, more),
+        "session" => alone(Mode::Session, more),
+        "drill" => storeys_of(more).map(Mode::Drill),
+        _ => None,
     }
 }

@@ -6,7 +6,7 @@ use Rattle.evac_top.proofs.TellLemmas.{tells-nothing, tells-sent}
 use Rattle.evac_top.proofs.check.judge.Goals as goal
 
 pub returns-in_default : goal.returns-in_default
-returns-in_default g c = tells-nothing (IsChecked c.args.model.now c.args.block.now) _
+returns-in_default g c = tells-nothing (IsChecked c.args.model.now c.args.block.now) 0 _
 
 pub returns : goal.returns
 returns g c =

@@ -1,4 +1,4 @@
-use Rattle.std.proofs.Common.{◌≡◌, ℕ, Err, Ok, ap, subst, sym, ◌∙◌}
+use Rattle.std.proofs.Common.{◌≡◌, Err, Ok, ap, subst, sym, ◌∙◌}
 use Rattle.line_io.specs.Causes.{Count, Rose}
 use Rattle.line_io.specs.Reader.{lines_left}
 use Rattle.line_io.proofs.PassLemmas.{passes-then}

@@ -4,7 +4,7 @@ use Rattle.evac_top.proofs.TellLemmas.{RefusesBy, tells-nothing, tells-sent, wor
 use Rattle.evac_top.proofs.top.refuse_words.Goals as goal
 
 pub returns-in_default : goal.returns-in_default
-returns-in_default g c = λ source steps. words-told 5 source steps _ _ (tells-nothing RefusesBy _)
+returns-in_default g c = λ source steps. words-told 5 source steps _ _ (tells-nothing RefusesBy 0 _)
 
 pub returns : goal.returns
 returns g c = λ source steps.

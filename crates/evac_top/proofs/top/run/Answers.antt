@@ -1,10 +1,13 @@
 use Rattle.std.proofs.Common.{None, Some}
-use Rattle.evac_top.specs.declared.words.Mode.TheVariants.{Check}
+use Rattle.evac_top.specs.declared.words.Mode.TheVariants.{Check, Drill}
 use Rattle.evac_top.proofs.TellLemmas.{runs-by}
 use Rattle.evac_top.proofs.top.run.Goals as goal
 
 pub returns-in-Some-Check-clause-run : goal.returns-in-Some-Check-clause-run
 returns-in-Some-Check-clause-run g c = runs-by _ (Some Check) c.check.result _ _ (cc) (c.check.ensures c.args.steps.now)
+
+pub returns-in-Some-Drill-clause-run : goal.returns-in-Some-Drill-clause-run
+returns-in-Some-Drill-clause-run g c = runs-by _ (Some (Drill c.in-Some-Drill.number)) c.drill.result _ _ (cc) (c.drill.ensures _)
 
 pub returns-in-None-clause-run : goal.returns-in-None-clause-run
 returns-in-None-clause-run g c = runs-by _ None c.refuse_words.result _ _ (cc) (c.refuse_words.ensures _ c.args.steps.now)

@@ -1,0 +1,136 @@
+-- Every run of a session keeps the headline.
+use Rattle.std.proofs.Common.{◌≡◌, ◌≢◌, ℕ, ◌+◌, ◌≤◌, Bool, true, false, List, [], ◌∷◌, ◌++◌, length, Result, Ok, Err, Some, refl, sym, ap, subst, ◌∙◌, arith, append-nil, inl, inr, ◌⊎◌}
+use Rattle.evac_law.specs.declared.edit.Edit.{Edit}
+use Rattle.evac_law.specs.declared.edit.EditFault.{EditFault}
+use Rattle.evac_law.specs.declared.model.Model.{Model}
+use Rattle.evac_law.specs.Edits.{applied}
+use Rattle.evac_law.proofs.Optimal.{stated_cut_is_worth}
+use Rattle.line_io.specs.Line.{Line, lines_of}
+use Rattle.model_text.specs.declared.command.Command.{Command}
+use Rattle.model_text.specs.declared.command.Command.TheVariants as commands
+use Rattle.model_text.specs.declared.fault.TextFault.{TextFault}
+use Rattle.model_text.specs.Commands.{command_of}
+use Rattle.model_text.specs.Readings.{Described, Reading, Refused, model_of}
+use Rattle.model_text.specs.Taken.{Description}
+use Rattle.building_table.specs.declared.faults.NameFault.{NameFault}
+use Rattle.building_table.specs.EditNames.{edit_named}
+use Rattle.building_table.specs.Names.{NameTable, names_of}
+use Rattle.certificate_text.specs.BlockText.{refusal_line}
+use Rattle.edit_session.specs.Sessions.{IsSolved, with_former}
+use Rattle.edit_session.specs.Thrift.{IsThrifty}
+use Rattle.session_talk.specs.Sessions.{Advances, AsksEdit, Edits, IsAnswer, Replies, State, Undoes, session}
+use Rattle.session_talk.specs.Talks.{EndsAt, RepliesTo, Reply, Spoken, TalkRun, followed, says}
+use Rattle.session_talk.proofs.Same.{cut_stays}
+use Rattle.evac_top.specs.Accounts.{Account}
+use Rattle.evac_top.specs.Headline.{IsBestBlock, KeepsAll, KeepsPromise, KeepsSession, SessionsKeepPromise}
+use Rattle.evac_top.specs.Runs.{Runs}
+use Rattle.evac_top.specs.Session.{Sessions, spoken}
+use Rattle.evac_top.proofs.PlanLemmas.{solved-feasible}
+use Rattle.evac_top.proofs.TellLemmas.{of-input}
+
+-- ---- one block
+
+best-block : (s : State) (text : List ℕ) → IsSolved s.standing → IsAnswer s text → IsBestBlock s text
+best-block s text h a = record {
+  block = a.block;
+  reads_back = a.reads_back;
+  feasible = solved-feasible s.standing h;
+  in_time = h.certified.in_horizon;
+  all_out = h.certified.all_out;
+  cuts = λ k. (stated_cut_is_worth s.standing.model s.standing.plan s.standing.labels s.standing.last k h.valid h.certified).1;
+  best = a.best;
+}
+
+-- ---- what a line gets
+
+advances : (s : State) (m : Model) (earlier : List Model) (r : Reply State) → Advances s m earlier r → KeepsPromise s r
+advances s m earlier r h =
+    let x = r.after.standing in
+    inl (record {
+      answer = best-block r.after r.text h.goes_on.solved h.answer;
+      thrifty = subst (λ (n : Model). IsThrifty s.standing.model s.standing.plan n x.plan x.last x.work) (sym h.goes_on.gone) h.goes_on.thrifty;
+      counted = h.counted;
+    })
+
+stays : (s : State) (text : List ℕ) (r : Reply State) → r ≡ says s text → KeepsPromise s r
+stays s text r h = inr (ap (λ (a : Reply State). a.after) h)
+
+edits : (line : ℕ) (s : State) (made : Result (Model × Edit) EditFault) (r : Reply State) → Edits line s made r → KeepsPromise s r
+edits line s (Err fault) r h = stays s _ r h
+edits line s (Ok m) r (inl h) = advances s m.0 (with_former s.standing) r h
+edits line s (Ok m) r (inr h) = inr h.same
+
+named : (line : ℕ) (s : State) (named : Result Edit NameFault) (r : Reply State) → AsksEdit line s named r → KeepsPromise s r
+named line s (Err fault) r h = stays s _ r h
+named line s (Ok e) r h = edits line s (applied s.standing.model e) r h
+
+undoes : (line : ℕ) (s : State) (former : List Model) (r : Reply State) → Undoes line s former r → KeepsPromise s r
+undoes line s [] r h = stays s _ r h
+undoes line s (m ∷ earlier) r h = advances s m earlier r h
+
+one_line : (names : NameTable) (line : ℕ) (s : State) (c : Result Command TextFault) (r : Reply State) → Replies names line s c r → KeepsPromise s r
+one_line names line s (Err fault) r h = stays s _ r h
+one_line names line s (Ok commands.Blank) r h = stays s _ r h
+one_line names line s (Ok commands.Undo) r h = undoes line s s.standing.former r h
+one_line names line s (Ok (commands.Cut k)) r h = inr (ap (λ (a : Reply State). a.after) h ∙ cut_stays line s k)
+one_line names line s (Ok commands.Routes) r h = stays s h.0 r h.2
+one_line names line s (Ok commands.Clearing) r h = stays s _ r h
+one_line names line s (Ok commands.Bottlenecks) r h = stays s _ r h
+one_line names line s (Ok commands.Summary) r h = stays s h.0 r h.2
+one_line names line s (Ok commands.Work) r h = stays s _ r h
+one_line names line s (Ok commands.Quit) r h = absurd h
+one_line names line s (Ok c) r h = named line s (edit_named names c) r h
+
+-- ---- all lines
+
+all_lines : (names : NameTable) (m : Model) (before : ℕ) (s : State) (lines : List (List ℕ)) (r : Reply State) → RepliesTo (session names m).Gets before s lines r
+    → RepliesTo (λ line s text r. Replies names line s (command_of text) r × KeepsPromise s r) before s lines r
+unfolding RepliesTo
+all_lines names m before s [] r h = h
+all_lines names m before s (line ∷ lines) r h =
+    (h.0, (h.1, one_line names (before + 1) s (command_of line) h.0 h.1), (h.2.0, all_lines names m (before + 1) h.0.after lines h.2.0 h.2.1, h.2.2))
+
+-- the text of a talk that ended is that of its replies, and maybe the refusal of a line
+ended : (names : NameTable) (m : Model) (before : ℕ) (rest : List Line) (r : Reply State) (x : Spoken) → EndsAt (session names m) before rest r x
+    → (ending : List ℕ) × (x.text ≡ r.text ++ ending)
+ended names m before [] r x h = ([], ap (λ (y : Spoken). y.text) h ∙ sym (append-nil r.text))
+ended names m before (Ok line ∷ rest) r x h = ([], ap (λ (y : Spoken). y.text) h.1 ∙ sym (append-nil r.text))
+ended names m before (Err code ∷ rest) r x h = (refusal_line code (before + 1), ap (λ (y : Spoken). y.text) h)
+
+all-written : (w ending : List ℕ) (r opening more : Reply State) → w ≡ r.text ++ ending → r ≡ followed opening more → w ≡ opening.text ++ more.text ++ ending
+all-written w ending r opening more e all = e ∙ ap (λ (a : Reply State). a.text ++ ending) all
+
+keep-all : (d : Description) (last : ℕ) (lines : List Line) (x : Account) (run : TalkRun (session (names_of d) d.model) last lines (spoken x)) (ending : List ℕ)
+    → x.written ≡ run.replies.text ++ ending → KeepsAll d last lines x
+keep-all d last lines x run ending e =
+    let goes = run.goes in
+    record {
+      answered = run.answered;
+      rest = run.rest;
+      parts = run.parts;
+      opening = goes.opening;
+      more = goes.more;
+      ending = ending;
+      of_model = goes.opens.begins.begun;
+      first = best-block goes.opening.after goes.opening.text goes.opens.begins.solved goes.opens.answer;
+      replies = all_lines (names_of d) d.model last goes.opening.after run.answered goes.more goes.replies;
+      written = all-written x.written ending run.replies goes.opening goes.more e goes.all;
+    }
+
+runs-keep : (d : Description) (last : ℕ) (lines : List Line) (x : Account) → TalkRun (session (names_of d) d.model) last lines (spoken x) → KeepsAll d last lines x
+runs-keep d last lines x run =
+    let end = ended (names_of d) d.model (last + length run.answered) run.rest run.replies (spoken x) run.ends in
+    keep-all d last lines x run end.0 end.1
+
+keeps-session : (r : Reading) (x : Account) → Sessions r x → KeepsSession r x
+keeps-session (Described d last rest) x (inl run) = λ can. runs-keep d last rest x run
+keeps-session (Described d last rest) x (inr short) = λ can. absurd (short.short.barred can)
+keeps-session (Refused code line) x h = tt
+
+pub sessions-keep-promise : SessionsKeepPromise
+sessions-keep-promise status before after r reads_kept writes_kept memory =
+    let three : status ≡ 3 → ⊥ = λ e. reads_kept (r.causes.reads_rose e) in
+    let four : status ≡ 4 → ⊥ = λ e. writes_kept (r.causes.writes_rose e) in
+    let known : status ≤ 5 = r.causes.known in
+    of-input true before.source.bytes _ _ (λ input h. keeps-session (model_of (lines_of input)) r.did h.0)
+    (r.answered (omega (arith, known, three, four, memory)))

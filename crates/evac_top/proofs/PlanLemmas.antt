@@ -1,0 +1,87 @@
+-- The block of a session with what is asked for behind it.
+use Rattle.std.proofs.Common.{IfSome, ◌≡◌, ℕ, ◌+◌, ◌≤◌, List, [], ◌++◌, Result, Ok, Err, IsErr, Some, None, is_some, refl, sym, subst, ◌∙◌, append-nil, arith, inl}
+use Rattle.std.specs.declared.option.Option.{Option}
+use Rattle.evac_law.specs.declared.model.Model.{Model}
+use Rattle.evac_law.specs.Building.{IsValid, people}
+use Rattle.evac_law.specs.Plans.{IsFeasible, out_by}
+use Rattle.evac_law.proofs.Optimal.{certified_is_feasible, out_stays}
+use Rattle.building_table.specs.Names.{NameTable}
+use Rattle.edit_session.specs.Sessions.{IsSolved, SessionState}
+use Rattle.line_io.specs.Writer.{PutsText}
+use Rattle.line_io.proofs.TextLemmas.{front-more, text-failed, text-is, text-last}
+use Rattle.report_text.proofs.Parts.{text-err, text-ok}
+use Rattle.report_text.specs.Parts.{PutsOn}
+use Rattle.report_text.specs.ReportText.{SaysRoutes, routes_text, summary_text}
+use Rattle.route_decompose.specs.Routes.{Covers, RouteView}
+use Rattle.session_text.specs.Spaces.{SpaceView}
+use Rattle.session_text.specs.StateTexts.{SaysReports, SaysRoutesOf, block_text, bottlenecks_of, clearing_of}
+use Rattle.evac_top.specs.Solve.{SaysPlan, Where}
+use Rattle.evac_top.specs.Tables.{HasTables, IsMade}
+use Rattle.evac_top.specs.declared.tables.Tables.{Tables}
+use Rattle.evac_top.specs.declared.words.Flags.{Flags}
+
+-- ---- the plan of a session
+
+pub solved-feasible : (s : SessionState) → IsSolved s → IsFeasible s.model s.plan s.model.horizon
+solved-feasible s h = certified_is_feasible s.model s.plan s.labels s.last s.model.horizon h.valid h.certified
+
+pub solved-out : (s : SessionState) → IsSolved s → out_by s.model s.plan s.model.horizon ≡ people s.model
+solved-out s h = let good = h.certified in out_stays s.model s.plan s.last s.model.horizon good.in_horizon good.arrives ∙ good.all_out
+
+-- the same of the model that a session lends
+pub lent-feasible : (s : SessionState) (m : Model) → m ≡ s.model → IsSolved s → IsFeasible m s.plan m.horizon
+lent-feasible s m e h = subst (λ (x : Model). IsFeasible x s.plan x.horizon) (sym e) (solved-feasible s h)
+
+pub lent-out : (s : SessionState) (m : Model) → m ≡ s.model → IsSolved s → out_by m s.plan m.horizon ≡ people m
+lent-out s m e h = subst (λ (x : Model). out_by x s.plan x.horizon ≡ people x) (sym e) (solved-out s h)
+
+-- ---- texts behind others
+
+pub on-ok : {T E : Type 0} (before r : Result T E) (x : T) {a : Option (List ℕ)} {p t : List ℕ} {b : Option (List ℕ)} {q : List ℕ}
+    → before ≡ Ok x → PutsText a p t b q r → PutsOn before a p t b q r
+on-ok before r x e h = λ a p t put. text-last r (text-ok before x e put) h
+
+pub on-err : {T E : Type 0} (before r : Result T E) (x : E) (text : List ℕ) {a : Option (List ℕ)} {p : List ℕ}
+    → before ≡ Err x → IsErr r → PutsOn before a p text a p r
+on-err before r x text e is = λ a p t put. text-failed r is (front-more text (text-err before x e put))
+
+pub on-same : {T E : Type 0} (before : Result T E) {a : Option (List ℕ)} {p : List ℕ} → PutsOn before a p [] a p before
+on-same before = λ a p t put. text-is (sym (append-nil t)) put
+
+-- ---- what is asked for
+
+pub where-some : {A : Type 0} (o : Option A) (x : A) (Says : List ℕ → Type 0) (text : List ℕ) → o ≡ Some x → Says text → Where (is_some o) Says text
+where-some {A} o x Says text e h = subst (λ (z : Option A). Where (is_some z) Says text) (sym e) h
+
+pub where-none : {A : Type 0} (o : Option A) (Says : List ℕ → Type 0) → o ≡ None → Where (is_some o) Says []
+where-none {A} o Says e = subst (λ (z : Option A). Where (is_some z) Says []) (sym e) refl
+
+pub some-holds : {A : Type 0} (o : Option A) (x : A) (P : A → Type 0) → o ≡ Some x → IfSome o P → P x
+some-holds {A} o x P e h = subst (λ (z : Option A). IfSome z P) e h
+
+-- routes that were found have a text
+pub found-says : (s : SessionState) (found : List RouteView) → Covers s.model s.plan found → SaysRoutesOf 0 s (routes_text 0 s.model found)
+found-says s found cover = record { routes = found; cover = cover; says = refl }
+
+-- the text of reports that are made
+abbrev pub made_text : NameTable → SessionState → SpaceView → List ℕ
+made_text names s t = clearing_of names 0 s ++ bottlenecks_of 0 s ++ summary_text 0 names.title s.model s.plan s.last t.clearing.time
+
+pub made-says : (names : NameTable) (s : SessionState) (t : SpaceView) → IsMade names s t → SaysReports names 0 s (made_text names s t)
+made-says names s t h = (summary_text 0 names.title s.model s.plan s.last t.clearing.time, (t.clearing.time, h.plan.time_is, refl), refl)
+
+pub says-plan : (flags : Flags) (names : NameTable) (s : SessionState) (t : Tables) (r p : List ℕ) → HasTables flags names s t
+    → Where (is_some t.routes) (SaysRoutesOf 0 s) r → Where (is_some t.reports) (SaysReports names 0 s) p → SaysPlan flags names s (block_text 0 s ++ r ++ p)
+says-plan flags names s t r p has says_r says_p = record {
+  routes = r;
+  says_routes = subst (λ b. Where b (SaysRoutesOf 0 s) r) has.routes_asked says_r;
+  reports = p;
+  says_reports = subst (λ b. Where b (SaysReports names 0 s) p) has.reports_asked says_p;
+  parts = refl;
+}
+
+-- three texts, one behind the other
+pub three-put : {T E : Type 0} (x y z : Result T E) (s t u : List ℕ) {a : Option (List ℕ)} {p : List ℕ} {b : Option (List ℕ)} {q : List ℕ} {c : Option (List ℕ)} {r : List ℕ} {d : Option (List ℕ)} {o : List ℕ}
+    → p ≡ [] → PutsText a p s b q x → PutsOn x b q t c r y → PutsOn y c r u d o z → PutsText a [] (s ++ t ++ u) d o z
+three-put x y z s t u {a} {p} {b} {q} {c} {r} {d} {o} fresh first second third =
+    third a [] (s ++ t) (second a [] s (subst (λ (l : List ℕ). PutsText a l s b q x) fresh first))

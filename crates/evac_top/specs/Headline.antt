@@ -1,0 +1,70 @@
+-- The headline: what every run of a session keeps, in the law's words.
+use Rattle.std.specs.Prelude.{◌≡◌, ◌≢◌, ℕ, ◌≤◌, List, ◌++◌, Some, ◌⊎◌, ⊤}
+use Rattle.evac_law.specs.declared.model.Model.{Model}
+use Rattle.evac_law.specs.declared.plan.Move.{Move}
+use Rattle.evac_law.specs.Building.{people}
+use Rattle.evac_law.specs.Certificates.{IsClearable, stated_cut}
+use Rattle.evac_law.specs.Cuts.{cut_value}
+use Rattle.evac_law.specs.Plans.{IsFeasible, out_by}
+use Rattle.line_io.specs.Causes.{Rose}
+use Rattle.line_io.specs.Line.{Line, lines_of, text_lines}
+use Rattle.model_text.specs.Commands.{command_of}
+use Rattle.model_text.specs.Readings.{Reading, Described, Refused, model_of}
+use Rattle.model_text.specs.Taken.{Description}
+use Rattle.building_table.specs.Names.{names_of}
+use Rattle.certificate_text.specs.BlockLaws.{ReadsBack}
+use Rattle.edit_session.specs.Thrift.{IsCounted, IsThrifty}
+use Rattle.session_text.specs.StateTexts.{block_text}
+use Rattle.session_talk.specs.Sessions.{Replies, State}
+use Rattle.session_talk.specs.Talks.{RepliesTo, Reply}
+use Rattle.evac_top.specs.Accounts.{Account, Outside}
+use Rattle.evac_top.specs.Runs.{OfInput, Runs}
+use Rattle.evac_top.specs.Words.{reads}
+use Rattle.evac_top.specs.declared.words.Mode.TheVariants.{Session}
+
+-- an answer block that was written: it reads back as a feasible plan that takes everybody out, and for every period a stated cut is worth as many as
+-- are out by then, so no feasible plan has more people out by that period
+pub record IsBestBlock (s : State) (text : List ℕ) : Type 0 where
+  pub block : text ≡ block_text s.index s.standing
+  pub reads_back : ReadsBack s.index s.standing.model s.standing.plan s.standing.labels s.standing.last
+  pub feasible : IsFeasible s.standing.model s.standing.plan s.standing.model.horizon
+  pub in_time : s.standing.last ≤ s.standing.model.horizon
+  pub all_out : out_by s.standing.model s.standing.plan s.standing.last ≡ people s.standing.model
+  pub cuts : (k : ℕ) → cut_value s.standing.model (stated_cut s.standing.model s.standing.labels s.standing.last k) k ≡ out_by s.standing.model s.standing.plan k
+  pub best : (other : List Move) (k : ℕ) → IsFeasible s.standing.model other k
+      → out_by s.standing.model other k ≤ out_by s.standing.model s.standing.plan k
+
+-- an edit or an undo was answered by the block of the edited model, and a count bounds what the repair took back and how often it sent people
+pub record IsRepaired (s : State) (r : Reply State) : Type 0 where
+  pub answer : IsBestBlock r.after r.text
+  pub thrifty : IsThrifty s.standing.model s.standing.plan r.after.standing.model r.after.standing.plan r.after.standing.last r.after.standing.work
+  pub counted : IsCounted r.after.standing.work r.steps
+
+-- what a line got: a repaired plan, or model and plan are as they were
+abbrev pub KeepsPromise : State → Reply State → Type 0
+KeepsPromise s r = IsRepaired s r ⊎ (r.after ≡ s)
+
+-- what a session wrote on a building and some lines behind it: the block of a best plan, and what each line got, up to the end
+pub record KeepsAll (d : Description) (last : ℕ) (lines : List Line) (x : Account) : Type 0 where
+  pub answered : List (List ℕ)
+  pub rest : List Line
+  pub parts : lines ≡ text_lines answered ++ rest
+  pub opening : Reply State
+  pub more : Reply State
+  pub ending : List ℕ
+  pub of_model : opening.after.standing.model ≡ d.model
+  pub first : IsBestBlock opening.after opening.text
+  pub replies : RepliesTo (λ line s text r. Replies (names_of d) line s (command_of text) r × KeepsPromise s r) last opening.after answered more
+  pub written : x.written ≡ opening.text ++ more.text ++ ending
+
+-- a building that can be cleared, with any lines behind it
+abbrev pub KeepsSession : Reading → Account → Type 0
+KeepsSession (Described d last rest) x = IsClearable d.model → KeepsAll d last rest x
+KeepsSession (Refused code line) x = ⊤
+
+-- a run of a session keeps all that, where the source and the sink tell their bytes, neither count of faults rose, and there was memory
+abbrev pub SessionsKeepPromise : Type 0
+SessionsKeepPromise =
+    (status : ℕ) (before after : Outside) (r : Runs (Some Session) status before after) → ¬ Rose before.source.faults after.source.faults
+    → ¬ Rose before.sink.faults after.sink.faults → status ≢ 5
+    → OfInput (reads (Some Session)) before.source.bytes (λ input. KeepsSession (model_of (lines_of input)) r.did)

@@ -1,0 +1,130 @@
+// The mode `drill`: the building of a drill is planned, and the summary of its plan is sent.
+ghost use Rattle.std.specs.Prelude.{◌≡◌, ℕ, ◌≤◌, [], IfOk, Some};
+ghost use Rattle.clearing_report.specs.Walks.{IsUncongested};
+ghost use Rattle.drill_building.specs.Drill.{drill_model};
+ghost use Rattle.drill_building.specs.Summary.{drill_text, figures_of};
+ghost use Rattle.edit_session.specs.Sessions.{BeginEnds, Begins};
+ghost use Rattle.evac_law.specs.Building.{IsValid};
+ghost use Rattle.line_io.specs.Causes.{HasCause};
+ghost use Rattle.evac_top.specs.Accounts.{Side, side};
+ghost use Rattle.evac_top.specs.Drill.{IsDrillSolved, IsDrilled};
+ghost use Rattle.evac_top.specs.Runs.{Runs};
+ghost use Rattle.evac_top.specs.Sends.{Sends};
+ghost use Rattle.evac_top.specs.Tells.{HasBegun, Tells};
+ghost use Rattle.evac_top.specs.declared.words.Mode.TheVariants.{Drill};
+
+use crate::reply::flush_behind;
+use crate::status::{DONE, NO_MEMORY};
+use crate::stop::{status_after, stop_short};
+use clearing_report::Clearing;
+use drill_building::{Figures, STOREY_LIMIT, drill_model, write_drill};
+use edit_session::{BeginFault, Session};
+use evac_law::{Model, Standing, Steps};
+use line_io::{Out, Sink, WriteFault};
+use std::alloc::{AllocError, Global};
+use std::sync::ledger::Ledger;
+
+// The figures of a session's plan.
+fn figures_of(alloc: Global, session: &Session) -> Result<Figures, AllocError>
+    ensures { IfOk result (λ f. let s = session.now.state in IsUncongested s.model (Some f.uncongested) × (f ≡ figures_of s.model s.plan s.last f.uncongested)) }
+{
+    let model = session.model();
+    let mut clearing = Clearing::new(alloc, model)?;
+    clearing.fill(model, session);
+    Ok(Figures {
+        cleared: session.cleared(),
+        uncongested: clearing.uncongested(),
+        person_periods: clearing.person_periods(),
+    })
+}
+
+// Sends the summary of a drill.
+fn send_drill<K: Sink>(
+    out: &mut Out,
+    sink: &mut K,
+    number: u32,
+    model: &Model,
+    figures: Figures,
+) -> Result<(), WriteFault>
+    requires fresh { out.old ≡ [] }
+    requires valid { IsValid model.now }
+    ensures text { Sends (K.held sink.old) (K.held sink.new) (drill_text number model.now figures) result }
+    ensures cause { HasCause (K.faults sink.old) (K.faults sink.new) result }
+{
+    let put = write_drill(out, sink, number, model, figures);
+    flush_behind(put, out, sink)
+}
+
+// Sends the summary of the plan with which a session on a drill's building begins.
+fn answer_drill<K: Sink>(
+    alloc: Global,
+    out: &mut Out,
+    sink: &mut K,
+    number: u32,
+    session: &Session,
+) -> u8
+    requires fresh { out.old ≡ [] }
+    requires begins { Begins (drill_model number) session.now.state }
+    ensures { Tells (IsDrilled number) result session.now.state.work.pushes
+        (side (K.held sink.old) (K.faults sink.old)) (side (K.held sink.new) (K.faults sink.new)) }
+{
+    let Ok(figures) = figures_of(alloc, session) else {
+        return NO_MEMORY;
+    };
+    let model = session.model();
+    status_after(send_drill(out, sink, number, model, figures), DONE)
+}
+
+// Sends the same, and ends the session.
+fn answer_begun<K: Sink>(
+    alloc: Global,
+    out: &mut Out,
+    sink: &mut K,
+    number: u32,
+    session: Session,
+) -> u8
+    requires fresh { out.old ≡ [] }
+    requires begins { Begins (drill_model number) session.state }
+    ensures { Tells (IsDrilled number) result session.state.work.pushes
+        (side (K.held sink.old) (K.faults sink.old)) (side (K.held sink.new) (K.faults sink.new)) }
+{
+    answer_drill(alloc, out, sink, number, &session)
+}
+
+// Sends the summary of what a session begins with, or why there is none.
+fn tell<K: Sink>(
+    alloc: Global,
+    out: &mut Out,
+    sink: &mut K,
+    number: u32,
+    begun: Result<Session, BeginFault>,
+) -> u8
+    requires fresh { out.old ≡ [] }
+    requires begun { HasBegun (drill_model number) begun }
+    ensures { (steps : ℕ) → BeginEnds (drill_model number) begun steps → Tells (IsDrillSolved number) result steps
+        (side (K.held sink.old) (K.faults sink.old)) (side (K.held sink.new) (K.faults sink.new)) }
+{
+    match begun {
+        Ok(session) => answer_begun(alloc, out, sink, number, session),
+        Err(fault) => stop_short(out, sink, 0, fault),
+    }
+}
+
+/// Runs the mode. It reads nothing.
+pub(crate) fn drill<K: Sink, L: Ledger>(
+    alloc: Global,
+    number: u32,
+    sink: &mut K,
+    steps: &mut Steps<L>,
+) -> u8
+    requires { number ≤ STOREY_LIMIT }
+    ensures { (source : Side) → Runs (Some (Drill number)) result
+        (record { source = source; sink = side (K.held sink.old) (K.faults sink.old); steps = steps.old })
+        (record { source = source; sink = side (K.held sink.new) (K.faults sink.new); steps = steps.new }) }
+{
+    let (Ok(mut out), Ok(building)) = (Out::new(alloc), drill_model(alloc, number)) else {
+        return NO_MEMORY;
+    };
+    let begun = Session::begin(alloc, building.model, steps);
+    tell(alloc, &mut out, sink, number, begun)
+}

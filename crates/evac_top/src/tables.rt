@@ -1,0 +1,51 @@
+// The tables of what is asked for behind a block.
+ghost use Rattle.std.specs.Prelude.{◌≡◌, IfOk};
+ghost use Rattle.evac_top.specs.Tables.{HasTables, IsMade};
+
+use crate::words::Flags;
+use building_table::Names;
+use edit_session::Session;
+use route_decompose::Routes;
+use session_text::ReportSpace;
+use std::alloc::{AllocError, Global};
+
+/// What is asked for: room for the routes of a session's plan, and the reports on it.
+#[derive(Drop)]
+pub struct Tables {
+    pub routes: Option<Routes>,
+    pub reports: Option<ReportSpace>,
+}
+
+// Makes the reports on where a session stands.
+fn make_reports(alloc: Global, session: &Session, names: &Names) -> Result<ReportSpace, AllocError>
+    ensures { IfOk result (IsMade names.now session.now.state) }
+{
+    let mut space = ReportSpace::new(alloc, session.model(), names)?;
+    space.report_plan(session);
+    space.report_labels(session);
+    Ok(space)
+}
+
+impl Tables {
+    /// Takes all memory that what is asked for needs, and makes the reports.
+    pub(crate) fn new(
+        alloc: Global,
+        flags: Flags,
+        session: &Session,
+        names: &Names,
+    ) -> Result<Tables, AllocError>
+        ensures { IfOk result (HasTables flags names.now session.now.state) }
+    {
+        let routes = if flags.routes {
+            Some(Routes::new(alloc, session.model())?)
+        } else {
+            None
+        };
+        let reports = if flags.reports {
+            Some(make_reports(alloc, session, names)?)
+        } else {
+            None
+        };
+        Ok(Tables { routes, reports })
+    }
+}
