@@ -1,0 +1,187 @@
+// Reports on the plans of whole buildings.
+ghost use Rattle.std.specs.Prelude.{◌≡◌, ◌<◌, IfOk, length};
+ghost use Rattle.evac_law.specs.Building.{IsValid};
+
+use crate::buildings::{OFFICE, TRAPPED, TWO_EXITS, building};
+use bottleneck_report::Bottlenecks;
+use clearing_report::Clearing;
+use edit_session::Session;
+use evac_law::{Model, Standing, Steps};
+use floor_index::FloorIndex;
+use route_decompose::{Route, RouteStep, Routes};
+use std::alloc::{AllocError, Global};
+use std::marker::Brand;
+use std::process::Abort;
+use std::sync::ledger::{Blank, Ledger};
+
+fn open_counted<L: Ledger>(alloc: Global, model: Model, blank: Blank) -> Option<Session>
+    requires valid { IsValid model }
+    requires name { blank.name ≡ L.name }
+    requires parts { blank.parts ≡ L.parts }
+    requires one { blank.parts ≡ 1 }
+{
+    let mut steps = Steps::<L>::new(blank);
+    match Session::begin(alloc, model, &mut steps) {
+        Ok(session) => Some(session),
+        Err(_) => None,
+    }
+}
+
+fn opened(alloc: Global, model: Model) -> Option<Session>
+    requires { IsValid model }
+{
+    open_counted::<Brand>(alloc, model, Blank::new(1))
+}
+
+// A session on a building.
+fn open_on(rt: &impl Abort, alloc: Global, text: &str) -> Result<Session, AllocError> {
+    let building = building(rt, alloc, text)?;
+    match opened(alloc, building.model) {
+        Some(session) => Ok(session),
+        None => panic!(rt; "a building has a plan"),
+    }
+}
+
+// The people of a route, where its steps are these; with no steps given, those of any route.
+fn count(route: &Route<'_>, steps: &[RouteStep]) -> u32 {
+    if steps.is_empty() || route.steps() == steps {
+        route.people()
+    } else {
+        0
+    }
+}
+
+// The people who go by some steps, over all routes of a plan.
+fn routed(
+    rt: &impl Abort,
+    alloc: Global,
+    session: &Session,
+    steps: &[RouteStep],
+) -> Result<u32, AllocError> {
+    let model = session.model();
+    let mut routes = Routes::new(alloc, model)?;
+    routes.begin(model, session);
+    let mut people = 0u32;
+    for _ in 0..100_000 {
+        if !routes.next() {
+            return Ok(people);
+        }
+        people = people.saturating_add(count(&routes.route(), steps));
+    }
+    panic!(rt; "there are too many routes")
+}
+
+// The report on a session's plan, where there is a room.
+fn cleared(rt: &impl Abort, alloc: Global, session: &Session) -> Result<Clearing, AllocError>
+    ensures { IfOk result (λ c. 0 < length c.moments) }
+{
+    let model = session.model();
+    assert!(rt; 0 < model.nodes.len());
+    let mut clearing = Clearing::new(alloc, model)?;
+    clearing.fill(model, session);
+    Ok(clearing)
+}
+
+// The numbers of a report: when the first node and the first floor are empty, the longest way, and the person-periods.
+#[derive(Clone, Copy, PartialEq, Eq, Debug)]
+struct Figures {
+    node: Option<u16>,
+    floor: Option<u16>,
+    uncongested: u32,
+    person_periods: u64,
+}
+
+fn figures_of(clearing: &Clearing, floors: &FloorIndex) -> Figures
+    requires { 0 < length clearing.now.moments }
+{
+    Figures {
+        node: clearing.node_clear(0),
+        floor: clearing.floor_clear(floors, 1),
+        uncongested: clearing.uncongested(),
+        person_periods: clearing.person_periods(),
+    }
+}
+
+fn report(rt: &impl Abort, alloc: Global, text: &str) -> Result<Figures, AllocError> {
+    let session = open_on(rt, alloc, text)?;
+    let floors = FloorIndex::new(alloc, session.model(), &[1])?;
+    let clearing = cleared(rt, alloc, &session)?;
+    Ok(figures_of(&clearing, &floors))
+}
+
+#[test]
+fn rooms_and_floors_are_empty(rt: HostRuntime) -> Result<(), AllocError> {
+    let want = Figures {
+        node: Some(2),
+        floor: Some(2),
+        uncongested: 1,
+        person_periods: 21,
+    };
+    assert_eq!(rt; report(&rt, rt.alloc(), TWO_EXITS)?, want);
+    Ok(())
+}
+
+#[test]
+fn the_office_has_its_figures(rt: HostRuntime) -> Result<(), AllocError> {
+    let office = report(&rt, rt.alloc(), OFFICE)?;
+    assert_eq!(rt; office.uncongested, 9);
+    assert_eq!(rt; office.person_periods, 3380);
+    Ok(())
+}
+
+// The least time for a building whose people meet nobody.
+fn walk(rt: &impl Abort, alloc: Global, text: &str) -> Result<Option<u32>, AllocError> {
+    let building = building(rt, alloc, text)?;
+    let mut clearing = Clearing::new(alloc, &building.model)?;
+    Ok(clearing.walk_bound(&building.model))
+}
+
+#[test]
+fn without_a_door_there_is_no_walk(rt: HostRuntime) -> Result<(), AllocError> {
+    assert_eq!(rt; walk(&rt, rt.alloc(), TRAPPED)?, None);
+    assert_eq!(rt; walk(&rt, rt.alloc(), OFFICE)?, Some(9));
+    Ok(())
+}
+
+// For how many periods the two arcs and the room of a building hold people up.
+fn held_up(rt: &impl Abort, alloc: Global, text: &str) -> Result<(u32, u32, u32), AllocError> {
+    let session = open_on(rt, alloc, text)?;
+    let model = session.model();
+    assert!(rt; 0 < model.nodes.len() && 1 < model.arcs.len());
+    let mut bottlenecks = Bottlenecks::new(alloc, model)?;
+    bottlenecks.fill(model, session.labels(), session.cleared());
+    Ok((
+        bottlenecks.arc_periods(0),
+        bottlenecks.arc_periods(1),
+        bottlenecks.hold_periods(0),
+    ))
+}
+
+#[test]
+fn the_narrow_way_holds_people_up(rt: HostRuntime) -> Result<(), AllocError> {
+    assert_eq!(rt; held_up(&rt, rt.alloc(), TWO_EXITS)?, (2, 0, 0));
+    Ok(())
+}
+
+// The people of all routes of a building.
+fn all_routed(rt: &impl Abort, alloc: Global, text: &str) -> Result<u32, AllocError> {
+    let session = open_on(rt, alloc, text)?;
+    routed(rt, alloc, &session, &[])
+}
+
+#[test]
+fn routes_take_everybody(rt: HostRuntime) -> Result<(), AllocError> {
+    assert_eq!(rt; all_routed(&rt, rt.alloc(), TWO_EXITS)?, 8);
+    assert_eq!(rt; all_routed(&rt, rt.alloc(), OFFICE)?, 240);
+    Ok(())
+}
+
+#[test]
+fn routes_make_up_the_plan(rt: HostRuntime) -> Result<(), AllocError> {
+    let session = open_on(&rt, rt.alloc(), TWO_EXITS)?;
+    for (moment, arc, people) in [(0, 0, 1), (1, 0, 1), (2, 0, 1), (0, 1, 5)] {
+        let step = [RouteStep { moment, arc }];
+        assert_eq!(rt; routed(&rt, rt.alloc(), &session, &step)?, people);
+    }
+    Ok(())
+}
