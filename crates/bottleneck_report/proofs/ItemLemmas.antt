@@ -14,9 +14,10 @@ use Rattle.evac_law.specs.Certificates.{label_cut}
 use Rattle.evac_law.specs.Cuts.{Cut, arc_items, arc_part, cut_items, entry_items, entry_part, hold_items, hold_part, leaves_cut}
 use Rattle.evac_law.specs.LabelTable.{LabelTable}
 use Rattle.evac_law.specs.Sums.{below, moments_to, places}
+use Rattle.evac_law.proofs.PartLemmas.{any-below}
 use Rattle.bottleneck_report.specs.Crossings.{arc_periods, hold_periods, is_of_arc, is_of_hold}
 use Rattle.bottleneck_report.specs.Covers.{covers}
-use Rattle.bottleneck_report.proofs.CoverLemmas.{any-below, any-none, any-same, any-short, filter-same}
+use Rattle.bottleneck_report.proofs.CoverLemmas.{any-none, any-same, any-short, filter-same}
 
 any-flat_map : {X Y : Type 0} (p : Y → Bool) (f : X → List Y) (xs : List X) → list_any p (flat_map f xs) ≡ list_any (λ x. list_any p (f x)) xs
 any-flat_map p f [] = refl

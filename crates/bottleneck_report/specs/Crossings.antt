@@ -39,7 +39,7 @@ abbrev pub counts_of : Model → LabelTable → ℕ → PeriodCounts
 counts_of m l c = record { arcs = map (arc_periods m l c) (places m.arcs); holds = map (hold_periods m l c) (places m.nodes); room = m.horizon + 1 }
 
 -- there is room for a model's arcs and nodes
-pub record HasRoom (m : Model) (v : PeriodCounts) : Type 0 where
+pub record HasCounts (m : Model) (v : PeriodCounts) : Type 0 where
   pub arcs_fit : length v.arcs ≡ length m.arcs
   pub holds_fit : length v.holds ≡ length m.nodes
   pub periods_fit : v.room ≡ m.horizon + 1

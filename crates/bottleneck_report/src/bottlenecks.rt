@@ -3,7 +3,7 @@ ghost use Rattle.std.specs.Prelude.{◌≡◌, ◌+◌, ◌<◌, ◌≤◌, IfOk
 ghost use Rattle.evac_law.specs.Building.{IsValid};
 ghost use Rattle.evac_law.specs.Certificates.{IsTableOf};
 ghost use Rattle.evac_law.specs.Sums.{places};
-ghost use Rattle.bottleneck_report.specs.Crossings.{HasRoom, arc_periods, counts_of, hold_periods};
+ghost use Rattle.bottleneck_report.specs.Crossings.{HasCounts, arc_periods, counts_of, hold_periods};
 
 use crate::cover::{add, clear, count};
 use cut_witness::{arc_span, hold_span};
@@ -128,7 +128,7 @@ impl Bottlenecks {
     /// A report with room for the arcs, nodes and periods of a model.
     pub fn new(alloc: Global, model: &evac_law::Model) -> Result<Bottlenecks, AllocError>
         requires { IsValid model.now }
-        ensures { IfOk result (HasRoom model.now) }
+        ensures { IfOk result (HasCounts model.now) }
     {
         let arcs = zeros(alloc, model.arcs.len())?;
         let holds = zeros(alloc, model.nodes.len())?;
@@ -139,11 +139,11 @@ impl Bottlenecks {
     /// Counts over the periods before everybody is out, in one pass over the labels for arcs and one for nodes.
     pub fn fill(&mut self, model: &evac_law::Model, labels: &Labels, cleared: u16)
         requires valid { IsValid model.now }
-        requires room { HasRoom model.now self.old }
+        requires room { HasCounts model.now self.old }
         requires table { IsTableOf model.now labels.now }
         requires in_time { cleared ≤ model.now.horizon }
         ensures counts { self.new ≡ counts_of model.now labels.now cleared }
-        ensures room { HasRoom model.now self.new }
+        ensures room { HasCounts model.now self.new }
     {
         write_arcs(
             self.arcs.as_mut_slice(),

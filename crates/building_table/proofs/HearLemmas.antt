@@ -7,9 +7,9 @@ use Rattle.line_io.specs.declared.hearing.Refusal.TheVariants as refusals
 use Rattle.line_io.specs.declared.hearing.Refusal.TheVariants.{Code}
 use Rattle.building_table.specs.declared.read.ModelReader.{ModelReader}
 use Rattle.building_table.specs.Built.{IsPart, built_of}
-use Rattle.building_table.specs.Reads.{IsNext, Moves, Hears, HearsFirst, HearsAt, HearsModel}
+use Rattle.building_table.specs.Reads.{IsNext, Moves, TakesStep, HearsFirst, HearsAt, HearsModel}
 use Rattle.model_text.specs.Grammar.{Said, IsSaid, Blank, Header, End}
-use Rattle.model_text.specs.Readings.{Step, Passed, Took, Ended, Stopped, unless, first_step, later_step, later_said}
+use Rattle.model_text.specs.Readings.{Step, Passed, Took, Ended, Stopped, step_unless, first_step, later_step, later_said}
 use Rattle.model_text.specs.Taken.{AreTaken, statement_fault}
 
 pub part-said : (x : Said) → IsPart x → IsSaid x
@@ -18,7 +18,7 @@ part-said (Header v) p = absurd p
 part-said End p = absurd p
 part-said x p = p
 
-later-part : (taken : List Said) (x : Said) → IsPart x → later_said taken (Ok x) ≡ unless (statement_fault taken x) (Took x)
+later-part : (taken : List Said) (x : Said) → IsPart x → later_said taken (Ok x) ≡ step_unless (statement_fault taken x) (Took x)
 later-part taken Blank p = absurd p
 later-part taken (Header v) p = absurd p
 later-part taken End p = absurd p
@@ -27,7 +27,7 @@ later-part taken x p = refl
 pub part-next : (taken : List Said) (x : Said) → IsPart x → statement_fault taken x ≡ None → IsNext (later_said taken (Ok x)) taken (x ∷ taken)
 part-next taken x p right =
     let P : Step → Type 0 = λ s. IsNext s taken (x ∷ taken) in
-    subst P (sym (later-part taken x p ∙ ap (λ o. unless o (Took x)) right)) refl
+    subst P (sym (later-part taken x p ∙ ap (λ o. step_unless o (Took x)) right)) refl
 
 -- ---- a reader of a model
 
@@ -37,7 +37,7 @@ moves-next (Took s) taken next h = ap Some h
 moves-next Ended taken next h = absurd h
 moves-next (Stopped code) taken next h = absurd h
 
-later-at : (result : Result Heard Refusal) (step : Step) (taken : List Said) (new : ModelReader) → AreTaken taken → new.opened ≡ true → Hears result step taken new.builder
+later-at : (result : Result Heard Refusal) (step : Step) (taken : List Said) (new : ModelReader) → AreTaken taken → new.opened ≡ true → TakesStep result step taken new.builder
     → HearsAt result step (Some taken) new
 later-at (Ok More) step taken new are still h = (Some h.0, moves-next step taken h.0 h.1.0, (still, h.1.1, h.1.2))
 later-at (Ok Last) step taken new are still h = (taken, refl, h.0, are, h.1)
@@ -46,7 +46,7 @@ later-at (Err refusals.Memory) step taken new are still h = tt
 
 -- a line behind the header
 pub hears-later : (result : Result Heard Refusal) (r new : ModelReader) (text : List ℕ) (line : ℕ) → r.opened ≡ true → new.opened ≡ true
-    → ((taken : List Said) → AreTaken taken → r.builder ≡ built_of taken → Hears result (later_step taken (Ok text)) taken new.builder) → HearsModel r line text result new
+    → ((taken : List Said) → AreTaken taken → r.builder ≡ built_of taken → TakesStep result (later_step taken (Ok text)) taken new.builder) → HearsModel r line text result new
 hears-later result r new text line first still heard None is = let no : true ≡ false = sym first ∙ is.0 in cc
 hears-later result r new text line first still heard (Some taken) is = later-at result (later_step taken (Ok text)) taken new is.1 still (heard taken is.1 is.2)
 

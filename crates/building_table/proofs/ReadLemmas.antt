@@ -23,10 +23,10 @@ use Rattle.building_table.specs.declared.read.ModelReader.{ModelReader}
 use Rattle.building_table.specs.Built.{IsBuilding}
 use Rattle.building_table.specs.Names.{NameTable, NamesFit, arc_ends, node_names}
 use Rattle.building_table.specs.Passes.{ReadsLines, ReadsModel}
-use Rattle.building_table.specs.Reads.{Place, meaning, step_at, IsAt, Moves, HearsModel, Finishes, AnswersBy, ReadsBy, Concludes}
+use Rattle.building_table.specs.Reads.{Place, meaning, step_at, IsAt, Moves, HearsModel, Finishes, AnswersBy, ReadsBy, ConcludesModel}
 use Rattle.model_text.specs.Codes.{missing_end}
 use Rattle.model_text.specs.Grammar.{Said}
-use Rattle.model_text.specs.Readings.{Line, Reading, Described, Refused, Step, Passed, Took, Ended, Stopped, unless, after_step, after_first_step, reading_of, opening_of}
+use Rattle.model_text.specs.Readings.{Line, Reading, Described, Refused, Step, Passed, Took, Ended, Stopped, step_unless, after_step, after_first_step, reading_of, opening_of}
 use Rattle.model_text.specs.Taken.{Description, description_of, end_fault}
 
 -- ---- what a line makes of a reading
@@ -80,16 +80,16 @@ step-last {ending} {from} {to} {a} h w t is rest =
 
 -- the end of the model
 ends-model : (a c : Reader) (l n : Option (List ℕ)) (texts : List (List ℕ)) (taken : List Said) (rest : List Line) → Passes a c l n texts → IsLeft (lines_left a l) (lines_left c n) rest
-    → ((more : List Line) → opening_of a.number (text_lines texts ++ more) ≡ after_step (unless (end_fault taken) Ended) taken c.number more (λ x. reading_of x c.number more))
+    → ((more : List Line) → opening_of a.number (text_lines texts ++ more) ≡ after_step (step_unless (end_fault taken) Ended) taken c.number more (λ x. reading_of x c.number more))
     → (result : Result Building ModelFault) → Finishes result taken c.number → ReadsBy result a c l n
 ends-model a c l n texts taken rest p left means (Ok b) h = record {
   texts = texts;
   passes = p;
-  answer = (description_of taken, (h.1, λ more. means more ∙ ap (λ o. after_step (unless o Ended) taken c.number more (λ x. reading_of x c.number more)) h.0));
+  answer = (description_of taken, (h.1, λ more. means more ∙ ap (λ o. after_step (step_unless o Ended) taken c.number more (λ x. reading_of x c.number more)) h.0));
 }
 ends-model a c l n texts taken rest p left means (Err (Named code number)) h =
     let refused : (more : List Line) → opening_of a.number (text_lines texts ++ more) ≡ Refused code number =
-    λ more. means more ∙ ap (λ o. after_step (unless o Ended) taken c.number more (λ x. reading_of x c.number more)) h.0 ∙ ap (Refused code) (sym h.1) in
+    λ more. means more ∙ ap (λ o. after_step (step_unless o Ended) taken c.number more (λ x. reading_of x c.number more)) h.0 ∙ ap (Refused code) (sym h.1) in
     record { texts = texts; passes = p; answer = record { rest = rest; left_is = left; left = refused rest; pending = refused (pending_lines c) } }
 ends-model a c l n texts taken rest p left means (Err ReadFault) h = absurd h
 ends-model a c l n texts taken rest p left means (Err Memory) h = record { texts = texts; passes = p; answer = tt }
@@ -109,7 +109,7 @@ unfolding after
 after-last x taken step k rest is = ap (λ z. after step z k rest) is
 
 reads-by : (ending : Ending Refusal) (a c : Reader) (l n : Option (List ℕ)) (from to : ModelReader) (h : Listens HearsModel ending from to a c l n) → Comes IsAt meaning None a.number h.texts h.at → (result : Result Building ModelFault)
-    → Concludes ending to c.number result → ReadsBy result a c l n
+    → ConcludesModel ending to c.number result → ReadsBy result a c l n
 reads-by Finished a c l n from to h w result done =
     let t = h.ends.0 in
     let heard = h.ends.2 w.place w.is in
@@ -140,8 +140,8 @@ reads-by (Fault line_faults.ReadFault) a c l n from to h w result done =
 
 -- what listening to the lines of a model tells of the answer
 pub reads-all : (ending : Ending Refusal) (a c : Reader) (l n : Option (List ℕ)) (from to : ModelReader) → Listens HearsModel ending from to a c l n → IsAt from None → (result : Result Building ModelFault) (k : ℕ)
-    → Concludes ending to k result → k ≡ c.number → ReadsBy result a c l n
-reads-all ending a c l n from to h start result k done is = reads-by ending a c l n from to h (comes HearsModel IsAt meaning goes-on h None start) result (subst (λ (j : ℕ). Concludes ending to j result) is done)
+    → ConcludesModel ending to k result → k ≡ c.number → ReadsBy result a c l n
+reads-all ending a c l n from to h start result k done is = reads-by ending a c l n from to h (comes HearsModel IsAt meaning goes-on h None start) result (subst (λ (j : ℕ). ConcludesModel ending to j result) is done)
 
 pub reads-memory : (a : Reader) (l : Option (List ℕ)) → ReadsBy (Err Memory) a a l l
 reads-memory a l = record { texts = []; passes = passes-none a l; answer = tt }

@@ -5,7 +5,7 @@ use Rattle.evac_law.specs.Limits.{floor_limit}
 use Rattle.evac_law.specs.declared.name.NodeName.{NodeName}
 use Rattle.building_table.specs.declared.faults.BuildFault.{BuildFault}
 use Rattle.building_table.specs.Built.{Built, built_of, build_code}
-use Rattle.building_table.specs.Taking.{Takes, title_checks, period_checks, horizon_checks, floor_checks, room_checks, exit_checks, arc_checks, with_floor, with_node, with_arc, holds_floor}
+use Rattle.building_table.specs.Taking.{Takes, title_checks, period_checks, horizon_checks, floor_checks, room_checks, exit_checks, arc_checks, with_floor, adding_node, adding_arc, holds_floor}
 use Rattle.model_text.specs.Codes.{repeated_setting, too_many}
 use Rattle.model_text.specs.Grammar.{Said, Title, Period, Horizon, Floor, Node, Exit, Arc}
 use Rattle.model_text.specs.Taken.{first_code, statement_fault, floors_of}
@@ -58,20 +58,20 @@ same-floor f t old = λ before e.
     subst P (sym e)
     (ap (λ n. first_code ((holds_floor b f, repeated_setting) ∷ (nat_le floor_limit n, too_many) ∷ [])) (sym (length-map (floors_of before) (λ (x : ℕ × List ℕ). x.0))), floor-held f t before)
 
-pub same-room : (name : NodeName) (capacity start : ℕ) (old : Built) → IsSame (Node name capacity start) (room_checks old name capacity start) old (with_node old name capacity start)
+pub same-room : (name : NodeName) (capacity start : ℕ) (old : Built) → IsSame (Node name capacity start) (room_checks old name capacity start) old (adding_node old name capacity start)
 unfolding IsSame statement_fault
 same-room name capacity start old = λ before e.
-    let P : Built → Type 0 = λ b. (statement_fault before (Node name capacity start) ≡ first_code (room_checks b name capacity start)) × (with_node b name capacity start ≡ built_of (Node name capacity start ∷ before)) in
+    let P : Built → Type 0 = λ b. (statement_fault before (Node name capacity start) ≡ first_code (room_checks b name capacity start)) × (adding_node b name capacity start ≡ built_of (Node name capacity start ∷ before)) in
     subst P (sym e) (refl, refl)
 
-pub same-exit : (name : NodeName) (old : Built) → IsSame (Exit name) (exit_checks old name) old (with_node old name 0 0)
+pub same-exit : (name : NodeName) (old : Built) → IsSame (Exit name) (exit_checks old name) old (adding_node old name 0 0)
 unfolding IsSame statement_fault
 same-exit name old = λ before e.
-    let P : Built → Type 0 = λ b. (statement_fault before (Exit name) ≡ first_code (exit_checks b name)) × (with_node b name 0 0 ≡ built_of (Exit name ∷ before)) in
+    let P : Built → Type 0 = λ b. (statement_fault before (Exit name) ≡ first_code (exit_checks b name)) × (adding_node b name 0 0 ≡ built_of (Exit name ∷ before)) in
     subst P (sym e) (refl, refl)
 
-pub same-arc : (start finish : NodeName) (travel rate : ℕ) (old : Built) → IsSame (Arc start finish travel rate) (arc_checks old start finish) old (with_arc old start finish travel rate)
+pub same-arc : (start finish : NodeName) (travel rate : ℕ) (old : Built) → IsSame (Arc start finish travel rate) (arc_checks old start finish) old (adding_arc old start finish travel rate)
 unfolding IsSame statement_fault
 same-arc start finish travel rate old = λ before e.
-    let P : Built → Type 0 = λ b. (statement_fault before (Arc start finish travel rate) ≡ first_code (arc_checks b start finish)) × (with_arc b start finish travel rate ≡ built_of (Arc start finish travel rate ∷ before)) in
+    let P : Built → Type 0 = λ b. (statement_fault before (Arc start finish travel rate) ≡ first_code (arc_checks b start finish)) × (adding_arc b start finish travel rate ≡ built_of (Arc start finish travel rate ∷ before)) in
     subst P (sym e) (refl, refl)

@@ -21,7 +21,7 @@ use Rattle.building_table.specs.Built.{Built, IsBuilding, built_of}
 use Rattle.building_table.specs.declared.read.ModelReader.{ModelReader}
 use Rattle.model_text.specs.Codes.{missing_end}
 use Rattle.model_text.specs.Grammar.{Said}
-use Rattle.model_text.specs.Readings.{Line, Reading, Described, Refused, Step, Passed, Took, Ended, Stopped, unless, first_step, later_step, reading_of, opening_of}
+use Rattle.model_text.specs.Readings.{Line, Reading, Described, Refused, Step, Passed, Took, Ended, Stopped, step_unless, first_step, later_step, reading_of, opening_of}
 use Rattle.model_text.specs.Taken.{Description, description_of, end_fault, AreTaken}
 
 -- the statements after a step that doesn't end the reading
@@ -32,11 +32,11 @@ IsNext Ended taken next = ⊥
 IsNext (Stopped code) taken next = ⊥
 
 -- a builder heard a line that takes a step
-abbrev pub Hears : Result Heard Refusal → Step → List Said → Built → Type 0
-Hears (Ok More) step taken new = (next : List Said) × (IsNext step taken next × AreTaken next × (new ≡ built_of next))
-Hears (Ok Last) step taken new = (step ≡ unless (end_fault taken) Ended) × (new ≡ built_of taken)
-Hears (Err (Code code)) step taken new = step ≡ Stopped code
-Hears (Err refusals.Memory) step taken new = ⊤
+abbrev pub TakesStep : Result Heard Refusal → Step → List Said → Built → Type 0
+TakesStep (Ok More) step taken new = (next : List Said) × (IsNext step taken next × AreTaken next × (new ≡ built_of next))
+TakesStep (Ok Last) step taken new = (step ≡ step_unless (end_fault taken) Ended) × (new ≡ built_of taken)
+TakesStep (Err (Code code)) step taken new = step ≡ Stopped code
+TakesStep (Err refusals.Memory) step taken new = ⊤
 
 -- a line before the statements that takes a step: `true` is the header
 abbrev pub HearsFirst : Result Bool Refusal → Step → Type 0
@@ -77,7 +77,7 @@ Moves (Stopped code) x y = ⊥
 abbrev pub HearsAt : Result Heard Refusal → Step → Place → ModelReader → Type 0
 HearsAt (Ok More) step x new = (y : Place) × Moves step x y × IsAt new y
 HearsAt (Ok Last) step x new =
-    (taken : List Said) × (x ≡ Some taken) × (step ≡ unless (end_fault taken) Ended) × AreTaken taken × (new.builder ≡ built_of taken)
+    (taken : List Said) × (x ≡ Some taken) × (step ≡ step_unless (end_fault taken) Ended) × AreTaken taken × (new.builder ≡ built_of taken)
 HearsAt (Err (Code code)) step x new = step ≡ Stopped code
 HearsAt (Err refusals.Memory) step x new = ⊤
 
@@ -117,11 +117,11 @@ pub record ReadsBy (result : Result Building ModelFault) (before after : Reader)
   pub answer : AnswersBy before.number result after (lines_left before left) (lines_left after left') texts
 
 -- the answer of a reader that heard all, or behind which the lines ended, where so many went by
-abbrev pub Concludes : Ending Refusal → ModelReader → ℕ → Result Building ModelFault → Type 0
-Concludes endings.Finished reader number result = (taken : List Said) → AreTaken taken → reader.builder ≡ built_of taken → Finishes result taken number
-Concludes (endings.Failed (Code code)) reader number result = result ≡ Err (Named code number)
-Concludes (endings.Failed refusals.Memory) reader number result = result ≡ Err Memory
-Concludes endings.InputEnded reader number result = result ≡ Err (Named missing_end (number + 1))
-Concludes (endings.Fault line_faults.LineTooLong) reader number result = result ≡ Err (Named line_too_long (number + 1))
-Concludes (endings.Fault line_faults.InputTooLong) reader number result = result ≡ Err (Named input_too_long (number + 1))
-Concludes (endings.Fault line_faults.ReadFault) reader number result = result ≡ Err ReadFault
+abbrev pub ConcludesModel : Ending Refusal → ModelReader → ℕ → Result Building ModelFault → Type 0
+ConcludesModel endings.Finished reader number result = (taken : List Said) → AreTaken taken → reader.builder ≡ built_of taken → Finishes result taken number
+ConcludesModel (endings.Failed (Code code)) reader number result = result ≡ Err (Named code number)
+ConcludesModel (endings.Failed refusals.Memory) reader number result = result ≡ Err Memory
+ConcludesModel endings.InputEnded reader number result = result ≡ Err (Named missing_end (number + 1))
+ConcludesModel (endings.Fault line_faults.LineTooLong) reader number result = result ≡ Err (Named line_too_long (number + 1))
+ConcludesModel (endings.Fault line_faults.InputTooLong) reader number result = result ≡ Err (Named input_too_long (number + 1))
+ConcludesModel (endings.Fault line_faults.ReadFault) reader number result = result ≡ Err ReadFault

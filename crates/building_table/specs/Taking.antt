@@ -9,7 +9,7 @@ use Rattle.evac_law.specs.declared.model.ArcRow.{ArcRow}
 use Rattle.building_table.specs.declared.faults.BuildFault.{BuildFault}
 use Rattle.building_table.specs.Built.{Built, build_code}
 use Rattle.model_text.specs.Codes.{repeated_setting, unknown_floor, repeated_node, over_full, unknown_node, self_arc, from_exit, repeated_arc, too_many, missing_setting, no_exit, too_large}
-use Rattle.model_text.specs.Taken.{first_code, place_of, same_name}
+use Rattle.model_text.specs.Taken.{first_code, place_of_node, same_name}
 
 -- whether it holds a floor of a number, a node of a name, an arc between two names
 abbrev pub holds_floor : Built → ℕ → Bool
@@ -19,7 +19,7 @@ abbrev pub holds_node : Built → NodeName → Bool
 holds_node b name = list_any (λ n. same_name n.name name) b.nodes
 
 abbrev pub holds_arc : Built → NodeName → NodeName → Bool
-holds_arc b start finish = list_any (λ a. a.from == place_of b.nodes start && a.to == place_of b.nodes finish) b.arcs
+holds_arc b start finish = list_any (λ a. a.from == place_of_node b.nodes start && a.to == place_of_node b.nodes finish) b.arcs
 
 -- the checks of a statement in their order, each with its code
 abbrev pub title_checks : Built → List (Bool × ℕ)
@@ -58,12 +58,12 @@ end_checks b =
 abbrev pub with_floor : Built → ℕ → List ℕ → Built
 with_floor b floor text = record b { floors = b.floors ++ (floor ∷ []); texts = b.texts ++ (text ∷ []) }
 
-abbrev pub with_node : Built → NodeName → ℕ → ℕ → Built
-with_node b name capacity start = record b { nodes = b.nodes ++ (record { name = name; capacity = capacity; start = start; shut = false } ∷ []) }
+abbrev pub adding_node : Built → NodeName → ℕ → ℕ → Built
+adding_node b name capacity start = record b { nodes = b.nodes ++ (record { name = name; capacity = capacity; start = start; shut = false } ∷ []) }
 
-abbrev pub with_arc : Built → NodeName → NodeName → ℕ → ℕ → Built
-with_arc b start finish travel rate =
-    record b { arcs = b.arcs ++ (record { from = place_of b.nodes start; to = place_of b.nodes finish; travel = travel; rate = rate; shut = false } ∷ []) }
+abbrev pub adding_arc : Built → NodeName → NodeName → ℕ → ℕ → Built
+adding_arc b start finish travel rate =
+    record b { arcs = b.arcs ++ (record { from = place_of_node b.nodes start; to = place_of_node b.nodes finish; travel = travel; rate = rate; shut = false } ∷ []) }
 
 -- `Ok` comes where no check holds, and the builder then holds what it should; a fault is that of the first check that holds, and changes nothing
 pub record Takes (result : Result (Unit {0}) BuildFault) (checks : List (Bool × ℕ)) (old new after : Built) : Type 0 where

@@ -5,10 +5,10 @@ ghost use Rattle.evac_law.specs.Building.{IsValid};
 ghost use Rattle.evac_law.specs.Limits.{arc_limit, capacity_limit, cell_limit, floor_limit, node_limit, people_limit};
 ghost use Rattle.evac_law.specs.Names.{is_exit};
 ghost use Rattle.building_table.specs.Built.{Built, IsBuilding, IsPart, build_code, built_of, end_code};
-ghost use Rattle.building_table.specs.Taking.{Takes, end_checks, holds_node, arc_checks, exit_checks, floor_checks, holds_floor, horizon_checks, period_checks, room_checks, title_checks, with_arc, with_floor, with_node};
+ghost use Rattle.building_table.specs.Taking.{Takes, end_checks, holds_node, arc_checks, exit_checks, floor_checks, holds_floor, horizon_checks, period_checks, room_checks, title_checks, adding_arc, with_floor, adding_node};
 ghost use Rattle.model_text.specs.Grammar.{Said};
 ghost use Rattle.model_text.specs.Reads.{said};
-ghost use Rattle.model_text.specs.Taken.{AreTaken, description_of, end_fault, first_code, place_of, same_name, statement_fault};
+ghost use Rattle.model_text.specs.Taken.{AreTaken, description_of, end_fault, first_code, place_of_node, same_name, statement_fault};
 
 use crate::building::Building;
 use crate::faults::{BuildFault, EndFault};
@@ -155,7 +155,7 @@ impl Builder {
     }
 
     fn node_place(&self, name: NodeName) -> Option<u32>
-        ensures { MatchOption result (holds_node self.now name ≡ false) (λ place. (holds_node self.now name ≡ true) × (place ≡ place_of self.now.nodes name)) }
+        ensures { MatchOption result (holds_node self.now name ≡ false) (λ place. (holds_node self.now name ≡ true) × (place ≡ place_of_node self.now.nodes name)) }
     {
         match place_in(self.nodes.as_slice(), name) {
             Some(place) => Some(place as u32),
@@ -256,7 +256,7 @@ impl Builder {
     fn push_node(&mut self, name: NodeName, capacity: u32, start: u32) -> Result<(), BuildFault>
         requires few { length self.old.nodes < node_limit }
         requires fits { sum_by (λ n. n.start) self.old.nodes + start ≤ people_limit }
-        ensures made { OnOk result (self.new ≡ with_node self.old name capacity start) }
+        ensures made { OnOk result (self.new ≡ adding_node self.old name capacity start) }
         ensures memory { IfErr result (λ f. f ≡ BuildFault.Memory) }
         ensures same { OnErr result (self.new ≡ self.old) }
     {
@@ -275,7 +275,7 @@ impl Builder {
 
     fn take_room(&mut self, name: NodeName, capacity: u32, start: u32) -> Result<(), BuildFault>
         requires { start ≤ 100000 }
-        ensures { Takes result (room_checks self.old name capacity start) self.old self.new (with_node self.old name capacity start) }
+        ensures { Takes result (room_checks self.old name capacity start) self.old self.new (adding_node self.old name capacity start) }
     {
         if !self.has_floor(name.floor) {
             return Err(BuildFault::UnknownFloor);
@@ -293,7 +293,7 @@ impl Builder {
     }
 
     fn take_exit(&mut self, name: NodeName) -> Result<(), BuildFault>
-        ensures { Takes result (exit_checks self.old name) self.old self.new (with_node self.old name 0 0) }
+        ensures { Takes result (exit_checks self.old name) self.old self.new (adding_node self.old name 0 0) }
     {
         let _ = &self.people;
         if !self.has_floor(name.floor) {
@@ -327,7 +327,7 @@ impl Builder {
         travel: u16,
         rate: u32,
     ) -> Result<(), BuildFault>
-        ensures { Takes result (arc_checks self.old start finish) self.old self.new (with_arc self.old start finish travel rate) }
+        ensures { Takes result (arc_checks self.old start finish) self.old self.new (adding_arc self.old start finish travel rate) }
     {
         let Some(from) = self.node_place(start) else {
             return Err(BuildFault::UnknownNode);

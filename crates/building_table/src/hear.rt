@@ -3,7 +3,7 @@ ghost use Rattle.std.specs.Prelude.{◌≡◌, List, IfOk, Ok, Err};
 ghost use Rattle.std.specs.Str.{bytes_eq};
 ghost use Rattle.evac_law.specs.Building.{IsValid};
 ghost use Rattle.building_table.specs.Built.{IsPart, built_of};
-ghost use Rattle.building_table.specs.Reads.{Finishes, Hears, HearsFirst};
+ghost use Rattle.building_table.specs.Reads.{Finishes, TakesStep, HearsFirst};
 ghost use Rattle.model_text.specs.Fields.{fields_of};
 ghost use Rattle.model_text.specs.Grammar.{IsSaid, Said};
 ghost use Rattle.model_text.specs.Readings.{begins_header, first_step, later_said, later_step};
@@ -41,7 +41,7 @@ fn hear_statement(
     statement: Statement<'_>,
 ) -> Result<Heard, Refusal>
     requires { IsSaid (said statement) }
-    ensures { (taken : List Said) → AreTaken taken → builder.old ≡ built_of taken → Hears result (later_said taken (Ok (said statement.entry))) taken builder.new }
+    ensures { (taken : List Said) → AreTaken taken → builder.old ≡ built_of taken → TakesStep result (later_said taken (Ok (said statement.entry))) taken builder.new }
 {
     match statement {
         Statement::Blank => Ok(Heard::More),
@@ -54,7 +54,7 @@ fn hear_statement(
 // Takes a statement that a builder takes.
 fn hear_part(alloc: Global, builder: &mut Builder, part: Statement<'_>) -> Result<Heard, Refusal>
     requires { IsPart (said part) }
-    ensures { (taken : List Said) → AreTaken taken → builder.old ≡ built_of taken → Hears result (later_said taken (Ok (said part.entry))) taken builder.new }
+    ensures { (taken : List Said) → AreTaken taken → builder.old ≡ built_of taken → TakesStep result (later_said taken (Ok (said part.entry))) taken builder.new }
 {
     match builder.take(alloc, part) {
         Ok(()) => Ok(Heard::More),
@@ -67,7 +67,7 @@ fn hear_part(alloc: Global, builder: &mut Builder, part: Statement<'_>) -> Resul
 
 /// Takes a line behind the header into a builder.
 pub(crate) fn hear(alloc: Global, builder: &mut Builder, text: &[u8]) -> Result<Heard, Refusal>
-    ensures { (taken : List Said) → AreTaken taken → builder.old ≡ built_of taken → Hears result (later_step taken (Ok text.now)) taken builder.new }
+    ensures { (taken : List Said) → AreTaken taken → builder.old ≡ built_of taken → TakesStep result (later_step taken (Ok text.now)) taken builder.new }
 {
     if begins_header(text) {
         return Err(Refusal::Code(TextFault::UnknownWord.code()));

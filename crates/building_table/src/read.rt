@@ -6,7 +6,7 @@ ghost use Rattle.line_io.specs.Causes.{Rose};
 ghost use Rattle.line_io.specs.Reader.{Drained, is_settled, lines_left};
 ghost use Rattle.building_table.specs.Names.{NamesFit};
 ghost use Rattle.building_table.specs.Passes.{ReadsLines, ReadsModel};
-ghost use Rattle.building_table.specs.Reads.{Concludes};
+ghost use Rattle.building_table.specs.Reads.{ConcludesModel};
 ghost use Rattle.line_io.specs.Line.{input_limit};
 
 use crate::builder::Builder;
@@ -54,7 +54,7 @@ fn conclude(
     number: u32,
 ) -> Result<Building, ModelFault>
     requires { number ≤ input_limit }
-    ensures answer { Concludes ending reader number result }
+    ensures answer { ConcludesModel ending reader number result }
     ensures caused { result ≡ Err ModelFault.ReadFault → ending ≡ Ending.Fault LineFault.ReadFault }
     ensures quiet { ending ≡ Ending.Fault LineFault.ReadFault → result ≡ Err ModelFault.ReadFault }
 {

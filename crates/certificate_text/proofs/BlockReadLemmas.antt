@@ -28,13 +28,9 @@ use Rattle.certificate_text.specs.BlockReads.{IsFault, IsBlockReading, ReadsBloc
 use Rattle.certificate_text.specs.DraftFacts.{IsDraft}
 use Rattle.certificate_text.specs.Drafts.{Draft, no_draft}
 use Rattle.certificate_text.specs.Takings.{AnswersBlock, ConcludesBlock, HearsDraft, HearsBlock, ReadsBlockBy, RefusesBlock}
+use Rattle.certificate_text.proofs.LeadLemmas.{reading-more}
 
 -- ---- one line
-
-line-more : (m : Model) (d : Draft) (number : ℕ) (line : Line) (rest : List Line)
-    → block_from m d number (line ∷ rest) ≡ after_block_step (line_step m d line) d (number + 1) rest (λ next. block_from m next (number + 1) rest)
-unfolding block_from
-line-more m d number line rest = refl
 
 no-line : (m : Model) (d : Draft) (number : ℕ) → block_from m d number [] ≡ Refused bad_block (number + 1)
 unfolding block_from
@@ -53,7 +49,7 @@ goes-on m s s' d n t is heard =
     let went : line_step m d (Ok t) ≡ Went s'.builder = heard-at m s s' d (n + 1) t (λ x y. line_step x y (Ok t) ≡ Went s'.builder) is heard.1 in (
       s'.builder,
       (heard.0 ∙ is.0, refl, went-draft m d t s'.builder went is.2),
-      λ rest. line-more m d n (Ok t) rest ∙ ap (λ s. after_block_step s d (n + 1) rest (λ next. block_from m next (n + 1) rest)) went,
+      λ rest. reading-more m d n (Ok t) rest ∙ ap (λ s. after_block_step s d (n + 1) rest (λ next. block_from m next (n + 1) rest)) went,
     )
 
 -- the lines that went by with the one answered last, by its step
@@ -61,7 +57,7 @@ step-last : (m : Model) {ending : Ending TakeFault} {from to : BlockReader} {a c
     (w : Comes (IsAt m) (block_from m) no_draft a.number h.texts h.at) (t : List ℕ) → h.last ≡ t ∷ [] → (rest : List Line)
     → block_of m a.number (text_lines (h.texts ++ h.last) ++ rest) ≡ after_block_step (line_step m w.place (Ok t)) w.place c.number rest (λ next. block_from m next c.number rest)
 step-last m {ending} {from} {to} {a} h w t is rest =
-    means-last (IsAt m) (block_from m) h no_draft w t is rest ∙ line-more m w.place (a.number + length h.texts) (Ok t) rest
+    means-last (IsAt m) (block_from m) h no_draft w t is rest ∙ reading-more m w.place (a.number + length h.texts) (Ok t) rest
     ∙ ap (λ k. after_block_step (line_step m w.place (Ok t)) w.place k rest (λ next. block_from m next k rest)) (last-number h t is)
 
 -- ---- the answer
@@ -120,11 +116,11 @@ answer-by m endings.InputEnded from to a c l n h w result done =
 answer-by m (endings.Fault line_faults.LineTooLong) from to a c l n h w result done =
     subst (λ (r : Result Block BlockFault). AnswersBlock m a.number r c (lines_left a l) (lines_left c n) (h.texts ++ h.last)) (sym done)
     (refuses m (faults.LineTooLong (c.number + 1)) 2 (c.number + 1) h (λ rest. rest ≡ Err 2 ∷ []) (refl, refl)
-    (λ rest bad. means-rest (IsAt m) (block_from m) h no_draft w h.ends.0 rest ∙ ap (block_from m w.place c.number) bad ∙ line-more m w.place c.number (Err 2) []) h.ends.1 h.rests)
+    (λ rest bad. means-rest (IsAt m) (block_from m) h no_draft w h.ends.0 rest ∙ ap (block_from m w.place c.number) bad ∙ reading-more m w.place c.number (Err 2) []) h.ends.1 h.rests)
 answer-by m (endings.Fault line_faults.InputTooLong) from to a c l n h w result done =
     subst (λ (r : Result Block BlockFault). AnswersBlock m a.number r c (lines_left a l) (lines_left c n) (h.texts ++ h.last)) (sym done)
     (refuses m (faults.InputTooLong (c.number + 1)) 3 (c.number + 1) h (λ rest. rest ≡ Err 3 ∷ []) (refl, refl)
-    (λ rest bad. means-rest (IsAt m) (block_from m) h no_draft w h.ends.0 rest ∙ ap (block_from m w.place c.number) bad ∙ line-more m w.place c.number (Err 3) []) h.ends.1 h.rests)
+    (λ rest bad. means-rest (IsAt m) (block_from m) h no_draft w h.ends.0 rest ∙ ap (block_from m w.place c.number) bad ∙ reading-more m w.place c.number (Err 3) []) h.ends.1 h.rests)
 answer-by m (endings.Fault line_faults.ReadFault) from to a c l n h w result done =
     subst (λ (r : Result Block BlockFault). AnswersBlock m a.number r c (lines_left a l) (lines_left c n) (h.texts ++ h.last)) (sym done)
     (ap (block_of m a.number) (sym (append-nil (text_lines (h.texts ++ h.last)))) ∙ means-rest (IsAt m) (block_from m) h no_draft w h.ends.0 [] ∙ no-line m w.place c.number)

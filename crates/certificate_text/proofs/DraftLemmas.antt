@@ -30,6 +30,7 @@ use Rattle.certificate_text.proofs.ExitLemmas.{exits-at}
 use Rattle.certificate_text.proofs.LastLemmas.{before-all, last-none, last-push, push-sorted}
 use Rattle.certificate_text.proofs.OptionLemmas.{chosen, follows, some-same}
 use Rattle.certificate_text.proofs.RunLabels.{label-before, label-other, label-own}
+use Rattle.certificate_text.proofs.OrderedMoves.{before-trans}
 
 -- ---- nothing read
 
@@ -226,12 +227,6 @@ run-draft m d name t v new h e =
     })
 
 -- ---- moves
-
-before-trans : (a b c : Move) → Before a b → Before b c → Before a c
-before-trans a b c (inl x) (inl y) = inl (omega (arith, x, y))
-before-trans a b c (inl x) (inr y) = inl (omega (arith, x, y.0))
-before-trans a b c (inr x) (inl y) = inl (omega (arith, x.0, y))
-before-trans a b c (inr x) (inr y) = inr (x.0 ∙ y.0, omega (arith, x.1, y.1))
 
 move-before : (q x : Move) → follows_move (Some q) x.moment x.arc ≡ true → Before q x
 move-before q x h =

@@ -6,12 +6,12 @@ use Rattle.std.specs.Str.{bytes_eq}
 use Rattle.model_text.specs.Fields.{fields_of}
 use Rattle.model_text.specs.Grammar.{is_comment}
 use Rattle.model_text.specs.NameFields.{name_of}
-use Rattle.model_text.specs.Numbers.{number_of}
+use Rattle.model_text.specs.Numbers.{field_number}
 use Rattle.certificate_text.specs.declared.entry.Entry.{Entry}
 use Rattle.certificate_text.specs.declared.entry.Entry.TheVariants.{Blank, Index, People, Cleared, Out, Label, Move, End}
 use Rattle.certificate_text.specs.Block.{number_field_limit}
 use Rattle.certificate_text.specs.DraftFacts.{IsEntry}
-use Rattle.certificate_text.specs.Entries.{by_word, cleared_entry, end_entry, entry_of, index_entry, label_entry, move_entry, move_of, of_fields, one_number, out_entry, people_entry}
+use Rattle.certificate_text.specs.Entries.{entry_by_word, cleared_entry, end_entry, entry_of, index_entry, label_entry, move_entry, read_move, entry_of_fields, one_number, out_entry, people_entry}
 use Rattle.certificate_text.proofs.NumberFits.{number-fits}
 use Rattle.certificate_text.proofs.OptionLemmas.{follows, some-same}
 
@@ -39,8 +39,8 @@ out-fits : (fields : List (List ℕ)) (e : Entry) → out_entry fields ≡ Some 
 out-fits [] e h = cc
 out-fits (a ∷ []) e h = cc
 out-fits (a ∷ b ∷ []) e h =
-    let f = follows (number_of a) (λ k. option_and_then (λ n. Some (Out k n)) (number_of b)) e h in
-    let g = follows (number_of b) (λ n. Some (Out f.first n)) e f.then_value in
+    let f = follows (field_number a) (λ k. option_and_then (λ n. Some (Out k n)) (field_number b)) e h in
+    let g = follows (field_number b) (λ n. Some (Out f.first n)) e f.then_value in
     fits-some (Out f.first g.first) (number-fits b g.first g.given) e g.then_value
 out-fits (a ∷ b ∷ d ∷ more) e h = cc
 
@@ -49,18 +49,18 @@ label-fits [] e h = cc
 label-fits (a ∷ []) e h = cc
 label-fits (a ∷ b ∷ []) e h = cc
 label-fits (a ∷ b ∷ d ∷ []) e h =
-    let f = follows (name_of a) (λ n. option_and_then (λ t. option_and_then (λ v. Some (Label n t v)) (number_of d)) (number_of b)) e h in
-    let g = follows (number_of b) (λ t. option_and_then (λ v. Some (Label f.first t v)) (number_of d)) e f.then_value in
-    let k = follows (number_of d) (λ v. Some (Label f.first g.first v)) e g.then_value in
+    let f = follows (name_of a) (λ n. option_and_then (λ t. option_and_then (λ v. Some (Label n t v)) (field_number d)) (field_number b)) e h in
+    let g = follows (field_number b) (λ t. option_and_then (λ v. Some (Label f.first t v)) (field_number d)) e f.then_value in
+    let k = follows (field_number d) (λ v. Some (Label f.first g.first v)) e g.then_value in
     fits-some (Label f.first g.first k.first) (number-fits d k.first k.given) e k.then_value
 label-fits (a ∷ b ∷ d ∷ x ∷ more) e h = cc
 
-move-of-fits : (a b d x : List ℕ) (e : Entry) → move_of a b d x ≡ Some e → IsEntry e
+move-of-fits : (a b d x : List ℕ) (e : Entry) → read_move a b d x ≡ Some e → IsEntry e
 move-of-fits a b d x e h =
-    let f = follows (number_of a) (λ t. option_and_then (λ i. option_and_then (λ j. option_and_then (λ n. Some (Move t i j n)) (number_of x)) (name_of d)) (name_of b)) e h in
-    let g = follows (name_of b) (λ i. option_and_then (λ j. option_and_then (λ n. Some (Move f.first i j n)) (number_of x)) (name_of d)) e f.then_value in
-    let k = follows (name_of d) (λ j. option_and_then (λ n. Some (Move f.first g.first j n)) (number_of x)) e g.then_value in
-    let l = follows (number_of x) (λ n. Some (Move f.first g.first k.first n)) e k.then_value in
+    let f = follows (field_number a) (λ t. option_and_then (λ i. option_and_then (λ j. option_and_then (λ n. Some (Move t i j n)) (field_number x)) (name_of d)) (name_of b)) e h in
+    let g = follows (name_of b) (λ i. option_and_then (λ j. option_and_then (λ n. Some (Move f.first i j n)) (field_number x)) (name_of d)) e f.then_value in
+    let k = follows (name_of d) (λ j. option_and_then (λ n. Some (Move f.first g.first j n)) (field_number x)) e g.then_value in
+    let l = follows (field_number x) (λ n. Some (Move f.first g.first k.first n)) e k.then_value in
     fits-some (Move f.first g.first k.first l.first) (number-fits x l.first l.given) e l.then_value
 
 move-fits : (fields : List (List ℕ)) (e : Entry) → move_entry fields ≡ Some e → IsEntry e
@@ -82,7 +82,7 @@ either-fits false a b f g e h = g e h
 none-fits : (e : Entry) → None ≡ Some e → IsEntry e
 none-fits e h = cc
 
-word-fits : (word : List ℕ) (more : List (List ℕ)) (e : Entry) → by_word word more ≡ Some e → IsEntry e
+word-fits : (word : List ℕ) (more : List (List ℕ)) (e : Entry) → entry_by_word word more ≡ Some e → IsEntry e
 word-fits word more =
     either-fits (is_comment word) _ _ (fits-some Blank tt)
     (either-fits (bytes_eq word (codes "answer")) _ _ (index-fits more)
@@ -93,7 +93,7 @@ word-fits word more =
     (either-fits (bytes_eq word (codes "move")) _ _ (move-fits more)
     (either-fits (bytes_eq word (codes "end")) _ _ (end-fits more) none-fits)))))))
 
-fields-fit : (fields : List (List ℕ)) (e : Entry) → of_fields fields ≡ Some e → IsEntry e
+fields-fit : (fields : List (List ℕ)) (e : Entry) → entry_of_fields fields ≡ Some e → IsEntry e
 fields-fit [] e h = fits-some Blank tt e h
 fields-fit (word ∷ more) e h = word-fits word more e h
 

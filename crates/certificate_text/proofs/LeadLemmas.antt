@@ -13,14 +13,14 @@ use Rattle.line_io.specs.Line.{Line, text_lines}
 use Rattle.line_io.specs.Text.{fields}
 use Rattle.line_io.proofs.PassLemmas.{text_lines-append}
 use Rattle.model_text.specs.NameFields.{name_of}
-use Rattle.model_text.specs.Numbers.{has_leading_zero, number_of}
+use Rattle.model_text.specs.Numbers.{has_leading_zero, field_number}
 use Rattle.model_text.proofs.NameLaws.{plain-reads, text-reads}
 use Rattle.certificate_text.specs.declared.entry.Entry.{Entry}
 use Rattle.certificate_text.specs.declared.entry.Entry.TheVariants.{Index, People, Cleared, Out, Label, Move, End}
 use Rattle.certificate_text.specs.BlockGrammar.{Ended, Stopped, Went, after_block_step, bad_block, entry_step, line_step, or_stopped, block_from}
 use Rattle.certificate_text.specs.BlockText.{answer_line, cleared_line, label_line, move_line, out_line, people_line}
 use Rattle.certificate_text.specs.Drafts.{Draft, is_full, with_entry}
-use Rattle.certificate_text.specs.Entries.{by_word, entry_of, is_end, of_fields}
+use Rattle.certificate_text.specs.Entries.{entry_by_word, entry_of, is_end, entry_of_fields}
 use Rattle.certificate_text.proofs.LineTexts.{AreFields, AreLines, IsField, IsLine, decimal-field, ended, fields-back, fields-line, name-field, small-number, word-field}
 
 -- ---- lines one behind the other
@@ -97,15 +97,15 @@ plain-by : (t : Bool) (o : Option ℕ) (n : ℕ) → cond t None o ≡ Some n �
 plain-by true o n e = cc
 plain-by false o n e = e
 
-pub number-back : (n : ℕ) → n < 10 ^ 9 → number_of (decimal n) ≡ Some n
-number-back n few = plain-by (has_leading_zero (decimal n)) (number_of (decimal n)) n (plain-reads n few (small-number n few))
+pub number-back : (n : ℕ) → n < 10 ^ 9 → field_number (decimal n) ≡ Some n
+number-back n few = plain-by (has_leading_zero (decimal n)) (field_number (decimal n)) n (plain-reads n few (small-number n few))
 
 -- the entry of fields
-entry-back : (f : List ℕ) (fs : List (List ℕ)) → IsField f → AreFields fs → entry_of (fields (f ∷ fs)) ≡ by_word f fs
+entry-back : (f : List ℕ) (fs : List (List ℕ)) → IsField f → AreFields fs → entry_of (fields (f ∷ fs)) ≡ entry_by_word f fs
 unfolding entry_of
-entry-back f fs h hs = ap of_fields (fields-back f fs h hs)
+entry-back f fs h hs = ap entry_of_fields (fields-back f fs h hs)
 
-number-entry : (make : ℕ → Entry) (n : ℕ) → n < 10 ^ 9 → option_and_then (λ k. Some (make k)) (number_of (decimal n)) ≡ Some (make n)
+number-entry : (make : ℕ → Entry) (n : ℕ) → n < 10 ^ 9 → option_and_then (λ k. Some (make k)) (field_number (decimal n)) ≡ Some (make n)
 number-entry make n few = ap (λ o. option_and_then (λ k. Some (make k)) o) (number-back n few)
 
 pub index-back : (n : ℕ) → n < 10 ^ 9 → entry_of (fields (codes "answer" ∷ decimal n ∷ [])) ≡ Some (Index n)
@@ -130,7 +130,7 @@ pub label-back : (name : NodeName) (t v : ℕ) → IsName name → t < 10 ^ 9 �
 label-back name t v is a b =
     entry-back (codes "label") (name_text name ∷ decimal t ∷ decimal v ∷ []) (word-field (codes "label") (omega arith) (omega arith) refl)
     (name-field name is, (decimal-field t a, (decimal-field v b, tt)))
-    ∙ ap (λ o. option_and_then (λ n. option_and_then (λ i. option_and_then (λ j. Some (Label n i j)) (number_of (decimal v))) (number_of (decimal t))) o) (text-reads name is)
+    ∙ ap (λ o. option_and_then (λ n. option_and_then (λ i. option_and_then (λ j. Some (Label n i j)) (field_number (decimal v))) (field_number (decimal t))) o) (text-reads name is)
     ∙ ap₂ (λ x y. option_and_then (λ i. option_and_then (λ j. Some (Label name i j)) y) x) (number-back t a) (number-back v b)
 
 pub move-back : (t : ℕ) (start finish : NodeName) (n : ℕ) → t < 10 ^ 9 → IsName start → IsName finish → n < 10 ^ 9
@@ -138,7 +138,7 @@ pub move-back : (t : ℕ) (start finish : NodeName) (n : ℕ) → t < 10 ^ 9 →
 move-back t start finish n a from to b =
     entry-back (codes "move") (decimal t ∷ name_text start ∷ name_text finish ∷ decimal n ∷ []) (word-field (codes "move") (omega arith) (omega arith) refl)
     (decimal-field t a, (name-field start from, (name-field finish to, (decimal-field n b, tt))))
-    ∙ ap₂ (λ x y. option_and_then (λ i. option_and_then (λ f. option_and_then (λ g. option_and_then (λ j. Some (Move i f g j)) (number_of (decimal n))) (name_of (name_text finish))) y) x)
+    ∙ ap₂ (λ x y. option_and_then (λ i. option_and_then (λ f. option_and_then (λ g. option_and_then (λ j. Some (Move i f g j)) (field_number (decimal n))) (name_of (name_text finish))) y) x)
     (number-back t a) (text-reads start from)
     ∙ ap₂ (λ x y. option_and_then (λ g. option_and_then (λ j. Some (Move t start g j)) y) x) (text-reads finish to) (number-back n b)
 

@@ -4,7 +4,7 @@ use Rattle.std.specs.Char.{is_ascii_digit}
 use Rattle.std.proofs.Math.Nat.{mul_assoc, mul_comm, pow-le-pow_right, pow-suc}
 use Rattle.std.proofs.lemmas.Bool.{and_parts, leb-true, ltb-false}
 use Rattle.std.proofs.lemmas.Nat.{mul-le}
-use Rattle.model_text.specs.Numbers.{digits_from, number_of}
+use Rattle.model_text.specs.Numbers.{digits_from, field_number}
 use Rattle.certificate_text.specs.Block.{number_field_limit}
 
 some-is : (a b : ℕ) → Some a ≡ Some b → a ≡ b
@@ -41,5 +41,5 @@ number-by field n false false f e =
     let ten : 10 ^ length field ≤ 1000000000 = pow-le-pow_right {n = 10} (omega arith) {i = length field} {j = 9} few in
     omega (arith, below, ten)
 
-pub number-fits : (field : List ℕ) (n : ℕ) → number_of field ≡ Some n → n ≤ number_field_limit
+pub number-fits : (field : List ℕ) (n : ℕ) → field_number field ≡ Some n → n ≤ number_field_limit
 number-fits field n e = number-by field n (nat_eq (length field) 0) (nat_lt 9 (length field)) refl e

@@ -67,7 +67,7 @@ head-moved : (v : Move) (p : List Move) → InOrder (v ∷ p) → moved (v ∷ p
 head-moved v p h =
     let a = here-own v in let b = later-none v p (head-before v p h) in let c = moved-cons v p v.arc v.moment in omega (arith, a, b, c)
 
-before-trans : (a b c : Move) → Before a b → Before b c → Before a c
+pub before-trans : (a b c : Move) → Before a b → Before b c → Before a c
 before-trans a b c (inl x) (inl y) = inl (omega (arith, x, y))
 before-trans a b c (inl x) (inr y) = inl (omega (arith, x, y.0))
 before-trans a b c (inr x) (inl y) = inl (omega (arith, x.0, y))

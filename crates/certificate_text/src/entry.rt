@@ -3,7 +3,7 @@ ghost use Rattle.std.specs.Prelude.{◌≡◌};
 ghost use Rattle.std.specs.Str.{bytes_eq};
 ghost use Rattle.model_text.specs.Fields.{fields_of};
 ghost use Rattle.model_text.specs.Grammar.{is_comment};
-ghost use Rattle.certificate_text.specs.Entries.{by_word, cleared_entry, end_entry, entry_of, index_entry, is_end, label_entry, label_of, move_entry, move_of, one_number, out_entry, out_of, people_entry};
+ghost use Rattle.certificate_text.specs.Entries.{entry_by_word, cleared_entry, end_entry, entry_of, index_entry, is_end, label_entry, label_of, move_entry, read_move, one_number, out_entry, out_of, people_entry};
 
 use evac_law::NodeName;
 use model_text::{Fields, read_name, read_number};
@@ -139,8 +139,8 @@ fn label<'a>(mut fields: Fields<'a>) -> Option<Entry>
 }
 
 // The entry of four fields.
-fn move_of(moment: &[u8], from: &[u8], to: &[u8], people: &[u8]) -> Option<Entry>
-    ensures { result ≡ move_of moment.now from.now to.now people.now }
+fn read_move(moment: &[u8], from: &[u8], to: &[u8], people: &[u8]) -> Option<Entry>
+    ensures { result ≡ read_move moment.now from.now to.now people.now }
 {
     let moment = read_number(moment)?;
     let from = read_name(from)?;
@@ -160,7 +160,7 @@ fn enter<'a>(mut fields: Fields<'a>) -> Option<Entry>
     let (moment, from, to, people) = (fields.next(), fields.next(), fields.next(), fields.next());
     match (moment, from, to, people, fields.next()) {
         (Some(moment), Some(from), Some(to), Some(people), None) => {
-            move_of(moment, from, to, people)
+            read_move(moment, from, to, people)
         }
         _ => None,
     }
@@ -176,8 +176,8 @@ fn end<'a>(mut fields: Fields<'a>) -> Option<Entry>
 }
 
 // What a line says by its first word.
-fn by_word<'a>(word: &[u8], fields: Fields<'a>) -> Option<Entry>
-    ensures { result ≡ by_word word.now (fields_of fields.entry) }
+fn entry_by_word<'a>(word: &[u8], fields: Fields<'a>) -> Option<Entry>
+    ensures { result ≡ entry_by_word word.now (fields_of fields.entry) }
 {
     if is_comment(word) {
         Some(Entry::Blank)
@@ -207,6 +207,6 @@ pub(crate) fn read_entry(line: &[u8]) -> Option<Entry>
     let mut fields = Fields::new(line);
     match fields.next() {
         None => Some(Entry::Blank),
-        Some(word) => by_word(word, fields),
+        Some(word) => entry_by_word(word, fields),
     }
 }

@@ -7,14 +7,14 @@ use Rattle.std.proofs.lemmas.Bool.Decides.{nat_tests}
 use Rattle.std.proofs.lemmas.List.{ext_get_or, get_or-map, get_or-set_other, get_or-set_same, length-map}
 use Rattle.std.proofs.lemmas.List.FromFn.{get_or-range_with_len, length-range_with_len}
 use Rattle.std.proofs.lemmas.List.Elements.{All-get_or}
-use Rattle.std.proofs.lemmas.List.Folds.{list_any-append}
 use Rattle.evac_law.specs.declared.model.Model.{Model}
 use Rattle.evac_law.specs.declared.plan.Move.{Move}
 use Rattle.evac_law.specs.Building.{IsArc, IsValid, arc_at, is_exit_at, no_arc, tail}
 use Rattle.evac_law.specs.Plans.{IsFeasible, above, held, leaving, moved}
 use Rattle.evac_law.specs.Stands.{Fits, Stand}
 use Rattle.evac_law.specs.Sums.{below, places}
-use Rattle.evac_law.proofs.SumLemmas.{below-suc, by_place, sum_below-suc}
+use Rattle.evac_law.proofs.SumLemmas.{by_place, sum_below-suc}
+use Rattle.evac_law.proofs.PartLemmas.{any-below, or_false}
 use Rattle.clearing_report.specs.Clearing.{is_occupied, last_inside, last_occupied, last_that, later, latest}
 
 -- ---- the last moment below a bound
@@ -101,13 +101,6 @@ unfolding latest
 latest_none last = refl
 
 -- ---- who is in a node
-
-or_false : (b : Bool) → (b || false) ≡ b
-or_false true = refl
-or_false false = refl
-
-any-below : (p : ℕ → Bool) (n : ℕ) → list_any p (below (suc n)) ≡ (list_any p (below n) || p n)
-any-below p n = ap (list_any p) (below-suc n) ∙ list_any-append p (below n) (n ∷ []) ∙ ap (λ b. list_any p (below n) || b) (or_false (p n))
 
 -- whether somebody enters one of the first arcs from a node
 abbrev pub moved_from : Model → List Move → ℕ → ℕ → ℕ → Bool

@@ -11,9 +11,9 @@ use Rattle.evac_law.specs.Plans.{IsFeasible, out_by}
 use Rattle.evac_law.specs.Sums.{below, moments_to, places}
 use Rattle.evac_law.proofs.SumLemmas.{All-below, sum_by-add, sum_by-le_all, sum_by-nothing, sum_by-same, sum_by-same_all, sum_below-pick, sum_places}
 use Rattle.evac_law.proofs.WeakDuality.{entry_row, out_le_value, value_is}
+use Rattle.evac_law.proofs.ValidLemmas.{arc_is}
 use Rattle.clearing_report.specs.Distances.{AllFound, AreTimes, time_at}
-use Rattle.clearing_report.specs.Walks.{IsStart, Walk, is_open}
-use Rattle.clearing_report.proofs.TimeLemmas.{arc_of}
+use Rattle.clearing_report.specs.Walks.{IsStartNode, Walk, is_open}
 
 -- whether a time isn't known
 abbrev is_lost : Option ℕ → Bool
@@ -72,7 +72,7 @@ module _ (m : Model) (times : List (Option ℕ)) (valid : IsValid m) (are : AreT
           absurd (never gone parts.1)
         where
           never : time_at times (head m a) ≡ None → (is_exit_at m (head m a) ≡ true) ⊎ (is_lost (time_at times (head m a)) ≡ false) → ⊥
-          never g (inl x) = none_some 0 (sym g ∙ are.exits (head m a) (arc_of m a valid l).to_in x)
+          never g (inl x) = none_some 0 (sym g ∙ are.exits (head m a) (arc_is m a valid l).to_in x)
           never g (inr x) = true_false (sym (ap is_lost g) ∙ x)
 
       split : (leaves_cut m lost k t a ≡ true) ⊎ (leaves_cut m lost k t a ≡ false) → cond (leaves_cut m lost k t a) (rate m a t) 0 ≡ 0
@@ -112,11 +112,11 @@ module _ (m : Model) (times : List (Option ℕ)) (valid : IsValid m) (are : AreT
       let one : sum_by pick (places m.nodes) ≡ start m i = sum_below-pick (λ n. start m n) (length m.nodes) i ∙ ap (λ b. cond b (start m i) 0) (lt-ltb i (length m.nodes) l) in
       omega (arith, le, one, sum_by-add counted pick (places m.nodes), sum_places (λ n. n.start) m.nodes no_node)
 
-  pub all_walk : (p : List Move) → IsFeasible m p m.horizon → out_by m p m.horizon ≡ people m → (n : ℕ) → IsStart m n → time_at times n ≡ None → ⊥
+  pub all_walk : (p : List Move) → IsFeasible m p m.horizon → out_by m p m.horizon ≡ people m → (n : ℕ) → IsStartNode m n → time_at times n ≡ None → ⊥
   all_walk p feasible all_out n s e =
       omega (arith, out_le_value m lost p m.horizon valid feasible, value m.horizon, fewer n s.0 e, s.1, all_out)
 
-  pub some_walk : (p : List Move) → IsFeasible m p m.horizon → out_by m p m.horizon ≡ people m → (n : ℕ) → IsStart m n → ((arcs : List ℕ) → Walk m n arcs → ⊥) → ⊥
+  pub some_walk : (p : List Move) → IsFeasible m p m.horizon → out_by m p m.horizon ≡ people m → (n : ℕ) → IsStartNode m n → ((arcs : List ℕ) → Walk m n arcs → ⊥) → ⊥
   some_walk p feasible all_out n s h = split (time_at times n) refl
     where
       split : (t : Option ℕ) → time_at times n ≡ t → ⊥

@@ -8,9 +8,10 @@ use Rattle.std.proofs.lemmas.List.Elements.{All-get_or}
 use Rattle.evac_law.specs.declared.model.Model.{Model}
 use Rattle.evac_law.specs.Building.{IsArc, IsValid, arc_at, head, is_exit_at, no_arc, tail}
 use Rattle.evac_law.specs.Limits.{travel_limit}
+use Rattle.evac_law.proofs.ValidLemmas.{arc_is}
 use Rattle.clearing_report.specs.declared.times.Way.{Way}
 use Rattle.clearing_report.specs.Distances.{AllFound, AreTimes, IsNearest, IsWay, time_at, unknown, unknowns}
-use Rattle.clearing_report.specs.Walks.{IsStart, IsUncongested, Walk, walk_time}
+use Rattle.clearing_report.specs.Walks.{IsStartNode, IsUncongested, Walk, walk_time}
 
 none_some : (d : ℕ) → ◌≡◌ {A = Option ℕ} None (Some d) → ⊥
 none_some d e = cc
@@ -23,9 +24,6 @@ clash b e f = apart (sym e ∙ f)
   where
     apart : true ≡ false → ⊥
     apart x = cc
-
-pub arc_of : (m : Model) (a : ℕ) → IsValid m → a < length m.arcs → IsArc m.nodes (arc_at m a)
-arc_of m a valid l = All-get_or (IsArc m.nodes) m.arcs a no_arc l valid.arcs
 
 pub time_cons : (m : Model) (a : ℕ) (arcs : List ℕ) → walk_time m (a ∷ arcs) ≡ (arc_at m a).travel + walk_time m arcs
 time_cons m a arcs = sum_by-cons (λ b. (arc_at m b).travel) a arcs
@@ -50,7 +48,7 @@ module _ (m : Model) (times : List (Option ℕ)) (valid : IsValid m) (are : AreT
     pub not_below : (n : ℕ) (arcs : List ℕ) → n < length m.nodes → time_at times n ≡ None → Walk m n arcs → d ≤ walk_time m arcs
     not_below n [] l e w = absurd (no_exit n l e w)
     not_below n (a ∷ arcs) l e w =
-        by_arc n a arcs e w (λ f. not_below (head m a) arcs (arc_of m a valid w.0).to_in f w.3) (time_at times (head m a)) refl
+        by_arc n a arcs e w (λ f. not_below (head m a) arcs (arc_is m a valid w.0).to_in f w.3) (time_at times (head m a)) refl
 
   module _ (h : AllFound m times) where
     by_first : (n a : ℕ) (arcs : List ℕ) → time_at times n ≡ None → Walk m n (a ∷ arcs) → (time_at times (head m a) ≡ None → ⊥)
@@ -63,7 +61,7 @@ module _ (m : Model) (times : List (Option ℕ)) (valid : IsValid m) (are : AreT
     pub no_walk : (n : ℕ) (arcs : List ℕ) → n < length m.nodes → time_at times n ≡ None → Walk m n arcs → ⊥
     no_walk n [] l e w = no_exit n l e w
     no_walk n (a ∷ arcs) l e w =
-        by_first n a arcs e w (λ f. no_walk (head m a) arcs (arc_of m a valid w.0).to_in f w.3) (time_at times (head m a)) refl
+        by_first n a arcs e w (λ f. no_walk (head m a) arcs (arc_is m a valid w.0).to_in f w.3) (time_at times (head m a)) refl
 
   -- ---- one time more
 
@@ -72,7 +70,7 @@ module _ (m : Model) (times : List (Option ℕ)) (valid : IsValid m) (are : AreT
     with_time = set times (tail m a) (Some d)
 
     in_times : tail m a < length times
-    in_times = omega (arith, (arc_of m a valid near.way.arc_in).from_in, are.size)
+    in_times = omega (arith, (arc_is m a valid near.way.arc_in).from_in, are.size)
 
     same_or_other : (n : ℕ) → (n ≡ tail m a) ⊎ (n ≡ tail m a → ⊥)
     same_or_other n = split (cases_lt n (tail m a)) (cases_lt (tail m a) n)
@@ -109,12 +107,12 @@ module _ (m : Model) (times : List (Option ℕ)) (valid : IsValid m) (are : AreT
       where
         split : (n ≡ tail m a) ⊎ (n ≡ tail m a → ⊥) → e ≤ walk_time m arcs
         split (inl f) =
-            let l : n < length m.nodes = omega (arith, f, (arc_of m a valid near.way.arc_in).from_in) in
+            let l : n < length m.nodes = omega (arith, f, (arc_is m a valid near.way.arc_in).from_in) in
             omega (arith, not_below d near.nearest n arcs l (ap (time_at times) f ∙ near.way.from) w, here n e f g)
         split (inr f) = are.least n e (sym (there n f) ∙ g) arcs w
 
     exits_on : (n : ℕ) → n < length m.nodes → is_exit_at m n ≡ true → time_at with_time n ≡ Some 0
-    exits_on n l e = there n (λ f. clash (is_exit_at m n) e (ap (is_exit_at m) f ∙ (arc_of m a valid near.way.arc_in).from_no_exit)) ∙ are.exits n l e
+    exits_on n l e = there n (λ f. clash (is_exit_at m n) e (ap (is_exit_at m) f ∙ (arc_is m a valid near.way.arc_in).from_no_exit)) ∙ are.exits n l e
 
     few_on : (n e : ℕ) → time_at with_time n ≡ Some e → e + travel_limit * unknowns with_time ≤ travel_limit * length m.nodes
     unfolding travel_limit
@@ -122,7 +120,7 @@ module _ (m : Model) (times : List (Option ℕ)) (valid : IsValid m) (are : AreT
       where
         split : (n ≡ tail m a) ⊎ (n ≡ tail m a → ⊥) → e + 600 * unknowns with_time ≤ 600 * length m.nodes
         split (inl f) =
-            omega (arith, fewer, here n e f g, near.way.time, (arc_of m a valid near.way.arc_in).travel_fits.1, are.few (head m a) near.way.rest near.way.to)
+            omega (arith, fewer, here n e f g, near.way.time, (arc_is m a valid near.way.arc_in).travel_fits.1, are.few (head m a) near.way.rest near.way.to)
         split (inr f) = omega (arith, fewer, are.few n e (sym (there n f) ∙ g))
 
     pub are_on : AreTimes m with_time
@@ -175,8 +173,8 @@ first_times m times size h = record {
 -- ---- the farthest of those who start
 
 pub record IsFarthest (m : Model) (times : List (Option ℕ)) (i far : ℕ) : Type 0 where
-  pub enough : (n : ℕ) → n < i → IsStart m n → (d : ℕ) × (time_at times n ≡ Some d) × (d ≤ far)
-  pub reached : (far ≡ 0) ⊎ ((n : ℕ) × IsStart m n × (time_at times n ≡ Some far))
+  pub enough : (n : ℕ) → n < i → IsStartNode m n → (d : ℕ) × (time_at times n ≡ Some d) × (d ≤ far)
+  pub reached : (far ≡ 0) ⊎ ((n : ℕ) × IsStartNode m n × (time_at times n ≡ Some far))
 
 pub farthest_is : (m : Model) (times : List (Option ℕ)) (far : ℕ) → AreTimes m times → IsFarthest m times (length m.nodes) far → IsUncongested m (Some far)
 farthest_is m times far are h = record {
@@ -187,7 +185,7 @@ farthest_is m times far are h = record {
   least = split h.reached;
 }
   where
-    split : (far ≡ 0) ⊎ ((n : ℕ) × IsStart m n × (time_at times n ≡ Some far)) → (far ≡ 0) ⊎ ((n : ℕ) × IsStart m n × ((arcs : List ℕ) → Walk m n arcs → far ≤ walk_time m arcs))
+    split : (far ≡ 0) ⊎ ((n : ℕ) × IsStartNode m n × (time_at times n ≡ Some far)) → (far ≡ 0) ⊎ ((n : ℕ) × IsStartNode m n × ((arcs : List ℕ) → Walk m n arcs → far ≤ walk_time m arcs))
     split (inl e) = inl e
     split (inr w) = inr (w.0, w.1, λ arcs v. are.least w.0 far w.2 arcs v)
 
@@ -247,22 +245,22 @@ best_all m times i (Some b) l h = record { way = h.0; nearest = λ a d w. h.1 a 
 
 -- ---- one node more
 
-pub farthest_passes : (m : Model) (times : List (Option ℕ)) (i far : ℕ) → IsFarthest m times i far → (IsStart m i → ⊥) → IsFarthest m times (i + 1) far
+pub farthest_passes : (m : Model) (times : List (Option ℕ)) (i far : ℕ) → IsFarthest m times i far → (IsStartNode m i → ⊥) → IsFarthest m times (i + 1) far
 farthest_passes m times i far h none = record { enough = λ n l s. split n s (one_more n i l); reached = h.reached }
   where
-    split : (n : ℕ) → IsStart m n → (n < i) ⊎ (n ≡ i) → (d : ℕ) × (time_at times n ≡ Some d) × (d ≤ far)
+    split : (n : ℕ) → IsStartNode m n → (n < i) ⊎ (n ≡ i) → (d : ℕ) × (time_at times n ≡ Some d) × (d ≤ far)
     split n s (inl l) = h.enough n l s
-    split n s (inr e) = absurd (none (subst (IsStart m) e s))
+    split n s (inr e) = absurd (none (subst (IsStartNode m) e s))
 
-pub farthest_takes : (m : Model) (times : List (Option ℕ)) (i far d : ℕ) → IsFarthest m times i far → IsStart m i → time_at times i ≡ Some d → IsFarthest m times (i + 1) (max far d)
+pub farthest_takes : (m : Model) (times : List (Option ℕ)) (i far d : ℕ) → IsFarthest m times i far → IsStartNode m i → time_at times i ≡ Some d → IsFarthest m times (i + 1) (max far d)
 farthest_takes m times i far d h s f = record { enough = λ n l b. split n b (one_more n i l); reached = reach h.reached (cases_lt far d) }
   where
-    split : (n : ℕ) → IsStart m n → (n < i) ⊎ (n ≡ i) → (e : ℕ) × (time_at times n ≡ Some e) × (e ≤ max far d)
+    split : (n : ℕ) → IsStartNode m n → (n < i) ⊎ (n ≡ i) → (e : ℕ) × (time_at times n ≡ Some e) × (e ≤ max far d)
     split n b (inl l) = let known = h.enough n l b in (known.0, known.1, omega (arith, known.2))
     split n b (inr e) = (d, ap (time_at times) e ∙ f, omega arith)
 
-    reach : (far ≡ 0) ⊎ ((n : ℕ) × IsStart m n × (time_at times n ≡ Some far)) → (far < d) ⊎ (d ≤ far)
-        → (max far d ≡ 0) ⊎ ((n : ℕ) × IsStart m n × (time_at times n ≡ Some (max far d)))
+    reach : (far ≡ 0) ⊎ ((n : ℕ) × IsStartNode m n × (time_at times n ≡ Some far)) → (far < d) ⊎ (d ≤ far)
+        → (max far d ≡ 0) ⊎ ((n : ℕ) × IsStartNode m n × (time_at times n ≡ Some (max far d)))
     reach r (inl l) = let same : d ≡ max far d = omega (arith, l) in inr (i, s, f ∙ ap (λ z. Some z) same)
     reach (inl e) (inr l) = inl (omega (arith, e, l))
     reach (inr w) (inr l) = let same : far ≡ max far d = omega (arith, l) in inr (w.0, w.1, w.2 ∙ ap (λ z. Some z) same)

@@ -46,8 +46,8 @@ pub record ClearingView : Type 0 where
   pub time : ℕ
   pub periods : ℕ
 
-abbrev pub moment_of : ClearingView → ℕ → Option ℕ
-moment_of v n = slice_index_or v.moments n None
+abbrev pub clearing_moment : ClearingView → ℕ → Option ℕ
+clearing_moment v n = slice_index_or v.moments n None
 
 -- the report is on this plan of this model
 pub record IsReport (m : Model) (p : List Move) (v : ClearingView) : Type 0 where

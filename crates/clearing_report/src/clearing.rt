@@ -4,7 +4,7 @@ ghost use Rattle.evac_law.specs.Building.{IsValid, people};
 ghost use Rattle.evac_law.specs.Plans.{IsFeasible, out_by};
 ghost use Rattle.evac_law.specs.Stands.{Fits};
 ghost use Rattle.floor_index.specs.Floors.{listed};
-ghost use Rattle.clearing_report.specs.Clearing.{IsReport, latest, moment_of};
+ghost use Rattle.clearing_report.specs.Clearing.{IsReport, latest, clearing_moment};
 ghost use Rattle.clearing_report.specs.Walks.{IsUncongested};
 
 use crate::moments::{latest, write_moments};
@@ -71,14 +71,14 @@ impl Clearing {
     /// The last moment at which somebody is in a node.
     pub fn node_clear(&self, node: u32) -> Option<u16>
         requires { node < length self.now.moments }
-        ensures { result ≡ moment_of self.now node }
+        ensures { result ≡ clearing_moment self.now node }
     {
         self.moments[node as usize]
     }
 
     /// The last moment at which somebody is on a floor, outside exits.
     pub fn floor_clear(&self, index: &FloorIndex, floor: u16) -> Option<u16>
-        ensures { result ≡ latest (moment_of self.now) (listed index.now floor) }
+        ensures { result ≡ latest (clearing_moment self.now) (listed index.now floor) }
     {
         latest(self.moments.as_slice(), index.nodes_of(floor))
     }

@@ -8,7 +8,7 @@ use Rattle.std.proofs.lemmas.List.{get_or-take, length-take, take-set-le}
 use Rattle.std.proofs.lemmas.List.Sums.{sum_by-set, sum_by_more}
 use Rattle.evac_law.specs.Sums.{below}
 use Rattle.evac_law.proofs.SumLemmas.{sum_below-more}
-use Rattle.cut_witness.specs.Changes.{Changes, IsNet}
+use Rattle.cut_witness.specs.Changes.{Changes, IsBalance}
 
 weigh : (i k s r y : ℕ) → (i < k + 1 → s ≡ r + y) → (k + 1 ≤ i → s ≡ r) → s ≡ r + cond (leb i k) y 0
 weigh i k s r y before behind = grind (arith, nat_tests)
@@ -46,11 +46,11 @@ pub net_only : (r f v n : ℕ) → r ≡ f + v → r ≡ f + n → n ≡ v
 net_only r f v n e h = omega arith
 
 -- one share more, and all shares at the end of a loop
-pub net_step : (d : Changes) (k v : ℕ) (f : ℕ → ℕ) (i share : ℕ) → share ≡ f i → IsNet d k (v + sum_by f (below i) + share)
-    → IsNet d k (v + sum_by f (below (i + 1)))
+pub net_step : (d : Changes) (k v : ℕ) (f : ℕ → ℕ) (i share : ℕ) → share ≡ f i → IsBalance d k (v + sum_by f (below i) + share)
+    → IsBalance d k (v + sum_by f (below (i + 1)))
 net_step d k v f i share e n = omega (arith, n, sum_below-more f i)
 
-pub net_end : (d : Changes) (k v : ℕ) (f : ℕ → ℕ) (i n : ℕ) → i ≤ n → n ≤ i → IsNet d k (v + sum_by f (below i)) → IsNet d k (v + sum_by f (below n))
+pub net_end : (d : Changes) (k v : ℕ) (f : ℕ → ℕ) (i n : ℕ) → i ≤ n → n ≤ i → IsBalance d k (v + sum_by f (below i)) → IsBalance d k (v + sum_by f (below n))
 net_end d k v f i n l h e =
     let same : i ≡ n = omega arith in
-    subst (λ j. IsNet d k (v + sum_by f (below j))) same e
+    subst (λ j. IsBalance d k (v + sum_by f (below j))) same e

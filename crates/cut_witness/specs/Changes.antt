@@ -12,8 +12,8 @@ abbrev pub IsChanges : Changes → Type 0
 IsChanges c = length c.falls ≡ length c.rises
 
 -- what rises up to period k is what falls up to then and v more
-abbrev pub IsNet : Changes → ℕ → ℕ → Type 0
-IsNet c k v = sum (take (k + 1) c.rises) ≡ sum (take (k + 1) c.falls) + v
+abbrev pub IsBalance : Changes → ℕ → ℕ → Type 0
+IsBalance c k v = sum (take (k + 1) c.rises) ≡ sum (take (k + 1) c.falls) + v
 
 -- all that rises and falls
 abbrev pub turnover : Changes → ℕ

@@ -1,6 +1,6 @@
 // Numbers for periods, kept as what they rise and fall by at each.
 ghost use Rattle.std.specs.Prelude.{◌≡◌, ℕ, ◌+◌, ◌*◌, ◌<◌, ◌≤◌, ◌^◌, if◌then◌else◌, IfOk, nat_le, length, slice_index, sum, take};
-ghost use Rattle.cut_witness.specs.Changes.{IsChanges, IsNet, in_span, turnover};
+ghost use Rattle.cut_witness.specs.Changes.{IsChanges, IsBalance, in_span, turnover};
 
 use crate::span::Span;
 use std::alloc::{AllocError, Global};
@@ -65,7 +65,7 @@ impl Differences {
     /// Makes each number 0.
     pub fn clear(&mut self)
         ensures periods { length self.new.rises ≡ length self.old.rises }
-        ensures net { (k : ℕ) → k < length self.old.rises → IsNet self.new k 0 }
+        ensures net { (k : ℕ) → k < length self.old.rises → IsBalance self.new k 0 }
         ensures turnover { turnover self.new ≡ 0 }
     {
         self.rises.as_mut_slice().fill(0);
@@ -76,7 +76,7 @@ impl Differences {
     pub fn add(&mut self, span: Span, people: u32)
         requires room { turnover self.old + 2 * people < 2 ^ 64 }
         ensures periods { length self.new.rises ≡ length self.old.rises }
-        ensures net { (k v : ℕ) → k < length self.old.rises → IsNet self.old k v → IsNet self.new k (v + (if in_span span k then people else 0)) }
+        ensures net { (k v : ℕ) → k < length self.old.rises → IsBalance self.old k v → IsBalance self.new k (v + (if in_span span k then people else 0)) }
         ensures turnover { turnover self.new ≤ turnover self.old + 2 * people }
     {
         if span.from < span.to {
@@ -89,8 +89,8 @@ impl Differences {
     pub fn write_to(&self, numbers: &mut [u64])
         requires periods { length numbers.old ≡ length self.now.rises }
         requires room { turnover self.now < 2 ^ 64 }
-        requires nets { (k : ℕ) → k < length self.now.rises → (v : ℕ) × IsNet self.now k v }
-        ensures { (k v : ℕ) → k < length self.now.rises → IsNet self.now k v → slice_index numbers.new k ≡ v }
+        requires nets { (k : ℕ) → k < length self.now.rises → (v : ℕ) × IsBalance self.now k v }
+        ensures { (k v : ℕ) → k < length self.now.rises → IsBalance self.now k v → slice_index numbers.new k ≡ v }
     {
         write_numbers(self.rises.as_slice(), self.falls.as_slice(), numbers);
     }

@@ -6,7 +6,7 @@ ghost use Rattle.evac_law.specs.Certificates.{IsTableOf, label_cut};
 ghost use Rattle.evac_law.specs.Cuts.{cut_value};
 ghost use Rattle.evac_law.specs.Limits.{arc_limit, node_limit};
 ghost use Rattle.evac_law.specs.Sums.{places};
-ghost use Rattle.cut_witness.specs.Changes.{IsNet, turnover};
+ghost use Rattle.cut_witness.specs.Changes.{IsBalance, turnover};
 ghost use Rattle.cut_witness.specs.Shares.{arc_shares, entry_shares, hold_shares};
 
 use crate::differences::Differences;
@@ -40,7 +40,7 @@ fn add_entries_of(differences: &mut Differences, model: &Model, labels: &Labels,
     requires periods { length differences.old.rises ≡ model.now.horizon + 1 }
     requires room { turnover differences.old < 2 ^ 62 }
     ensures periods { length differences.new.rises ≡ length differences.old.rises }
-    ensures net { (k v : ℕ) → k ≤ model.now.horizon → IsNet differences.old k v → IsNet differences.new k (v + entry_shares model.now labels.now k node) }
+    ensures net { (k v : ℕ) → k ≤ model.now.horizon → IsBalance differences.old k v → IsBalance differences.new k (v + entry_shares model.now labels.now k node) }
     ensures turnover { turnover differences.new ≤ turnover differences.old + 2 ^ 49 }
 {
     for moment in 0..model.horizon + 1 {
@@ -58,7 +58,7 @@ fn add_holds_of(differences: &mut Differences, model: &Model, labels: &Labels, n
     requires periods { length differences.old.rises ≡ model.now.horizon + 1 }
     requires room { turnover differences.old < 2 ^ 62 }
     ensures periods { length differences.new.rises ≡ length differences.old.rises }
-    ensures net { (k v : ℕ) → k ≤ model.now.horizon → IsNet differences.old k v → IsNet differences.new k (v + hold_shares model.now labels.now k node) }
+    ensures net { (k v : ℕ) → k ≤ model.now.horizon → IsBalance differences.old k v → IsBalance differences.new k (v + hold_shares model.now labels.now k node) }
     ensures turnover { turnover differences.new ≤ turnover differences.old + 2 ^ 49 }
 {
     let capacity = model.node(node).capacity;
@@ -77,7 +77,7 @@ fn add_arcs_of(differences: &mut Differences, model: &Model, labels: &Labels, ar
     requires periods { length differences.old.rises ≡ model.now.horizon + 1 }
     requires room { turnover differences.old < 2 ^ 62 }
     ensures periods { length differences.new.rises ≡ length differences.old.rises }
-    ensures net { (k v : ℕ) → k ≤ model.now.horizon → IsNet differences.old k v → IsNet differences.new k (v + arc_shares model.now labels.now k arc) }
+    ensures net { (k v : ℕ) → k ≤ model.now.horizon → IsBalance differences.old k v → IsBalance differences.new k (v + arc_shares model.now labels.now k arc) }
     ensures turnover { turnover differences.new ≤ turnover differences.old + 2 ^ 49 }
 {
     for moment in 0..model.horizon + 1 {
@@ -94,8 +94,8 @@ fn add_entries(differences: &mut Differences, model: &Model, labels: &Labels)
     requires periods { length differences.old.rises ≡ model.now.horizon + 1 }
     requires room { turnover differences.old < 2 ^ 61 }
     ensures periods { length differences.new.rises ≡ length differences.old.rises }
-    ensures net { (k v : ℕ) → k ≤ model.now.horizon → IsNet differences.old k v
-        → IsNet differences.new k (v + sum_by (entry_shares model.now labels.now k) (places model.now.nodes)) }
+    ensures net { (k v : ℕ) → k ≤ model.now.horizon → IsBalance differences.old k v
+        → IsBalance differences.new k (v + sum_by (entry_shares model.now labels.now k) (places model.now.nodes)) }
     ensures turnover { turnover differences.new ≤ turnover differences.old + node_limit * 2 ^ 49 }
 {
     for node in 0..model.node_count() {
@@ -111,8 +111,8 @@ fn add_holds(differences: &mut Differences, model: &Model, labels: &Labels)
     requires periods { length differences.old.rises ≡ model.now.horizon + 1 }
     requires room { turnover differences.old < 2 ^ 61 }
     ensures periods { length differences.new.rises ≡ length differences.old.rises }
-    ensures net { (k v : ℕ) → k ≤ model.now.horizon → IsNet differences.old k v
-        → IsNet differences.new k (v + sum_by (hold_shares model.now labels.now k) (places model.now.nodes)) }
+    ensures net { (k v : ℕ) → k ≤ model.now.horizon → IsBalance differences.old k v
+        → IsBalance differences.new k (v + sum_by (hold_shares model.now labels.now k) (places model.now.nodes)) }
     ensures turnover { turnover differences.new ≤ turnover differences.old + node_limit * 2 ^ 49 }
 {
     for node in 0..model.node_count() {
@@ -128,8 +128,8 @@ fn add_arcs(differences: &mut Differences, model: &Model, labels: &Labels)
     requires periods { length differences.old.rises ≡ model.now.horizon + 1 }
     requires room { turnover differences.old < 2 ^ 61 }
     ensures periods { length differences.new.rises ≡ length differences.old.rises }
-    ensures net { (k v : ℕ) → k ≤ model.now.horizon → IsNet differences.old k v
-        → IsNet differences.new k (v + sum_by (arc_shares model.now labels.now k) (places model.now.arcs)) }
+    ensures net { (k v : ℕ) → k ≤ model.now.horizon → IsBalance differences.old k v
+        → IsBalance differences.new k (v + sum_by (arc_shares model.now labels.now k) (places model.now.arcs)) }
     ensures turnover { turnover differences.new ≤ turnover differences.old + arc_limit * 2 ^ 49 }
 {
     for arc in 0..model.arc_count() {
@@ -145,8 +145,8 @@ fn add_items(differences: &mut Differences, model: &Model, labels: &Labels)
     requires periods { length differences.old.rises ≡ model.now.horizon + 1 }
     requires room { turnover differences.old < 2 ^ 60 }
     ensures periods { length differences.new.rises ≡ length differences.old.rises }
-    ensures net { (k v : ℕ) → k ≤ model.now.horizon → IsNet differences.old k v
-        → IsNet differences.new k (v + cut_value model.now (label_cut model.now labels.now k) k) }
+    ensures net { (k v : ℕ) → k ≤ model.now.horizon → IsBalance differences.old k v
+        → IsBalance differences.new k (v + cut_value model.now (label_cut model.now labels.now k) k) }
     ensures turnover { turnover differences.new < turnover differences.old + 2 ^ 62 }
 {
     add_entries(differences, model, labels);

@@ -8,7 +8,7 @@ use Rattle.residual_net.specs.Network.{Network, IsAllSent, IsWithinLimits, arriv
 use Rattle.residual_net.specs.OfModel.{IsNetOf, plan_of}
 use Rattle.residual_net.specs.Labelled.{IsClosedBelow}
 use Rattle.flow_repair.specs.Refit.{IsEditOfNet}
-use Rattle.edit_session.specs.Mended.{IsRepairable, last_of}
+use Rattle.edit_session.specs.Mended.{IsRepairable, last_arrival_of}
 
 pub of_saved : (m : Model) (w : Network) → IsNetOf m w → IsNetOf m (with_saved w)
 unfolding limit_at
@@ -40,7 +40,7 @@ pub arrived_saved : (w : Network) (k : ℕ) → arrived_by (with_saved w) k ≡ 
 unfolding flow_into flow_at
 arrived_saved w k = refl
 
-pub closed_saved : (w : Network) (l : LabelTable) → IsClosedBelow w l (last_of w + 1) → IsClosedBelow (with_saved w) l (last_of (with_saved w) + 1)
+pub closed_saved : (w : Network) (l : LabelTable) → IsClosedBelow w l (last_arrival_of w + 1) → IsClosedBelow (with_saved w) l (last_arrival_of (with_saved w) + 1)
 unfolding flow_at limit_at
 closed_saved w l h = h
 

@@ -14,10 +14,10 @@ use Rattle.residual_net.specs.Labelled.{IsLabelsOf}
 use Rattle.residual_net.specs.Network.{Network, flow_at, flow_into, flow_out, limit_at, supply_limits, with_saved}
 use Rattle.residual_net.specs.declared.place.Place.TheVariants.{Hold}
 use Rattle.residual_net.specs.OfModel.{plan_of, stand_of}
-use Rattle.residual_net.specs.Site.{Site, arcs_of}
+use Rattle.residual_net.specs.Site.{Site, arc_count}
 use Rattle.edit_session.specs.declared.work.Work.{Work}
 use Rattle.edit_session.specs.Kept.{former_of, state_of}
-use Rattle.edit_session.specs.Mended.{IsCarried, IsRefused, IsStanding, last_of}
+use Rattle.edit_session.specs.Mended.{IsCarried, IsRefused, IsStanding, last_arrival_of}
 use Rattle.edit_session.specs.Sessions.{Begins, GoesOn, IsBarred, IsEdited, IsNetOfState, IsNotCleared, IsSolved, IsUndone, SessionState, kept_limit, stand_of_state}
 use Rattle.edit_session.specs.Thrift.{IsSpent}
 use Rattle.lex_flow.specs.Settling.{arrivals_below}
@@ -44,7 +44,7 @@ pub net_by : (m : Model) (w : Network) (l : LabelTable) (ring : List Edit) (work
 net_by m w l ring work h = record { net = h.net; limits = h.of; within = h.within; sent = h.sent; same_plan = refl }
 
 pub clearable_by : (m : Model) (w : Network) (l : LabelTable) → IsStanding m w l → IsClearable m
-clearable_by m w l h = certified_is_clearable m (plan_of w) l (last_of w) h.valid h.cleared.certified
+clearable_by m w l h = certified_is_clearable m (plan_of w) l (last_arrival_of w) h.valid h.cleared.certified
 
 -- ---- the session as a standing plan
 
@@ -110,12 +110,12 @@ standing_saved m w l h = record {
 -- ---- how a session begins
 
 pub begun_by : (m : Model) (w u : Network) (l : LabelTable) (ring : List Edit) (work : Work) → IsStanding m u l → ring ≡ [] → work.cancelled ≡ 0
-    → work.pushes + arrivals_below w (last_of u + 1) ≤ arrivals_below u (last_of u + 1) → Begins m (state_of m u l ring work)
+    → work.pushes + arrivals_below w (last_arrival_of u + 1) ≤ arrivals_below u (last_arrival_of u + 1) → Begins m (state_of m u l ring work)
 begun_by m w u l ring work h none idle bounded = record {
   begun = refl;
   solved = solved_by m u l ring work h;
   none_former = ap (former_of m) none;
-  thrifty = thrifty_opening m w u (last_of u) work h.valid h.net h.of idle bounded;
+  thrifty = thrifty_opening m w u (last_arrival_of u) work h.valid h.net h.of idle bounded;
 }
 
 -- labels that show that not everybody gets out of a model

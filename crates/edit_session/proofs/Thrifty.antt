@@ -8,11 +8,12 @@ use Rattle.evac_law.specs.Moves.{move_of, moves_of}
 use Rattle.evac_law.specs.Plans.{out_by, violation}
 use Rattle.evac_law.specs.Sums.{below, moments_to}
 use Rattle.evac_law.proofs.SumLemmas.{All-below, sum_by-same}
+use Rattle.evac_law.proofs.PartLemmas.{flat_map-same}
 use Rattle.residual_net.specs.declared.place.Place.{Place}
 use Rattle.residual_net.specs.declared.place.Place.TheVariants.{Arc}
 use Rattle.residual_net.specs.Network.{Network, IsNet, arrived_by, flow_at}
 use Rattle.residual_net.specs.OfModel.{IsNetOf, plan_of}
-use Rattle.residual_net.specs.Site.{Site, IsPlace, arcs_of}
+use Rattle.residual_net.specs.Site.{Site, IsPlace, arc_count}
 use Rattle.residual_net.proofs.LastArrival.{arrived_rises}
 use Rattle.residual_net.proofs.Law.{arrived_is_out}
 use Rattle.lex_flow.specs.Settling.{arrivals_below}
@@ -39,24 +40,20 @@ outs_are m w k valid net of =
 
 -- ---- the same flows have the same moves
 
-flat_same : {X Y : Type 0} (f g : X → List Y) (xs : List X) → All (λ x. f x ≡ g x) xs → flat_map f xs ≡ flat_map g xs
-flat_same f g [] a = refl
-flat_same f g (x ∷ xs) a = ap₂ (λ y z. y ++ z) (All-head (λ x. f x ≡ g x) x xs a) (flat_same f g xs (All-tail (λ x. f x ≡ g x) x xs a))
-
 move_same : (f g : ℕ → ℕ → ℕ) (t a : ℕ) → f a t ≡ g a t → move_of f t a ≡ move_of g t a
 move_same f g t a e = rw e refl
 
 moves_same : (n k : ℕ) (f g : ℕ → ℕ → ℕ) → ((a t : ℕ) → a < n → t ≤ k → f a t ≡ g a t) → moves_of n k f ≡ moves_of n k g
 unfolding moves_of
 moves_same n k f g h =
-    flat_same (λ t. flat_map (λ a. move_of f t a) (below n)) (λ t. flat_map (λ a. move_of g t a) (below n)) (moments_to k)
-    (All-below _ (k + 1) (λ t i. flat_same (λ a. move_of f t a) (λ a. move_of g t a) (below n)
+    flat_map-same (λ t. flat_map (λ a. move_of f t a) (below n)) (λ t. flat_map (λ a. move_of g t a) (below n)) (moments_to k)
+    (All-below _ (k + 1) (λ t i. flat_map-same (λ a. move_of f t a) (λ a. move_of g t a) (below n)
     (All-below _ n (λ a j. move_same f g t a (h a t j (omega (arith, i)))))))
 
 pub plan_same : (w v : Network) → v.site ≡ w.site → ((p : Place) → IsPlace w.site p → flow_at v p ≡ flow_at w p) → plan_of v ≡ plan_of w
 plan_same w v site same =
-    ap (λ (s : Site). moves_of (arcs_of s) s.shape.horizon (λ a t. flow_at v (Arc a t))) site
-    ∙ moves_same (arcs_of w.site) w.site.shape.horizon (λ a t. flow_at v (Arc a t)) (λ a t. flow_at w (Arc a t)) (λ a t i j. same (Arc a t) (i, j))
+    ap (λ (s : Site). moves_of (arc_count s) s.shape.horizon (λ a t. flow_at v (Arc a t))) site
+    ∙ moves_same (arc_count w.site) w.site.shape.horizon (λ a t. flow_at v (Arc a t)) (λ a t. flow_at w (Arc a t)) (λ a t i j. same (Arc a t) (i, j))
 
 -- ---- what a repair costs
 

@@ -8,7 +8,7 @@ use Rattle.evac_law.specs.LabelTable.{LabelTable}
 use Rattle.residual_net.specs.Network.{Network}
 use Rattle.residual_net.specs.Labelled.{IsLabelsOf}
 use Rattle.residual_net.specs.OfModel.{plan_of}
-use Rattle.edit_session.specs.Mended.{IsScratchOf, IsStanding, last_of}
+use Rattle.edit_session.specs.Mended.{IsScratchOf, IsStanding, last_arrival_of}
 use Rattle.edit_session.specs.declared.scratch.Scratch.{Scratch}
 use Rattle.edit_session.specs.declared.work.Work.{Work}
 use Rattle.edit_session.specs.Sessions.{SessionState, SessionView, kept_limit}
@@ -30,7 +30,7 @@ state_of m w l ring work = record {
   model = m;
   plan = plan_of w;
   labels = l;
-  last = last_of w;
+  last = last_arrival_of w;
   work = work;
   former = former_of m ring;
 }

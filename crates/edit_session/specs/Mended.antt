@@ -19,8 +19,8 @@ use Rattle.edit_session.specs.declared.work.Work.{Work}
 use Rattle.edit_session.specs.Thrift.{IsCounted, IsSpent, IsThrifty}
 
 -- the last moment at which somebody arrives
-abbrev pub last_of : Network → ℕ
-last_of w = last_move w.site (plan_of w)
+abbrev pub last_arrival_of : Network → ℕ
+last_arrival_of w = last_move w.site (plan_of w)
 
 -- the net has the model's limits and a plan that takes everybody out, and the labels prove it best at every period
 pub record IsStanding (m : Model) (w : Network) (l : LabelTable) : Type 0 where
@@ -29,9 +29,9 @@ pub record IsStanding (m : Model) (w : Network) (l : LabelTable) : Type 0 where
   pub of : IsNetOf m w
   pub within : IsWithinLimits w
   pub sent : IsAllSent w
-  pub cleared : IsCleared m w l (last_of w)
+  pub cleared : IsCleared m w l (last_arrival_of w)
   pub labels : IsLabelsOf w.site l
-  pub closed : IsClosedBelow w l (last_of w + 1)
+  pub closed : IsClosedBelow w l (last_arrival_of w + 1)
 
 -- the net stands for a plan of the model from which an edit made this one
 pub record IsRepairable (m : Model) (e : Edit) (w : Network) (l : LabelTable) : Type 0 where
@@ -51,7 +51,7 @@ pub record IsScratchOf (s : Site) (x : Scratch) : Type 0 where
 pub record IsCarried (m : Model) (w v : Network) (l : LabelTable) (work : Work) : Type 0 where
   pub site : v.site ≡ w.site
   pub standing : IsStanding m v l
-  pub thrifty : (b : Model) → IsValid b → IsNetOf b w → IsThrifty b (plan_of w) m (plan_of v) (last_of v) work
+  pub thrifty : (b : Model) → IsValid b → IsNetOf b w → IsThrifty b (plan_of w) m (plan_of v) (last_arrival_of v) work
 
 -- net and labels are as before, and other labels show that not everybody gets out
 pub record IsRefused (m : Model) (w v : Network) (l k cut : LabelTable) (most : ℕ) : Type 0 where

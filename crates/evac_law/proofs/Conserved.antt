@@ -12,7 +12,7 @@ use Rattle.evac_law.specs.Sums.{moments_to, places}
 use Rattle.evac_law.specs.Building.{IsValid, arc_at, arrival, capacity, entered_by, entry, head, is_exit_at, people, tail}
 use Rattle.evac_law.specs.Plans.{IsFeasible, NobodyIsLeft, came, held, left, out_by}
 use Rattle.evac_law.proofs.Entries.{entered_le}
-use Rattle.evac_law.proofs.SumLemmas.{All-below, by_place, sum_below-le_back, sum_by-add, sum_by-le_all, sum_by-same, sum_by-same_all, sum_moments-le, sum_moments-more}
+use Rattle.evac_law.proofs.SumLemmas.{All-below, by_place, split_cond, sum_below-le_back, sum_by-add, sum_by-le_all, sum_by-same, sum_by-same_all, sum_moments-le, sum_moments-more}
 use Rattle.evac_law.proofs.ValidLemmas.{arc_is, head_in, tail_in}
 use Rattle.evac_law.proofs.WeakDuality.{within}
 
@@ -21,9 +21,6 @@ one_move : (exit from_exit : Bool) (s d k p : ℕ) → from_exit ≡ false
     → cond (not from_exit && leb s k) p 0
     ≡ (cond (not exit && leb (s + d) k) p 0 + cond (exit && leb (s + d) k) p 0) + cond (leb s k && not (leb (s + d) k)) p 0
 one_move exit from_exit s d k p e = grind (arith, nat_tests)
-
-split_cond : (b : Bool) (u v : ℕ) → cond b (u + v) 0 ≡ cond b u 0 + cond b v 0
-split_cond b u v = grind arith
 
 cond_le : (b : Bool) (w : ℕ) → cond b w 0 ≤ w
 cond_le true w = omega arith

@@ -10,7 +10,7 @@ use Rattle.evac_law.specs.Plans.{moved, out_by}
 use Rattle.evac_law.specs.Sums.{below, moments_to, places}
 use Rattle.evac_law.specs.declared.model.Model.{Model}
 use Rattle.evac_law.specs.declared.plan.Move.{Move}
-use Rattle.evac_law.proofs.SumLemmas.{sum_by-add, sum_by-nothing, sum_by-same, sum_below-pick, sum_moments-suc, sum_moments-zero}
+use Rattle.evac_law.proofs.SumLemmas.{cond_nothing, split_cond, sum_below-pick, sum_by-add, sum_by-nothing, sum_by-same, sum_moments-suc, sum_moments-zero}
 
 -- the people who arrive at exits at a moment, by the moves and by the arcs
 unfoldable pub arriving : Model → List Move → ℕ → ℕ
@@ -39,12 +39,6 @@ out_is_sum m p (suc k) =
 
 regroup : (b s t : Bool) (w : ℕ) → cond b (cond (s && t) w 0) 0 ≡ cond s (cond (b && t) w 0) 0
 regroup b s t w = grind arith
-
-split_cond : (b : Bool) (u v : ℕ) → cond b (u + v) 0 ≡ cond b u 0 + cond b v 0
-split_cond b u v = grind arith
-
-cond_nothing : (b : Bool) → ◌≡◌ {A = ℕ} (cond b 0 0) 0
-cond_nothing b = grind arith
 
 one_arc : (b : ℕ → Bool) (s : ℕ → ℕ) (p t w n : ℕ) → p < n
     → sum_by (λ a. cond (b a) (cond (eqb p a && eqb t (s a)) w 0) 0) (below n) ≡ cond (b p && eqb t (s p)) w 0

@@ -14,6 +14,7 @@ use Rattle.evac_law.specs.Limits.{rate_limit, capacity_limit, people_limit}
 use Rattle.evac_law.specs.Building.{start, IsValid, IsNode, IsArc, is_exit_at, node_at, arc_at, no_node, no_arc, tail, head, capacity, people}
 use Rattle.evac_law.specs.Names.{is_exit}
 use Rattle.evac_law.specs.Edits.{IsEditOf, applied, unless, checks, edited, inverse_of, with_arc, with_node, with_start}
+use Rattle.evac_law.proofs.ValidLemmas.{node_is}
 
 -- no check holds
 abbrev pub NoneHolds : List (Bool × EditFault) → Type 0
@@ -105,16 +106,13 @@ valid_arc m a row v l from to travel few =
       ends_differ = λ i j p q e d. v.ends_differ i j p (omega (arith, long, q)) (sym (from_at i) ∙ e ∙ from_at j) (sym (to_at i) ∙ d ∙ to_at j);
     }
 
-node_of : (m : Model) (n : ℕ) → IsValid m → n < length m.nodes → IsNode (node_at m n)
-node_of m n v l = All-get_or IsNode m.nodes n no_node l v.nodes
-
 rate_of : (m : Model) (a : ℕ) → IsValid m → a < length m.arcs → (arc_at m a).rate ≤ rate_limit
 rate_of m a v l = (All-get_or (IsArc m.nodes) m.arcs a no_arc l v.arcs).rate_fits
 
 pub valid_shut : (m : Model) (n : ℕ) (b : Bool) → IsValid m → n < length m.nodes → (IsTrue b → IsTrue (is_exit_at m n))
     → IsValid (with_node m n (record (node_at m n) { shut = b }))
 valid_shut m n b v l exit =
-    let old = node_of m n v l in
+    let old = node_is m n v l in
     valid_node m n (record (node_at m n) { shut = b }) v l refl
     (record {
       name = old.name;
@@ -128,7 +126,7 @@ valid_shut m n b v l exit =
 pub valid_start : (m : Model) (n s : ℕ) → IsValid m → n < length m.nodes → s ≤ capacity m n
     → people m + s ≤ people_limit + start m n → IsValid (with_start m n s)
 valid_start m n s v l fits few =
-    let old = node_of m n v l in
+    let old = node_is m n v l in
     valid_node m n (record (node_at m n) { start = s }) v l refl
     (record {
       name = old.name;
@@ -149,7 +147,7 @@ valid_edited m (ReopenExit n) v l h = valid_shut m n false v l (λ _. not-false 
 valid_edited m (Rate a r) v l h =
     valid_arc m a (record (arc_at m a) { rate = r }) v l refl refl refl (omega (arith, ltb-false rate_limit r h.0))
 valid_edited m (Room n c) v l h =
-    let old = node_of m n v l in
+    let old = node_is m n v l in
     valid_node m n (record (node_at m n) { capacity = c }) v l refl
     (record {
       name = old.name;
@@ -164,7 +162,7 @@ valid_edited m (Shift a b p) v l h =
     let enough = ltb-false (start m a) p h.1.1.1.0 in
     let room = ltb-false (capacity m b) (start m b + p) h.1.1.1.1.0 in
     let less = with_start m a (start m a - p) in
-    let old = node_of m a v l.0 in
+    let old = node_is m a v l.0 in
     let fits : start m a - p ≤ capacity m a = omega (arith, old.start_fits) in
     let valid_less = valid_start m a (start m a - p) v l.0 fits (omega (arith, v.people_fit)) in
     let same : node_at less b ≡ node_at m b =
@@ -179,7 +177,7 @@ valid_edited m (Enter n p) v l h =
     let room = ltb-false (capacity m n) (start m n + p) h.1.1.1.0 in
     valid_start m n (start m n + p) v l (omega arith) (omega arith)
 valid_edited m (Leave n p) v l h =
-    let old = node_of m n v l in
+    let old = node_is m n v l in
     valid_start m n (start m n - p) v l (omega (arith, old.start_fits)) (omega (arith, v.people_fit))
 
 pub valid_applied : (m : Model) (e : Edit) (m' : Model) (r : Result Edit EditFault) → IsValid m → IsEditOf m e
@@ -294,7 +292,7 @@ undoes m (Rate a r) v l h =
 undoes m (Room n c) v l h =
     let new = record (node_at m n) { capacity = c } in
     let read = read_node m n new l in
-    let old = node_of m n v l in
+    let old = node_is m n v l in
     record {
       in_range = omega (arith, l, length-set m.nodes n new);
       accepted = (
@@ -311,7 +309,7 @@ undoes m (Shift a b p) v l h =
     let apart = eqb-false a b h.0 in
     let exits = or_parts (is_exit_at m a) (is_exit_at m b) h.1.0 in
     let enough = ltb-false (start m a) p h.1.1.1.0 in
-    let old = node_of m a v l.0 in
+    let old = node_is m a v l.0 in
     let less = with_start m a (start m a - p) in
     let new = with_start less b (start m b + p) in
     let b_in : b < length less.nodes = omega (arith, l.1, nodes_long m a (start m a - p)) in
@@ -360,7 +358,7 @@ undoes m (Enter n p) v l h =
 undoes m (Leave n p) v l h =
     let enough = ltb-false (start m n) p h.1.1.0 in
     let less = start m n - p in
-    let old = node_of m n v l in
+    let old = node_is m n v l in
     record {
       in_range = omega (arith, l, nodes_long m n less);
       accepted = (

@@ -18,7 +18,7 @@ use Rattle.certificate_text.specs.BlockGrammar as blocks
 use Rattle.certificate_text.specs.BlockGrammar.{bad_block, block_of, line_step}
 use Rattle.certificate_text.specs.BlockReads.{ReadsBlockLines}
 use Rattle.certificate_text.specs.Drafts.{Draft, no_draft}
-use Rattle.evac_top.specs.Inputs.{Claimed, IsOpenClaim, NoneRefused, claim_behind, claim_by, claim_of, unless}
+use Rattle.evac_top.specs.Inputs.{Claimed, IsOpenClaim, NoneRefused, claim_behind, claim_by, claim_of, unless_fault}
 use Rattle.evac_top.specs.Reads.{IsFresh, PassesTail}
 use Rattle.evac_top.proofs.OpenLemmas.{described-lines, opening-further, tail-none}
 use Rattle.evac_top.proofs.TakeLemmas.{lines-count}
@@ -86,5 +86,5 @@ open-behind-block r0 r1 r2 r3 l0 l1 l2 l3 building block result fresh h g t is =
     ap claim_of (text_lines-append h.texts behind) ∙ claim-further xs (text_lines behind) d r1.number (described-lines r0 r1 l0 l1 building fresh h)
     ∙ ap (λ l. claim_by d (block_of d.model r1.number l)) (text_lines-append g.texts t.texts)
     ∙ ap (claim_by d) (block-further d.model no_draft r1.number ys zs draft r2.number [] stated)
-    ∙ ap (λ f. unless f claimed) (tail-none result r2 r3 l2 l3 t is) in
+    ∙ ap (λ f. unless_fault f claimed) (tail-none result r2 r3 l2 l3 t is) in
     subst (λ r. NoneRefused r (length (text_lines (h.texts ++ behind)))) (sym all) tt

@@ -23,8 +23,8 @@ use Rattle.plan_checker.proofs.LawLemmas.{one_verdict, yes_is_certified}
 use Rattle.evac_top.specs.Accounts.{Account}
 use Rattle.evac_top.specs.Answers.{Answers}
 use Rattle.evac_top.specs.Check.{Checks, IsChecked, IsVerdictOf, verdict_status, verdict_text}
-use Rattle.evac_top.specs.Inputs.{Claimed, claim_behind, claim_by, unless}
-use Rattle.evac_top.specs.Reads.{ClaimIs, ReadsTail, fault_of}
+use Rattle.evac_top.specs.Inputs.{Claimed, claim_behind, claim_by, unless_fault}
+use Rattle.evac_top.specs.Reads.{ClaimIs, ReadsTail, block_fault}
 use Rattle.evac_top.specs.declared.claim.Claim.{Claim}
 use Rattle.evac_top.specs.declared.words.Mode.TheVariants.{Check}
 use Rattle.evac_top.proofs.TellLemmas.{FaultIs}
@@ -41,7 +41,7 @@ said-claim building block n1 n2 bytes (Some x) (Some y) (d, e, is) (draft, state
     let claimed : Claimed = record { building = d; draft = draft } in
     let here = subst (λ (m : Model). block_of m n1 x ≡ blocks.Stated draft n2 y) is.model stated in (
       claimed,
-      ap claim_behind e ∙ ap (claim_by d) here ∙ ap (λ f. unless f claimed) none,
+      ap claim_behind e ∙ ap (claim_by d) here ∙ ap (λ f. unless_fault f claimed) none,
       is,
       subst (λ (m : Model). IsStated m draft block) is.model is_stated,
     )
@@ -60,7 +60,7 @@ block-refused building n1 code line bytes x y (d, e, is) refused =
     ap claim_behind e ∙ ap (claim_by d) here
 
 pub said-block-fault : (building : Building) (fault : BlockFault) (n1 n2 : ℕ) (bytes : List ℕ) (b c : Option (List Line))
-    → ReadsModel (Ok building) 0 n1 (Some (lines_of bytes)) b → ReadsBlock building.model (Err fault) n1 n2 b c → ClaimIs (Err (fault_of fault)) bytes
+    → ReadsModel (Ok building) 0 n1 (Some (lines_of bytes)) b → ReadsBlock building.model (Err fault) n1 n2 b c → ClaimIs (Err (block_fault fault)) bytes
 said-block-fault building fault n1 n2 bytes None c h g = absurd h
 said-block-fault building fault n1 n2 bytes (Some x) None h g = absurd g
 said-block-fault building (block_faults.Bad line) n1 n2 bytes (Some x) (Some y) h g = block-refused building n1 _ line bytes x y h g
@@ -70,7 +70,7 @@ said-block-fault building block_faults.ReadFault n1 n2 bytes (Some x) (Some y) h
 said-block-fault building block_faults.Memory n1 n2 bytes (Some x) (Some y) h g = tt
 
 -- a block isn't read because of a read fault only where there is one
-pub failed-reading : (fault : BlockFault) → fault_of fault ≡ ReadFault → fault ≡ block_faults.ReadFault
+pub failed-reading : (fault : BlockFault) → block_fault fault ≡ ReadFault → fault ≡ block_faults.ReadFault
 failed-reading (block_faults.Bad line) e = cc
 failed-reading (block_faults.LineTooLong line) e = cc
 failed-reading (block_faults.InputTooLong line) e = cc
@@ -86,7 +86,7 @@ said-tail-fault building block code line n1 n2 bytes (Some x) None h g f = absur
 said-tail-fault building block code line n1 n2 bytes (Some x) (Some y) (d, e, is) (draft, stated, is_stated) fault =
     let claimed : Claimed = record { building = d; draft = draft } in
     let here = subst (λ (m : Model). block_of m n1 x ≡ blocks.Stated draft n2 y) is.model stated in
-    ap claim_behind e ∙ ap (claim_by d) here ∙ ap (λ f. unless f claimed) fault
+    ap claim_behind e ∙ ap (claim_by d) here ∙ ap (λ f. unless_fault f claimed) fault
 
 -- what is said of the lines behind a block
 pub said-tail : (building : Building) (block : Block) (fault : ModelFault) (n1 n2 : ℕ) (bytes : List ℕ) (b c : Option (List Line))

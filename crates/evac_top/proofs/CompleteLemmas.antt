@@ -17,7 +17,7 @@ use Rattle.evac_top.specs.Complete.{AnswersAll, ChecksAll, PlansAll, RunsAnswer,
 use Rattle.evac_top.specs.Drill.{IsDrillSolved}
 use Rattle.evac_top.specs.Inputs.{Asked, Claimed, claim_of, input_of}
 use Rattle.evac_top.specs.Session.{Sessions}
-use Rattle.evac_top.specs.Solve.{IsSolved, Solves}
+use Rattle.evac_top.specs.Solve.{IsPlannedOrShort, Solves}
 use Rattle.evac_top.specs.Words.{reads}
 use Rattle.evac_top.specs.declared.words.Flags.{Flags}
 use Rattle.evac_top.specs.declared.words.Mode.{Mode}
@@ -26,7 +26,7 @@ use Rattle.evac_top.proofs.ClaimLemmas.{status-few}
 use Rattle.evac_top.proofs.SolveLemmas.{opening-clears}
 use Rattle.evac_top.proofs.TellLemmas.{of-input}
 
-plans-all : (flags : Flags) (names : NameTable) (m : Model) (line : ℕ) (x : Account) → IsSolved flags names m line x → PlansAll m line x
+plans-all : (flags : Flags) (names : NameTable) (m : Model) (line : ℕ) (x : Account) → IsPlannedOrShort flags names m line x → PlansAll m line x
 plans-all flags names m line x (inl h) =
     let clearable = opening-clears m h.opening h.begins in
     (λ can. h.done, λ cannot. absurd (cannot clearable), λ one. absurd (omega (arith, h.done, one)))

@@ -18,23 +18,23 @@ use Rattle.building_table.specs.Names.{NameTable, names_of}
 use Rattle.certificate_text.specs.BlockText.{refusal_line}
 use Rattle.edit_session.specs.Sessions.{IsSolved, with_former}
 use Rattle.edit_session.specs.Thrift.{IsThrifty}
-use Rattle.session_talk.specs.Sessions.{Advances, AsksEdit, Edits, IsAnswer, Replies, State, Undoes, session}
+use Rattle.session_talk.specs.Sessions.{Advances, AsksEdit, Edits, IsAnswerText, Replies, State, Undoes, session}
 use Rattle.session_talk.specs.Talks.{EndsAt, RepliesTo, Reply, Spoken, TalkRun, followed, says}
 use Rattle.session_talk.proofs.Same.{cut_stays}
 use Rattle.evac_top.specs.Accounts.{Account}
 use Rattle.evac_top.specs.Headline.{IsBestBlock, KeepsAll, KeepsPromise, KeepsSession, SessionsKeepPromise}
 use Rattle.evac_top.specs.Runs.{Runs}
 use Rattle.evac_top.specs.Session.{Sessions, spoken}
-use Rattle.evac_top.proofs.PlanLemmas.{solved-feasible}
+use Rattle.session_text.proofs.Solved.{feasible_of}
 use Rattle.evac_top.proofs.TellLemmas.{of-input}
 
 -- ---- one block
 
-best-block : (s : State) (text : List ℕ) → IsSolved s.standing → IsAnswer s text → IsBestBlock s text
+best-block : (s : State) (text : List ℕ) → IsSolved s.standing → IsAnswerText s text → IsBestBlock s text
 best-block s text h a = record {
   block = a.block;
   reads_back = a.reads_back;
-  feasible = solved-feasible s.standing h;
+  feasible = feasible_of s.standing s.standing.model refl h;
   in_time = h.certified.in_horizon;
   all_out = h.certified.all_out;
   cuts = λ k. (stated_cut_is_worth s.standing.model s.standing.plan s.standing.labels s.standing.last k h.valid h.certified).1;

@@ -6,7 +6,7 @@ use Rattle.line_io.specs.Reader.{lines_left}
 use Rattle.line_io.specs.View.{Reader}
 use Rattle.building_table.specs.Passes.{ReadsModel}
 use Rattle.building_table.specs.declared.building.Building.{Building}
-use Rattle.evac_top.specs.Inputs.{Asked, input_by, unless}
+use Rattle.evac_top.specs.Inputs.{Asked, input_by, unless_fault}
 use Rattle.evac_top.specs.Reads.{InputIs, IsFresh, ReadsTail}
 use Rattle.evac_top.specs.Accounts.{Told}
 
@@ -25,4 +25,4 @@ pub said-input : (building : Building) (last n : ℕ) (bytes : List ℕ) (b : Op
 said-input building last n bytes None h f same = absurd h
 said-input building last n bytes (Some x) (d, e, is) none same =
     let asked : Asked = record { building = d; last = n } in
-    (asked, ap input_by e ∙ ap (λ f. unless f asked) none, is, same)
+    (asked, ap input_by e ∙ ap (λ f. unless_fault f asked) none, is, same)

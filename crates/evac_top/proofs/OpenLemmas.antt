@@ -12,7 +12,7 @@ use Rattle.model_text.specs.Codes.{missing_end}
 use Rattle.model_text.specs.Grammar.{Said}
 use Rattle.model_text.specs.Readings.{Described, Refused, Step, Passed, Took, Ended, Stopped, after_first_step, after_step, first_step, later_step, IsUndecided, opening_of, reading_of}
 use Rattle.model_text.specs.Taken.{Description, description_of}
-use Rattle.evac_top.specs.Inputs.{IsOpenClaim, IsOpenInput, NoneRefused, claim_behind, input_by, tail_fault, unless}
+use Rattle.evac_top.specs.Inputs.{IsOpenClaim, IsOpenInput, NoneRefused, claim_behind, input_by, tail_fault, unless_fault}
 use Rattle.evac_top.specs.Reads.{IsFresh, PassesTail}
 use Rattle.evac_top.proofs.TakeLemmas.{lines-count}
 
@@ -94,5 +94,5 @@ open-behind r0 r1 r2 l0 l1 l2 building result fresh h t is =
     let ys = text_lines t.texts in
     let d = h.described.0 in
     let further = opening-further 0 xs ys d r1.number [] (described-lines r0 r1 l0 l1 building fresh h) in
-    let all = ap input_by further ∙ ap (λ f. unless f (record { building = d; last = r1.number })) (tail-none result r1 r2 l1 l2 t is) in
+    let all = ap input_by further ∙ ap (λ f. unless_fault f (record { building = d; last = r1.number })) (tail-none result r1 r2 l1 l2 t is) in
     subst IsOpenInput (sym (text_lines-append h.texts t.texts)) (subst (λ r. NoneRefused r (length (xs ++ ys))) (sym all) tt)

@@ -2,11 +2,8 @@
 use Rattle.std.proofs.Common.{IfSome, ◌≡◌, ℕ, ◌+◌, ◌≤◌, List, [], ◌++◌, Result, Ok, Err, IsErr, Some, None, is_some, refl, sym, subst, ◌∙◌, append-nil, arith, inl}
 use Rattle.std.specs.declared.option.Option.{Option}
 use Rattle.evac_law.specs.declared.model.Model.{Model}
-use Rattle.evac_law.specs.Building.{IsValid, people}
-use Rattle.evac_law.specs.Plans.{IsFeasible, out_by}
-use Rattle.evac_law.proofs.Optimal.{certified_is_feasible, out_stays}
 use Rattle.building_table.specs.Names.{NameTable}
-use Rattle.edit_session.specs.Sessions.{IsSolved, SessionState}
+use Rattle.edit_session.specs.Sessions.{SessionState}
 use Rattle.line_io.specs.Writer.{PutsText}
 use Rattle.line_io.proofs.TextLemmas.{front-more, text-failed, text-is, text-last}
 use Rattle.report_text.proofs.Parts.{text-err, text-ok}
@@ -19,21 +16,6 @@ use Rattle.evac_top.specs.Solve.{SaysPlan, Where}
 use Rattle.evac_top.specs.Tables.{HasTables, IsMade}
 use Rattle.evac_top.specs.declared.tables.Tables.{Tables}
 use Rattle.evac_top.specs.declared.words.Flags.{Flags}
-
--- ---- the plan of a session
-
-pub solved-feasible : (s : SessionState) → IsSolved s → IsFeasible s.model s.plan s.model.horizon
-solved-feasible s h = certified_is_feasible s.model s.plan s.labels s.last s.model.horizon h.valid h.certified
-
-pub solved-out : (s : SessionState) → IsSolved s → out_by s.model s.plan s.model.horizon ≡ people s.model
-solved-out s h = let good = h.certified in out_stays s.model s.plan s.last s.model.horizon good.in_horizon good.arrives ∙ good.all_out
-
--- the same of the model that a session lends
-pub lent-feasible : (s : SessionState) (m : Model) → m ≡ s.model → IsSolved s → IsFeasible m s.plan m.horizon
-lent-feasible s m e h = subst (λ (x : Model). IsFeasible x s.plan x.horizon) (sym e) (solved-feasible s h)
-
-pub lent-out : (s : SessionState) (m : Model) → m ≡ s.model → IsSolved s → out_by m s.plan m.horizon ≡ people m
-lent-out s m e h = subst (λ (x : Model). out_by x s.plan x.horizon ≡ people x) (sym e) (solved-out s h)
 
 -- ---- texts behind others
 

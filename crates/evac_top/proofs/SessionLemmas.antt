@@ -24,7 +24,7 @@ use Rattle.model_text.specs.Taken.{Description}
 use Rattle.session_talk.specs.Held.{Around, EndsByQuit, HoldsSession, IsReadOut, OfLines, SessionFront, around}
 use Rattle.session_talk.specs.Sessions.{SessionAnswers, session}
 use Rattle.session_talk.specs.Talks.{Spoken, TalkGoesOn}
-use Rattle.evac_top.specs.Accounts.{Account, IsRefused, Outside, Told}
+use Rattle.evac_top.specs.Accounts.{Account, IsRefusal, Outside, Told}
 use Rattle.evac_top.specs.Answers.{Answers, AnswersFront, AnswersSoFar, WritesNothing}
 use Rattle.evac_top.specs.Reads.{IsFresh, Takes}
 use Rattle.evac_top.specs.Runs.{Runs}

@@ -24,7 +24,7 @@ use Rattle.evac_top.specs.Accounts.{Account, Side}
 use Rattle.evac_top.specs.Answers.{Answers}
 use Rattle.evac_top.specs.Drill.{IsDrillSolved, IsDrilled}
 use Rattle.evac_top.specs.Reads.{InputIs}
-use Rattle.evac_top.specs.Solve.{IsPlanned, IsShort, IsSolved, SaysPlan, Solves}
+use Rattle.evac_top.specs.Solve.{IsPlanned, IsShort, IsPlannedOrShort, SaysPlan, Solves}
 use Rattle.evac_top.specs.declared.read.Input.{Input}
 use Rattle.evac_top.specs.declared.words.Flags.{Flags}
 use Rattle.evac_top.specs.declared.words.Mode.TheVariants.{Solve}
@@ -94,7 +94,7 @@ short_by_labels m other l all most line count taken same h spent = record {
   few_steps = spent;
 }
 
-pub solved-few : (flags : Flags) (names : NameTable) (m : Model) (line : ℕ) (x : Account) → IsSolved flags names m line x → x.status ≤ 1
+pub solved-few : (flags : Flags) (names : NameTable) (m : Model) (line : ℕ) (x : Account) → IsPlannedOrShort flags names m line x → x.status ≤ 1
 solved-few flags names m line x (inl h) = omega (arith, h.done)
 solved-few flags names m line x (inr h) = omega (arith, h.refused)
 
@@ -105,13 +105,13 @@ drilled-few n x (inr h) = omega (arith, h.refused)
 -- ---- inputs
 
 pub said-building : (flags : Flags) (input : Input) (bytes : List ℕ) → InputIs (Ok input) bytes → (x : Account) → x.taken ≡ bytes
-    → IsSolved flags input.building.names input.building.model input.last x → Answers (Some (Solve flags)) bytes x
+    → IsPlannedOrShort flags input.building.names input.building.model input.last x → Answers (Some (Solve flags)) bytes x
 said-building flags input bytes (asked, e, is, same) x all solved =
     subst (λ (r : _). Solves flags bytes r x) (sym e) (
       all,
-      subst (λ (n : ℕ). IsSolved flags (names_of asked.building) asked.building.model n x) same
-          (subst (λ (names : NameTable). IsSolved flags names asked.building.model input.last x) is.names
-          (subst (λ (m : Model). IsSolved flags input.building.names m input.last x) is.model solved)),
+      subst (λ (n : ℕ). IsPlannedOrShort flags (names_of asked.building) asked.building.model n x) same
+          (subst (λ (names : NameTable). IsPlannedOrShort flags names asked.building.model input.last x) is.names
+          (subst (λ (m : Model). IsPlannedOrShort flags input.building.names m input.last x) is.model solved)),
     )
 
 pub solve-fault : (flags : Flags) (fault : ModelFault) (bytes : List ℕ) → InputIs (Err fault) bytes → FaultIs (Solve flags) fault bytes
@@ -126,10 +126,10 @@ begins-own m s h = subst (λ (x : Model). Begins x s) (sym h.begun) h
 
 -- the plan with which a session on a model begins is told
 pub told-planned : (flags : Flags) (names : NameTable) (m : Model) (line : ℕ) (s : SessionState) (n status : ℕ) (before after : Side) → Begins m s → n ≡ s.work.pushes
-    → Tells (IsPlanned flags names s.model) status s.work.pushes before after → Tells (IsSolved flags names m line) status n before after
+    → Tells (IsPlanned flags names s.model) status s.work.pushes before after → Tells (IsPlannedOrShort flags names m line) status n before after
 told-planned flags names m line s n status before after h same told =
-    subst (λ (k : ℕ). Tells (IsSolved flags names m line) status k before after) (sym same)
-    (tells-as (IsPlanned flags names s.model) (IsSolved flags names m line) status s.work.pushes before after
+    subst (λ (k : ℕ). Tells (IsPlannedOrShort flags names m line) status k before after) (sym same)
+    (tells-as (IsPlanned flags names s.model) (IsPlannedOrShort flags names m line) status s.work.pushes before after
     (λ x p. inl (subst (λ (y : Model). IsPlanned flags names y x) h.begun p)) told)
 
 pub told-drilled : (number : ℕ) (s : SessionState) (n status : ℕ) (before after : Side) → n ≡ s.work.pushes

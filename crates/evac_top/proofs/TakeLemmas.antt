@@ -11,7 +11,8 @@ use Rattle.line_io.proofs.LineLemmas.{unsettled-open, whole_part-unsettled}
 use Rattle.line_io.proofs.PassLemmas.{passes-few}
 use Rattle.building_table.specs.declared.faults.ModelFault.{ModelFault}
 use Rattle.building_table.specs.declared.faults.ModelFault.TheVariants.{ReadFault}
-use Rattle.evac_top.specs.Reads.{IsFresh, IsOver, Takes}
+use Rattle.evac_top.specs.Reads.{IsFresh, Takes}
+use Rattle.session_talk.specs.Held.{IsReadOut}
 
 true-false : {b : Bool} → b ≡ true → b ≡ false → ⊥
 true-false p q = cc
@@ -22,7 +23,7 @@ length-text_lines (t ∷ ts) = omega (arith, length-text_lines ts)
 
 -- ---- the lines of the bytes taken
 
-whole-there : (r : Reader) (gone : List ℕ) → IsWhole gone ⊎ IsOver r → is_settled r ≡ false → IsWhole gone
+whole-there : (r : Reader) (gone : List ℕ) → IsWhole gone ⊎ IsReadOut r → is_settled r ≡ false → IsWhole gone
 whole-there r gone (inl whole) u = whole
 whole-there r gone (inr over) u = absurd (true-false over.0 (unsettled-open r u).0)
 

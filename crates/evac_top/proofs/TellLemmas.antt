@@ -9,14 +9,15 @@ use Rattle.line_io.specs.declared.limits.TheConstants.{BUFFER_SIZE}
 use Rattle.building_table.specs.declared.faults.ModelFault.{ModelFault}
 use Rattle.building_table.specs.declared.faults.ModelFault.TheVariants.{Named, ReadFault, Memory}
 use Rattle.certificate_text.specs.BlockText.{refusal_line}
-use Rattle.evac_top.specs.Accounts.{Account, Ends, IsFront, IsRefused, Outside, Side, Told}
+use Rattle.evac_top.specs.Accounts.{Account, Ends, IsFront, IsRefusal, Outside, Side, Told}
 use Rattle.evac_top.specs.Answers.{Answers, AnswersFront, AnswersMemory, AnswersSoFar, WritesNothing, words_text}
 use Rattle.evac_top.specs.Drill.{IsDrillSolved}
 use Rattle.evac_top.specs.Inputs.{IsOpenClaim, IsOpenInput}
 use Rattle.evac_top.specs.Reads.{Takes}
 use Rattle.evac_top.specs.Runs.{OfInput, Runs}
 use Rattle.evac_top.specs.Sends.{Sends}
-use Rattle.evac_top.specs.Tells.{Stops, Tells, status_after}
+use Rattle.session_talk.specs.Held.{status_after}
+use Rattle.evac_top.specs.Tells.{Stops, Tells}
 use Rattle.evac_top.specs.Words.{reads}
 use Rattle.evac_top.specs.declared.words.Flags.{Flags}
 use Rattle.evac_top.specs.declared.words.Mode.{Mode}
@@ -64,7 +65,7 @@ pub stops-named : {T E : Type 0} (fault : ModelFault) (code line : ℕ) (r : Res
     → ended ≡ status_after r 1 → Sends before.bytes after.bytes (refusal_line code line) r → HasCause before.faults after.faults r → Stops fault ended before after
 stops-named fault code line r before after ended named is sent cause =
     subst (λ (f : ModelFault). Stops f ended before after) (sym named)
-    (tells-sent (IsRefused (code, line)) 1 0 (refusal_line code line) r before after ended is (omega arith) sent cause
+    (tells-sent (IsRefusal (code, line)) 1 0 (refusal_line code line) r before after ended is (omega arith) sent cause
     (λ taken. record { over = refl; text_whole = refl; counted = refl }))
 
 -- there was no memory
@@ -159,7 +160,7 @@ read-told mode m Holds value status steps before after t same counted tells few 
 
 -- an input isn't read: what its fault says of it
 abbrev pub FaultIs : Mode → ModelFault → List ℕ → Type 0
-FaultIs mode (Named code line) input = (x : Account) → IsRefused (code, line) x → Answers (Some mode) input x
+FaultIs mode (Named code line) input = (x : Account) → IsRefusal (code, line) x → Answers (Some mode) input x
 FaultIs mode ReadFault input = Unit {0}
 FaultIs mode Memory input = Unit {0}
 
@@ -171,7 +172,7 @@ pub stopped : {T : Type 0} {IsOpen : List Line → Type 0} (mode : Mode) → Rea
     → ((fault ≡ ReadFault → ⊥) → after.source.faults ≡ before.source.faults) → after.steps ≡ before.steps → Stops fault status before.sink after.sink
     → Told before.source.bytes (FaultIs mode fault) → Runs (Some mode) status before after
 stopped mode m (Named code line) status before after t rose quiet kept tells told =
-    runs-told (Some mode) (IsRefused (code, line)) status 0 before after t.taken t.consumed t.few (quiet (λ e. cc)) (omega (arith, kept)) tells
+    runs-told (Some mode) (IsRefusal (code, line)) status 0 before after t.taken t.consumed t.few (quiet (λ e. cc)) (omega (arith, kept)) tells
     (λ x h e. absurd (omega (arith, h.over, e))) (told-input mode m before.source.bytes _ (told-map before.source.bytes (FaultIs mode (Named code line)) _ (λ input h x e. h x) told)) m.front (λ x e w. m.memory before.source.bytes x w)
 stopped mode m ReadFault status before after t rose quiet kept (three, same) told =
     let x : Account = record { status = status; taken = t.taken; written = []; steps = 0 } in

@@ -37,8 +37,8 @@ pub record Ends (x : Account) (status : ℕ) (text : List ℕ) (steps : ℕ) : T
   pub counted : x.steps ≡ steps
 
 -- the run is over with the line of a fault, a code with a line
-abbrev pub IsRefused : ℕ × ℕ → Account → Type 0
-IsRefused fault x = Ends x 1 (refusal_line fault.0 fault.1) 0
+abbrev pub IsRefusal : ℕ × ℕ → Account → Type 0
+IsRefusal fault x = Ends x 1 (refusal_line fault.0 fault.1) 0
 
 -- what was written is the front of a text that an account of this kind has
 abbrev pub IsFront : (Account → Type 0) → Account → Type 0

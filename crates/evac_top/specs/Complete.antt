@@ -12,7 +12,7 @@ use Rattle.model_text.specs.Readings.{Reading, Described, Refused, model_of}
 use Rattle.building_table.specs.Names.{names_of}
 use Rattle.plan_checker.specs.Verdicts.{IsRight}
 use Rattle.session_talk.specs.Sessions.{OpensShort, SessionRun}
-use Rattle.evac_top.specs.Accounts.{Account, IsRefused, Outside}
+use Rattle.evac_top.specs.Accounts.{Account, IsRefusal, Outside}
 use Rattle.evac_top.specs.Inputs.{Asked, Claimed, claim_of, input_of}
 use Rattle.evac_top.specs.Runs.{OfInput, Runs}
 use Rattle.evac_top.specs.Session.{spoken}
@@ -28,21 +28,21 @@ PlansAll m line x = (IsClearable m → x.status ≡ 0) × (¬ IsClearable m → 
 -- the building of an input is planned or refused; an input with a fault is refused by it
 abbrev pub SolvesAll : Result Asked (ℕ × ℕ) → Account → Type 0
 SolvesAll (Ok asked) x = PlansAll asked.building.model asked.last x
-SolvesAll (Err fault) x = IsRefused fault x
+SolvesAll (Err fault) x = IsRefusal fault x
 
 -- a block is answered by yes exactly where it is right, and else by no; an input with a fault is refused by it
 abbrev pub ChecksAll : Result Claimed (ℕ × ℕ) → Account → Type 0
 ChecksAll (Ok claimed) x =
     let m = claimed.building.model in
     (block : Block) → IsStated m claimed.draft block → (IsRight m block → x.status ≡ 0) × (¬ IsRight m block → x.status ≡ 1)
-ChecksAll (Err fault) x = IsRefused fault x
+ChecksAll (Err fault) x = IsRefusal fault x
 
 -- a building is opened and the lines behind it are answered up to the end, exactly where it can be cleared, and it is refused with its shortfall exactly
 -- where it can't; a model with a fault is refused by it
 abbrev pub SessionsAll : Reading → Account → Type 0
 SessionsAll (Described d last rest) x =
     (IsClearable d.model → SessionRun (names_of d) d.model last rest (spoken x)) × (¬ IsClearable d.model → OpensShort d.model last (spoken x))
-SessionsAll (Refused code line) x = IsRefused (code, line) x
+SessionsAll (Refused code line) x = IsRefusal (code, line) x
 
 -- an input is answered, by the mode that the words ask for; other words are refused
 abbrev pub AnswersAll : Option Mode → List ℕ → Account → Type 0

@@ -74,12 +74,12 @@ InputIs (Err ReadFault) bytes = ⊤
 InputIs (Err Memory) bytes = ⊤
 
 -- the fault of an input with a block that isn't read
-abbrev pub fault_of : BlockFault → ModelFault
-fault_of (block_faults.Bad line) = Named bad_block line
-fault_of (block_faults.LineTooLong line) = Named line_too_long line
-fault_of (block_faults.InputTooLong line) = Named input_too_long line
-fault_of block_faults.ReadFault = ReadFault
-fault_of block_faults.Memory = Memory
+abbrev pub block_fault : BlockFault → ModelFault
+block_fault (block_faults.Bad line) = Named bad_block line
+block_fault (block_faults.LineTooLong line) = Named line_too_long line
+block_fault (block_faults.InputTooLong line) = Named input_too_long line
+block_fault block_faults.ReadFault = ReadFault
+block_fault block_faults.Memory = Memory
 
 -- what an input with a block says, by its bytes
 abbrev pub ClaimIs : Result Claim ModelFault → List ℕ → Type 0
@@ -92,7 +92,3 @@ ClaimIs (Err Memory) bytes = ⊤
 -- a reader that has taken nothing yet
 abbrev pub IsFresh : Reader → Type 0
 IsFresh r = r ≡ record { pending = []; ended = false; given = 0; number = 0; text = [] }
-
--- a reader whose source has ended, with nothing pending
-abbrev pub IsOver : Reader → Type 0
-IsOver r = (r.ended ≡ true) × (r.pending ≡ [])

@@ -9,7 +9,7 @@ use Rattle.building_table.specs.Names.{names_of}
 use Rattle.session_talk.specs.Held.{SessionFront}
 use Rattle.session_talk.specs.Sessions.{SessionAnswers, session}
 use Rattle.session_talk.specs.Talks.{Spoken, TalkGoesOn}
-use Rattle.evac_top.specs.Accounts.{Account, IsFront, IsRefused}
+use Rattle.evac_top.specs.Accounts.{Account, IsFront, IsRefusal}
 
 -- what a run came to as a talk
 abbrev pub spoken : Account → Spoken
@@ -19,7 +19,7 @@ spoken x = record { status = x.status; text = x.written; steps = x.steps }
 -- a fault is refused by it
 abbrev pub Sessions : Reading → Account → Type 0
 Sessions (Described d last rest) x = SessionAnswers (names_of d) d.model last rest (spoken x)
-Sessions (Refused code line) x = IsRefused (code, line) x
+Sessions (Refused code line) x = IsRefusal (code, line) x
 
 -- a line behind a building quits
 abbrev pub HasQuit : Reading → Type 0
@@ -41,4 +41,4 @@ SessionsSoFar (Refused code line) count x = (code ≡ missing_end) × (line ≡ 
 -- a session whose sink failed: a front of it, or of the replies to the lines that it came to
 abbrev pub SessionsFront : Reading → Account → Type 0
 SessionsFront (Described d last rest) x = SessionFront (names_of d) d.model last rest (spoken x)
-SessionsFront (Refused code line) x = IsFront (IsRefused (code, line)) x
+SessionsFront (Refused code line) x = IsFront (IsRefusal (code, line)) x

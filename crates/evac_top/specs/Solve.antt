@@ -9,7 +9,7 @@ use Rattle.building_table.specs.Names.{NameTable, names_of}
 use Rattle.certificate_text.specs.BlockText.{shortfall_text}
 use Rattle.edit_session.specs.Sessions.{Begins, SessionState}
 use Rattle.session_text.specs.StateTexts.{SaysReports, SaysRoutesOf, block_text}
-use Rattle.evac_top.specs.Accounts.{Account, IsRefused}
+use Rattle.evac_top.specs.Accounts.{Account, IsRefusal}
 use Rattle.evac_top.specs.Inputs.{Asked}
 use Rattle.evac_top.specs.declared.words.Flags.{Flags}
 
@@ -47,10 +47,10 @@ pub record IsShort (m : Model) (line : ℕ) (x : Account) : Type 0 where
   pub few_steps : x.steps ≤ (m.horizon + 1) * most
 
 -- a building whose end is at a line is planned, or refused there
-abbrev pub IsSolved : Flags → NameTable → Model → ℕ → Account → Type 0
-IsSolved flags names m line x = IsPlanned flags names m x ⊎ IsShort m line x
+abbrev pub IsPlannedOrShort : Flags → NameTable → Model → ℕ → Account → Type 0
+IsPlannedOrShort flags names m line x = IsPlanned flags names m x ⊎ IsShort m line x
 
 -- all of an input of `solve` is read, and its building is planned or refused; or its first fault is named
 abbrev pub Solves : Flags → List ℕ → Result Asked (ℕ × ℕ) → Account → Type 0
-Solves flags input (Ok asked) x = (x.taken ≡ input) × IsSolved flags (names_of asked.building) asked.building.model asked.last x
-Solves flags input (Err fault) x = IsRefused fault x
+Solves flags input (Ok asked) x = (x.taken ≡ input) × IsPlannedOrShort flags (names_of asked.building) asked.building.model asked.last x
+Solves flags input (Err fault) x = IsRefusal fault x

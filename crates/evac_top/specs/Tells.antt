@@ -8,12 +8,7 @@ use Rattle.edit_session.specs.Sessions.{BeginEnds, SessionView}
 use Rattle.edit_session.specs.declared.faults.BeginFault.{BeginFault}
 use Rattle.evac_law.specs.declared.model.Model.{Model}
 use Rattle.evac_law.specs.Building.{IsValid}
-use Rattle.evac_top.specs.Accounts.{Account, IsFront, IsRefused, Side}
-
--- the status behind a text that was sent
-abbrev pub status_after : {T E : Type 0} → Result T E → ℕ → ℕ
-status_after (Ok done) status = status
-status_after (Err fault) status = 4
+use Rattle.evac_top.specs.Accounts.{Account, IsFront, IsRefusal, Side}
 
 -- the sink was told what an account of this kind says: all of it at statuses 0, 1 and 2, a front of it where the sink failed, and nothing without memory
 pub record Tells (Holds : Account → Type 0) (status steps : ℕ) (before after : Side) : Type 0 where
@@ -28,7 +23,7 @@ pub record Tells (Holds : Account → Type 0) (status steps : ℕ) (before after
 
 -- the end of a run whose input isn't read: a named fault is told, otherwise nothing
 abbrev pub Stops : ModelFault → ℕ → Side → Side → Type 0
-Stops (Named code line) status before after = Tells (IsRefused (code, line)) status 0 before after
+Stops (Named code line) status before after = Tells (IsRefusal (code, line)) status 0 before after
 Stops ReadFault status before after = (status ≡ 3) × (after ≡ before)
 Stops Memory status before after = (status ≡ 5) × (after ≡ before)
 

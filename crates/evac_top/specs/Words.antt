@@ -36,17 +36,17 @@ storeys_of (v ∷ w ∷ []) = if bytes_eq v (codes "--number") then plain_within
 storeys_of _ = None
 
 -- a mode whose word has none behind it
-abbrev pub alone : Mode → List (List ℕ) → Option Mode
-alone mode [] = Some mode
-alone mode (v ∷ more) = None
+abbrev pub mode_alone : Mode → List (List ℕ) → Option Mode
+mode_alone mode [] = Some mode
+mode_alone mode (v ∷ more) = None
 
 -- the mode that words ask for, by the first of them; other words ask for none
 abbrev pub mode_of : List (List ℕ) → Option Mode
 mode_of [] = None
 mode_of (v ∷ more) =
     if bytes_eq v (codes "solve") then option_map Solve (flags_of more)
-    else if bytes_eq v (codes "check") then alone Check more
-    else if bytes_eq v (codes "session") then alone Session more
+    else if bytes_eq v (codes "check") then mode_alone Check more
+    else if bytes_eq v (codes "session") then mode_alone Session more
     else if bytes_eq v (codes "drill") then option_map Drill (storeys_of more)
     else None
 

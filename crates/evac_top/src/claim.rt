@@ -5,7 +5,7 @@ ghost use Rattle.line_io.specs.Causes.{Rose};
 ghost use Rattle.certificate_text.specs.Block.{IsBlockOf};
 ghost use Rattle.evac_top.specs.Inputs.{IsOpenClaim};
 ghost use Rattle.evac_top.specs.Accounts.{Told};
-ghost use Rattle.evac_top.specs.Reads.{ClaimIs, IsFresh, Takes, fault_of};
+ghost use Rattle.evac_top.specs.Reads.{ClaimIs, IsFresh, Takes, block_fault};
 
 use crate::read::{INPUT_TOO_LONG, LINE_TOO_LONG, read_tail};
 use building_table::{Building, ModelFault, read_model};
@@ -23,8 +23,8 @@ pub struct Claim {
 }
 
 // The fault of an input with a block that isn't read.
-fn fault_of(fault: BlockFault) -> ModelFault
-    ensures { result ≡ fault_of fault }
+fn block_fault(fault: BlockFault) -> ModelFault
+    ensures { result ≡ block_fault fault }
 {
     let (code, line) = match fault {
         BlockFault::Bad { line } => (BAD_BLOCK, line),
@@ -56,7 +56,7 @@ pub(crate) fn read_claim<S: Source>(
     };
     let block = match read_block(alloc, lines, source, &building.model, &building.names) {
         Ok(block) => block,
-        Err(fault) => return Err(fault_of(fault)),
+        Err(fault) => return Err(block_fault(fault)),
     };
     match read_tail(lines, source) {
         Ok(()) => Ok(Claim { building, block }),

@@ -5,7 +5,7 @@ ghost use Rattle.edit_session.specs.Sessions.{BeginEnds, Begins};
 ghost use Rattle.evac_law.specs.declared.model.Model.{Model as ModelValue};
 ghost use Rattle.evac_top.specs.Accounts.{side};
 ghost use Rattle.evac_top.specs.Runs.{Runs};
-ghost use Rattle.evac_top.specs.Solve.{IsPlanned, IsSolved};
+ghost use Rattle.evac_top.specs.Solve.{IsPlanned, IsPlannedOrShort};
 ghost use Rattle.evac_top.specs.Tells.{HasBegun, Tells};
 ghost use Rattle.evac_top.specs.declared.words.Mode.TheVariants.{Solve};
 
@@ -71,7 +71,7 @@ fn tell<K: Sink>(
 ) -> u8
     requires fresh { out.old ≡ [] }
     requires begun { (m : ModelValue) × HasBegun m begun }
-    ensures { (m : ModelValue) (steps : ℕ) → BeginEnds m begun steps → Tells (IsSolved flags names.now m line) result steps
+    ensures { (m : ModelValue) (steps : ℕ) → BeginEnds m begun steps → Tells (IsPlannedOrShort flags names.now m line) result steps
         (side (K.held sink.old) (K.faults sink.old)) (side (K.held sink.new) (K.faults sink.new)) }
 {
     match begun {
@@ -91,7 +91,7 @@ fn answer<K: Sink, L: Ledger>(
 ) -> u8
     requires fresh { out.old ≡ [] }
     requires valid { IsValid input.building.model }
-    ensures { (count : ℕ) × (steps.new ≡ steps.old + count) × Tells (IsSolved flags input.building.names input.building.model input.last) result count
+    ensures { (count : ℕ) × (steps.new ≡ steps.old + count) × Tells (IsPlannedOrShort flags input.building.names input.building.model input.last) result count
         (side (K.held sink.old) (K.faults sink.old)) (side (K.held sink.new) (K.faults sink.new)) }
 {
     let names = input.building.names;

@@ -1,7 +1,7 @@
 // The modes of the program, and the words that ask for them.
 ghost use Rattle.std.specs.Prelude.{◌≡◌, ◌≤◌, IfSome, map, string_bytes};
 ghost use Rattle.model_text.specs.NameFields.{plain_within};
-ghost use Rattle.evac_top.specs.Words.{IsWithin, alone, flags_of, mode_of, one_flag, storeys_of, two_flags};
+ghost use Rattle.evac_top.specs.Words.{IsWithin, mode_alone, flags_of, mode_of, one_flag, storeys_of, two_flags};
 
 use drill_building::STOREY_LIMIT;
 use model_text::read_number;
@@ -106,8 +106,8 @@ fn storeys_of(words: &[String]) -> Option<u32>
 }
 
 // A mode whose word has none behind it.
-fn alone(mode: Mode, words: &[String]) -> Option<Mode>
-    ensures { result ≡ alone mode (map string_bytes words.now) }
+fn mode_alone(mode: Mode, words: &[String]) -> Option<Mode>
+    ensures { result ≡ mode_alone mode (map string_bytes words.now) }
 {
     if words.is_empty() { Some(mode) } else { None }
 }
@@ -122,8 +122,8 @@ pub(crate) fn mode_of(words: &[String]) -> Option<Mode>
     };
     match word.as_str() {
         "solve" => flags_of(more).map(Mode::Solve),
-        "check" => alone(Mode::Check, more),
-        "session" => alone(Mode::Session, more),
+        "check" => mode_alone(Mode::Check, more),
+        "session" => mode_alone(Mode::Session, more),
         "drill" => storeys_of(more).map(Mode::Drill),
         _ => None,
     }

@@ -17,7 +17,7 @@ use Rattle.residual_net.specs.declared.place.Place.TheVariants as places
 use Rattle.residual_net.specs.declared.start.Kind.TheVariants as kinds
 use Rattle.residual_net.specs.Site.{Site, IsPlace}
 use Rattle.residual_net.specs.OfModel.{model_limit, site_of}
-use Rattle.residual_net.specs.Start.{is_kind, number_of}
+use Rattle.residual_net.specs.Start.{is_kind, row_of}
 use Rattle.residual_net.proofs.Begin.{joined}
 use Rattle.residual_net.proofs.Held.{to_is}
 use Rattle.flow_repair.specs.Touched.{touches}
@@ -79,7 +79,7 @@ entry_kept : (m m' : Model) (n t : ℕ) → start m' n ≡ start m n → model_l
 entry_kept m m' n t e = ap (λ z. cond (eqb t 0) z 0) e
 
 -- another arc at a place
-after_arc : (m : Model) (a : ℕ) (row : ArcRow) (p : Place) → (is_kind kinds.Arc p && eqb (number_of p) a) ≡ false
+after_arc : (m : Model) (a : ℕ) (row : ArcRow) (p : Place) → (is_kind kinds.Arc p && eqb (row_of p) a) ≡ false
     → model_limit (with_arc m a row) p ≡ model_limit m p
 after_arc m a row (places.Arc b t) e =
     arc_limit_kept m (with_arc m a row) b t refl (get_or-set_other m.arcs a b row no_arc (not_number b a e)) refl
@@ -87,7 +87,7 @@ after_arc m a row (places.Hold n t) e = refl
 after_arc m a row (places.Supply n t) e = refl
 
 -- another mark at an exit
-after_exit : (m : Model) (n : ℕ) (b : Bool) (p : Place) → IsPlace (site_of m) p → (is_kind kinds.Arc p && eqb (to_at (site_of m).shape (number_of p)) n) ≡ false
+after_exit : (m : Model) (n : ℕ) (b : Bool) (p : Place) → IsPlace (site_of m) p → (is_kind kinds.Arc p && eqb (to_at (site_of m).shape (row_of p)) n) ≡ false
     → model_limit (with_node m n (record (node_at m n) { shut = b })) p ≡ model_limit m p
 after_exit m n b (places.Arc a t) i e =
     let in_arcs : a < length m.arcs = omega (arith, length-map m.arcs joined, i.0) in
@@ -102,7 +102,7 @@ after_exit m n b (places.Supply k t) i e =
     entry_kept m (with_node m n row) k t (at-set (λ (r : NodeRow). r.start) m.nodes n row no_node refl k)
 
 -- another capacity
-after_room : (m : Model) (n c : ℕ) (p : Place) → (is_kind kinds.Hold p && eqb (number_of p) n) ≡ false
+after_room : (m : Model) (n c : ℕ) (p : Place) → (is_kind kinds.Hold p && eqb (row_of p) n) ≡ false
     → model_limit (with_node m n (record (node_at m n) { capacity = c })) p ≡ model_limit m p
 after_room m n c (places.Arc a t) e =
     let row = record (node_at m n) { capacity = c } in
@@ -115,7 +115,7 @@ after_room m n c (places.Supply k t) e =
     entry_kept m (with_node m n row) k t (at-set (λ (r : NodeRow). r.start) m.nodes n row no_node refl k)
 
 -- another start
-after_start : (m : Model) (n s : ℕ) (p : Place) → (is_kind kinds.Supply p && eqb (number_of p) n) ≡ false → model_limit (with_start m n s) p ≡ model_limit m p
+after_start : (m : Model) (n s : ℕ) (p : Place) → (is_kind kinds.Supply p && eqb (row_of p) n) ≡ false → model_limit (with_start m n s) p ≡ model_limit m p
 after_start m n s (places.Arc a t) e =
     let row = record (node_at m n) { start = s } in
     arc_limit_kept m (with_node m n row) a t refl refl (at-set (λ (r : NodeRow). r.shut) m.nodes n row no_node refl (head m a))
@@ -139,7 +139,7 @@ untouched m (ReopenExit n) p i t = after_exit m n false p i t
 untouched m (Rate a r) p i t = after_arc m a (record (arc_at m a) { rate = r }) p t
 untouched m (Room n c) p i t = after_room m n c p t
 untouched m (Shift a b x) p i t =
-    let none = neither (is_kind kinds.Supply p && eqb (number_of p) b) (is_kind kinds.Supply p && eqb (number_of p) a) t in
+    let none = neither (is_kind kinds.Supply p && eqb (row_of p) b) (is_kind kinds.Supply p && eqb (row_of p) a) t in
     after_start (with_start m a (start m a - x)) b (start m b + x) p none.0 ∙ after_start m a (start m a - x) p none.1
 untouched m (Enter n x) p i t = after_start m n (start m n + x) p t
 untouched m (Leave n x) p i t = after_start m n (start m n - x) p t

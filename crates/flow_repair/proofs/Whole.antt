@@ -16,12 +16,12 @@ use Rattle.residual_net.specs.Closed.{reached}
 use Rattle.residual_net.specs.Network.{Network, IsAllSent, IsNet, IsWithinLimits, flow_at, limit_at, residual_room}
 use Rattle.residual_net.specs.NetLaws.{labelled}
 use Rattle.residual_net.specs.OfModel.{IsNetOf, last_move, model_limit, plan_of, site_of, stand_of}
-use Rattle.residual_net.specs.Site.{Site, End, IsPlace, arcs_of, exit_at, head_of, is_barred, start_of, stop_of, sum_places}
+use Rattle.residual_net.specs.Site.{Site, End, IsPlace, arc_count, exit_at, head_of, is_barred, start_of, stop_of, sum_places}
 use Rattle.residual_net.specs.Site.End.{Source, Pair, Door}
 use Rattle.residual_net.proofs.Begin.{joined}
 use Rattle.residual_net.proofs.Fit.{fits}
 use Rattle.residual_net.proofs.Held.{arcs_same, arrival_is, horizon_same, nodes_same}
-use Rattle.residual_net.proofs.LastArrival.{last_by_arrived}
+use Rattle.residual_net.proofs.LastArrival.{last_fits}
 use Rattle.residual_net.proofs.Law.{moved_is}
 use Rattle.flow_repair.specs.declared.reshaped.Reshaped.{Reshaped}
 use Rattle.flow_repair.specs.Opened.{IsClosedBelow, IsLeastOpened, IsOpened, end_number}
@@ -105,9 +105,6 @@ pub edit_now : (m : Model) (e : Edit) (w : Network) → IsEditOfNet m e w → Is
 edit_now m e w h =
     subst (λ z. IsEditOf z e) (is_edited h.before m e h.inverse h.edited) (still_edit h.before e h.in_range)
 
-pub last_in : (w : Network) → IsNet w → last_move w.site (plan_of w) ≤ w.site.shape.horizon
-last_in w net = last_by_arrived w net w.site.shape.horizon refl
-
 -- ---- what is taken off is at most what the edit breaks
 
 none_late : (b : Bool) (f x y : ℕ) → (b ≡ true → f ≡ 0) → f - cond b 0 x ≤ f - x
@@ -118,10 +115,10 @@ module _ (m n : Model) (w : Network) (valid : IsValid m) (net : IsNet w) (of : I
   horizon_now : w.site.shape.horizon ≡ n.horizon
   horizon_now = ap (λ (s : Site). s.shape.horizon) site
 
-  arc_over : (a t : ℕ) → a < arcs_of w.site → t < w.site.shape.horizon + 1 → flow_at w (Arc a t) - model_limit n (Arc a t) ≤ moved (plan_of w) a t - rate n a t
+  arc_over : (a t : ℕ) → a < arc_count w.site → t < w.site.shape.horizon + 1 → flow_at w (Arc a t) - model_limit n (Arc a t) ≤ moved (plan_of w) a t - rate n a t
   arc_over a t i j =
       let place : IsPlace w.site (Arc a t) = (i, omega (arith, j)) in
-      let in_n : a < length n.arcs = omega (arith, i, ap arcs_of site, length-map n.arcs joined) in
+      let in_n : a < length n.arcs = omega (arith, i, ap arc_count site, length-map n.arcs joined) in
       let late : ltb n.horizon (arrival n a t) ≡ is_barred w.site (Arc a t) =
       ap (λ z. ltb n.horizon z) (sym (arrival_is n a t in_n)) ∙ ap (λ (s : Site). is_barred s (Arc a t)) (sym site) in
       let none = none_late (ltb n.horizon (arrival n a t)) (flow_at w (Arc a t)) (rate n a t) 0 (λ e. (net.barred (Arc a t) place (sym late ∙ e)).0) in
@@ -164,11 +161,11 @@ module _ (m n : Model) (w : Network) (valid : IsValid m) (net : IsNet w) (of : I
       let k = w.site.shape.horizon + 1 in
       let h = m.horizon + 1 in
       let same : k ≡ h = ap (λ z. z + 1) (horizon_same m w net of valid) in
-      let arcs = sum2-le (arcs_of w.site) k (λ a t. flow_at w (Arc a t) - model_limit n (Arc a t)) (λ a t. moved (plan_of w) a t - rate n a t) arc_over in
+      let arcs = sum2-le (arc_count w.site) k (λ a t. flow_at w (Arc a t) - model_limit n (Arc a t)) (λ a t. moved (plan_of w) a t - rate n a t) arc_over in
       let holds = sum2-le w.site.shape.nodes k (λ i t. flow_at w (Hold i t) - model_limit n (Hold i t))
       (λ i t. cond (is_exit_at m i) 0 (above (held m (plan_of w) i t) (capacity n i))) hold_over in
       let entries = sum2-le w.site.shape.nodes k (λ i t. flow_at w (Supply i t) - model_limit n (Supply i t)) (λ i t. entry m i t - entry n i t) entry_over in
-      let of_arcs : sum2 (arcs_of w.site) k (λ a t. moved (plan_of w) a t - rate n a t) ≡ sum2 (length m.arcs) h (λ a t. moved (plan_of w) a t - rate n a t) =
+      let of_arcs : sum2 (arc_count w.site) k (λ a t. moved (plan_of w) a t - rate n a t) ≡ sum2 (length m.arcs) h (λ a t. moved (plan_of w) a t - rate n a t) =
       ap₂ (λ x y. sum2 x y (λ a t. moved (plan_of w) a t - rate n a t)) (arcs_same m w net of valid) same in
       let of_holds : sum2 w.site.shape.nodes k (λ i t. cond (is_exit_at m i) 0 (above (held m (plan_of w) i t) (capacity n i)))
       ≡ sum2 (length m.nodes) h (λ i t. cond (is_exit_at m i) 0 (above (held m (plan_of w) i t) (capacity n i))) =

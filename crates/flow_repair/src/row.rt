@@ -4,7 +4,7 @@ ghost use Rattle.evac_law.specs.Building.{IsValid};
 ghost use Rattle.residual_net.specs.Limits.{supply_limit};
 ghost use Rattle.residual_net.specs.Network.{IsWithinLimits, flow_out};
 ghost use Rattle.residual_net.specs.Site.{IsPlace, is_source};
-ghost use Rattle.residual_net.specs.Start.{is_kind, number_of, place_of};
+ghost use Rattle.residual_net.specs.Start.{is_kind, row_of, place_of};
 ghost use Rattle.residual_net.specs.declared.start.Kind.TheVariants as kinds;
 ghost use Rattle.time_expansion.specs.Expansion.{to_at};
 ghost use Rattle.flow_repair.specs.Opened.{IsLabelsOf};
@@ -34,7 +34,7 @@ pub fn fit_row<L: Ledger>(
     requires labels { IsLabelsOf net.old.site labels.now }
     requires room { net.old.site.shape.horizon + 2 ≤ path.old.room }
     requires few { done.cancelled + flow_out net.old is_source ≤ supply_limit }
-    ensures refitted { IsRefitted model.now labels.now net.old net.new (λ p. is_kind kind p && number_of p == number) done result }
+    ensures refitted { IsRefitted model.now labels.now net.old net.new (λ p. is_kind kind p && row_of p == number) done result }
     ensures within { IsWithinLimits net.new }
     ensures room { path.new.room ≡ path.old.room }
     ensures counted { steps.old ≤ steps.new }
@@ -66,7 +66,7 @@ fn fit_arc_into<L: Ledger>(
     requires labels { IsLabelsOf net.old.site labels.now }
     requires room { net.old.site.shape.horizon + 2 ≤ path.old.room }
     requires few { done.cancelled + flow_out net.old is_source ≤ supply_limit }
-    ensures refitted { IsRefitted model.now labels.now net.old net.new (λ p. (is_kind kinds.Arc p && number_of p == arc) && to_at net.old.site.shape arc == node) done result }
+    ensures refitted { IsRefitted model.now labels.now net.old net.new (λ p. (is_kind kinds.Arc p && row_of p == arc) && to_at net.old.site.shape arc == node) done result }
     ensures within { IsWithinLimits net.new }
     ensures room { path.new.room ≡ path.old.room }
     ensures counted { steps.old ≤ steps.new }
@@ -95,7 +95,7 @@ pub fn fit_arcs_into<L: Ledger>(
     requires labels { IsLabelsOf net.old.site labels.now }
     requires room { net.old.site.shape.horizon + 2 ≤ path.old.room }
     requires few { done.cancelled + flow_out net.old is_source ≤ supply_limit }
-    ensures refitted { IsRefitted model.now labels.now net.old net.new (λ p. is_kind kinds.Arc p && to_at net.old.site.shape (number_of p) == node) done result }
+    ensures refitted { IsRefitted model.now labels.now net.old net.new (λ p. is_kind kinds.Arc p && to_at net.old.site.shape (row_of p) == node) done result }
     ensures within { IsWithinLimits net.new }
     ensures room { path.new.room ≡ path.old.room }
     ensures counted { steps.old ≤ steps.new }

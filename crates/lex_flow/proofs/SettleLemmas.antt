@@ -20,7 +20,7 @@ use Rattle.residual_net.specs.OfModel.{IsNetOf, last_move, plan_of}
 use Rattle.residual_net.specs.Site.{Site, IsPlace}
 use Rattle.residual_net.proofs.Effects.{all_sent_arrive, arrived_all_sent}
 use Rattle.residual_net.proofs.Fit.{feasible, fits}
-use Rattle.residual_net.proofs.LastArrival.{arrived_by_last, arrived_rises, last_by_arrived}
+use Rattle.residual_net.proofs.LastArrival.{arrived_by_last, arrived_rises, last_by_arrived, last_fits}
 use Rattle.residual_net.proofs.Law.{arrived_is_out, arrived_within, closed_is_cut}
 use Rattle.terminal_augment.proofs.ClosedLemmas.{closed_same}
 use Rattle.terminal_augment.proofs.SendLemmas.{few_by, horizon_small}
@@ -29,7 +29,7 @@ use Rattle.terminal_augment.specs.Spots.{IsInside}
 use Rattle.lex_flow.specs.declared.outcome.Outcome.{Outcome}
 use Rattle.lex_flow.specs.declared.outcome.Outcome.TheVariants.{Cleared, Short}
 use Rattle.lex_flow.specs.Outcomes.{IsAnswer, IsBounded, IsOutcome, last_settled, pushes_of}
-use Rattle.lex_flow.specs.Settling.{AreStartsSent, IsKeptBelow, IsOver, IsSettledTo, IsUnset, arrivals_below}
+use Rattle.lex_flow.specs.Settling.{IsKeptBelow, IsOver, IsSettledTo, IsUnset, arrivals_below}
 
 -- ---- sums of arrivals
 
@@ -61,16 +61,6 @@ net_of_kept m w v kept of = record {
   limits = λ p i. let there : IsPlace w.site p = subst (λ (s : Site). IsPlace s p) kept.site i in kept.limits p there ∙ of.limits p there;
 }
 
--- where everybody who starts is sent, everybody is
-pub starts_all : (m : Model) (w : Network) → IsNetOf m w → AreStartsSent w → IsAllSent w
-starts_all m w of sent n zero i = sent n i.0
-starts_all m w of sent n (suc t) i =
-    let limit : limit_at w (Supply n (suc t)) ≡ 0 = of.limits (Supply n (suc t)) i ∙ ap (λ b. cond b (start m n) 0) (ne_eqb (suc t) 0 (omega arith)) in
-    omega (arith, limit)
-
-pub all_starts : (w : Network) → IsAllSent w → AreStartsSent w
-all_starts w all n i = all n 0 (i, omega arith)
-
 horizon_is : (m : Model) (w : Network) → IsNetOf m w → w.site.shape.horizon ≡ m.horizon
 horizon_is m w of = ap (λ (s : Site). s.shape.horizon) of.site
 
@@ -85,7 +75,7 @@ still_needed m w v zero valid net of within net_v of_v within_v earlier over lat
 still_needed m w v (suc k) valid net of within net_v of_v within_v earlier over late =
     let horizon_w = horizon_is m w of in
     let horizon_v = horizon_is m v of_v in
-    let all_v = all_sent_arrive m v net_v of_v within_v (starts_all m v of_v over.sent) in
+    let all_v = all_sent_arrive m v net_v of_v within_v over.sent in
     let by_last = arrived_by_last v net_v k (omega (arith, over.before)) in
     let by_k = earlier k (omega arith) in
     let people_v : arrived_by v k ≡ people m = by_last ∙ ap (arrived_by v) horizon_v ∙ all_v in
@@ -94,7 +84,7 @@ still_needed m w v (suc k) valid net of within net_v of_v within_v earlier over 
     let people_w : arrived_by w m.horizon ≡ people m = omega (arith, people_v, by_k, rises, most) in
     let same : arrived_by w k ≡ arrived_by w w.site.shape.horizon = omega (arith, people_v, by_k, people_w, ap (arrived_by w) horizon_w) in
     record {
-      sent = all_starts w (arrived_all_sent m w net of within people_w);
+      sent = arrived_all_sent m w net of within people_w;
       before = omega (arith, last_by_arrived w net k same);
     }
 
@@ -195,9 +185,9 @@ all_by_last m [] j d l = absurd (omega (arith, l))
 all_by_last m (v ∷ p) zero d l = max_left (arrival m v.arc v.moment) (last_arrival m p)
 all_by_last m (v ∷ p) (suc j) d l = omega (arith, all_by_last m p j d (omega (arith, l)), max_right (arrival m v.arc v.moment) (last_arrival m p))
 
-certified : (m : Model) (w : Network) (l : LabelTable) → IsValid m → IsNet w → IsNetOf m w → IsWithinLimits w → AreStartsSent w
+certified : (m : Model) (w : Network) (l : LabelTable) → IsValid m → IsNet w → IsNetOf m w → IsWithinLimits w → IsAllSent w
     → IsClosedBelow w l (last_move w.site (plan_of w) + 1) → (arrived_by w m.horizon ≡ people m) × IsCertified m (plan_of w) l (last_move w.site (plan_of w))
-certified m w l valid net of within sent closed = (
+certified m w l valid net of within all closed = (
   everybody,
   record {
     in_horizon = in_time;
@@ -211,9 +201,6 @@ certified m w l valid net of within sent closed = (
   where
     c : ℕ
     c = last_move w.site (plan_of w)
-
-    all : IsAllSent w
-    all = starts_all m w of sent
 
     everybody : arrived_by w m.horizon ≡ people m
     everybody = all_sent_arrive m w net of within all
@@ -229,7 +216,7 @@ certified m w l valid net of within sent closed = (
         let same : arrived_by w b ≡ arrived_by w w.site.shape.horizon = q ∙ sym everybody ∙ ap (arrived_by w) (sym (horizon_is m w of)) in
         omega (arith, e, last_by_arrived w net b same)
 
-shortfall : (m : Model) (w : Network) (l : LabelTable) → IsValid m → IsNet w → IsNetOf m w → IsWithinLimits w → (AreStartsSent w → ⊥)
+shortfall : (m : Model) (w : Network) (l : LabelTable) → IsValid m → IsNet w → IsNetOf m w → IsWithinLimits w → (IsAllSent w → ⊥)
     → IsClosed w (labelled l m.horizon) m.horizon → IsShortfall m (label_cut m l m.horizon) (arrived_by w m.horizon)
 shortfall m w l valid net of within unsent closed = record {
   cut = label_cut_is_cut m l m.horizon (omega arith);
@@ -238,15 +225,12 @@ shortfall m w l valid net of within unsent closed = record {
 }
   where
     fewer : arrived_by w m.horizon ≢ people m
-    fewer e = unsent (all_starts w (arrived_all_sent m w net of within e))
-
-last_in : (w : Network) → IsNet w → last_move w.site (plan_of w) ≤ w.site.shape.horizon
-last_in w net = last_by_arrived w net w.site.shape.horizon refl
+    fewer e = unsent (arrived_all_sent m w net of within e)
 
 -- the last move of a settled net arrives before the next moment
 last_before : (v : Network) (k : ℕ) → IsNet v → (k ≤ v.site.shape.horizon → IsOver v k) → last_move v.site (plan_of v) < k
 last_before v k net over = elim (cases_lt v.site.shape.horizon k) [
-  | inl late ↦ omega (arith, last_in v net, late)
+  | inl late ↦ omega (arith, last_fits v net, late)
   | inr early ↦ (over early).before
 ]
 
@@ -268,7 +252,7 @@ answer_is b w v l m from k p (Cleared moment pushes) h late over outcome valid o
     record {
       arrived = best.0;
       last = outcome.1;
-      fits = fits b v valid h.net of_v h.within (starts_all b v of_v outcome.0);
+      fits = fits b v valid h.net of_v h.within outcome.0;
       certified = subst (λ c. IsCertified b (plan_of v) m c) (sym outcome.1) best.1;
     }
 answer_is b w v l m from k p (Short most pushes) h late over outcome valid of =

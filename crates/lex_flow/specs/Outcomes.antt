@@ -5,11 +5,11 @@ use Rattle.evac_law.specs.Building.{people}
 use Rattle.evac_law.specs.Certificates.{IsCertified, IsShortfall, label_cut}
 use Rattle.evac_law.specs.LabelTable.{LabelTable}
 use Rattle.evac_law.specs.Stands.{Fits}
-use Rattle.residual_net.specs.Network.{Network, arrived_by}
+use Rattle.residual_net.specs.Network.{Network, IsAllSent, arrived_by}
 use Rattle.residual_net.specs.OfModel.{last_move, plan_of, stand_of}
 use Rattle.lex_flow.specs.declared.outcome.Outcome.{Outcome}
 use Rattle.lex_flow.specs.declared.outcome.Outcome.TheVariants.{Cleared, Short}
-use Rattle.lex_flow.specs.Settling.{AreStartsSent, arrivals_below}
+use Rattle.lex_flow.specs.Settling.{arrivals_below}
 
 -- the pushes that it took
 abbrev pub pushes_of : Outcome → ℕ
@@ -38,7 +38,7 @@ abbrev pub IsBounded : Network → Network → Outcome → Type 0
 IsBounded w v o =
     pushes_of o + arrivals_below w (last_settled v.site.shape.horizon o + 1) ≤ arrivals_below v (last_settled v.site.shape.horizon o + 1)
 
--- everybody who starts is sent and arrives by a moment, or not everybody is sent
+-- everybody is sent and arrives by a moment, or not everybody is sent
 abbrev pub IsOutcome : Network → Outcome → Type 0
-IsOutcome w (Cleared moment pushes) = AreStartsSent w × (moment ≡ last_move w.site (plan_of w))
-IsOutcome w (Short most pushes) = (AreStartsSent w → ⊥) × (most ≡ arrived_by w w.site.shape.horizon)
+IsOutcome w (Cleared moment pushes) = IsAllSent w × (moment ≡ last_move w.site (plan_of w))
+IsOutcome w (Short most pushes) = (IsAllSent w → ⊥) × (most ≡ arrived_by w w.site.shape.horizon)

@@ -5,7 +5,7 @@ use Rattle.evac_law.specs.declared.model.Model.{Model}
 use Rattle.evac_law.specs.Building.{IsValid}
 use Rattle.evac_law.specs.LabelTable.{LabelTable, label_at, unset}
 use Rattle.evac_law.specs.Sums.{below}
-use Rattle.residual_net.specs.Network.{Network, IsNet, IsWithinLimits, arrived_by, unsent_at}
+use Rattle.residual_net.specs.Network.{Network, IsAllSent, IsNet, IsWithinLimits, arrived_by, unsent_at}
 use Rattle.residual_net.specs.OfModel.{IsNetOf, last_move, plan_of}
 use Rattle.terminal_augment.specs.Settled.{IsClosedBelow, IsUnsetFrom, KeepsLimits}
 
@@ -27,13 +27,13 @@ pub record IsUnset (l m : LabelTable) (from : ℕ) (b : ℕ → ℕ → Bool) : 
 unfoldable pub arrivals_below : Network → ℕ → ℕ
 arrivals_below w n = sum_by (λ i. arrived_by w i) (below n)
 
--- everybody who starts is sent
-abbrev pub AreStartsSent : Network → Type 0
-AreStartsSent w = (n : ℕ) → n < w.site.shape.nodes → unsent_at w n 0 ≡ 0
+-- everybody who comes in at a moment is sent
+abbrev pub IsMomentSent : Network → ℕ → Type 0
+IsMomentSent w t = (n : ℕ) → n < w.site.shape.nodes → unsent_at w n t ≡ 0
 
--- everybody who starts is sent, and the last move arrives before a moment
+-- everybody is sent, and the last move arrives before a moment
 pub record IsOver (w : Network) (k : ℕ) : Type 0 where
-  pub sent : AreStartsSent w
+  pub sent : IsAllSent w
   pub before : last_move w.site (plan_of w) < k
 
 -- the moments from one to another are settled, none of them after everybody had arrived

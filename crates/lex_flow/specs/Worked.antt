@@ -2,12 +2,12 @@
 use Rattle.std.specs.Prelude.{false, [], ◌∷◌}
 use Rattle.evac_law.specs.declared.model.Model.{Model}
 use Rattle.evac_law.specs.declared.name.Kind.TheVariants as kinds
-use Rattle.residual_net.specs.Worked.{arc_row, node_row}
+use Rattle.residual_net.specs.Worked.{unit_arc, floor_node}
 
 abbrev pub narrow_hall : Model
 narrow_hall = record {
   seconds = 5;
   horizon = 20;
-  nodes = node_row kinds.Work 1 5 4 ∷ (node_row kinds.Hall 1 0 0 ∷ (node_row kinds.Exit 1 0 0 ∷ []));
-  arcs = record { from = 0; to = 1; travel = 1; rate = 3; shut = false } ∷ (arc_row 1 2 1 ∷ []);
+  nodes = floor_node kinds.Work 1 5 4 ∷ (floor_node kinds.Hall 1 0 0 ∷ (floor_node kinds.Exit 1 0 0 ∷ []));
+  arcs = record { from = 0; to = 1; travel = 1; rate = 3; shut = false } ∷ (unit_arc 1 2 1 ∷ []);
 }

@@ -3,11 +3,11 @@ ghost use Rattle.std.specs.Prelude.{◌≡◌, ℕ, ◌+◌, ◌<◌, ◌≤◌,
 ghost use Rattle.evac_law.specs.declared.model.Model.{Model};
 ghost use Rattle.evac_law.specs.Building.{IsValid};
 ghost use Rattle.evac_law.specs.LabelTable.{label_at, unset, with_label};
-ghost use Rattle.residual_net.specs.Network.{IsWithinLimits, arrived_by};
+ghost use Rattle.residual_net.specs.Network.{IsAllSent, IsWithinLimits, arrived_by};
 ghost use Rattle.residual_net.specs.OfModel.{IsNetOf};
 ghost use Rattle.terminal_augment.specs.Settled.{IsClosedBelow, IsLabelsOf, IsSearchOf, IsUnsetFrom, KeepsLimits};
 ghost use Rattle.lex_flow.specs.Outcomes.{IsAnswer, IsBounded, IsOutcome, last_settled, pushes_of};
-ghost use Rattle.lex_flow.specs.Settling.{AreStartsSent, IsKeptBelow, IsOver, IsSettledTo, IsUnset};
+ghost use Rattle.lex_flow.specs.Settling.{IsKeptBelow, IsMomentSent, IsOver, IsSettledTo, IsUnset};
 
 use crate::outcome::Outcome;
 use evac_law::{Labels, Steps};
@@ -46,13 +46,27 @@ fn unset_from(labels: &mut Labels, from: u16)
     }
 }
 
-/// Whether everybody who starts is sent.
-fn is_all_sent(net: &Net) -> bool
-    requires { IsWithinLimits net.now }
-    ensures { IsTrue result ↔ AreStartsSent net.now }
+/// Whether everybody who comes in at a moment is sent.
+fn is_moment_sent(net: &Net, moment: u16) -> bool
+    requires within { IsWithinLimits net.now }
+    requires moment { moment ≤ net.now.site.shape.horizon }
+    ensures { IsTrue result ↔ IsMomentSent net.now moment }
 {
     for node in 0..net.nodes() {
-        if net.unsent(node, 0) > 0 {
+        if net.unsent(node, moment) > 0 {
+            return false;
+        }
+    }
+    true
+}
+
+/// Whether everybody is sent.
+fn is_all_sent(net: &Net) -> bool
+    requires { IsWithinLimits net.now }
+    ensures { IsTrue result ↔ IsAllSent net.now }
+{
+    for moment in 0..=net.horizon() {
+        if !is_moment_sent(net, moment) {
             return false;
         }
     }
@@ -64,7 +78,7 @@ fn is_over(net: &Net, k: u16) -> bool
     requires { IsWithinLimits net.now }
     ensures { IsTrue result ↔ IsOver net.now k }
 {
-    is_all_sent(net) && net.last_arrival() < k
+    net.last_arrival() < k && is_all_sent(net)
 }
 
 /// How far a net is settled, and after how many pushes.

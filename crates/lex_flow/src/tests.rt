@@ -1,7 +1,7 @@
 // Worked buildings settled whole.
 ghost use Rattle.std.specs.Prelude.{◌≡◌, IfOk, false};
-ghost use Rattle.residual_net.specs.Worked.{node_row};
-ghost use Rattle.terminal_augment.specs.Worked.{one_room};
+ghost use Rattle.residual_net.specs.Worked.{floor_node};
+ghost use Rattle.terminal_augment.specs.Worked.{room_with_exit};
 ghost use Rattle.lex_flow.specs.Worked.{narrow_hall};
 
 use crate::all::settle_all;
@@ -15,7 +15,7 @@ use std::sync::ledger::{Blank, Ledger};
 use terminal_augment::Search;
 
 fn room(kind: Kind, number: u16, capacity: u32, start: u32) -> NodeRow
-    ensures { result ≡ node_row kind number capacity start }
+    ensures { result ≡ floor_node kind number capacity start }
 {
     NodeRow {
         name: NodeName {
@@ -59,7 +59,7 @@ fn hall(alloc: Global) -> Result<Model, AllocError>
 }
 
 fn too_short(alloc: Global) -> Result<Model, AllocError>
-    ensures { IfOk result (λ m. m ≡ one_room 1) }
+    ensures { IfOk result (λ m. m ≡ room_with_exit 1) }
 {
     let nodes = [room(Kind::Work, 1, 10, 3), room(Kind::Exit, 1, 0, 0)];
     let arcs = [passage(0, 1, 2)];

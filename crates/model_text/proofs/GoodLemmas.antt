@@ -16,7 +16,7 @@ use Rattle.model_text.specs.Grammar.{◌>>=◌, or_fault, number_field, ranged, 
 use Rattle.model_text.specs.Reads.{Reads, said}
 use Rattle.model_text.specs.declared.statement.Statement.{Statement}
 use Rattle.model_text.specs.NameFields.{name_of}
-use Rattle.model_text.specs.Numbers.{number_of}
+use Rattle.model_text.specs.Numbers.{field_number}
 use Rattle.model_text.proofs.NameLaws.{reads-right}
 
 -- an answer whose value is of one kind, or whose fault is of another
@@ -42,7 +42,7 @@ abbrev Any-value : {A : Type 0} → A → Type 0
 Any-value x = Unit {0}
 
 good-number : (F : TextFault → Type 0) (field : List ℕ) → F BadNumber → Good F Any-value (number_field field)
-good-number F field bad = good-or F Any-value BadNumber (number_of field) bad (λ x e. tt)
+good-number F field bad = good-or F Any-value BadNumber (field_number field) bad (λ x e. tt)
 
 good-name : (F : TextFault → Type 0) (field : List ℕ) → F BadName → Good F IsName (name_field field)
 good-name F field bad = good-or F IsName BadName (name_of field) bad (reads-right field)

@@ -95,3 +95,7 @@ pub push-pairs : {X : Type 0} (P : X → X → Type 0) (xs : List X) (x d : X)
     → ((i j : ℕ) → i < j → j < length xs → P (get_or xs i d) (get_or xs j d)) → ((i : ℕ) → i < length xs → P (get_or xs i d) x)
     → (i j : ℕ) → i < j → j < length (xs ++ (x ∷ [])) → P (get_or (xs ++ (x ∷ [])) i d) (get_or (xs ++ (x ∷ [])) j d)
 push-pairs P xs x d pairs new i j before within = push-by P xs x d i j (pairs i j) (new i) before (split-last j (length xs) (let e = length-push xs x in omega arith))
+
+pub or-false : (a b : Bool) → a || b ≡ false → (a ≡ false) × (b ≡ false)
+or-false true b h = cc
+or-false false b h = (refl, h)

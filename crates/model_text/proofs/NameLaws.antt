@@ -17,8 +17,9 @@ use Rattle.evac_law.specs.Names.{IsName, kind_text, name_text}
 use Rattle.evac_law.specs.declared.name.NodeName.{NodeName}
 use Rattle.evac_law.specs.declared.name.Kind.{Kind}
 use Rattle.evac_law.specs.declared.name.Kind.TheVariants.{Work, Hall, Stair, Lobby, Exit}
-use Rattle.model_text.specs.Numbers.{digits_from, number_of, has_leading_zero, plain_number_of}
+use Rattle.model_text.specs.Numbers.{digits_from, field_number, has_leading_zero, plain_number_of}
 use Rattle.model_text.specs.NameFields.{kind_of, plain_within, is_dot, name_of, name_of_parts, number_part, floor_part}
+use Rattle.model_text.proofs.ListFacts.{or-false}
 
 -- ---- options
 
@@ -94,10 +95,6 @@ some-by : {A : Type 0} (t : Bool) (o : Option A) (y : A) → cond t None o ≡ S
 some-by true o y h = cc
 some-by false o y h = (refl, h)
 
-or-false : (a b : Bool) → a || b ≡ false → (a ≡ false) × (b ≡ false)
-or-false true b h = cc
-or-false false b h = (refl, h)
-
 -- a field that begins with 0 and has no leading zero is `0`
 alone : (bs : List ℕ) → get_or bs 0 0 ≡ 48 → has_leading_zero bs ≡ false → 0 < length bs → length bs ≡ 1
 alone [] first none some = absurd (omega arith)
@@ -107,7 +104,7 @@ alone (b ∷ d ∷ ds) first none some = absurd (eqb-false b 48 none first)
 -- a field that is read as a number without leading zeros is that number's text
 plain-is : (bs : List ℕ) (n : ℕ) → n < 2 ^ 64 → plain_number_of bs ≡ Some n → bs ≡ decimal n
 plain-is bs n small h =
-    let a = some-by (has_leading_zero bs) (number_of bs) n h in
+    let a = some-by (has_leading_zero bs) (field_number bs) n h in
     let b = some-by ((length bs == 0) || nat_lt 9 (length bs)) (digits_from 0 bs) n a.1 in
     let c = or-false (length bs == 0) (nat_lt 9 (length bs)) b.0 in
     let some : 0 < length bs = omega (arith, eqb-false (length bs) 0 c.0) in

@@ -4,7 +4,7 @@ use Rattle.std.specs.Char.{is_ascii_digit}
 use Rattle.std.proofs.Math.Nat.{pow-suc, pow-le-pow_right}
 use Rattle.std.proofs.lemmas.Bool.{ne_eqb, le-ltb}
 use Rattle.std.proofs.lemmas.List.{at_drop_more, at_drop_all}
-use Rattle.model_text.specs.Numbers.{digits_from, number_of}
+use Rattle.model_text.specs.Numbers.{digits_from, field_number}
 
 pub digits-bad : (v : ℕ) (xs : List ℕ) (i : ℕ) → i < length xs → is_ascii_digit (get_or xs i 0) ≡ false → digits_from v (drop i xs) ≡ None
 unfolding digits_from
@@ -30,5 +30,5 @@ ten-more i v d h g = let e : 10 ^ (i + 1) ≡ 10 ^ i * 10 = (ap (λ k. 10 ^ k) (
 pub ten-small : (i : ℕ) → i ≤ 8 → 10 ^ i ≤ 100000000
 ten-small i h = pow-le-pow_right {n = 10} (omega arith) {i = i} {j = 8} h
 
-pub number-within : (xs : List ℕ) → 0 < length xs → length xs ≤ 9 → number_of xs ≡ digits_from 0 xs
+pub number-within : (xs : List ℕ) → 0 < length xs → length xs ≤ 9 → field_number xs ≡ digits_from 0 xs
 number-within xs some few = rw (ne_eqb (length xs) 0 (λ e. omega arith), le-ltb 9 (length xs) few) refl

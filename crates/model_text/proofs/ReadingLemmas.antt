@@ -5,7 +5,7 @@ use Rattle.evac_law.specs.Building.{IsValid}
 use Rattle.model_text.specs.declared.fault.TextFault.{TextFault}
 use Rattle.model_text.specs.Fields.{fields_of}
 use Rattle.model_text.specs.Grammar.{Said, IsSaid, Blank, Header, End, statement_of}
-use Rattle.model_text.specs.Readings.{Line, Reading, Described, Step, Passed, Took, Ended, Stopped, unless, first_step, begins_header, later_said, later_step, after_step, reading_of, after_first_step, opening_of}
+use Rattle.model_text.specs.Readings.{Line, Reading, Described, Step, Passed, Took, Ended, Stopped, step_unless, first_step, begins_header, later_said, later_step, after_step, reading_of, after_first_step, opening_of}
 use Rattle.model_text.specs.Taken.{Description, statement_fault, end_fault, AreTaken}
 use Rattle.model_text.proofs.GoodLemmas.{GoodSaid, good-statement}
 use Rattle.model_text.proofs.SoundLemmas.{taken-valid}
@@ -14,16 +14,16 @@ use Rattle.model_text.proofs.SoundLemmas.{taken-valid}
 abbrev pub IsRight : List Said → Said → Type 0
 IsRight taken s = IsSaid s × (statement_fault taken s ≡ None)
 
-unless-took : (o : Option ℕ) (x s : Said) → unless o (Took x) ≡ Took s → (o ≡ None) × (x ≡ s)
+unless-took : (o : Option ℕ) (x s : Said) → step_unless o (Took x) ≡ Took s → (o ≡ None) × (x ≡ s)
 unless-took (Some code) x s h = cc
 unless-took None x s h = (refl, (let e : x ≡ s = cc in e))
 
-took-right : (taken : List Said) (x s : Said) → IsSaid x → unless (statement_fault taken x) (Took x) ≡ Took s → IsRight taken s
+took-right : (taken : List Said) (x s : Said) → IsSaid x → step_unless (statement_fault taken x) (Took x) ≡ Took s → IsRight taken s
 took-right taken x s is h =
     let u = unless-took (statement_fault taken x) x s h in
     let P : Said → Type 0 = λ y. IsRight taken y in subst P u.1 (is, u.0)
 
-ended-took : (o : Option ℕ) (s : Said) → unless o Ended ≡ Took s → ⊥
+ended-took : (o : Option ℕ) (s : Said) → step_unless o Ended ≡ Took s → ⊥
 ended-took (Some code) s h = cc
 ended-took None s h = cc
 
@@ -43,11 +43,11 @@ pub later-took : (taken : List Said) (line : Line) (s : Said) → later_step tak
 later-took taken (Ok content) s h = took-by taken (begins_header (fields_of content)) _ (statement_of content) s (good-statement content) h
 later-took taken (Err code) s h = cc
 
-unless-ended : (o : Option ℕ) → unless o Ended ≡ Ended → o ≡ None
+unless-ended : (o : Option ℕ) → step_unless o Ended ≡ Ended → o ≡ None
 unless-ended (Some code) h = cc
 unless-ended None h = refl
 
-took-ended : (o : Option ℕ) (x : Said) → unless o (Took x) ≡ Ended → ⊥
+took-ended : (o : Option ℕ) (x : Said) → step_unless o (Took x) ≡ Ended → ⊥
 took-ended (Some code) x h = cc
 took-ended None x h = cc
 

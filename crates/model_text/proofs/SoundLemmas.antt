@@ -14,8 +14,8 @@ use Rattle.evac_law.specs.declared.model.NodeRow.{NodeRow}
 use Rattle.evac_law.specs.declared.model.ArcRow.{ArcRow}
 use Rattle.model_text.specs.Codes.{unknown_floor, repeated_node, over_full, unknown_node, self_arc, from_exit, repeated_arc, too_many, missing_setting, no_exit, too_large}
 use Rattle.model_text.specs.Grammar.{Said, Blank, Header, Title, Period, Horizon, Floor, Node, Exit, Arc, End}
-use Rattle.model_text.specs.Taken.{same_name, seconds_of, horizon_of, nodes_of, place_of, arcs_of, has_floor, has_node, has_arc, people_of, first_code, statement_fault, cells_of, end_fault, model_taken, AreTaken}
-use Rattle.model_text.proofs.ListFacts.{not-false, same-name-is, same-name-self, found, missing, length-push, push-pairs}
+use Rattle.model_text.specs.Taken.{same_name, seconds_of, horizon_of, nodes_of, place_of_node, arcs_of, has_floor, has_node, has_arc, people_of, first_code, statement_fault, cells_of, end_fault, model_taken, AreTaken}
+use Rattle.model_text.proofs.ListFacts.{found, length-push, missing, not-false, or-false, push-pairs, same-name-is, same-name-self}
 
 -- no code: the first check didn't hold, and neither did one of the others
 first-none : (t : Bool) (code : ℕ) (cs : List (Bool × ℕ)) → first_code ((t, code) ∷ cs) ≡ None → (t ≡ false) × (first_code cs ≡ None)
@@ -42,10 +42,6 @@ none-six a b c d e f p q r s t u h =
     let y = first-none b q ((c, r) ∷ (d, s) ∷ (e, t) ∷ (f, u) ∷ []) x.1 in
     let z = none-four c d e f r s t u y.1 in
     (x.0, y.0, z.0, z.1, z.2, z.3)
-
-or-false : (a b : Bool) → a || b ≡ false → (a ≡ false) × (b ≡ false)
-or-false true b h = cc
-or-false false b h = (refl, h)
 
 -- ---- settings
 
@@ -150,13 +146,13 @@ sound-arc nodes arcs row sound is new fits =
     }
 
 -- the node at the place of a name has that name
-place-name : (nodes : List NodeRow) (name : NodeName) → place_of nodes name < length nodes → (get_or nodes (place_of nodes name) no_node).name ≡ name
+place-name : (nodes : List NodeRow) (name : NodeName) → place_of_node nodes name < length nodes → (get_or nodes (place_of_node nodes name) no_node).name ≡ name
 place-name nodes name within = same-name-is _ name (passes_at_first (λ n. same_name n.name name) nodes no_node within)
 
 -- an arc between two known, different names
 arc-between : (nodes : List NodeRow) (start finish : NodeName) (t r : ℕ) → list_any (λ n. same_name n.name start) nodes ≡ true → list_any (λ n. same_name n.name finish) nodes ≡ true
     → same_name start finish ≡ false → is_exit start.kind ≡ false → (1 ≤ t) × (t ≤ travel_limit) → r ≤ rate_limit
-    → IsArc nodes (record { from = place_of nodes start; to = place_of nodes finish; travel = t; rate = r; shut = false })
+    → IsArc nodes (record { from = place_of_node nodes start; to = place_of_node nodes finish; travel = t; rate = r; shut = false })
 arc-between nodes start finish t r has-start has-finish apart inside travel rate =
     let from-in = found (λ n. same_name n.name start) nodes has-start in
     let to-in = found (λ n. same_name n.name finish) nodes has-finish in

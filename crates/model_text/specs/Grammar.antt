@@ -9,7 +9,7 @@ use Rattle.model_text.specs.declared.fault.TextFault.{TextFault}
 use Rattle.model_text.specs.declared.fault.TextFault.TheVariants.{UnknownWord, FieldCount, BadNumber, OutOfRange, BadName}
 use Rattle.model_text.specs.Fields.{fields_of, behind_field, text_of}
 use Rattle.model_text.specs.NameFields.{name_of}
-use Rattle.model_text.specs.Numbers.{number_of}
+use Rattle.model_text.specs.Numbers.{field_number}
 
 -- a statement, without where it lies in memory
 pub data Said : Type 0 where
@@ -37,7 +37,7 @@ or_fault fault None = Err fault
 
 -- the number of a field, the number within a range, and the name
 abbrev pub number_field : List ℕ → Result ℕ TextFault
-number_field field = or_fault BadNumber (number_of field)
+number_field field = or_fault BadNumber (field_number field)
 
 abbrev pub ranged : ℕ → ℕ → List ℕ → Result ℕ TextFault
 ranged low high field = number_field field >>= λ n. if nat_lt n low || nat_lt high n then Err OutOfRange else Ok n

@@ -9,8 +9,8 @@ digits_from before [] = Some before
 digits_from before (b ∷ bs) = if is_ascii_digit b then digits_from (before * 10 + (b - 48)) bs else None
 
 -- the number of a field, where it has one to nine bytes, each a digit
-abbrev pub number_of : List ℕ → Option ℕ
-number_of field = if (length field == 0) || nat_lt 9 (length field) then None else digits_from 0 field
+abbrev pub field_number : List ℕ → Option ℕ
+field_number field = if (length field == 0) || nat_lt 9 (length field) then None else digits_from 0 field
 
 -- whether a field has a leading zero: a 0 before something
 abbrev pub has_leading_zero : List ℕ → Bool
@@ -19,4 +19,4 @@ has_leading_zero _ = false
 
 -- the number of a field without leading zeros; `0` itself is right
 abbrev pub plain_number_of : List ℕ → Option ℕ
-plain_number_of field = if has_leading_zero field then None else number_of field
+plain_number_of field = if has_leading_zero field then None else field_number field

@@ -25,10 +25,10 @@ pub data Step : Type 0 where
   Ended : Step
   Stopped : (code : ℕ) → Step
 
--- a step, unless there is a fault
-abbrev pub unless : Option ℕ → Step → Step
-unless (Some code) step = Stopped code
-unless None step = step
+-- a step, step_unless there is a fault
+abbrev pub step_unless : Option ℕ → Step → Step
+step_unless (Some code) step = Stopped code
+step_unless None step = step
 
 -- ---- the first line that isn't blank, which is the header of version 1
 
@@ -51,8 +51,8 @@ begins_header (word ∷ more) = bytes_eq word (codes "evacplan")
 abbrev pub later_said : List Said → Result Said TextFault → Step
 later_said taken (Ok Blank) = Passed
 later_said taken (Ok (Header version)) = Stopped (text_fault_code UnknownWord)
-later_said taken (Ok End) = unless (end_fault taken) Ended
-later_said taken (Ok statement) = unless (statement_fault taken statement) (Took statement)
+later_said taken (Ok End) = step_unless (end_fault taken) Ended
+later_said taken (Ok statement) = step_unless (statement_fault taken statement) (Took statement)
 later_said taken (Err fault) = Stopped (text_fault_code fault)
 
 abbrev pub later_step : List Said → Line → Step

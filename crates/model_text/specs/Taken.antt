@@ -61,16 +61,16 @@ nodes_of (Exit name ∷ before) = nodes_of before ++ (record { name = name; capa
 nodes_of (_ ∷ before) = nodes_of before
 
 -- the place of the first node of a name, or the number of nodes
-abbrev pub place_of : List NodeRow → NodeName → ℕ
-place_of nodes name = position_or_len (λ n. same_name n.name name) nodes
+abbrev pub place_of_node : List NodeRow → NodeName → ℕ
+place_of_node nodes name = position_or_len (λ n. same_name n.name name) nodes
 
 -- the arcs in their order, none shut, between the places of their names
 abbrev pub arcs_of : List Said → List ArcRow
 arcs_of [] = []
 arcs_of (Arc start finish travel rate ∷ before) =
     arcs_of before ++ (record {
-      from = place_of (nodes_of before) start;
-      to = place_of (nodes_of before) finish;
+      from = place_of_node (nodes_of before) start;
+      to = place_of_node (nodes_of before) finish;
       travel = travel;
       rate = rate;
       shut = false;
@@ -88,7 +88,7 @@ has_node before name = list_any (λ n. same_name n.name name) (nodes_of before)
 
 abbrev pub has_arc : List Said → NodeName → NodeName → Bool
 has_arc before start finish =
-    list_any (λ a. a.from == place_of (nodes_of before) start && a.to == place_of (nodes_of before) finish) (arcs_of before)
+    list_any (λ a. a.from == place_of_node (nodes_of before) start && a.to == place_of_node (nodes_of before) finish) (arcs_of before)
 
 -- the people who start somewhere
 abbrev pub people_of : List Said → ℕ
@@ -99,28 +99,28 @@ abbrev pub first_code : List (Bool × ℕ) → Option ℕ
 first_code [] = None
 first_code (c ∷ cs) = if c.0 then Some c.1 else first_code cs
 
--- the checks of a statement against those before it, in their order, each with its code
-abbrev pub checks : List Said → Said → List (Bool × ℕ)
-checks before (Title text) = (is_some (title_of before), repeated_setting) ∷ []
-checks before (Period seconds) = (is_some (seconds_of before), repeated_setting) ∷ []
-checks before (Horizon moments) = (is_some (horizon_of before), repeated_setting) ∷ []
-checks before (Floor floor text) =
+-- the statement_checks of a statement against those before it, in their order, each with its code
+abbrev pub statement_checks : List Said → Said → List (Bool × ℕ)
+statement_checks before (Title text) = (is_some (title_of before), repeated_setting) ∷ []
+statement_checks before (Period seconds) = (is_some (seconds_of before), repeated_setting) ∷ []
+statement_checks before (Horizon moments) = (is_some (horizon_of before), repeated_setting) ∷ []
+statement_checks before (Floor floor text) =
     (has_floor before floor, repeated_setting) ∷ (nat_le floor_limit (length (floors_of before)), too_many) ∷ []
-checks before (Node name capacity start) =
+statement_checks before (Node name capacity start) =
     (not (has_floor before name.floor), unknown_floor) ∷ (has_node before name, repeated_node) ∷ (nat_lt capacity start, over_full)
     ∷ (nat_le node_limit (length (nodes_of before)) || nat_lt people_limit (people_of before + start), too_many) ∷ []
-checks before (Exit name) =
+statement_checks before (Exit name) =
     (not (has_floor before name.floor), unknown_floor) ∷ (has_node before name, repeated_node)
     ∷ (nat_le node_limit (length (nodes_of before)), too_many) ∷ []
-checks before (Arc start finish travel rate) =
+statement_checks before (Arc start finish travel rate) =
     (not (has_node before start), unknown_node) ∷ (not (has_node before finish), unknown_node) ∷ (same_name start finish, self_arc)
     ∷ (is_exit start.kind, from_exit) ∷ (has_arc before start finish, repeated_arc)
     ∷ (nat_le arc_limit (length (arcs_of before)), too_many) ∷ []
-checks before _ = []
+statement_checks before _ = []
 
 -- the fault of a statement, said of those before it
 unfoldable pub statement_fault : List Said → Said → Option ℕ
-statement_fault before statement = first_code (checks before statement)
+statement_fault before statement = first_code (statement_checks before statement)
 
 -- the cells of what is described: each node and each arc at each moment
 abbrev pub cells_of : List Said → ℕ

@@ -11,12 +11,13 @@ use Rattle.evac_law.specs.declared.plan.Move.{Move}
 use Rattle.evac_law.specs.Building.{is_exit_at}
 use Rattle.evac_law.specs.Sums.{below, places}
 use Rattle.evac_law.proofs.SumLemmas.{All-below}
+use Rattle.evac_law.proofs.PartLemmas.{flat_map-same}
 use Rattle.certificate_text.specs.BlockText.{name_of_node}
 use Rattle.floor_index.specs.Floors.{FloorTable, is_on, listed, nodes_on, table_of}
 use Rattle.floor_index.proofs.FloorLemmas.{listed_is}
-use Rattle.clearing_report.specs.Clearing.{ClearingView, IsReport, floor_occupied, last_inside, last_occupied, later, latest, moment_of}
+use Rattle.clearing_report.specs.Clearing.{ClearingView, IsReport, floor_occupied, last_inside, last_occupied, later, latest, clearing_moment}
 use Rattle.report_text.specs.ReportText.{floor_clear_line, floor_clear_part, node_clear_line, node_clear_part}
-use Rattle.report_text.proofs.Parts.{parts-same_all, parts-same_below}
+use Rattle.report_text.proofs.Parts.{parts-same_below}
 
 latest-same : (first second : ℕ → Option ℕ) (nodes : List ℕ) → All (λ n. first n ≡ second n) nodes → latest first nodes ≡ latest second nodes
 unfolding latest
@@ -31,20 +32,20 @@ inside_only true line x y e = refl
 inside_only false line x y e = ap line e
 
 module _ (m : Model) (p : List Move) (v : ClearingView) (report : IsReport m p v) where
-  moment_is : (n : ℕ) → n < length m.nodes → moment_of v n ≡ last_inside m p n
+  moment_is : (n : ℕ) → n < length m.nodes → clearing_moment v n ≡ last_inside m p n
   moment_is n l =
       ap (λ (z : List (Option ℕ)). get_or z n None) report.moments_are ∙ get_or-map-range_with_len (last_inside m p) 0 (length m.nodes) n n None l (omega arith)
 
-  pub node_texts : flat_map (node_clear_part m (moment_of v)) (places m.nodes) ≡ flat_map (node_clear_part m (last_occupied m p)) (places m.nodes)
+  pub node_texts : flat_map (node_clear_part m (clearing_moment v)) (places m.nodes) ≡ flat_map (node_clear_part m (last_occupied m p)) (places m.nodes)
   node_texts =
-      parts-same_below (node_clear_part m (moment_of v)) (node_clear_part m (last_occupied m p)) (length m.nodes)
-      (λ n l. inside_only (is_exit_at m n) (node_clear_line (name_of_node m n)) (moment_of v n) (last_occupied m p n) (moment_is n l))
+      parts-same_below (node_clear_part m (clearing_moment v)) (node_clear_part m (last_occupied m p)) (length m.nodes)
+      (λ n l. inside_only (is_exit_at m n) (node_clear_line (name_of_node m n)) (clearing_moment v n) (last_occupied m p n) (moment_is n l))
 
-  floor_is : (floor : ℕ) → latest (moment_of v) (nodes_on m floor) ≡ floor_occupied m p floor
+  floor_is : (floor : ℕ) → latest (clearing_moment v) (nodes_on m floor) ≡ floor_occupied m p floor
   unfolding nodes_on
   floor_is floor =
-      latest-same (moment_of v) (last_inside m p) (nodes_on m floor)
-      (All-filter (is_on m floor) (λ n. moment_of v n ≡ last_inside m p n) (places m.nodes) (All-below (λ n. moment_of v n ≡ last_inside m p n) (length m.nodes) moment_is))
+      latest-same (clearing_moment v) (last_inside m p) (nodes_on m floor)
+      (All-filter (is_on m floor) (λ n. clearing_moment v n ≡ last_inside m p n) (places m.nodes) (All-below (λ n. clearing_moment v n ≡ last_inside m p n) (length m.nodes) moment_is))
 
   listed_floor : (floors : List ℕ) (i d : ℕ) → i < length floors → listed (table_of m floors) (get_or floors i d) ≡ nodes_on m (get_or floors i d)
   listed_floor floors i d l =
@@ -52,14 +53,14 @@ module _ (m : Model) (p : List Move) (v : ClearingView) (report : IsReport m p v
       listed_is m floors floor ∙ ap (λ b. cond b (nodes_on m floor) []) (list_any_at (λ f. eqb f floor) floors i d l (same_test floor))
 
   pub floor_texts : (floors : List ℕ)
-      → flat_map (floor_clear_part (λ f. latest (moment_of v) (listed (table_of m floors) f))) floors ≡ flat_map (floor_clear_part (floor_occupied m p)) floors
+      → flat_map (floor_clear_part (λ f. latest (clearing_moment v) (listed (table_of m floors) f))) floors ≡ flat_map (floor_clear_part (floor_occupied m p)) floors
   floor_texts floors =
-      parts-same_all (floor_clear_part (λ f. latest (moment_of v) (listed (table_of m floors) f))) (floor_clear_part (floor_occupied m p)) floors
+      flat_map-same (floor_clear_part (λ f. latest (clearing_moment v) (listed (table_of m floors) f))) (floor_clear_part (floor_occupied m p)) floors
       (λ i d l. let floor = get_or floors i d in
-      ap (floor_clear_line floor) (ap (latest (moment_of v)) (listed_floor floors i d l) ∙ floor_is floor))
+      ap (floor_clear_line floor) (ap (latest (clearing_moment v)) (listed_floor floors i d l) ∙ floor_is floor))
 
 pub floors_are : (t : FloorTable) (read : List ℕ) (m : Model) (p : List Move) (v : ClearingView) (report : IsReport m p v) (floors : List ℕ)
     → t ≡ table_of m floors → read ≡ floors
-    → flat_map (floor_clear_part (λ f. latest (moment_of v) (listed t f))) read ≡ flat_map (floor_clear_part (floor_occupied m p)) floors
+    → flat_map (floor_clear_part (λ f. latest (clearing_moment v) (listed t f))) read ≡ flat_map (floor_clear_part (floor_occupied m p)) floors
 floors_are t read m p v report floors e same =
-    ap₂ (λ (x : FloorTable) (y : List ℕ). flat_map (floor_clear_part (λ f. latest (moment_of v) (listed x f))) y) e same ∙ floor_texts m p v report floors
+    ap₂ (λ (x : FloorTable) (y : List ℕ). flat_map (floor_clear_part (λ f. latest (clearing_moment v) (listed x f))) y) e same ∙ floor_texts m p v report floors

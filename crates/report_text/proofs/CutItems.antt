@@ -11,16 +11,12 @@ use Rattle.evac_law.specs.Cuts.{Cut, arc_items, arc_part, cut_items, entry_items
 use Rattle.evac_law.specs.Sums.{below, moments_to, places}
 use Rattle.evac_law.proofs.PartLemmas.{flat_map-suc}
 use Rattle.certificate_text.specs.BlockText.{name_of_node}
+use Rattle.certificate_text.proofs.OrderedMoves.{all-below}
 use Rattle.report_text.specs.Parts.{IsItemOf, entry_text, no_pair}
 use Rattle.report_text.specs.ReportText.{entry_line, item_line}
 use Rattle.report_text.proofs.Parts.{parts-flat, parts-nothing, parts-same}
 
 -- ---- the items are of the model
-
-all_parts : {X : Type 0} (P : X → Type 0) (g : ℕ → List X) (n : ℕ) → ((i : ℕ) → i < n → All P (g i)) → All P (flat_map g (below n))
-all_parts P g zero h = All-nil P
-all_parts P g (suc n) h =
-    rw (flat_map-suc g n) (All-append P (flat_map g (below n)) (g n) (all_parts P g n (λ i l. h i (omega (arith, l)))) (h n (omega arith)))
 
 all_one : {X : Type 0} (P : X → Type 0) (b : Bool) (x : X) → P x → All P (cond b (x ∷ []) [])
 all_one P true x h = All-cons P x [] h (All-nil P)
@@ -34,10 +30,10 @@ pub items_are : (m : Model) (x : Cut) (k : ℕ) → All (IsItemOf m) (cut_items 
 unfolding cut_items
 items_are m x k =
     All-append (IsItemOf m) (entry_items m x k) (hold_items m x k ++ arc_items m x k)
-    (all_parts (IsItemOf m) _ (length m.nodes) (λ n l. all_parts (IsItemOf m) _ (k + 1) (λ t h. all_other (IsItemOf m) _ (Entry n (entry m n t)) l)))
+    (all-below (IsItemOf m) _ (length m.nodes) (λ n l. all-below (IsItemOf m) _ (k + 1) (λ t h. all_other (IsItemOf m) _ (Entry n (entry m n t)) l)))
     (All-append (IsItemOf m) (hold_items m x k) (arc_items m x k)
-    (all_parts (IsItemOf m) _ (length m.nodes) (λ n l. all_parts (IsItemOf m) _ k (λ t h. all_one (IsItemOf m) _ (Hold n t (capacity m n)) l)))
-    (all_parts (IsItemOf m) _ (k + 1) (λ t h. all_parts (IsItemOf m) _ (length m.arcs) (λ a l. all_one (IsItemOf m) _ (Arc a t (rate m a t)) l))))
+    (all-below (IsItemOf m) _ (length m.nodes) (λ n l. all-below (IsItemOf m) _ k (λ t h. all_one (IsItemOf m) _ (Hold n t (capacity m n)) l)))
+    (all-below (IsItemOf m) _ (k + 1) (λ t h. all-below (IsItemOf m) _ (length m.arcs) (λ a l. all_one (IsItemOf m) _ (Arc a t (rate m a t)) l))))
 
 -- ---- the first of some items
 

@@ -19,11 +19,6 @@ parts-same_below f g (suc n) h =
     flat_map-suc f n ∙ ap (λ l. l ++ f n) (parts-same_below f g n (λ i l. h i (omega (arith, l)))) ∙ ap (λ l. flat_map g (below n) ++ l) (h n (omega arith))
     ∙ sym (flat_map-suc g n)
 
-pub parts-same_all : {X Y : Type 0} (f g : X → List Y) (xs : List X) → All (λ x. f x ≡ g x) xs → flat_map f xs ≡ flat_map g xs
-parts-same_all f g [] h = refl
-parts-same_all f g (x ∷ xs) h =
-    ap (λ l. l ++ flat_map f xs) (h 0 x (omega arith)) ∙ ap (λ l. g x ++ l) (parts-same_all f g xs (λ i d l. h (suc i) d (omega (arith, l))))
-
 -- one part behind others
 pub parts-one : {X Y : Type 0} (f : X → List Y) (xs : List X) (x : X) → flat_map f (xs ++ x ∷ []) ≡ flat_map f xs ++ f x
 parts-one f xs x = flat_map-append f xs (x ∷ []) ∙ ap (λ l. flat_map f xs ++ l) (append-nil (f x))

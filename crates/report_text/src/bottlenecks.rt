@@ -6,7 +6,7 @@ ghost use Rattle.evac_law.specs.LabelTable.{LabelTable};
 ghost use Rattle.evac_law.specs.Sums.{places};
 ghost use Rattle.line_io.specs.Causes.{HasCause};
 ghost use Rattle.line_io.specs.Writer.{PutsText};
-ghost use Rattle.bottleneck_report.specs.Crossings.{HasRoom, counts_of};
+ghost use Rattle.bottleneck_report.specs.Crossings.{HasCounts, counts_of};
 ghost use Rattle.report_text.specs.ReportText.{arc_periods_part, bottlenecks_text, hold_periods_part};
 
 use crate::lines::{write_arc_periods, write_hold_periods, write_number};
@@ -24,7 +24,7 @@ fn write_arc<K: Sink>(
     arc: u32,
 ) -> Result<(), WriteFault>
     requires valid { IsValid model.now }
-    requires room { HasRoom model.now bottlenecks.now }
+    requires room { HasCounts model.now bottlenecks.now }
     requires arc_in { arc < length model.now.arcs }
     ensures text { PutsText (K.held sink.old) out.old (arc_periods_part model.now (slice_index bottlenecks.now.arcs) arc) (K.held sink.new) out.new result }
     ensures cause { HasCause (K.faults sink.old) (K.faults sink.new) result }
@@ -46,7 +46,7 @@ fn write_arcs<K: Sink>(
     bottlenecks: &Bottlenecks,
 ) -> Result<(), WriteFault>
     requires valid { IsValid model.now }
-    requires room { HasRoom model.now bottlenecks.now }
+    requires room { HasCounts model.now bottlenecks.now }
     ensures text { PutsText (K.held sink.old) out.old (flat_map (arc_periods_part model.now (slice_index bottlenecks.now.arcs)) (places model.now.arcs)) (K.held sink.new) out.new result }
     ensures cause { HasCause (K.faults sink.old) (K.faults sink.new) result }
 {
@@ -65,7 +65,7 @@ fn write_hold<K: Sink>(
     node: u32,
 ) -> Result<(), WriteFault>
     requires valid { IsValid model.now }
-    requires room { HasRoom model.now bottlenecks.now }
+    requires room { HasCounts model.now bottlenecks.now }
     requires node_in { node < length model.now.nodes }
     ensures text { PutsText (K.held sink.old) out.old (hold_periods_part model.now (slice_index bottlenecks.now.holds) node) (K.held sink.new) out.new result }
     ensures cause { HasCause (K.faults sink.old) (K.faults sink.new) result }
@@ -84,7 +84,7 @@ fn write_holds<K: Sink>(
     bottlenecks: &Bottlenecks,
 ) -> Result<(), WriteFault>
     requires valid { IsValid model.now }
-    requires room { HasRoom model.now bottlenecks.now }
+    requires room { HasCounts model.now bottlenecks.now }
     ensures text { PutsText (K.held sink.old) out.old (flat_map (hold_periods_part model.now (slice_index bottlenecks.now.holds)) (places model.now.nodes)) (K.held sink.new) out.new result }
     ensures cause { HasCause (K.faults sink.old) (K.faults sink.new) result }
 {
@@ -103,7 +103,7 @@ pub fn write_bottlenecks<K: Sink>(
     bottlenecks: &Bottlenecks,
 ) -> Result<(), WriteFault>
     requires valid { IsValid model.now }
-    requires room { HasRoom model.now bottlenecks.now }
+    requires room { HasCounts model.now bottlenecks.now }
     ensures text { (l : LabelTable) (c : ℕ) → bottlenecks.now ≡ counts_of model.now l c
         → PutsText (K.held sink.old) out.old (bottlenecks_text index model.now l c) (K.held sink.new) out.new result }
     ensures cause { HasCause (K.faults sink.old) (K.faults sink.new) result }

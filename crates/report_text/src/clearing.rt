@@ -7,7 +7,7 @@ ghost use Rattle.evac_law.specs.declared.plan.Move.{Move};
 ghost use Rattle.line_io.specs.Causes.{HasCause};
 ghost use Rattle.line_io.specs.Writer.{PutsText};
 ghost use Rattle.floor_index.specs.Floors.{listed, table_of};
-ghost use Rattle.clearing_report.specs.Clearing.{IsReport, latest, moment_of};
+ghost use Rattle.clearing_report.specs.Clearing.{IsReport, latest, clearing_moment};
 ghost use Rattle.report_text.specs.ReportText.{clearing_text, floor_clear_part, node_clear_part};
 
 use crate::lines::{write_floor_clear, write_node_clear, write_number};
@@ -29,7 +29,7 @@ fn write_node<K: Sink>(
     requires valid { IsValid model.now }
     requires size { length clearing.now.moments ≡ length model.now.nodes }
     requires node_in { node < length model.now.nodes }
-    ensures text { PutsText (K.held sink.old) out.old (node_clear_part model.now (moment_of clearing.now) node) (K.held sink.new) out.new result }
+    ensures text { PutsText (K.held sink.old) out.old (node_clear_part model.now (clearing_moment clearing.now) node) (K.held sink.new) out.new result }
     ensures cause { HasCause (K.faults sink.old) (K.faults sink.new) result }
 {
     let name = model.node(node).name;
@@ -47,7 +47,7 @@ fn write_nodes<K: Sink>(
 ) -> Result<(), WriteFault>
     requires valid { IsValid model.now }
     requires size { length clearing.now.moments ≡ length model.now.nodes }
-    ensures text { PutsText (K.held sink.old) out.old (flat_map (node_clear_part model.now (moment_of clearing.now)) (places model.now.nodes)) (K.held sink.new) out.new result }
+    ensures text { PutsText (K.held sink.old) out.old (flat_map (node_clear_part model.now (clearing_moment clearing.now)) (places model.now.nodes)) (K.held sink.new) out.new result }
     ensures cause { HasCause (K.faults sink.old) (K.faults sink.new) result }
 {
     for node in 0..model.node_count() {
@@ -63,7 +63,7 @@ fn write_floors<K: Sink>(
     index: &FloorIndex,
     clearing: &Clearing,
 ) -> Result<(), WriteFault>
-    ensures text { PutsText (K.held sink.old) out.old (flat_map (floor_clear_part (λ f. latest (moment_of clearing.now) (listed index.now f))) floors.now) (K.held sink.new) out.new result }
+    ensures text { PutsText (K.held sink.old) out.old (flat_map (floor_clear_part (λ f. latest (clearing_moment clearing.now) (listed index.now f))) floors.now) (K.held sink.new) out.new result }
     ensures cause { HasCause (K.faults sink.old) (K.faults sink.new) result }
 {
     for floor in floors {

@@ -24,7 +24,7 @@ moment_of Source = 0
 moment_of (Pair n t) = 0
 moment_of (Door t) = t
 
-no_tail : (s : Site) (p : Place) (k : ℕ) → tail_of s p ≡ Door k → ⊥
+pub no_tail : (s : Site) (p : Place) (k : ℕ) → tail_of s p ≡ Door k → ⊥
 no_tail s (Arc a t) k e = cc
 no_tail s (Hold a t) k e = cc
 no_tail s (Supply a t) k e = cc

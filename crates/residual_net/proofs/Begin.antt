@@ -21,11 +21,11 @@ use Rattle.residual_net.specs.declared.place.Cell.{Cell}
 use Rattle.residual_net.specs.declared.start.Kind.{Kind}
 use Rattle.residual_net.specs.declared.start.Kind.TheVariants as kinds
 use Rattle.residual_net.specs.Limits.{supply_limit}
-use Rattle.residual_net.specs.Site.{Site, IsSite, IsPlace, End_test, arcs_of, at, exit_at, head_of, is_barred, is_door, is_source, same_place, sum_places, tail_of}
+use Rattle.residual_net.specs.Site.{Site, IsSite, IsPlace, End_test, arc_count, at, exit_at, head_of, is_barred, is_door, is_source, same_place, sum_places, tail_of}
 use Rattle.residual_net.specs.Site.End.{Pair, Door}
 use Rattle.residual_net.specs.Network.{Network, IsBlank, IsGrid, IsKept, IsStored, flow_at, flow_into, flow_out, limit_at, supply_limits}
 use Rattle.residual_net.specs.OfModel.{IsNetOf, model_limit, site_of}
-use Rattle.residual_net.specs.Start.{IsLimitGiven, IsUnused, SetsLimits, StartsAs, is_kind, moment_of, number_of, place_of}
+use Rattle.residual_net.specs.Start.{IsLimitGiven, IsUnused, SetsLimits, StartsAs, is_kind, moment_of, row_of, place_of}
 use Rattle.residual_net.proofs.Places.{sum_places-same, sum_places-none, same-place}
 use Rattle.residual_net.proofs.Held.{arrival_is, exit_is, from_is, same_in}
 
@@ -105,11 +105,11 @@ row_test b a n = grind (arith, nat_tests)
 
 -- the places of a row at the moments so far
 abbrev pub row_so_far : Kind → ℕ → ℕ → Place → Bool
-row_so_far k n t q = (is_kind k q && eqb (number_of q) n) && ltb (moment_of q) t
+row_so_far k n t q = (is_kind k q && eqb (row_of q) n) && ltb (moment_of q) t
 
 -- the places of a kind with the numbers so far
 abbrev pub rows_so_far : Kind → ℕ → Place → Bool
-rows_so_far k n q = is_kind k q && ltb (number_of q) n
+rows_so_far k n q = is_kind k q && ltb (row_of q) n
 
 pub row_step : (k : Kind) (n t : ℕ) (q : Place) → row_so_far k n (t + 1) q ≡ (same_place (place_of k n t) q || row_so_far k n t q)
 row_step kinds.Arc n t (Arc a s) = step_test a n s t
@@ -175,7 +175,7 @@ one_set m u v p h = record {
     swap q (inr e) = rw e refl
 
 pub row_begin : (m : Model) (w : Network) (k : Kind) (n : ℕ) → IsUnused w → SetsLimits m w w (row_so_far k n 0)
-row_begin m w k n g = sets_none m w (row_so_far k n 0) g (λ q. none_before (is_kind k q && eqb (number_of q) n) (moment_of q))
+row_begin m w k n g = sets_none m w (row_so_far k n 0) g (λ q. none_before (is_kind k q && eqb (row_of q) n) (moment_of q))
 
 pub row_more : (m : Model) (w u v : Network) (k : Kind) (n t : ℕ) → SetsLimits m w u (row_so_far k n t)
     → IsLimitGiven u v (place_of k n t) (model_limit m (place_of k n t)) → SetsLimits m w v (row_so_far k n (t + 1))
@@ -188,25 +188,25 @@ in_horizon s (Hold a t) i = omega (arith, i.1)
 in_horizon s (Supply a t) i = omega (arith, i.1)
 
 pub row_end : (m : Model) (w u : Network) (k : Kind) (n t : ℕ) → SetsLimits m w u (row_so_far k n t) → w.site.shape.horizon + 1 ≤ t
-    → SetsLimits m w u (λ q. is_kind k q && eqb (number_of q) n)
+    → SetsLimits m w u (λ q. is_kind k q && eqb (row_of q) n)
 row_end m w u k n t h l =
-    sets_same m w u (row_so_far k n t) (λ q. is_kind k q && eqb (number_of q) n) h
-    (λ q i. all_before (is_kind k q && eqb (number_of q) n) (moment_of q) t (omega (arith, in_horizon w.site q i, l)))
+    sets_same m w u (row_so_far k n t) (λ q. is_kind k q && eqb (row_of q) n) h
+    (λ q i. all_before (is_kind k q && eqb (row_of q) n) (moment_of q) t (omega (arith, in_horizon w.site q i, l)))
 
 pub rows_begin : (m : Model) (w : Network) (k : Kind) → IsUnused w → SetsLimits m w w (rows_so_far k 0)
-rows_begin m w k g = sets_none m w (rows_so_far k 0) g (λ q. none_before (is_kind k q) (number_of q))
+rows_begin m w k g = sets_none m w (rows_so_far k 0) g (λ q. none_before (is_kind k q) (row_of q))
 
 pub rows_more : (m : Model) (w u v : Network) (k : Kind) (n : ℕ) → SetsLimits m w u (rows_so_far k n)
-    → SetsLimits m u v (λ q. is_kind k q && eqb (number_of q) n) → SetsLimits m w v (rows_so_far k (n + 1))
+    → SetsLimits m u v (λ q. is_kind k q && eqb (row_of q) n) → SetsLimits m w v (rows_so_far k (n + 1))
 rows_more m w u v k n h g =
-    sets_then m w u v (rows_so_far k n) (λ q. is_kind k q && eqb (number_of q) n) (rows_so_far k (n + 1)) h g (λ q. row_test (is_kind k q) (number_of q) n)
+    sets_then m w u v (rows_so_far k n) (λ q. is_kind k q && eqb (row_of q) n) (rows_so_far k (n + 1)) h g (λ q. row_test (is_kind k q) (row_of q) n)
 
 pub rows_end : (m : Model) (w u : Network) (k : Kind) (n : ℕ) → SetsLimits m w u (rows_so_far k n)
-    → ((p : Place) → IsPlace w.site p → is_kind k p ≡ true → number_of p < n) → SetsLimits m w u (is_kind k)
+    → ((p : Place) → IsPlace w.site p → is_kind k p ≡ true → row_of p < n) → SetsLimits m w u (is_kind k)
 rows_end m w u k n h all = sets_same m w u (rows_so_far k n) (is_kind k) h (λ q i. at_kind q i (cases_Bool (is_kind k q)))
   where
     at_kind : (q : Place) → IsPlace w.site q → (is_kind k q ≡ true) ⊎ (is_kind k q ≡ false) → rows_so_far k n q ≡ is_kind k q
-    at_kind q i (inl e) = all_before (is_kind k q) (number_of q) n (all q i e)
+    at_kind q i (inl e) = all_before (is_kind k q) (row_of q) n (all q i e)
     at_kind q i (inr e) = rw e refl
 
 pub place_moment : (s : Site) (k : Kind) (n t : ℕ) → IsPlace s (place_of k n 0) → t ≤ s.shape.horizon → IsPlace s (place_of k n t)
@@ -281,7 +281,7 @@ supplies_fit m w valid of =
     people_fit _
     (omega (
       arith,
-      sums.sum2-nothing (arcs_of w.site) k,
+      sums.sum2-nothing (arc_count w.site) k,
       sums.sum2-nothing w.site.shape.nodes k,
       same,
       count,

@@ -11,7 +11,7 @@ use Rattle.residual_net.specs.declared.place.Place.TheVariants.{Arc, Hold, Suppl
 use Rattle.residual_net.specs.declared.place.PathStep.{PathStep}
 use Rattle.time_expansion.specs.Expansion.{to_at}
 use Rattle.residual_net.specs.Limits.{supply_limit}
-use Rattle.residual_net.specs.Site.{Site, End, IsPlace, arcs_of, arrival_at, door_by, exit_at, head_of, is_door, is_source, same_place, sum_places, tail_of}
+use Rattle.residual_net.specs.Site.{Site, End, IsPlace, arc_count, arrival_at, door_by, exit_at, head_of, is_door, is_source, same_place, sum_places, tail_of}
 use Rattle.residual_net.specs.Site.End.{Source, Pair, Door}
 use Rattle.residual_net.specs.Network.{Network, IsAllSent, IsNet, IsWithinLimits, arrived_by, flow_at, flow_into, flow_out, limit_at, supply_limits}
 use Rattle.residual_net.specs.Route.{IsAugmentingPath, IsPushed, Leads}
@@ -19,7 +19,7 @@ use Rattle.residual_net.specs.Change.{IsCancelled, IsFlowPath, supply_limits_wit
 use Rattle.residual_net.specs.OfModel.{IsNetOf, site_of}
 use Rattle.residual_net.proofs.Begin.{entries_are_people}
 use Rattle.residual_net.proofs.Held.{same_in}
-use Rattle.residual_net.proofs.Places.{same-place, sum_places-le, sum_places-none, sum_places-pick, sum_places-same, sum_places-split}
+use Rattle.residual_net.proofs.Places.{cond_le, same-place, sum_places-le, sum_places-none, sum_places-pick, sum_places-same, sum_places-split}
 use Rattle.residual_net.proofs.Push.{arrived_moved, balance, cancel_arrived}
 use Rattle.residual_net.proofs.Taking.{undone}
 
@@ -73,7 +73,7 @@ supplies_are_people m w of =
     let count : sums.sum2 w.site.shape.nodes k (entry m) ≡ sums.sum2 (length m.nodes) k (entry m) = ap (λ z. sums.sum2 z k (entry m)) nodes in
     omega (
       arith,
-      sums.sum2-nothing (arcs_of w.site) k,
+      sums.sum2-nothing (arc_count w.site) k,
       sums.sum2-nothing w.site.shape.nodes k,
       same,
       count,
@@ -115,10 +115,6 @@ all_sent_arrive m w net of within all =
     at_place (Arc a t) i = refl
     at_place (Hold n t) i = refl
     at_place (Supply n t) i = omega (arith, within (Supply n t) i, all n t i)
-
-cond_le : (b : Bool) (u r : ℕ) → u ≤ r → cond b u 0 ≤ cond b r 0
-cond_le true u r l = l
-cond_le false u r l = omega arith
 
 -- an unsent person is missing from the sum
 one_missing : (w : Network) → IsWithinLimits w → (n t : ℕ) → IsPlace w.site (Supply n t) → flow_at w (Supply n t) < limit_at w (Supply n t)
@@ -180,7 +176,7 @@ supplies_between m n w p x valid other site nodes horizon each here =
     let fits = twice_fits (people m) (people n) valid.people_fit other.people_fit in
     omega (
       arith,
-      sums.sum2-nothing (arcs_of w.site) k,
+      sums.sum2-nothing (arc_count w.site) k,
       sums.sum2-nothing w.site.shape.nodes k,
       le,
       add,

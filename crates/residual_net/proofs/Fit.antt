@@ -10,7 +10,7 @@ use Rattle.evac_law.specs.Plans.{IsFeasible, held, last_arrival}
 use Rattle.evac_law.specs.Stands.{Fits}
 use Rattle.evac_law.proofs.MoveLemmas.{ordered-moves_of}
 use Rattle.residual_net.specs.declared.place.Place.TheVariants.{Arc, Hold, Supply}
-use Rattle.residual_net.specs.Site.{Site, IsPlace, arcs_of, arrival_at, exit_at}
+use Rattle.residual_net.specs.Site.{Site, IsPlace, arc_count, arrival_at, exit_at}
 use Rattle.residual_net.specs.Network.{Network, IsAllSent, IsNet, IsWithinLimits, flow_at}
 use Rattle.residual_net.specs.OfModel.{IsNetOf, last_move, plan_of, stand_of}
 use Rattle.residual_net.proofs.Held.{came_left, arcs_same, nodes_same, horizon_same, exit_is, arrival_is}
@@ -55,7 +55,7 @@ module _ (m : Model) (w : Network) (valid : IsValid m) (net : IsNet w) (of : IsN
     nodes_same = nodes_same m w net of valid;
     arcs_same = arcs_same m w net of valid;
     horizon_same = horizon_same m w net of valid;
-    ordered = ordered-moves_of (arcs_of w.site) w.site.shape.horizon (λ a t. flow_at w (Arc a t));
+    ordered = ordered-moves_of (arc_count w.site) w.site.shape.horizon (λ a t. flow_at w (Arc a t));
     inside = λ n t i j e.
         sym (held_is n t (omega (arith, nodes_same m w net of valid, i)) e (omega (arith, horizon_same m w net of valid, j)));
     exits_hold_none = λ n t i j e.

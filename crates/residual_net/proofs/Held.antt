@@ -13,7 +13,7 @@ use Rattle.evac_law.proofs.SumLemmas.{sum2, sum2-le, sum2-same, sum2-nothing}
 use Rattle.evac_law.proofs.WeakDuality.{came-zero, came-suc, left-zero, left-suc}
 use Rattle.time_expansion.specs.Expansion.{from_at, to_at, no_ends}
 use Rattle.residual_net.specs.declared.place.Place.TheVariants.{Arc, Hold, Supply}
-use Rattle.residual_net.specs.Site.{Site, at, head_of, tail_of, exit_at, arrival_at, arcs_of, sum_places}
+use Rattle.residual_net.specs.Site.{Site, at, head_of, tail_of, exit_at, arrival_at, arc_count, sum_places}
 use Rattle.residual_net.specs.Site.End.{Pair, Door}
 use Rattle.residual_net.specs.Network.{Network, IsNet, flow_at, flow_into, flow_out}
 use Rattle.residual_net.specs.OfModel.{site_of, IsNetOf, plan_of}
@@ -46,8 +46,8 @@ module _ (m : Model) (w : Network) (net : IsNet w) (of : IsNetOf m w) (valid : I
   abbrev flow : ℕ → ℕ → ℕ
   flow a t = flow_at w (Arc a t)
 
-  pub arcs_same : arcs_of w.site ≡ length m.arcs
-  arcs_same = ap arcs_of of.site ∙ length-map m.arcs (λ (r : Rattle.evac_law.specs.declared.model.ArcRow.ArcRow). record { from = r.from; to = r.to })
+  pub arcs_same : arc_count w.site ≡ length m.arcs
+  arcs_same = ap arc_count of.site ∙ length-map m.arcs (λ (r : Rattle.evac_law.specs.declared.model.ArcRow.ArcRow). record { from = r.from; to = r.to })
 
   pub horizon_same : w.site.shape.horizon ≡ m.horizon
   horizon_same = ap (λ (z : Site). z.shape.horizon) of.site
@@ -56,13 +56,13 @@ module _ (m : Model) (w : Network) (net : IsNet w) (of : IsNetOf m w) (valid : I
   nodes_same = ap (λ (z : Site). z.shape.nodes) of.site
 
   -- the plan's people who come to a node at a moment, and who leave it
-  coming_is : (n t : ℕ) → coming m plan n t ≡ sum2 (arcs_of w.site) (w.site.shape.horizon + 1) (λ a s. cond (eqb (head m a) n && eqb (arrival m a s) t) (flow a s) 0)
+  coming_is : (n t : ℕ) → coming m plan n t ≡ sum2 (arc_count w.site) (w.site.shape.horizon + 1) (λ a s. cond (eqb (head m a) n && eqb (arrival m a s) t) (flow a s) 0)
   unfolding coming
-  coming_is n t = sum_moves (arcs_of w.site) w.site.shape.horizon flow (λ a s. eqb (head m a) n && eqb (arrival m a s) t)
+  coming_is n t = sum_moves (arc_count w.site) w.site.shape.horizon flow (λ a s. eqb (head m a) n && eqb (arrival m a s) t)
 
-  leaving_is : (n t : ℕ) → leaving m plan n t ≡ sum2 (arcs_of w.site) (w.site.shape.horizon + 1) (λ a s. cond (eqb (tail m a) n && eqb s t) (flow a s) 0)
+  leaving_is : (n t : ℕ) → leaving m plan n t ≡ sum2 (arc_count w.site) (w.site.shape.horizon + 1) (λ a s. cond (eqb (tail m a) n && eqb s t) (flow a s) 0)
   unfolding leaving
-  leaving_is n t = sum_moves (arcs_of w.site) w.site.shape.horizon flow (λ a s. eqb (tail m a) n && eqb s t)
+  leaving_is n t = sum_moves (arc_count w.site) w.site.shape.horizon flow (λ a s. eqb (tail m a) n && eqb s t)
 
   -- the hold from the moment before
   abbrev before : ℕ → ℕ → ℕ
@@ -108,16 +108,16 @@ module _ (m : Model) (w : Network) (net : IsNet w) (of : IsNetOf m w) (valid : I
       clash c = cc
 
   into_arcs : (n t : ℕ) → is_exit_at m n ≡ false
-      → sum2 (arcs_of w.site) k (λ a s. cond (at (Pair n t) (head_of w.site (Arc a s))) (flow a s) 0) ≡ coming m plan n t
+      → sum2 (arc_count w.site) k (λ a s. cond (at (Pair n t) (head_of w.site (Arc a s))) (flow a s) 0) ≡ coming m plan n t
   into_arcs n t e =
-      same_in (arcs_of w.site) k _ _
+      same_in (arc_count w.site) k _ _
       (λ a s i j. ap (λ z. cond (at (Pair n t) z) (flow a s) 0) (head_is a s (omega (arith, arcs_same, i)))
       ∙ arc_term (is_exit_at m (head m a)) (head m a) n (arrival m a s) t (flow a s) (no_exit n a e))
       ∙ sym (coming_is n t)
 
-  out_arcs : (n t : ℕ) → sum2 (arcs_of w.site) k (λ a s. cond (at (Pair n t) (tail_of w.site (Arc a s))) (flow a s) 0) ≡ leaving m plan n t
+  out_arcs : (n t : ℕ) → sum2 (arc_count w.site) k (λ a s. cond (at (Pair n t) (tail_of w.site (Arc a s))) (flow a s) 0) ≡ leaving m plan n t
   out_arcs n t =
-      same_in (arcs_of w.site) k _ _
+      same_in (arc_count w.site) k _ _
       (λ a s i j. ap (λ z. cond (at (Pair n t) z) (flow a s) 0) (tail_is a s (omega (arith, arcs_same, i))) ∙ tail_term (tail m a) n s t (flow a s))
       ∙ sym (leaving_is n t)
 

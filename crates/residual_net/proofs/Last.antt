@@ -11,7 +11,7 @@ use Rattle.evac_law.proofs.MoveLemmas.{moved-moves_of, ordered-moves_of}
 use Rattle.time_expansion.specs.Expansion.{to_at}
 use Rattle.residual_net.specs.declared.place.Place.{Place}
 use Rattle.residual_net.specs.declared.place.Place.TheVariants.{Arc, Hold, Supply}
-use Rattle.residual_net.specs.Site.{Site, End, IsPlace, arcs_of, arrival_at, at, exit_at, head_of, tail_of}
+use Rattle.residual_net.specs.Site.{Site, End, IsPlace, arc_count, arrival_at, at, exit_at, head_of, tail_of}
 use Rattle.residual_net.specs.Site.End.{Pair, Door}
 use Rattle.residual_net.specs.Network.{Network, IsNet, IsStored, flow_at, flow_into}
 use Rattle.residual_net.specs.Change.{end_moment}
@@ -124,10 +124,10 @@ module _ (w : Network) (net : IsNet w) (last : ℕ) (quiet : (j : ℕ) → last 
           → arrival_at w.site (get_or (plan_of w) i d).arc (get_or (plan_of w) i d).moment ≤ last
       in_time i d l (inl late) =
           let v = get_or (plan_of w) i d in
-          let ordered = ordered-moves_of (arcs_of w.site) w.site.shape.horizon (λ a t. flow_at w (Arc a t)) in
+          let ordered = ordered-moves_of (arc_count w.site) w.site.shape.horizon (λ a t. flow_at w (Arc a t)) in
           let range = ordered.in_range i d l in
           let count = move_counted (plan_of w) i d l in
-          let is = moved-moves_of (arcs_of w.site) w.site.shape.horizon (λ a t. flow_at w (Arc a t)) v.arc v.moment range.0 range.1 in
+          let is = moved-moves_of (arc_count w.site) w.site.shape.horizon (λ a t. flow_at w (Arc a t)) v.arc v.moment range.0 range.1 in
           absurd (omega (arith, ordered.somebody i d l, count, is, late_arc v.arc v.moment range late))
       in_time i d l (inr early) = early
 
@@ -137,7 +137,7 @@ arrival_moves w net j late = none_into w (Door j) (λ p i e. none p i e)
   where
     by_flow : (a t : ℕ) → IsPlace w.site (Arc a t) → j ≤ arrival_at w.site a t → (0 < flow_at w (Arc a t)) ⊎ (flow_at w (Arc a t) ≤ 0) → flow_at w (Arc a t) ≡ 0
     by_flow a t i l (inl some) =
-        let is = moved-moves_of (arcs_of w.site) w.site.shape.horizon (λ a t. flow_at w (Arc a t)) a t i.0 i.1 in
+        let is = moved-moves_of (arc_count w.site) w.site.shape.horizon (λ a t. flow_at w (Arc a t)) a t i.0 i.1 in
         absurd (omega (arith, late, l, moved_by_last w.site (plan_of w) a t (omega (arith, some, is))))
     by_flow a t i l (inr none) = omega (arith, none)
 

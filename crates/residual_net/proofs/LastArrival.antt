@@ -87,3 +87,7 @@ arrived_by_last w net k l = sum_places-same w.site _ _ (λ p i. at_place p i)
 pub last_by_arrived : (w : Network) → IsNet w → (k : ℕ) → arrived_by w k ≡ arrived_by w w.site.shape.horizon → last_move w.site (plan_of w) ≤ k
 last_by_arrived w net k e =
     moves_by_last w net k (λ j l h. omega (arith, between w k j w.site.shape.horizon l h, e))
+
+-- the last move of a net is within its horizon
+pub last_fits : (w : Network) → IsNet w → last_move w.site (plan_of w) ≤ w.site.shape.horizon
+last_fits w net = last_by_arrived w net w.site.shape.horizon refl

@@ -20,7 +20,7 @@ use Rattle.evac_law.proofs.SumLemmas.{sum2, sum2-le, sum2-nothing, sum_by-same}
 use Rattle.evac_law.proofs.WeakDuality.{value_is, out_le_value}
 use Rattle.evac_law.proofs.Tight.{tight_is_equal}
 use Rattle.residual_net.specs.declared.place.Place.TheVariants.{Arc, Hold, Supply}
-use Rattle.residual_net.specs.Site.{IsPlace, door_by, head_of, tail_of, arcs_of, sum_places}
+use Rattle.residual_net.specs.Site.{IsPlace, door_by, head_of, tail_of, arc_count, sum_places}
 use Rattle.residual_net.specs.Site.End.{Pair, Door}
 use Rattle.residual_net.specs.Network.{Network, IsNet, IsWithinLimits, flow_at, limit_at, flow_into, arrived_by}
 use Rattle.residual_net.specs.OfModel.{IsNetOf, plan_of}
@@ -95,14 +95,14 @@ module _ (m : Model) (w : Network) (valid : IsValid m) (net : IsNet w) (of : IsN
   unfolding flow_into sum_places out_by
   arrived_is_out k =
       let moments = w.site.shape.horizon + 1 in
-      let arcs = same_in (arcs_of w.site) moments (λ a s. cond (door_by k (head_of w.site (Arc a s))) (flow_at w (Arc a s)) 0)
+      let arcs = same_in (arc_count w.site) moments (λ a s. cond (door_by k (head_of w.site (Arc a s))) (flow_at w (Arc a s)) 0)
       (λ a s. cond (is_exit_at m (head m a) && leb (arrival m a s) k) (flow_at w (Arc a s)) 0)
       (λ a s i j. ap (λ z. cond (door_by k z) (flow_at w (Arc a s)) 0) (head_is m w net of valid a s (omega (arith, arcs_same m w net of valid, i)))
       ∙ term (is_exit_at m (head m a)) (head m a) (arrival m a s) (flow_at w (Arc a s))) in
       omega (
         arith,
         arcs,
-        sum_moves (arcs_of w.site) w.site.shape.horizon (λ a s. flow_at w (Arc a s)) (λ a s. is_exit_at m (head m a) && leb (arrival m a s) k),
+        sum_moves (arc_count w.site) w.site.shape.horizon (λ a s. flow_at w (Arc a s)) (λ a s. is_exit_at m (head m a) && leb (arrival m a s) k),
         sum2-nothing w.site.shape.nodes moments,
       )
     where
@@ -187,7 +187,7 @@ module _ (m : Model) (w : Network) (valid : IsValid m) (net : IsNet w) (of : IsN
 
     pub moved_is : (a t : ℕ) → a < length m.arcs → t ≤ m.horizon → moved plan a t ≡ flow_at w (Arc a t)
     moved_is a t i l =
-        moved-moves_of (arcs_of w.site) w.site.shape.horizon (λ a t. flow_at w (Arc a t)) a t
+        moved-moves_of (arc_count w.site) w.site.shape.horizon (λ a t. flow_at w (Arc a t)) a t
         (omega (arith, arcs_same m w net of valid, i)) (omega (arith, horizon_same m w net of valid, l))
 
     held_is : (n t : ℕ) → n < length m.nodes → is_exit_at m n ≡ false → t ≤ m.horizon → held sent plan n t ≡ pos (flow_at w (Hold n t))
@@ -216,7 +216,7 @@ module _ (m : Model) (w : Network) (valid : IsValid m) (net : IsNet w) (of : IsN
 
     pub arcs_in : All (λ (v : Move). v.arc < length m.arcs) plan
     arcs_in = subst (λ z. All (λ (v : Move). v.arc < z) plan) (arcs_same m w net of valid)
-        (arcs-moves_of (arcs_of w.site) w.site.shape.horizon (λ a t. flow_at w (Arc a t)))
+        (arcs-moves_of (arc_count w.site) w.site.shape.horizon (λ a t. flow_at w (Arc a t)))
 
     pub feasible : (k : ℕ) → k ≤ m.horizon → IsFeasible sent plan k
     feasible k l = record {

@@ -14,7 +14,7 @@ use Rattle.residual_net.specs.Site.End.{Source, Pair, Door}
 use Rattle.residual_net.specs.Network.{Network, IsGrid, IsNet, IsWithinLimits, supply_limits, flow_into, flow_out, no_cell, flow_at, limit_at, residual_room, with_cell}
 use Rattle.residual_net.specs.Change.{IsLimitSet}
 use Rattle.residual_net.specs.Route.{IsPushed, IsPushable, IsOrigin, Leads, added, taken}
-use Rattle.residual_net.proofs.Places.{sum_places-same, sum_places-le, cell_below, cell_written, place-same, same-place}
+use Rattle.residual_net.proofs.Places.{cell_below, cell_written, cond_le, place-same, same-place, sum_places-le, sum_places-same}
 use Rattle.residual_net.proofs.Push.{still_conserved}
 
 pub cell_in : (w : Network) (p : Place) → IsGrid w → IsPlace w.site p → cell_of w.site p < length w.cells
@@ -239,10 +239,6 @@ unfolding supply_limits
 same_supplies w v path x a =
     ap (λ s. sum_places s (λ p. cond (is_source (tail_of s p)) (limit_at v p) 0)) a.site
     ∙ sum_places-same w.site _ _ (λ p i. ap (λ z. cond (is_source (tail_of w.site p)) z 0) (a.limits p i))
-
-cond_le : (b : Bool) (u r : ℕ) → u ≤ r → cond b u 0 ≤ cond b r 0
-cond_le true u r l = l
-cond_le false u r l = omega arith
 
 sent_fits : (w : Network) → IsWithinLimits w → flow_out w is_source ≤ supply_limits w
 unfolding flow_out supply_limits

@@ -13,7 +13,7 @@ use Rattle.residual_net.specs.Site.End.{Source, Door}
 use Rattle.residual_net.specs.Network.{Network, IsGrid, IsNet, IsStored, excess_at, flow_at, flow_into, flow_out}
 use Rattle.residual_net.specs.Route.{IsPushed, Leads, added, taken}
 use Rattle.residual_net.specs.Change.{IsCancelled, IsFlowPath, IsLowering, IsTakeable, IsTaken, IsWholeWalk, end_moment}
-use Rattle.residual_net.proofs.Places.{sum_places-le}
+use Rattle.residual_net.proofs.Places.{cond_le, sum_places-le}
 use Rattle.residual_net.proofs.Push.{balance, cancel_conserved, out_door}
 use Rattle.residual_net.proofs.Steps.{added_none, apart_before, last_stop, same_supplies}
 use Rattle.residual_net.proofs.Arrivals.{into_door}
@@ -79,10 +79,6 @@ undone w v path x a on = record {
   limits = λ q i. sym (a.limits q (subst (λ (s : Site). IsPlace s q) a.site i));
   flows = λ q i. omega (arith, a.flows q (subst (λ (s : Site). IsPlace s q) a.site i), taken_forward path x q on);
 }
-
-cond_le : (b : Bool) (u r : ℕ) → u ≤ r → cond b u 0 ≤ cond b r 0
-cond_le true u r l = l
-cond_le false u r l = omega arith
 
 fewer_sent : (w v : Network) (path : List PathStep) (x : ℕ) → IsTaken w v path x → flow_out v is_source ≤ flow_out w is_source
 unfolding flow_out

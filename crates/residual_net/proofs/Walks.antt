@@ -15,6 +15,7 @@ use Rattle.residual_net.specs.Network.{Network, IsNet, flow_at, flow_into, flow_
 use Rattle.residual_net.specs.Route.{Leads}
 use Rattle.residual_net.specs.Change.{IsFlowPath, IsWalk, IsWalkBack, IsWholeWalk, end_moment}
 use Rattle.residual_net.proofs.Quiet.{none_from, none_into, onward, part_from, part_into}
+use Rattle.residual_net.proofs.Arrivals.{no_tail}
 
 abbrev pub step_on : Place → PathStep
 step_on p = record { place = p; back = false }
@@ -302,11 +303,6 @@ on_falls w net here q n t e i f some =
 rank : Site → Place → ℕ
 rank s p = cond (is_source (tail_of s p)) 0 (end_moment (tail_of s p) + 1)
 
-no_tail_door : (s : Site) (p : Place) (k : ℕ) → tail_of s p ≡ Door k → ⊥
-no_tail_door s (Arc a t) k e = cc
-no_tail_door s (Hold a t) k e = cc
-no_tail_door s (Supply a t) k e = cc
-
 forward_start : (s : Site) (x : PathStep) (e : End) → x.back ≡ false → start_of s x ≡ e → tail_of s x.place ≡ e
 forward_start s x e b h = rw b at h
 
@@ -349,7 +345,7 @@ ranks_above w net (x ∷ path) e f h o =
         → end_moment e < end_moment (head_of w.site x.place)
     up_from Source o from i some = absurd (cc)
     up_from (Pair n t) o from i some = rises w net x.place i some n t from
-    up_from (Door k) o from i some = absurd (no_tail_door w.site x.place k from)
+    up_from (Door k) o from i some = absurd (no_tail w.site x.place k from)
 
 -- a walk visits no place twice
 pub walk_apart : (w : Network) → IsNet w → (path : List PathStep) (e f : End) → IsWalk w path e f → AllPairs (λ x y. x.place ≢ y.place) path

@@ -17,7 +17,7 @@ use Rattle.residual_net.specs.Site.End.{Source, Door}
 use Rattle.residual_net.specs.Network.{Network, IsWithinLimits, flow_at, limit_at, residual_room}
 use Rattle.residual_net.specs.Route.{IsPushable, IsPushed, Leads, added, taken}
 use Rattle.residual_net.specs.OfModel.{IsNetOf, model_limit, site_of}
-use Rattle.residual_net.specs.Worked.{HasPushed, after_wait, arc_row, by_hall, node_row, off, on, turned_round, two_rooms}
+use Rattle.residual_net.specs.Worked.{HasPushed, after_wait, unit_arc, by_hall, floor_node, off, on, turned_round, two_rooms}
 
 nodes_ok : (i : ℕ) (d : NodeRow) → i < 5 → IsNode (get_or two_rooms.nodes i d)
 unfolding capacity_limit number_limit floor_number_limit
@@ -73,11 +73,11 @@ Differ a b = a.name ≢ b.name
 
 names_ok : AllPairs Differ two_rooms.nodes
 names_ok =
-    let a = node_row kinds.Work 1 1 1 in
-    let b = node_row kinds.Work 2 1 1 in
-    let c = node_row kinds.Hall 1 1 0 in
-    let e = node_row kinds.Exit 1 0 0 in
-    let f = node_row kinds.Exit 2 0 0 in
+    let a = floor_node kinds.Work 1 1 1 in
+    let b = floor_node kinds.Work 2 1 1 in
+    let c = floor_node kinds.Hall 1 1 0 in
+    let e = floor_node kinds.Exit 1 0 0 in
+    let f = floor_node kinds.Exit 2 0 0 in
     AllPairs-cons Differ a (b ∷ (c ∷ (e ∷ (f ∷ []))))
     (four (Differ a) b c e f (by_number a b (λ h. absurd (omega (arith, h)))) (by_kind a c (λ h. absurd (cc))) (by_kind a e (λ h. absurd (cc)))
     (by_kind a f (λ h. absurd (cc))))
@@ -95,10 +95,10 @@ ApartEnds a b = a.from ≡ b.from → a.to ≢ b.to
 
 ends_ok : AllPairs ApartEnds two_rooms.arcs
 ends_ok =
-    let a = arc_row 0 2 1 in
-    let b = arc_row 0 4 2 in
-    let c = arc_row 1 2 1 in
-    let e = arc_row 2 3 1 in
+    let a = unit_arc 0 2 1 in
+    let b = unit_arc 0 4 2 in
+    let c = unit_arc 1 2 1 in
+    let e = unit_arc 2 3 1 in
     pairs_four ApartEnds a b c e
     (three (ApartEnds a) b c e (λ h i. absurd (omega (arith, i))) (λ h i. absurd (omega (arith, h))) (λ h i. absurd (omega (arith, h))))
     (λ h i. absurd (omega (arith, h))) (λ h i. absurd (omega (arith, h))) (λ h i. absurd (omega (arith, h)))

@@ -8,7 +8,7 @@ use Rattle.evac_law.specs.Names.{is_exit}
 use Rattle.evac_law.specs.Stands.{Stand}
 use Rattle.residual_net.specs.declared.place.Place.{Place}
 use Rattle.residual_net.specs.declared.place.Place.TheVariants.{Arc, Hold, Supply}
-use Rattle.residual_net.specs.Site.{Site, IsPlace, arcs_of, arrival_at}
+use Rattle.residual_net.specs.Site.{Site, IsPlace, arc_count, arrival_at}
 use Rattle.residual_net.specs.Network.{Network, flow_at, limit_at}
 
 -- the network of a model
@@ -32,7 +32,7 @@ pub record IsNetOf (m : Model) (w : Network) : Type 0 where
 
 -- the plan of a net: its moves that aren't 0
 abbrev pub plan_of : Network → List Move
-plan_of w = moves_of (arcs_of w.site) w.site.shape.horizon (λ a t. flow_at w (Arc a t))
+plan_of w = moves_of (arc_count w.site) w.site.shape.horizon (λ a t. flow_at w (Arc a t))
 
 -- the last moment at which a move arrives, or 0
 unfoldable pub last_move : Site → List Move → ℕ
@@ -43,7 +43,7 @@ last_move s (v ∷ p) = max (arrival_at s v.arc v.moment) (last_move s p)
 abbrev pub stand_of : Network → Stand
 stand_of w = record {
   nodes = w.site.shape.nodes;
-  arcs = arcs_of w.site;
+  arcs = arc_count w.site;
   horizon = w.site.shape.horizon;
   plan = plan_of w;
   contents = λ n t. flow_at w (Hold n t);

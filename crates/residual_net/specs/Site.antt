@@ -15,8 +15,8 @@ pub record Site : Type 0 where
   pub travels : List ℕ
 
 -- the number of the arcs
-abbrev pub arcs_of : Site → ℕ
-arcs_of s = length s.shape.ends
+abbrev pub arc_count : Site → ℕ
+arc_count s = length s.shape.ends
 
 -- whether a node is an exit
 abbrev pub exit_at : Site → ℕ → Bool
@@ -36,7 +36,7 @@ pub record IsSite (s : Site) : Type 0 where
 
 -- the place is one of the network's
 abbrev pub IsPlace : Site → Place → Type 0
-IsPlace s (Arc a t) = (a < arcs_of s) × (t ≤ s.shape.horizon)
+IsPlace s (Arc a t) = (a < arc_count s) × (t ≤ s.shape.horizon)
 IsPlace s (Hold n t) = (n < s.shape.nodes) × (t ≤ s.shape.horizon)
 IsPlace s (Supply n t) = (n < s.shape.nodes) × (t ≤ s.shape.horizon)
 
@@ -114,7 +114,7 @@ sum_pairs n k f = sum_by (λ i. sum_by (λ j. f i j) (below k)) (below n)
 -- a sum over all places
 unfoldable pub sum_places : Site → (Place → ℕ) → ℕ
 sum_places s f =
-    sum_pairs (arcs_of s) (s.shape.horizon + 1) (λ a t. f (Arc a t))
+    sum_pairs (arc_count s) (s.shape.horizon + 1) (λ a t. f (Arc a t))
     + (sum_pairs s.shape.nodes (s.shape.horizon + 1) (λ n t. f (Hold n t))
     + sum_pairs s.shape.nodes (s.shape.horizon + 1) (λ n t. f (Supply n t)))
 

@@ -24,10 +24,10 @@ is_kind kinds.Supply (places.Supply n t) = true
 is_kind _ _ = false
 
 -- the number of a place's arc or node
-abbrev pub number_of : Place → ℕ
-number_of (places.Arc n t) = n
-number_of (places.Hold n t) = n
-number_of (places.Supply n t) = n
+abbrev pub row_of : Place → ℕ
+row_of (places.Arc n t) = n
+row_of (places.Hold n t) = n
+row_of (places.Supply n t) = n
 
 -- the moment of a place
 abbrev pub moment_of : Place → ℕ

@@ -14,12 +14,12 @@ use Rattle.residual_net.specs.Route.{added}
 use Rattle.residual_net.specs.OfModel.{IsNetOf}
 
 -- a node on floor 1
-abbrev pub node_row : Kind → ℕ → ℕ → ℕ → NodeRow
-node_row kind number capacity start = record { name = record { kind = kind; number = number; floor = 1 }; capacity = capacity; start = start; shut = false }
+abbrev pub floor_node : Kind → ℕ → ℕ → ℕ → NodeRow
+floor_node kind number capacity start = record { name = record { kind = kind; number = number; floor = 1 }; capacity = capacity; start = start; shut = false }
 
 -- an arc of rate 1
-abbrev pub arc_row : ℕ → ℕ → ℕ → ArcRow
-arc_row from to travel = record { from = from; to = to; travel = travel; rate = 1; shut = false }
+abbrev pub unit_arc : ℕ → ℕ → ℕ → ArcRow
+unit_arc from to travel = record { from = from; to = to; travel = travel; rate = 1; shut = false }
 
 -- two rooms with a person each lead to a hall and the first also to an exit of its own, farther off; the hall leads to the other exit
 abbrev pub two_rooms : Model
@@ -27,9 +27,9 @@ two_rooms = record {
   seconds = 5;
   horizon = 20;
   nodes =
-      node_row kinds.Work 1 1 1
-      ∷ (node_row kinds.Work 2 1 1 ∷ (node_row kinds.Hall 1 1 0 ∷ (node_row kinds.Exit 1 0 0 ∷ (node_row kinds.Exit 2 0 0 ∷ []))));
-  arcs = arc_row 0 2 1 ∷ (arc_row 0 4 2 ∷ (arc_row 1 2 1 ∷ (arc_row 2 3 1 ∷ [])));
+      floor_node kinds.Work 1 1 1
+      ∷ (floor_node kinds.Work 2 1 1 ∷ (floor_node kinds.Hall 1 1 0 ∷ (floor_node kinds.Exit 1 0 0 ∷ (floor_node kinds.Exit 2 0 0 ∷ []))));
+  arcs = unit_arc 0 2 1 ∷ (unit_arc 0 4 2 ∷ (unit_arc 1 2 1 ∷ (unit_arc 2 3 1 ∷ [])));
 }
 
 -- a step forwards, and one backwards

@@ -5,7 +5,7 @@ ghost use Rattle.evac_law.specs.Names.{is_exit};
 ghost use Rattle.residual_net.specs.Site.{IsPlace};
 ghost use Rattle.residual_net.specs.OfModel.{model_limit, site_of};
 ghost use Rattle.residual_net.specs.declared.place.Place.{Place};
-ghost use Rattle.residual_net.specs.Start.{IsUnused, SetsLimits, StartsAs, is_kind, number_of, place_of};
+ghost use Rattle.residual_net.specs.Start.{IsUnused, SetsLimits, StartsAs, is_kind, row_of, place_of};
 
 use crate::grid::Grid;
 use crate::place::Place;
@@ -108,7 +108,7 @@ fn limit_row(grid: &mut Grid, model: &Model, kind: Kind, number: u32)
     requires site { grid.old.site ≡ site_of model.now }
     requires unused { IsUnused grid.old }
     requires number { IsPlace grid.old.site (place_of kind number 0) }
-    ensures { SetsLimits model.now grid.old grid.new (λ p. is_kind kind p && number_of p == number) }
+    ensures { SetsLimits model.now grid.old grid.new (λ p. is_kind kind p && row_of p == number) }
 {
     for moment in 0..model.horizon + 1 {
         let place = place_of(kind, number, moment);
@@ -122,7 +122,7 @@ fn limit_rows(grid: &mut Grid, model: &Model, kind: Kind, count: u32)
     requires site { grid.old.site ≡ site_of model.now }
     requires unused { IsUnused grid.old }
     requires numbers { (n : ℕ) → n < count → IsPlace grid.old.site (place_of kind n 0) }
-    requires all { (p : Place) → IsPlace grid.old.site p → IsTrue (is_kind kind p) → number_of p < count }
+    requires all { (p : Place) → IsPlace grid.old.site p → IsTrue (is_kind kind p) → row_of p < count }
     ensures { SetsLimits model.now grid.old grid.new (is_kind kind) }
 {
     for number in 0..count {

@@ -3,7 +3,7 @@ ghost use Rattle.std.specs.Prelude.{◌≡◌, ◌+◌, ◌≤◌, IfOk, length}
 ghost use Rattle.residual_net.specs.Site.{IsPlace};
 ghost use Rattle.residual_net.specs.Network.{flow_at};
 ghost use Rattle.residual_net.specs.OfModel.{IsNetOf};
-ghost use Rattle.residual_net.specs.Worked.{HasPushed, after_wait, arc_row, by_hall, node_row, on, two_rooms};
+ghost use Rattle.residual_net.specs.Worked.{HasPushed, after_wait, unit_arc, by_hall, floor_node, on, two_rooms};
 ghost use Rattle.residual_net.specs.declared.place.Place.{Place};
 ghost use Rattle.residual_net.specs.declared.place.Place.TheVariants.{Arc, Hold, Supply};
 
@@ -17,7 +17,7 @@ use std::process::Abort;
 use std::sync::ledger::{Blank, Ledger};
 
 fn room(kind: Kind, number: u16, capacity: u32, start: u32) -> NodeRow
-    ensures { result ≡ node_row kind number capacity start }
+    ensures { result ≡ floor_node kind number capacity start }
 {
     NodeRow {
         name: NodeName {
@@ -32,7 +32,7 @@ fn room(kind: Kind, number: u16, capacity: u32, start: u32) -> NodeRow
 }
 
 fn passage(from: u32, to: u32, travel: u16) -> ArcRow
-    ensures { result ≡ arc_row from to travel }
+    ensures { result ≡ unit_arc from to travel }
 {
     ArcRow {
         from,

@@ -8,7 +8,7 @@ use Rattle.evac_law.specs.Building.{arc_at, arrival, head, is_exit_at, tail}
 use Rattle.evac_law.specs.Sums.{below, places}
 use Rattle.evac_law.proofs.SumLemmas.{All-below, pick_le, sum_by-add, sum_by-le_all, sum_by-nothing, sum_by-same, sum_below-pick}
 use Rattle.route_decompose.specs.Tables.{IsLess, PeopleTable, people_at}
-use Rattle.route_decompose.specs.Stocks.{IsBalancedBut, Stock, before, coming, going}
+use Rattle.route_decompose.specs.Stocks.{IsBalancedBut, Stock, before, left_coming, going}
 
 -- ---- the sums
 
@@ -24,8 +24,8 @@ abbrev with_left : Stock → PeopleTable → Stock
 with_left s d = record s { left = d }
 
 module _ (s v : Stock) (a t p : ℕ) (same : v.model ≡ s.model) (less : IsLess s.left v.left a t p) (here : a < length s.model.arcs) where
-  pub coming_less : (n u : ℕ) → coming s n u ≡ coming v n u + cond (eqb (head s.model a) n && eqb (arrival s.model a t) u) p 0
-  unfolding coming
+  pub coming_less : (n u : ℕ) → left_coming s n u ≡ left_coming v n u + cond (eqb (head s.model a) n && eqb (arrival s.model a t) u) p 0
+  unfolding left_coming
   coming_less n u =
       let m = s.model in
       let extra = λ (b : ℕ). cond (eqb (head m b) n && eqb (arrival m b t) u) p 0 in
@@ -51,8 +51,8 @@ module _ (s v : Stock) (a t p : ℕ) (same : v.model ≡ s.model) (less : IsLess
       ∙ ap₂ (λ x y. x + y) (sym other) (sum_below-pick extra (length m.arcs) a ∙ ap (λ z. cond z (extra a) 0) (lt-ltb a (length m.arcs) here))
 
 -- the sums look at the model and the people on arcs alone
-pub coming_same : (s v : Stock) → v.model ≡ s.model → v.left ≡ s.left → (n u : ℕ) → coming v n u ≡ coming s n u
-unfolding coming
+pub coming_same : (s v : Stock) → v.model ≡ s.model → v.left ≡ s.left → (n u : ℕ) → left_coming v n u ≡ left_coming s n u
+unfolding left_coming
 coming_same s v e f n u =
     ap₂ (λ (w : Model) (c : PeopleTable). sum_by (λ b. cond (eqb (head w b) n && leb (arc_at w b).travel u) (people_at c b (u - (arc_at w b).travel)) 0) (places w.arcs)) e f
 
@@ -64,8 +64,8 @@ going_same s v e f n u = ap₂ (λ (w : Model) (c : PeopleTable). sum_by (λ b. 
 coming_here : (h n d t x : ℕ) → h ≡ n → cond (eqb h n && leb d (t + d)) x 0 ≡ x
 coming_here h n d t x e = grind (arith, nat_tests)
 
-pub coming_some : (s : Stock) (a t : ℕ) → a < length s.model.arcs → people_at s.left a t ≤ coming s (head s.model a) (arrival s.model a t)
-unfolding coming
+pub coming_some : (s : Stock) (a t : ℕ) → a < length s.model.arcs → people_at s.left a t ≤ left_coming s (head s.model a) (arrival s.model a t)
+unfolding left_coming
 coming_some s a t l =
     let m = s.model in
     let u = arrival m a t in
@@ -97,8 +97,8 @@ going_none s n t h =
 no_people : (b : Bool) (x : ℕ) → x ≡ 0 → cond b x 0 ≤ 0
 no_people b x e = grind arith
 
-pub coming_all_none : (s : Stock) (n t : ℕ) → ((a u : ℕ) → people_at s.left a u ≡ 0) → coming s n t ≡ 0
-unfolding coming
+pub coming_all_none : (s : Stock) (n t : ℕ) → ((a u : ℕ) → people_at s.left a u ≡ 0) → left_coming s n t ≡ 0
+unfolding left_coming
 coming_all_none s n t h =
     let m = s.model in
     let le = sum_by-le_all (λ b. cond (eqb (head m b) n && leb (arc_at m b).travel t) (people_at s.left b (t - (arc_at m b).travel)) 0) (λ _. 0) (places m.arcs)
@@ -110,8 +110,8 @@ coming_all_none s n t h =
 module _ (s v : Stock) (same : v.model ≡ s.model) where
   pub balanced_with : (c u p d k q : ℕ)
       → ((n t : ℕ) → n < length s.model.nodes → is_exit_at s.model n ≡ false → t ≤ s.model.horizon
-      → before s n t + coming s n t ≡ people_at s.holds n t + going s n t + cond (eqb c n && eqb u t) p 0
-      → before v n t + coming v n t ≡ people_at v.holds n t + going v n t + cond (eqb d n && eqb k t) q 0)
+      → before s n t + left_coming s n t ≡ people_at s.holds n t + going s n t + cond (eqb c n && eqb u t) p 0
+      → before v n t + left_coming v n t ≡ people_at v.holds n t + going v n t + cond (eqb d n && eqb k t) q 0)
       → IsBalancedBut s c u p → IsBalancedBut v d k q
   balanced_with c u p d k q f b n t l e h =
       let l' : n < length s.model.nodes = subst (λ (w : Model). n < length w.nodes) same l in
@@ -183,13 +183,13 @@ hold_step s v n t p same left waiting less b =
         tests : (x y : ℕ) → eqb (x + 1) (suc y) ≡ eqb x y
         tests x y = grind (arith, nat_tests)
 
-    step : (i u : ℕ) → before s i u + coming s i u ≡ people_at s.holds i u + going s i u + cond (eqb n i && eqb (t + 1) u) p 0
-        → before v i u + coming s i u ≡ people_at v.holds i u + going s i u + cond (eqb n i && eqb t u) p 0
+    step : (i u : ℕ) → before s i u + left_coming s i u ≡ people_at s.holds i u + going s i u + cond (eqb n i && eqb (t + 1) u) p 0
+        → before v i u + left_coming s i u ≡ people_at v.holds i u + going s i u + cond (eqb n i && eqb t u) p 0
     step i zero j =
         let w : before v i 0 ≡ before s i 0 = ap (λ (c : PeopleTable). people_at c i 0) waiting in
-        rw w (first (before s i 0) (coming s i 0) (going s i 0) (people_at s.holds i 0) (people_at v.holds i 0) i (less.cells i 0) j)
+        rw w (first (before s i 0) (left_coming s i 0) (going s i 0) (people_at s.holds i 0) (people_at v.holds i 0) i (less.cells i 0) j)
     step i (suc u) j =
-        later (people_at s.holds i u) (people_at v.holds i u) (coming s i (suc u)) (going s i (suc u)) (people_at s.holds i (suc u)) (people_at v.holds i (suc u)) i u
+        later (people_at s.holds i u) (people_at v.holds i u) (left_coming s i (suc u)) (going s i (suc u)) (people_at s.holds i (suc u)) (people_at v.holds i (suc u)) i u
         (less.cells i u) (less.cells i (suc u)) j
 
 -- some people who are gone from a node at moment 0 didn't start there
@@ -207,9 +207,9 @@ wait_step s v n p same left holds less b =
     later : (b c g h i u : ℕ) → b + c ≡ h + g + cond (eqb n i && eqb 0 (suc u)) p 0 → b + c ≡ h + g + cond (eqb 0 i && eqb 0 (suc u)) 0 0
     later b c g h i u f = grind (arith, nat_tests)
 
-    step : (i u : ℕ) → before s i u + coming s i u ≡ people_at s.holds i u + going s i u + cond (eqb n i && eqb 0 u) p 0
-        → before v i u + coming s i u ≡ people_at s.holds i u + going s i u + cond (eqb 0 i && eqb 0 u) 0 0
-    step i zero j = first (before s i 0) (before v i 0) (coming s i 0) (going s i 0) (people_at s.holds i 0) i (less.cells i 0) j
+    step : (i u : ℕ) → before s i u + left_coming s i u ≡ people_at s.holds i u + going s i u + cond (eqb n i && eqb 0 u) p 0
+        → before v i u + left_coming s i u ≡ people_at s.holds i u + going s i u + cond (eqb 0 i && eqb 0 u) 0 0
+    step i zero j = first (before s i 0) (before v i 0) (left_coming s i 0) (going s i 0) (people_at s.holds i 0) i (less.cells i 0) j
     step i (suc u) j =
         let w : before v i (suc u) ≡ before s i (suc u) = ap (λ (c : PeopleTable). people_at c i u) holds in
-        rw w (later (before s i (suc u)) (coming s i (suc u)) (going s i (suc u)) (people_at s.holds i (suc u)) i u j)
+        rw w (later (before s i (suc u)) (left_coming s i (suc u)) (going s i (suc u)) (people_at s.holds i (suc u)) i u j)

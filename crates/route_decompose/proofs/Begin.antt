@@ -16,7 +16,7 @@ use Rattle.evac_law.proofs.ValidLemmas.{node_is}
 use Rattle.evac_law.specs.Plans as plans
 use Rattle.evac_law.proofs.WeakDuality.{came-suc, came-zero, left-suc, left-zero}
 use Rattle.route_decompose.specs.Tables.{people_at}
-use Rattle.route_decompose.specs.Stocks.{IsBalancedBut, IsClosing, IsOpen, IsStock, Stock, before, coming, going}
+use Rattle.route_decompose.specs.Stocks.{IsBalancedBut, IsClosing, IsOpen, IsStock, Stock, before, left_coming, going}
 
 -- ---- who comes and who goes
 
@@ -25,8 +25,8 @@ come_test e d t k w = grind (arith, nat_tests)
 
 module _ (m : Model) (p : List Move) (s : Stock) (same : s.model ≡ m) (arcs : All (λ (v : Move). v.arc < length m.arcs) p)
     (moves : (a t : ℕ) → people_at s.left a t ≡ moved p a t) where
-  coming_of : (n t : ℕ) → coming s n t ≡ plans.coming m p n t
-  unfolding coming moved plans.coming
+  coming_of : (n t : ℕ) → left_coming s n t ≡ plans.coming m p n t
+  unfolding left_coming moved plans.coming
   coming_of n t =
       ap (λ (w : Model). sum_by (λ a. cond (eqb (head w a) n && leb (arc_at w a).travel t) (people_at s.left a (t - (arc_at w a).travel)) 0) (places w.arcs)) same
       ∙ sum_by-same _ _ (places m.arcs) (λ a. ap (λ z. cond (eqb (head m a) n && leb (arc_at m a).travel t) z 0) (moves a (t - (arc_at m a).travel)))
@@ -96,14 +96,14 @@ module _ (m : Model) (f : Stand) (s : Stock) (h : IsTaken m f s) where
       )
 
   at_node : (n t : ℕ) → n < length m.nodes → is_exit_at m n ≡ false → t ≤ m.horizon
-      → before s n t + coming s n t ≡ people_at s.holds n t + going s n t
+      → before s n t + left_coming s n t ≡ people_at s.holds n t + going s n t
   at_node n zero l e k =
-      first_moment (came m p n 0) (left m p n 0) (entry m n 0) (coming s n 0) (going s n 0) (people_at s.holds n 0) (people_at s.waiting n 0)
+      first_moment (came m p n 0) (left m p n 0) (entry m n 0) (left_coming s n 0) (going s n 0) (people_at s.holds n 0) (people_at s.waiting n 0)
       (came-zero m p n ∙ ap (λ z. entry m n 0 + z) (sym (coming_of m p s h.same h.feasible.arcs h.moves n 0)))
       (left-zero m p n ∙ sym (going_of m p s h.same h.feasible.arcs h.moves n 0))
       (in_node n 0 l e k) (h.starts n l)
   at_node n (suc t) l e k =
-      next_moment (came m p n t) (left m p n t) (came m p n (suc t)) (left m p n (suc t)) (entry m n (suc t)) (coming s n (suc t)) (going s n (suc t))
+      next_moment (came m p n t) (left m p n t) (came m p n (suc t)) (left m p n (suc t)) (entry m n (suc t)) (left_coming s n (suc t)) (going s n (suc t))
       (people_at s.holds n t) (people_at s.holds n (suc t))
       (came-suc m p n t ∙ ap (λ z. came m p n t + (entry m n (suc t) + z)) (sym (coming_of m p s h.same h.feasible.arcs h.moves n (suc t))))
       (left-suc m p n t ∙ ap (λ z. left m p n t + z) (sym (going_of m p s h.same h.feasible.arcs h.moves n (suc t))))

@@ -8,13 +8,13 @@ use Rattle.evac_law.specs.declared.model.Model.{Model}
 use Rattle.evac_law.specs.declared.plan.Move.{Move}
 use Rattle.evac_law.specs.Building.{entry}
 use Rattle.evac_law.specs.Plans.{moved}
-use Rattle.route_decompose.specs.Routes.{begins, enters, Covers, HandsOut, IsRoute, IsUsedUp, IsWhole, RouteView, RoutesView, left_at, routed, started, waiting_at}
+use Rattle.route_decompose.specs.Routes.{begins, enters, Covers, HandsOut, IsRoute, IsUsedUp, IsAllLeft, RouteView, RoutesView, people_left, routed, started, waiting_at}
 
 -- the routes so far, and what is left
 pub record IsGiven (m : Model) (p : List Move) (routes : List RouteView) (w : RoutesView) : Type 0 where
   pub same_model : w.model ≡ m
   pub right : All (IsRoute m) routes
-  pub arcs : (a t : ℕ) → routed routes a t + left_at w a t ≡ moved p a t
+  pub arcs : (a t : ℕ) → routed routes a t + people_left w a t ≡ moved p a t
   pub starts : (n t : ℕ) → started routes n t + waiting_at w n t ≡ entry m n t
 
 pub used_up_covers : (m : Model) (p : List Move) (routes : List RouteView) (w : RoutesView) → IsGiven m p routes w → IsUsedUp w → Covers m p routes
@@ -25,7 +25,7 @@ used_up_covers m p routes w h u = record {
 }
 
 -- nothing is handed out at first
-pub none_given : (m : Model) (p : List Move) (w : RoutesView) → IsWhole m p w → IsGiven m p [] w
+pub none_given : (m : Model) (p : List Move) (w : RoutesView) → IsAllLeft m p w → IsGiven m p [] w
 none_given m p w h = record {
   same_model = h.same_model;
   right = All-nil (IsRoute m);

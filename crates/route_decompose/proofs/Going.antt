@@ -7,7 +7,7 @@ use Rattle.evac_law.specs.Building.{IsArc, arc_at, arrival, head, is_exit_at, no
 use Rattle.route_decompose.specs.declared.route.RouteStep.{RouteStep}
 use Rattle.route_decompose.specs.Tables.{IsLess, people_at}
 use Rattle.route_decompose.specs.Routes.{enters}
-use Rattle.route_decompose.specs.Stocks.{IsLedOn, IsOpen, IsStock, Stock, TrailView, before, coming, going}
+use Rattle.route_decompose.specs.Stocks.{IsLedOn, IsOpen, IsStock, Stock, TrailView, before, left_coming, going}
 use Rattle.route_decompose.proofs.Balance.{coming_some}
 use Rattle.route_decompose.proofs.Leading.{led_by_hold, led_by_move, led_to_exit, not_entered, step_of, takes_time}
 
@@ -31,11 +31,11 @@ module _ (s : Stock) (whole : IsOpen s) (n t : ℕ) (l : n < length s.model.node
       by_last (inl e) = e
       by_last (inr e) = absurd (omega (arith, some, ap (people_at s.holds n) e, whole.closing.none_stay n l inside))
 
-  pub stays : 0 < people_at s.holds n t → 0 < before s n (t + 1) + coming s n (t + 1)
+  pub stays : 0 < people_at s.holds n t → 0 < before s n (t + 1) + left_coming s n (t + 1)
   stays some = let next : before s n (t + 1) ≡ people_at s.holds n t = ap (before s n) (add-one t) in omega (arith, next, some)
 
   -- whoever is in a node and doesn't stay leaves it
-  pub leaves : t ≤ s.model.horizon → 0 < before s n t + coming s n t → people_at s.holds n t ≡ 0 → going s n t ≡ 0 → ⊥
+  pub leaves : t ≤ s.model.horizon → 0 < before s n t + left_coming s n t → people_at s.holds n t ≡ 0 → going s n t ≡ 0 → ⊥
   leaves h some held gone = omega (arith, whole.balanced n t l inside h, nothing (eqb 0 n && eqb 0 t), some, held, gone)
 
 -- whoever enters an arc comes to its head in time
@@ -46,7 +46,7 @@ module _ (s : Stock) (whole : IsOpen s) (a t : ℕ) (l : a < length s.model.arcs
   pub arrives_in_time : arrival s.model a t ≤ s.model.horizon
   arrives_in_time = whole.closing.in_time a t l some
 
-  pub comes : 0 < before s (head s.model a) (arrival s.model a t) + coming s (head s.model a) (arrival s.model a t)
+  pub comes : 0 < before s (head s.model a) (arrival s.model a t) + left_coming s (head s.model a) (arrival s.model a t)
   comes = omega (arith, coming_some s a t l, some)
 
 -- the trail of people who go on

@@ -11,7 +11,7 @@ use Rattle.evac_law.specs.Plans.{IsFeasible, moved, out_by}
 use Rattle.evac_law.specs.Stands.{Fits, Stand}
 use Rattle.evac_law.proofs.SumLemmas.{sum_by-le_all, sum_by-nothing}
 use Rattle.route_decompose.specs.declared.route.RouteStep.{RouteStep}
-use Rattle.route_decompose.specs.Routes.{HandsOut, IsWhole, LeadsOut, RouteView}
+use Rattle.route_decompose.specs.Routes.{HandsOut, IsAllLeft, LeadsOut, RouteView}
 use Rattle.route_decompose.specs.Tables.{IsLess, PeopleTable, people_at}
 use Rattle.route_decompose.specs.Stocks.{IsEmpty, IsLedOn, IsOpen, IsRoutes, IsStock, IsStockOf, Stock, TrailView, before}
 use Rattle.route_decompose.proofs.Balance.{coming_all_none, going_none, wait_step}
@@ -112,7 +112,7 @@ module _ (m : Model) (f : Stand) (s : Stock) (valid : IsValid m) (fits : Fits m 
   pub opens : IsOpen s
   opens = whole_of m f s taken stock
 
-  pub whole : (r : RouteView) → IsWhole m f.plan (record { model = s.model; left = s.left; waiting = s.waiting; route = r })
+  pub whole : (r : RouteView) → IsAllLeft m f.plan (record { model = s.model; left = s.left; waiting = s.waiting; route = r })
   whole r = record { same_model = same; all_left = all_left; all_wait = all_wait }
 
 -- ---- one route

@@ -7,7 +7,7 @@ use Rattle.evac_law.specs.Building.{IsArc, arc_at, head, is_exit_at, no_arc, tai
 use Rattle.evac_law.specs.Sums.{places}
 use Rattle.evac_law.proofs.SumLemmas.{All-below, sum_by-le_all, sum_by-nothing}
 use Rattle.route_decompose.specs.Tables.{people_at}
-use Rattle.route_decompose.specs.Stocks.{IsOpen, Stock, before, coming, going}
+use Rattle.route_decompose.specs.Stocks.{IsOpen, Stock, before, left_coming, going}
 use Rattle.route_decompose.proofs.Balance.{going_some}
 use Rattle.route_decompose.proofs.TableLemmas.{past_last, past_rows}
 
@@ -23,8 +23,8 @@ module _ (s : Stock) (whole : IsOpen s) (none : (n : ℕ) → people_at s.waitin
   no_term : (h n d t x : ℕ) → (d ≤ t → x ≡ 0) → cond (eqb h n && leb d t) x 0 ≤ 0
   no_term h n d t x e = grind (arith, nat_tests)
 
-  nobody_comes : (n t : ℕ) → ((u : ℕ) → u < t → IsEmptyAt u) → coming s n t ≡ 0
-  unfolding coming
+  nobody_comes : (n t : ℕ) → ((u : ℕ) → u < t → IsEmptyAt u) → left_coming s n t ≡ 0
+  unfolding left_coming
   nobody_comes n t h =
       let m = s.model in
       let le = sum_by-le_all (λ a. cond (eqb (head m a) n && leb (arc_at m a).travel t) (people_at s.left a (t - (arc_at m a).travel)) 0) (λ _. 0) (places m.arcs)

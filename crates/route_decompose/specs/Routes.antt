@@ -59,28 +59,28 @@ pub record RoutesView : Type 0 where
   pub route : RouteView
 
 -- the people of a move that are left, and those of an entry
-abbrev pub left_at : RoutesView → ℕ → ℕ → ℕ
-left_at w a t = people_at w.left a t
+abbrev pub people_left : RoutesView → ℕ → ℕ → ℕ
+people_left w a t = people_at w.left a t
 
 abbrev pub waiting_at : RoutesView → ℕ → ℕ → ℕ
 waiting_at w n t = people_at w.waiting n t
 
 -- nothing of a plan is handed out yet
-pub record IsWhole (m : Model) (p : List Move) (w : RoutesView) : Type 0 where
+pub record IsAllLeft (m : Model) (p : List Move) (w : RoutesView) : Type 0 where
   pub same_model : w.model ≡ m
-  pub all_left : (a t : ℕ) → left_at w a t ≡ moved p a t
+  pub all_left : (a t : ℕ) → people_left w a t ≡ moved p a t
   pub all_wait : (n t : ℕ) → waiting_at w n t ≡ entry m n t
 
 -- a route is handed out: its people are left no more
 pub record HandsOut (w v : RoutesView) : Type 0 where
   pub same_model : v.model ≡ w.model
   pub right : IsRoute w.model v.route
-  pub fewer : (a t : ℕ) → left_at v a t + (if enters v.route.steps a t then v.route.people else 0) ≡ left_at w a t
+  pub fewer : (a t : ℕ) → people_left v a t + (if enters v.route.steps a t then v.route.people else 0) ≡ people_left w a t
   pub fewer_wait : (n t : ℕ) → waiting_at v n t + (if begins v.route n t then v.route.people else 0) ≡ waiting_at w n t
 
 -- nothing is left
 pub record IsUsedUp (w : RoutesView) : Type 0 where
-  pub none_left : (a t : ℕ) → left_at w a t ≡ 0
+  pub none_left : (a t : ℕ) → people_left w a t ≡ 0
   pub none_wait : (n t : ℕ) → waiting_at w n t ≡ 0
 
 -- the ends of an arc

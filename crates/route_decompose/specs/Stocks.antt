@@ -33,8 +33,8 @@ abbrev pub shape_of : Model → Expansion
 shape_of m = record { nodes = length m.nodes; ends = map ends_of m.arcs; horizon = m.horizon }
 
 -- the people who come to a node at a moment along arcs
-unfoldable pub coming : Stock → ℕ → ℕ → ℕ
-coming s n t =
+unfoldable pub left_coming : Stock → ℕ → ℕ → ℕ
+left_coming s n t =
     sum_by (λ a. if head s.model a == n && nat_le (arc_at s.model a).travel t then people_at s.left a (t - (arc_at s.model a).travel) else 0) (places s.model.arcs)
 
 -- the people who leave a node at a moment along arcs
@@ -50,7 +50,7 @@ before s n (suc t) = people_at s.holds n t
 abbrev pub IsBalancedBut : Stock → ℕ → ℕ → ℕ → Type 0
 IsBalancedBut s c u p =
     (n t : ℕ) → n < length s.model.nodes → IsFalse (is_exit_at s.model n) → t ≤ s.model.horizon
-    → before s n t + coming s n t ≡ people_at s.holds n t + going s n t + (if c == n && u == t then p else 0)
+    → before s n t + left_coming s n t ≡ people_at s.holds n t + going s n t + (if c == n && u == t then p else 0)
 
 -- everybody gets out in time
 pub record IsClosing (s : Stock) : Type 0 where

@@ -1,7 +1,7 @@
 // How some people are led out.
 ghost use Rattle.std.specs.Prelude.{◌≡◌, ◌+◌, ◌<◌, ◌≤◌, IsFalse, length};
 ghost use Rattle.evac_law.specs.Building.{is_exit_at};
-ghost use Rattle.route_decompose.specs.Stocks.{IsLedOn, IsOpen, before, coming};
+ghost use Rattle.route_decompose.specs.Stocks.{IsLedOn, IsOpen, before, left_coming};
 
 use crate::route::RouteStep;
 use crate::store::Store;
@@ -13,7 +13,7 @@ pub fn lead_out(store: &mut Store, trail: &mut Trail, node: u32, moment: u16, mo
     requires node_in { node < length store.old.model.nodes }
     requires inside { IsFalse (is_exit_at store.old.model node) }
     requires moment_in { moment ≤ store.old.model.horizon }
-    requires someone { 0 < before store.old node moment + coming store.old node moment }
+    requires someone { 0 < before store.old node moment + left_coming store.old node moment }
     requires some { 1 ≤ most }
     requires room { length trail.old.steps + store.old.model.horizon ≤ trail.old.room + moment }
     ensures some { 1 ≤ result }

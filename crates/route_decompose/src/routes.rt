@@ -3,7 +3,7 @@ ghost use Rattle.std.specs.Prelude.{◌≡◌, IfOk, IsFalse, IsTrue};
 ghost use Rattle.evac_law.specs.Building.{IsValid, people};
 ghost use Rattle.evac_law.specs.Plans.{IsFeasible, out_by};
 ghost use Rattle.evac_law.specs.Stands.{Fits};
-ghost use Rattle.route_decompose.specs.Routes.{HandsOut, IsSameSite, IsUsedUp, IsWhole};
+ghost use Rattle.route_decompose.specs.Routes.{HandsOut, IsSameSite, IsUsedUp, IsAllLeft};
 
 use crate::lead::lead_out;
 use crate::route::Route;
@@ -64,7 +64,7 @@ impl Routes {
         requires fits { Fits model.now (F.stand standing.now) }
         requires feasible { IsFeasible model.now (F.stand standing.now).plan model.now.horizon }
         requires all_out { out_by model.now (F.stand standing.now).plan model.now.horizon ≡ people model.now }
-        ensures { IsWhole model.now (F.stand standing.now).plan self.new }
+        ensures { IsAllLeft model.now (F.stand standing.now).plan self.new }
     {
         self.store.set_model(model);
         self.store.fill(standing);

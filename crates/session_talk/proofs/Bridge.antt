@@ -17,7 +17,7 @@ use Rattle.edit_session.specs.declared.work.Work.{Work}
 use Rattle.edit_session.specs.Sessions.{BeginEnds, EditEnds, IsBarred, IsEdited, IsSolved, IsUndone, SessionState, SessionView, UndoEnds}
 use Rattle.edit_session.specs.Thrift.{IsSpent}
 use Rattle.session_text.specs.StateTexts.{block_text}
-use Rattle.session_talk.specs.Sessions.{Advances, Edits, IsAnswer, Opens, State, StaysBefore, Undoes, no_undo_code}
+use Rattle.session_talk.specs.Sessions.{Advances, Edits, IsAnswerText, Opens, State, StaysBefore, Undoes, no_undo_code}
 use Rattle.session_talk.specs.Talks.{Reply, refuses}
 
 -- the block of a state
@@ -25,7 +25,7 @@ abbrev pub block_of_state : State → List ℕ
 block_of_state s = block_text s.index s.standing
 
 -- a solved state is answered by its block
-pub answer_of : BlockReadsBack → (s : State) → s.index ≤ number_field_limit → IsSolved s.standing → IsAnswer s (block_of_state s)
+pub answer_of : BlockReadsBack → (s : State) → s.index ≤ number_field_limit → IsSolved s.standing → IsAnswerText s (block_of_state s)
 answer_of back s few h = record {
   block = refl;
   best = certified_is_best s.standing.model s.standing.plan s.standing.labels s.standing.last h.valid h.certified;

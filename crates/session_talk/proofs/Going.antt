@@ -24,8 +24,8 @@ use Rattle.certificate_text.specs.BlockLaws.{BlockReadsBack}
 use Rattle.certificate_text.specs.BlockText.{refusal_line}
 use Rattle.edit_session.specs.declared.faults.BeginFault.{BeginFault}
 use Rattle.session_text.specs.StateTexts.{block_text}
-use Rattle.session_talk.specs.Desks.{DeskBegins, DeskView, Hears, HearsLine, SaysFront, Shown, shown, state_of}
-use Rattle.session_talk.specs.Held.{Around, Concludes, EndsByQuit, HoldsSession, IsReadOut, OfLines, RefusesLine, SendsBy, SessionFront, around, status_after}
+use Rattle.session_talk.specs.Desks.{DeskBegins, DeskView, HearsCommand, HearsLine, SaysFront, Shown, shown, desk_state}
+use Rattle.session_talk.specs.Held.{Around, ConcludesSession, EndsByQuit, HoldsSession, IsReadOut, OfLines, RefusesLine, SendsBy, SessionFront, around, status_after}
 use Rattle.session_talk.specs.Sessions.{Opens, Replies, SessionAnswers, SessionGoes, State, session}
 use Rattle.session_talk.specs.Talks.{EndsAt, RepliesTo, Reply, Spoken, TalkGoes, TalkGoesOn, TalkGoesWithin, TalkRun, followed, over_with, says}
 use Rattle.session_talk.proofs.Bridge.{begin_opens, block_reply}
@@ -42,7 +42,7 @@ first_state d = record { index = 0; standing = d.session.state }
 abbrev pub opening_of : DeskView → ℕ → Reply State
 opening_of d n = block_reply (first_state d) n
 
-is_first : (names : NameTable) (m : Model) (d : DeskView) (n : ℕ) → DeskBegins names m (Ok d) n → state_of d ≡ first_state d
+is_first : (names : NameTable) (m : Model) (d : DeskView) (n : ℕ) → DeskBegins names m (Ok d) n → desk_state d ≡ first_state d
 is_first names m d n h = ap (λ (i : ℕ). let z : State = record { index = i; standing = d.session.state } in z) h.1
 
 opens : BlockReadsBack → (names : NameTable) (m : Model) (d : DeskView) (n : ℕ) → DeskBegins names m (Ok d) n → Opens m (opening_of d n)
@@ -97,7 +97,7 @@ pub went : BlockReadsBack → (names : NameTable) (m : Model) (before : ℕ) (li
     → Said before (shown d held' [] faults (k + n)) lines at → Went names m before lines held faults k at
 went back names m before lines d n k held held' faults at h block w =
     let first = is_first names m d n h in
-    let by_names = subst (λ (x : NameTable). RepliesTo (gets x) before (state_of d) lines w.reply) h.0 w.replies in
+    let by_names = subst (λ (x : NameTable). RepliesTo (gets x) before (desk_state d) lines w.reply) h.0 w.replies in
     let by_state = subst (λ (x : State). RepliesTo (gets names) before x lines w.reply) first by_names in
     let zero_block = subst (λ (i : ℕ). Appends held held' (block_text i d.session.state)) h.1 block in
     let flushed = w.flushed refl in record {
@@ -282,7 +282,7 @@ held_line names m code status held held'' faults faults'' pending'' k at to a c 
 
 pub held_by : BlockReadsBack → (names : NameTable) (m : Model) (ending : Ending WriteFault) (status : ℕ) (d : DeskView) (n k : ℕ) (held held' held'' : Option (List ℕ)) (faults faults'' : Count) (pending'' : List ℕ)
     (to : Shown) (a c : Reader) (l i : Option (List ℕ)) (reads reads' : Count) → DeskBegins names m (Ok d) n → Appends held held' (block_text d.index d.session.state)
-    → Listens HearsLine ending (shown d held' [] faults (k + n)) to a c l i → IsCaused ending reads reads' → Concludes ending c.number status to.held to.pending to.faults held'' pending'' faults''
+    → Listens HearsLine ending (shown d held' [] faults (k + n)) to a c l i → IsCaused ending reads reads' → ConcludesSession ending c.number status to.held to.pending to.faults held'' pending'' faults''
     → HoldsSession names m status (around a l reads held faults k) (around c i reads' held'' faults'' to.steps)
 held_by back names m Finished status d n k held held' held'' faults faults'' pending'' to a c l i reads reads' begins block h cause ends =
     so names m status 0 held held'' faults faults'' k to a c l i reads reads' ends.0 ends.1 ends.2
@@ -307,7 +307,7 @@ held_by back names m (Fault InputTooLong) status d n k held held' held'' faults 
 pub held_all : BlockReadsBack → (names : NameTable) (m : Model) (ending : Ending WriteFault) (status number : ℕ) (d : DeskView) (n k j : ℕ) (held held' held'' : Option (List ℕ)) (pending pending' pending'' : List ℕ)
     (faults faults' faults'' : Count) (to : Shown) (a c : Reader) (l i : Option (List ℕ)) (reads reads' : Count) (done : Unit {0}) → DeskBegins names m (Ok d) n → j ≡ k + n → pending ≡ []
     → SendsBy {T = Unit {0}} (Ok done) (block_text d.index d.session.state) held pending faults held' pending' faults' → Listens HearsLine ending (shown d held' pending' faults' j) to a c l i
-    → IsCaused ending reads reads' → number ≡ c.number → Concludes ending number status to.held to.pending to.faults held'' pending'' faults''
+    → IsCaused ending reads reads' → number ≡ c.number → ConcludesSession ending number status to.held to.pending to.faults held'' pending'' faults''
     → HoldsSession names m status (around a l reads held faults k) (around c i reads' held'' faults'' to.steps)
 held_all back names m ending status number d n k j held held' held'' pending pending' pending'' faults faults' faults'' to a c l i reads reads' done begins counted none sends h cause at ends =
     let block = went_over held held' pending pending' (block_text d.index d.session.state) sends.put.ok none sends.flushed in
@@ -315,5 +315,5 @@ held_all back names m ending status number d n k j held held' held'' pending pen
     let Q : Count → Type 0 = λ x. Listens HearsLine ending (shown d held' [] x j) to a c l i in
     let R : ℕ → Type 0 = λ x. Listens HearsLine ending (shown d held' [] faults x) to a c l i in
     let listened = subst R counted (subst Q sends.cause.same (subst P sends.flushed h)) in
-    let over = subst (λ (x : ℕ). Concludes ending x status to.held to.pending to.faults held'' pending'' faults'') at ends in
+    let over = subst (λ (x : ℕ). ConcludesSession ending x status to.held to.pending to.faults held'' pending'' faults'') at ends in
     held_by back names m ending status d n k held held' held'' faults faults'' pending'' to a c l i reads reads' begins block listened cause over

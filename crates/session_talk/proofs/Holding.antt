@@ -26,10 +26,10 @@ use Rattle.certificate_text.specs.BlockText.{refusal_line}
 use Rattle.edit_session.specs.declared.faults.BeginFault.{BeginFault}
 use Rattle.edit_session.specs.Sessions.{BeginEnds}
 use Rattle.session_text.specs.StateTexts.{block_text}
-use Rattle.session_talk.specs.Desks.{DeskBegins, DeskView, Hears, HearsLine, SaysFront, Shown, shown, state_of}
-use Rattle.session_talk.specs.Held.{Around, Concludes, EndsByQuit, HoldsSession, IsReadOut, OfLines, RefusesLine, RoseAt, SendsBy, SessionFront, around, status_after}
+use Rattle.session_talk.specs.Desks.{DeskBegins, DeskView, HearsCommand, HearsLine, SaysFront, Shown, shown, desk_state}
+use Rattle.session_talk.specs.Held.{Around, ConcludesSession, EndsByQuit, HoldsSession, IsReadOut, OfLines, RefusesLine, RoseAt, SendsBy, SessionFront, around, status_after}
 use Rattle.session_talk.specs.Sessions.{Opens, OpensShort, Replies, SessionAnswers, SessionGoes, SessionRun, State, session}
-use Rattle.session_talk.specs.Talks.{EndsAt, IsFront, RepliesTo, Reply, Spoken, Talk, TalkGoes, TalkGoesOn, TalkGoesWithin, TalkRun, followed, over_with, says}
+use Rattle.session_talk.specs.Talks.{EndsAt, IsTalkFront, RepliesTo, Reply, Spoken, Talk, TalkGoes, TalkGoesOn, TalkGoesWithin, TalkRun, followed, over_with, says}
 use Rattle.session_talk.proofs.Bridge.{begin_opens, block_of_state, block_reply}
 use Rattle.session_talk.proofs.Replying.{Said, gets, goes-said}
 use Rattle.session_talk.proofs.TalkLemmas.{replies_join, replies_one}

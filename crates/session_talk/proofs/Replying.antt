@@ -28,7 +28,7 @@ use Rattle.model_text.specs.Commands.{command_of}
 use Rattle.building_table.specs.declared.faults.NameFault.{NameFault}
 use Rattle.building_table.specs.EditNames.{edit_named}
 use Rattle.building_table.specs.Names.{NameTable}
-use Rattle.session_talk.specs.Desks.{DeskView, Hears, HearsLine, Says, SaysBy, SaysFront, SaysSome, Shown, shown}
+use Rattle.session_talk.specs.Desks.{DeskView, HearsCommand, HearsLine, Says, SaysBy, SaysFront, SaysSome, Shown, shown}
 use Rattle.session_talk.specs.Sessions.{AsksEdit, Edits, Replies, State, Undoes, cut_reply}
 use Rattle.session_talk.specs.Talks.{RepliesTo, Reply, Replying, followed, says}
 use Rattle.session_talk.proofs.Same.{cut_stays}
@@ -63,20 +63,20 @@ reply_flushed (Err fault) x r d b c q t g h k says put cause = record {
 -- what a line that is heard gets
 pub heard_more : (x : Shown) (line : ℕ) (text : List ℕ) (c : Result Command TextFault) (d : DeskView) (held held' : Option (List ℕ)) (p p' : List ℕ) (f f' : Count) (k : ℕ)
     → c ≡ command_of text → (done : Unit {0}) → SaysSome (Replies x.names line x.state c) (Ok done) x (shown d held p f k) → Puts held p [] held' p' → HasCause {T = Unit {0}} {E = WriteFault} f f' (Ok done) → p' ≡ []
-    → Hears x line text (Ok More) (shown d held' p' f' k)
+    → HearsCommand x line text (Ok More) (shown d held' p' f' k)
 heard_more x line text c d held held' p p' f f' k is done h put cause flushed =
     let P : Result Command TextFault → Type 0 = λ z. Replies x.names line x.state z h.0 in
     (h.0, subst P is h.1, reply_flushed {T = Unit {0}} (Ok done) x h.0 d held held' p p' f f' k h.2 put cause, flushed)
 
 pub heard_unflushed : (x : Shown) (line : ℕ) (text : List ℕ) (c : Result Command TextFault) (fault : WriteFault) (d : DeskView) (held held' : Option (List ℕ)) (p p' : List ℕ) (f f' : Count) (k : ℕ)
     → c ≡ command_of text → (done : Unit {0}) → SaysSome (Replies x.names line x.state c) (Ok done) x (shown d held p f k) → Puts held p [] held' p' → HasCause {T = Unit {0}} f f' (Err fault)
-    → Hears x line text (Err fault) (shown d held' p' f' k)
+    → HearsCommand x line text (Err fault) (shown d held' p' f' k)
 heard_unflushed x line text c fault d held held' p p' f f' k is done h put cause =
     let P : Result Command TextFault → Type 0 = λ z. Replies x.names line x.state z h.0 in
     (h.0, subst P is h.1, reply_flushed {T = Unit {0}} (Err fault) x h.0 d held held' p p' f f' k h.2 put cause)
 
 pub heard_unput : (x y : Shown) (line : ℕ) (text : List ℕ) (c : Result Command TextFault) (fault : WriteFault) → c ≡ command_of text
-    → SaysSome {T = Unit {0}} (Replies x.names line x.state c) (Err fault) x y → Hears x line text (Err fault) y
+    → SaysSome {T = Unit {0}} (Replies x.names line x.state c) (Err fault) x y → HearsCommand x line text (Err fault) y
 heard_unput x y line text c fault is h =
     let P : Result Command TextFault → Type 0 = λ z. Replies x.names line x.state z h.0 in (h.0, subst P is h.1, h.2)
 
@@ -177,7 +177,7 @@ said-none n s few = record {
   index = omega (arith, few);
 }
 
-said-more : (n : ℕ) (s mid s' : Shown) (t : List ℕ) (ts : List (List ℕ)) (first : Hears s (n + 1) t (Ok More) mid) → Said (n + 1) mid ts s' → Said n s (t ∷ ts) s'
+said-more : (n : ℕ) (s mid s' : Shown) (t : List ℕ) (ts : List (List ℕ)) (first : HearsCommand s (n + 1) t (Ok More) mid) → Said (n + 1) mid ts s' → Said n s (t ∷ ts) s'
 unfolding RepliesTo
 said-more n s mid s' t ts first more =
     let r = first.0 in
@@ -209,7 +209,7 @@ goes-said s s' n (t ∷ ts) g few =
 
 -- ---- answers of a listener
 
-pub hears_err : (r : Result Heard WriteFault) (x z : Shown) (line : ℕ) (text : List ℕ) → IsErr r → ((fault : WriteFault) → Hears x line text (Err fault) z) → Hears x line text r z
+pub hears_err : (r : Result Heard WriteFault) (x z : Shown) (line : ℕ) (text : List ℕ) → IsErr r → ((fault : WriteFault) → HearsCommand x line text (Err fault) z) → HearsCommand x line text r z
 hears_err (Ok heard) x z line text is h = absurd (false≢true is)
 hears_err (Err fault) x z line text is h = h fault
 

@@ -30,7 +30,7 @@ use Rattle.edit_session.specs.declared.faults.UndoRefusal.TheVariants.{NothingTo
 use Rattle.edit_session.specs.declared.work.Work.{Work}
 use Rattle.edit_session.specs.Sessions.{EditEnds, SessionState, SessionView, UndoEnds}
 use Rattle.session_text.specs.StateTexts.{SaysRoutesOf, SaysSummary, block_text, cut_of}
-use Rattle.session_talk.specs.Desks.{DeskView, Says, SaysBy, SaysFront, SaysSome, Shown, shown, state_of}
+use Rattle.session_talk.specs.Desks.{DeskView, Says, SaysBy, SaysFront, SaysSome, Shown, shown, desk_state}
 use Rattle.session_talk.specs.Sessions.{AsksEdit, Edits, Replies, State, Undoes, name_code, no_period_code, no_undo_code}
 use Rattle.session_talk.specs.Talks.{Reply, refuses, says}
 use Rattle.session_talk.proofs.Bridge.{block_of_state, block_reply, edit_advances, edit_faults, edit_stays, next_state, undo_advances, undo_refused}
@@ -38,15 +38,15 @@ use Rattle.session_talk.proofs.Bridge.{block_of_state, block_reply, edit_advance
 -- ---- a text that was put is a reply
 
 pub said : {T : Type 0} (result : Result T WriteFault) (d d' : DeskView) (r : Reply State) (a b : Option (List ℕ)) (p q : List ℕ) (f g : Count) (n k : ℕ) → d'.names ≡ d.names
-    → state_of d' ≡ r.after → PutsText a p r.text b q result → HasCause f g result → k ≡ n + r.steps → SaysBy result (shown d a p f n) r (shown d' b q g k)
+    → desk_state d' ≡ r.after → PutsText a p r.text b q result → HasCause f g result → k ≡ n + r.steps → SaysBy result (shown d a p f n) r (shown d' b q g k)
 said (Ok done) d d' r a b p q f g n k names state put cause steps = record { names = names; state = state; put = put.ok; faults = cause.same; steps = steps }
 said (Err fault) d d' r a b p q f g n k names state put cause steps = record { put = put.err; rose = cause.failed; steps = steps }
 
 -- the state is as it was
 pub said_here : {T : Type 0} (result : Result T WriteFault) (d d' : DeskView) (text : List ℕ) (a b : Option (List ℕ)) (p q : List ℕ) (f g : Count) (n : ℕ) → d' ≡ d
-    → PutsText a p text b q result → HasCause f g result → SaysBy result (shown d a p f n) (says (state_of d) text) (shown d' b q g n)
+    → PutsText a p text b q result → HasCause f g result → SaysBy result (shown d a p f n) (says (desk_state d) text) (shown d' b q g n)
 said_here result d d' text a b p q f g n same put cause =
-    said result d d' (says (state_of d) text) a b p q f g n n (ap (λ (x : DeskView). x.names) same) (ap state_of same) put cause (sym (add-zero n))
+    said result d d' (says (desk_state d) text) a b p q f g n n (ap (λ (x : DeskView). x.names) same) (ap desk_state same) put cause (sym (add-zero n))
 
 -- ---- edits
 
@@ -54,10 +54,10 @@ few_blocks : (index line : ℕ) → index < line → line ≤ input_limit → in
 unfolding input_limit number_field_limit
 few_blocks index line before short = omega (arith, before, short)
 
-next-state : (s : State) (d' : DeskView) → d'.index ≡ s.index + 1 → state_of d' ≡ next_state s d'.session
+next-state : (s : State) (d' : DeskView) → d'.index ≡ s.index + 1 → desk_state d' ≡ next_state s d'.session
 next-state s d' next = ap (λ (i : ℕ). let z : State = record { index = i; standing = d'.session.state } in z) next
 
-same-state : (d d' : DeskView) → d'.index ≡ d.index → d'.session.state ≡ d.session.state → state_of d' ≡ state_of d
+same-state : (d d' : DeskView) → d'.index ≡ d.index → d'.session.state ≡ d.session.state → desk_state d' ≡ desk_state d
 same-state d d' index state =
     ap (λ (i : ℕ). let z : State = record { index = i; standing = d'.session.state } in z) index
     ∙ ap (λ (x : SessionState). let z : State = record { index = d.index; standing = x } in z) state
@@ -65,9 +65,9 @@ same-state d d' index state =
 pub edit_made : BlockReadsBack → {T : Type 0} (result : Result T WriteFault) (line steps n k : ℕ) (d d' : DeskView) (e : Edit) (w : Work) (a b : Option (List ℕ)) (p q : List ℕ) (f g : Count)
     → d.index < line → line ≤ input_limit → d'.names ≡ d.names → d'.index ≡ d.index + 1 → EditEnds d.session e (Ok w) d'.session steps
     → PutsText a p (block_text d'.index d'.session.state) b q result → HasCause f g result → k ≡ n + steps
-    → SaysSome (Edits line (state_of d) (applied d.session.state.model e)) result (shown d a p f n) (shown d' b q g k)
+    → SaysSome (Edits line (desk_state d) (applied d.session.state.model e)) result (shown d a p f n) (shown d' b q g k)
 edit_made back result line steps n k d d' e w a b p q f g before short names next ends put cause counted =
-    let s = state_of d in
+    let s = desk_state d in
     let r = block_reply (next_state s d'.session) steps in
     let text = subst (λ (i : ℕ). PutsText a p (block_text i d'.session.state) b q result) next put in (
       r,
@@ -80,9 +80,9 @@ pub edit_barred : {T : Type 0} (result : Result T WriteFault) (why : EditRefusal
     → ((edit inverse : Edit) (edited : Model) → applied d'.session.state.model edit ≡ Ok (edited, inverse) → people edited ≡ all
     → PutsText a p (shortfall_text line edited (label_cut edited d'.session.refused edited.horizon) most) b q result)
     → HasCause f g result → k ≡ n + steps
-    → SaysSome (Edits line (state_of d) (applied d.session.state.model e)) result (shown d a p f n) (shown d' b q g k)
+    → SaysSome (Edits line (desk_state d) (applied d.session.state.model e)) result (shown d a p f n) (shown d' b q g k)
 edit_barred result why line steps n k d d' e all most a b p q f g is names index refused put cause counted =
-    let s = state_of d in
+    let s = desk_state d in
     let ends = subst (λ (w : EditRefusal). EditEnds d.session e (Err w) d'.session steps) is refused in
     let barred = ends.0 in
     let text = shortfall_text line barred.edited (label_cut barred.edited d'.session.refused barred.edited.horizon) most in
@@ -96,9 +96,9 @@ edit_barred result why line steps n k d d' e all most a b p q f g is names index
 pub edit_faulted : {T : Type 0} (result : Result T WriteFault) (why : EditRefusal) (line steps code n k : ℕ) (d d' : DeskView) (e : Edit) (fault : EditFault) (a b : Option (List ℕ)) (p q : List ℕ) (f g : Count)
     → why ≡ Fault fault → d'.names ≡ d.names → d'.index ≡ d.index → EditEnds d.session e (Err why) d'.session steps → code ≡ fault_code fault
     → PutsText a p (refusal_line code line) b q result → HasCause f g result → k ≡ n + steps
-    → SaysSome (Edits line (state_of d) (applied d.session.state.model e)) result (shown d a p f n) (shown d' b q g k)
+    → SaysSome (Edits line (desk_state d) (applied d.session.state.model e)) result (shown d a p f n) (shown d' b q g k)
 edit_faulted result why line steps code n k d d' e fault a b p q f g named names index refused is put cause counted =
-    let s = state_of d in
+    let s = desk_state d in
     let ends = subst (λ (w : EditRefusal). EditEnds d.session e (Err w) d'.session steps) named refused in
     let text = subst (λ (i : ℕ). PutsText a p (refusal_line i line) b q result) is put in (
       refuses s (fault_code fault) line,
@@ -112,9 +112,9 @@ edit_faulted result why line steps code n k d d' e fault a b p q f g named names
 pub undo_made : BlockReadsBack → {T : Type 0} (result : Result T WriteFault) (line steps n k : ℕ) (d d' : DeskView) (w : Work) (a b : Option (List ℕ)) (p q : List ℕ) (f g : Count)
     → d.index < line → line ≤ input_limit → d'.names ≡ d.names → d'.index ≡ d.index + 1 → UndoEnds d.session (Ok w) d'.session steps
     → PutsText a p (block_text d'.index d'.session.state) b q result → HasCause f g result → k ≡ n + steps
-    → SaysSome (Undoes line (state_of d) d.session.state.former) result (shown d a p f n) (shown d' b q g k)
+    → SaysSome (Undoes line (desk_state d) d.session.state.former) result (shown d a p f n) (shown d' b q g k)
 undo_made back result line steps n k d d' w a b p q f g before short names next ends put cause counted =
-    let s = state_of d in
+    let s = desk_state d in
     let r = block_reply (next_state s d'.session) steps in
     let text = subst (λ (i : ℕ). PutsText a p (block_text i d'.session.state) b q result) next put in (
       r,
@@ -125,9 +125,9 @@ undo_made back result line steps n k d d' w a b p q f g before short names next 
 pub undo_none : {T : Type 0} (result : Result T WriteFault) (why : UndoRefusal) (line steps n k : ℕ) (d d' : DeskView) (a b : Option (List ℕ)) (p q : List ℕ) (f g : Count)
     → d'.names ≡ d.names → d'.index ≡ d.index → UndoEnds d.session (Err why) d'.session steps
     → PutsText a p (refusal_line no_undo_code line) b q result → HasCause f g result → k ≡ n + steps
-    → SaysSome (Undoes line (state_of d) d.session.state.former) result (shown d a p f n) (shown d' b q g k)
+    → SaysSome (Undoes line (desk_state d) d.session.state.former) result (shown d a p f n) (shown d' b q g k)
 undo_none result NothingToUndo line steps n k d d' a b p q f g names index ends put cause counted =
-    let s = state_of d in (
+    let s = desk_state d in (
       refuses s no_undo_code line,
       undo_refused line s d.session d'.session steps refl ends,
       said result d d' (refuses s no_undo_code line) a b p q f g n k names (same-state d d' index (ap (λ (x : SessionView). x.state) ends.1)) put cause
@@ -164,33 +164,33 @@ asks_edit names line s commands.Quit r is h = absurd is
 
 pub cut_said : {T : Type 0} (result : Result T WriteFault) (line n k : ℕ) (d d' : DeskView) (a b : Option (List ℕ)) (p q : List ℕ) (f g : Count) → d' ≡ d
     → nat_lt d.session.state.model.horizon k ≡ false → PutsText a p (cut_of d.session.state k) b q result → HasCause f g result
-    → SaysSome (Replies d.names line (state_of d) (Ok (commands.Cut k))) result (shown d a p f n) (shown d' b q g n)
+    → SaysSome (Replies d.names line (desk_state d) (Ok (commands.Cut k))) result (shown d a p f n) (shown d' b q g n)
 cut_said result line n k d d' a b p q f g same within put cause =
-    let s = state_of d in
+    let s = desk_state d in
     let P : Bool → Type 0 = λ z. says s (cut_of s.standing k) ≡ (if z then refuses s no_period_code line else says s (cut_of s.standing k)) in
     (says s (cut_of s.standing k), subst P (sym within) refl, said_here result d d' (cut_of s.standing k) a b p q f g n same put cause)
 
 pub cut_refused : {T : Type 0} (result : Result T WriteFault) (line n k : ℕ) (d d' : DeskView) (a b : Option (List ℕ)) (p q : List ℕ) (f g : Count) → d' ≡ d
     → nat_lt d.session.state.model.horizon k ≡ true → PutsText a p (refusal_line no_period_code line) b q result → HasCause f g result
-    → SaysSome (Replies d.names line (state_of d) (Ok (commands.Cut k))) result (shown d a p f n) (shown d' b q g n)
+    → SaysSome (Replies d.names line (desk_state d) (Ok (commands.Cut k))) result (shown d a p f n) (shown d' b q g n)
 cut_refused result line n k d d' a b p q f g same past put cause =
-    let s = state_of d in
+    let s = desk_state d in
     let P : Bool → Type 0 = λ z. refuses s no_period_code line ≡ (if z then refuses s no_period_code line else says s (cut_of s.standing k)) in
     (refuses s no_period_code line, subst P (sym past) refl, said_here result d d' (refusal_line no_period_code line) a b p q f g n same put cause)
 
 -- ---- refusals by a code
 
 pub code_said : {T : Type 0} (result : Result T WriteFault) (Gets : Reply State → Type 0) (line code n : ℕ) (d d' : DeskView) (named : ℕ) (a b : Option (List ℕ)) (p q : List ℕ) (f g : Count) → d' ≡ d → code ≡ named
-    → Gets (refuses (state_of d) named line) → PutsText a p (refusal_line code line) b q result → HasCause f g result → SaysSome Gets result (shown d a p f n) (shown d' b q g n)
+    → Gets (refuses (desk_state d) named line) → PutsText a p (refusal_line code line) b q result → HasCause f g result → SaysSome Gets result (shown d a p f n) (shown d' b q g n)
 code_said result Gets line code n d d' named a b p q f g same is gets put cause =
     let text = subst (λ (i : ℕ). PutsText a p (refusal_line i line) b q result) is put in
-    (refuses (state_of d) named line, gets, said_here result d d' (refusal_line named line) a b p q f g n same text cause)
+    (refuses (desk_state d) named line, gets, said_here result d d' (refusal_line named line) a b p q f g n same text cause)
 
 -- ---- texts of which one is said
 
 pub text_said : {T : Type 0} (result : Result T WriteFault) (Gets : Reply State → Type 0) (text : List ℕ) (n : ℕ) (d d' : DeskView) (a b : Option (List ℕ)) (p q : List ℕ) (f g : Count) → d' ≡ d
-    → Gets (says (state_of d) text) → PutsText a p text b q result → HasCause f g result → SaysSome Gets result (shown d a p f n) (shown d' b q g n)
-text_said result Gets text n d d' a b p q f g same gets put cause = (says (state_of d) text, gets, said_here result d d' text a b p q f g n same put cause)
+    → Gets (says (desk_state d) text) → PutsText a p text b q result → HasCause f g result → SaysSome Gets result (shown d a p f n) (shown d' b q g n)
+text_said result Gets text n d d' a b p q f g same gets put cause = (says (desk_state d) text, gets, said_here result d d' text a b p q f g n same put cause)
 
 -- the same replies, by an equal command
 pub as_command : {T : Type 0} (result : Result T WriteFault) (names : NameTable) (line : ℕ) (s : State) (made c : Result Command TextFault) (x y : Shown) → c ≡ made

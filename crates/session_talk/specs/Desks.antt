@@ -25,8 +25,8 @@ pub record DeskView : Type 0 where
   pub session : SessionView
 
 -- where a session on a desk is
-abbrev pub state_of : DeskView → State
-state_of d = record { index = d.index; standing = d.session.state }
+abbrev pub desk_state : DeskView → State
+desk_state d = record { index = d.index; standing = d.session.state }
 
 -- all on a desk is of one building: the session's models, their names, and what reports and routes are made in
 pub record IsDesk (names : NameTable) (session : SessionView) (routes : RoutesView) (tables : SpaceView) : Type 0 where
@@ -47,7 +47,7 @@ pub record Shown : Type 0 where
 
 abbrev pub shown : DeskView → Option (List ℕ) → List ℕ → Count → ℕ → Shown
 shown d held pending faults steps =
-    record { names = d.names; state = state_of d; held = held; pending = pending; faults = faults; steps = steps }
+    record { names = d.names; state = desk_state d; held = held; pending = pending; faults = faults; steps = steps }
 
 -- it said a reply, whole
 pub record Says (s : Shown) (r : Reply State) (s' : Shown) : Type 0 where
@@ -73,14 +73,14 @@ abbrev pub SaysSome : {T : Type 0} → (Reply State → Type 0) → Result T Wri
 SaysSome Gets result s s' = (r : Reply State) × Gets r × SaysBy result s r s'
 
 -- what it does at a line: it replies and flushes, or it quits
-abbrev pub Hears : Shown → ℕ → List ℕ → Result Heard WriteFault → Shown → Type 0
-Hears s line text (Ok More) s' = (r : Reply State) × Replies s.names line s.state (command_of text) r × Says s r s' × (s'.pending ≡ [])
-Hears s line text (Ok Last) s' = (command_of text ≡ Ok Quit) × (s' ≡ s)
-Hears s line text (Err fault) s' = (r : Reply State) × Replies s.names line s.state (command_of text) r × SaysFront s r s'
+abbrev pub HearsCommand : Shown → ℕ → List ℕ → Result Heard WriteFault → Shown → Type 0
+HearsCommand s line text (Ok More) s' = (r : Reply State) × Replies s.names line s.state (command_of text) r × Says s r s' × (s'.pending ≡ [])
+HearsCommand s line text (Ok Last) s' = (command_of text ≡ Ok Quit) × (s' ≡ s)
+HearsCommand s line text (Err fault) s' = (r : Reply State) × Replies s.names line s.state (command_of text) r × SaysFront s r s'
 
 -- the same, where no more blocks than lines were written
 abbrev pub HearsLine : Shown → ℕ → List ℕ → Result Heard WriteFault → Shown → Type 0
-HearsLine s line text result s' = s.state.index < line → Hears s line text result s'
+HearsLine s line text result s' = s.state.index < line → HearsCommand s line text result s'
 
 -- a desk begins with a building's model, at block 0; or the model can't be cleared
 abbrev pub DeskBegins : NameTable → Model → Result DeskView BeginFault → ℕ → Type 0

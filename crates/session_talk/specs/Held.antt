@@ -18,7 +18,7 @@ use Rattle.model_text.specs.declared.command.Command.TheVariants.{Quit}
 use Rattle.model_text.specs.Commands.{command_of}
 use Rattle.building_table.specs.Names.{NameTable}
 use Rattle.session_talk.specs.Sessions.{SessionAnswers, session}
-use Rattle.session_talk.specs.Talks.{IsFront, Spoken, TalkGoesOn, TalkGoesWithin}
+use Rattle.session_talk.specs.Talks.{IsTalkFront, Spoken, TalkGoesOn, TalkGoesWithin}
 
 -- what a session meets outside: a reader with the bytes that its source has left, the bytes that the sink holds, where they are told, how often
 -- each failed, and the steps counted
@@ -49,7 +49,7 @@ EndsByQuit texts = (first : List (List ℕ)) × (line : List ℕ) × (texts ≡ 
 -- the front of a session, up to its end or over the first of the lines
 abbrev pub SessionFront : NameTable → Model → ℕ → List Line → Spoken → Type 0
 SessionFront names m before lines x =
-    IsFront (SessionAnswers names m before lines) x ⊎ IsFront (TalkGoesWithin (session names m) before lines) x
+    IsTalkFront (SessionAnswers names m before lines) x ⊎ IsTalkFront (TalkGoesWithin (session names m) before lines) x
 
 -- a count of faults rose where its object ended the session, and is the same else
 pub record RoseAt (status end : ℕ) (before after : Count) : Type 0 where
@@ -80,7 +80,7 @@ pub record HoldsSession (names : NameTable) (m : Model) (status : ℕ) (a b : Ar
   pub nothing : status ≡ 5 → (did.text ≡ []) × (heard ≡ [])
 
 -- the status behind a text that was sent
-abbrev pub status_after : {T : Type 0} → Result T WriteFault → ℕ → ℕ
+abbrev pub status_after : {T E : Type 0} → Result T E → ℕ → ℕ
 status_after (Ok done) status = status
 status_after (Err fault) status = 4
 
@@ -99,12 +99,12 @@ pub record RefusesLine (code line status : ℕ) (held : Option (List ℕ)) (pend
   pub sends : SendsBy sent (refusal_line code line) held pending faults held' pending' faults'
 
 -- a session over so many lines is over, by how listening ended
-abbrev pub Concludes : Ending WriteFault → ℕ → ℕ → Option (List ℕ) → List ℕ → Count → Option (List ℕ) → List ℕ → Count → Type 0
-Concludes Finished number status held pending faults held' pending' faults' = (status ≡ 0) × (held' ≡ held) × (faults' ≡ faults)
-Concludes InputEnded number status held pending faults held' pending' faults' = (status ≡ 0) × (held' ≡ held) × (faults' ≡ faults)
-Concludes (Failed fault) number status held pending faults held' pending' faults' = (status ≡ 4) × (held' ≡ held) × (faults' ≡ faults)
-Concludes (Fault ReadFault) number status held pending faults held' pending' faults' = (status ≡ 3) × (held' ≡ held) × (faults' ≡ faults)
-Concludes (Fault LineTooLong) number status held pending faults held' pending' faults' =
+abbrev pub ConcludesSession : Ending WriteFault → ℕ → ℕ → Option (List ℕ) → List ℕ → Count → Option (List ℕ) → List ℕ → Count → Type 0
+ConcludesSession Finished number status held pending faults held' pending' faults' = (status ≡ 0) × (held' ≡ held) × (faults' ≡ faults)
+ConcludesSession InputEnded number status held pending faults held' pending' faults' = (status ≡ 0) × (held' ≡ held) × (faults' ≡ faults)
+ConcludesSession (Failed fault) number status held pending faults held' pending' faults' = (status ≡ 4) × (held' ≡ held) × (faults' ≡ faults)
+ConcludesSession (Fault ReadFault) number status held pending faults held' pending' faults' = (status ≡ 3) × (held' ≡ held) × (faults' ≡ faults)
+ConcludesSession (Fault LineTooLong) number status held pending faults held' pending' faults' =
     RefusesLine line_too_long (number + 1) status held pending faults held' pending' faults'
-Concludes (Fault InputTooLong) number status held pending faults held' pending' faults' =
+ConcludesSession (Fault InputTooLong) number status held pending faults held' pending' faults' =
     RefusesLine input_too_long (number + 1) status held pending faults held' pending' faults'

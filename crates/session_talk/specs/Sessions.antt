@@ -51,14 +51,14 @@ name_code NoArc = no_arc_code
 
 -- the text is the block of a state. Its plan takes everybody out, with a cut for each period that is worth as many as are out by then, so no
 -- feasible plan has more people out by that period; and the block reads back
-pub record IsAnswer (s : State) (text : List ℕ) : Type 0 where
+pub record IsAnswerText (s : State) (text : List ℕ) : Type 0 where
   pub block : text ≡ block_text s.index s.standing
   pub best : (other : List Move) (k : ℕ) → IsFeasible s.standing.model other k
       → out_by s.standing.model other k ≤ out_by s.standing.model s.standing.plan k
   pub reads_back : ReadsBack s.index s.standing.model s.standing.plan s.standing.labels s.standing.last
 
 -- the text is the refusal of a model that can't be cleared, at a line, with a cut that is worth `most` at the horizon, fewer than the people
-pub record IsShort (m : Model) (line most : ℕ) (text : List ℕ) : Type 0 where
+pub record IsShortText (m : Model) (line most : ℕ) (text : List ℕ) : Type 0 where
   pub cut : Cut
   pub shortfall : IsShortfall m cut most
   pub barred : ¬ IsClearable m
@@ -70,14 +70,14 @@ pub record IsShort (m : Model) (line most : ℕ) (text : List ℕ) : Type 0 wher
 pub record Opens (m : Model) (r : Reply State) : Type 0 where
   pub begins : Begins m r.after.standing
   pub first : r.after.index ≡ 0
-  pub answer : IsAnswer r.after r.text
+  pub answer : IsAnswerText r.after r.text
   pub counted : r.steps ≡ r.after.standing.work.pushes
 
 -- a model is refused at a line, as one that can't be cleared
 pub record OpensShort (m : Model) (line : ℕ) (x : Spoken) : Type 0 where
   pub most : ℕ
   pub refused : x.status ≡ 1
-  pub short : IsShort m line most x.text
+  pub short : IsShortText m line most x.text
   pub spent : IsSpentOpening m most x.steps
 
 -- ---- the replies
@@ -86,13 +86,13 @@ pub record OpensShort (m : Model) (line : ℕ) (x : Spoken) : Type 0 where
 pub record Advances (s : State) (m : Model) (earlier : List Model) (r : Reply State) : Type 0 where
   pub goes_on : GoesOn s.standing m earlier r.after.standing
   pub next : r.after.index ≡ s.index + 1
-  pub answer : IsAnswer r.after r.text
+  pub answer : IsAnswerText r.after r.text
   pub counted : IsCounted r.after.standing.work r.steps
 
 -- a model can't be cleared, and everything is as it was
 pub record StaysBefore (s : State) (m : Model) (line : ℕ) (r : Reply State) : Type 0 where
   pub most : ℕ
-  pub short : IsShort m line most r.text
+  pub short : IsShortText m line most r.text
   pub same : r.after ≡ s
   pub spent : IsSpent s.standing.model s.standing.plan m most r.steps
 

@@ -86,5 +86,5 @@ pub record TalkGoesWithin {S : Type 0} (talk : Talk S) (before : ℕ) (lines : L
   pub goes : TalkGoesOn talk before answered x
 
 -- what was written is the front of a text of this kind
-abbrev pub IsFront : (Spoken → Type 0) → Spoken → Type 0
-IsFront Holds x = (status : ℕ) × (rest : List ℕ) × Holds (record { status = status; text = x.text ++ rest; steps = x.steps })
+abbrev pub IsTalkFront : (Spoken → Type 0) → Spoken → Type 0
+IsTalkFront Holds x = (status : ℕ) × (rest : List ℕ) × Holds (record { status = status; text = x.text ++ rest; steps = x.steps })

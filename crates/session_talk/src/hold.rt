@@ -10,7 +10,7 @@ ghost use Rattle.building_table.specs.Names.{NameTable, NamesFit};
 ghost use Rattle.certificate_text.specs.BlockText.{refusal_line, shortfall_text};
 ghost use Rattle.session_text.specs.StateTexts.{block_text};
 ghost use Rattle.session_talk.specs.Desks.{DeskBegins};
-ghost use Rattle.session_talk.specs.Held.{Concludes, HoldsSession, RefusesLine, SendsBy, around, status_after};
+ghost use Rattle.session_talk.specs.Held.{ConcludesSession, HoldsSession, RefusesLine, SendsBy, around, status_after};
 
 use crate::desk::Desk;
 use crate::status::{DONE, NO_MEMORY, REFUSED, SINK_FAILED, SOURCE_FAILED};
@@ -91,7 +91,7 @@ fn refuse<K: Sink>(out: &mut Out, sink: &mut K, code: u8, line: u32) -> u8
 #[tactic(auto, unfolding(line_io::specs::Line::input_limit))]
 fn conclude<K: Sink>(out: &mut Out, sink: &mut K, ending: Ending<WriteFault>, number: u32) -> u8
     requires { number ≤ input_limit }
-    ensures { Concludes ending number result (K.held sink.old) out.old (K.faults sink.old) (K.held sink.new) out.new (K.faults sink.new) }
+    ensures { ConcludesSession ending number result (K.held sink.old) out.old (K.faults sink.old) (K.held sink.new) out.new (K.faults sink.new) }
 {
     match ending {
         Ending::Finished | Ending::InputEnded => DONE,

@@ -11,8 +11,6 @@ mod laws;
 mod reply;
 mod status;
 mod talker;
-#[cfg(test)]
-mod tests;
 
 pub use hold::hold_session;
 pub use laws::{edits_apart, sessions_agree, sessions_part};

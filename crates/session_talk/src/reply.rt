@@ -3,7 +3,7 @@ ghost use Rattle.std.specs.Prelude.{◌≡◌, ◌≢◌, ◌<◌, ◌≤◌, �
 ghost use Rattle.evac_law.specs.Edits.{IsEditOf, applied};
 ghost use Rattle.building_table.specs.EditNames.{IsEdit, edit_named};
 ghost use Rattle.line_io.specs.Line.{input_limit};
-ghost use Rattle.session_talk.specs.Desks.{SaysSome, shown, state_of};
+ghost use Rattle.session_talk.specs.Desks.{SaysSome, shown, desk_state};
 ghost use Rattle.session_talk.specs.Sessions.{AsksEdit, Edits, Replies, Undoes, name_code};
 
 use crate::desk::Desk;
@@ -40,7 +40,7 @@ fn reply_edit<K: Sink, L: Ledger>(
 ) -> Result<(), WriteFault>
     requires edit { IsEditOf desk.old.session.state.model edit }
     requires line { line ≤ input_limit }
-    ensures { desk.old.index < line → SaysSome (Edits line (state_of desk.old) (applied desk.old.session.state.model edit)) result
+    ensures { desk.old.index < line → SaysSome (Edits line (desk_state desk.old) (applied desk.old.session.state.model edit)) result
         (shown desk.old (K.held sink.old) out.old (K.faults sink.old) steps.old) (shown desk.new (K.held sink.new) out.new (K.faults sink.new) steps.new) }
 {
     match desk.edit(edit, steps) {
@@ -63,7 +63,7 @@ fn reply_named<K: Sink, L: Ledger>(
 ) -> Result<(), WriteFault>
     requires edit { IsEdit command }
     requires line { line ≤ input_limit }
-    ensures { desk.old.index < line → SaysSome (AsksEdit line (state_of desk.old) (edit_named desk.old.names command)) result
+    ensures { desk.old.index < line → SaysSome (AsksEdit line (desk_state desk.old) (edit_named desk.old.names command)) result
         (shown desk.old (K.held sink.old) out.old (K.faults sink.old) steps.old) (shown desk.new (K.held sink.new) out.new (K.faults sink.new) steps.new) }
 {
     match desk.edit_of(command) {
@@ -81,7 +81,7 @@ fn reply_undo<K: Sink, L: Ledger>(
     line: u32,
 ) -> Result<(), WriteFault>
     requires { line ≤ input_limit }
-    ensures { desk.old.index < line → SaysSome (Undoes line (state_of desk.old) desk.old.session.state.former) result
+    ensures { desk.old.index < line → SaysSome (Undoes line (desk_state desk.old) desk.old.session.state.former) result
         (shown desk.old (K.held sink.old) out.old (K.faults sink.old) steps.old) (shown desk.new (K.held sink.new) out.new (K.faults sink.new) steps.new) }
 {
     match desk.undo(steps) {
@@ -98,7 +98,7 @@ fn reply_cut<K: Sink>(
     period: u32,
     line: u32,
 ) -> Result<(), WriteFault>
-    ensures { (steps : ℕ) → SaysSome (Replies desk.now.names line (state_of desk.now) (Ok (Command.Cut period))) result
+    ensures { (steps : ℕ) → SaysSome (Replies desk.now.names line (desk_state desk.now) (Ok (Command.Cut period))) result
         (shown desk.now (K.held sink.old) out.old (K.faults sink.old) steps) (shown desk.now (K.held sink.new) out.new (K.faults sink.new) steps) }
 {
     if period > u32::from(desk.horizon()) {
@@ -110,7 +110,7 @@ fn reply_cut<K: Sink>(
 
 // Routes that make up the plan.
 fn reply_routes<K: Sink>(desk: &mut Desk, out: &mut Out, sink: &mut K) -> Result<(), WriteFault>
-    ensures { (line steps : ℕ) → SaysSome (Replies desk.old.names line (state_of desk.old) (Ok Command.Routes)) result
+    ensures { (line steps : ℕ) → SaysSome (Replies desk.old.names line (desk_state desk.old) (Ok Command.Routes)) result
         (shown desk.old (K.held sink.old) out.old (K.faults sink.old) steps) (shown desk.new (K.held sink.new) out.new (K.faults sink.new) steps) }
 {
     desk.write_routes(out, sink)
@@ -118,7 +118,7 @@ fn reply_routes<K: Sink>(desk: &mut Desk, out: &mut Out, sink: &mut K) -> Result
 
 // When each node and each floor is empty.
 fn reply_clearing<K: Sink>(desk: &mut Desk, out: &mut Out, sink: &mut K) -> Result<(), WriteFault>
-    ensures { (line steps : ℕ) → SaysSome (Replies desk.old.names line (state_of desk.old) (Ok Command.Clearing)) result
+    ensures { (line steps : ℕ) → SaysSome (Replies desk.old.names line (desk_state desk.old) (Ok Command.Clearing)) result
         (shown desk.old (K.held sink.old) out.old (K.faults sink.old) steps) (shown desk.new (K.held sink.new) out.new (K.faults sink.new) steps) }
 {
     desk.write_clearing(out, sink)
@@ -130,7 +130,7 @@ fn reply_bottlenecks<K: Sink>(
     out: &mut Out,
     sink: &mut K,
 ) -> Result<(), WriteFault>
-    ensures { (line steps : ℕ) → SaysSome (Replies desk.old.names line (state_of desk.old) (Ok Command.Bottlenecks)) result
+    ensures { (line steps : ℕ) → SaysSome (Replies desk.old.names line (desk_state desk.old) (Ok Command.Bottlenecks)) result
         (shown desk.old (K.held sink.old) out.old (K.faults sink.old) steps) (shown desk.new (K.held sink.new) out.new (K.faults sink.new) steps) }
 {
     desk.write_bottlenecks(out, sink)
@@ -138,7 +138,7 @@ fn reply_bottlenecks<K: Sink>(
 
 // The summary of the plan.
 fn reply_summary<K: Sink>(desk: &mut Desk, out: &mut Out, sink: &mut K) -> Result<(), WriteFault>
-    ensures { (line steps : ℕ) → SaysSome (Replies desk.old.names line (state_of desk.old) (Ok Command.Summary)) result
+    ensures { (line steps : ℕ) → SaysSome (Replies desk.old.names line (desk_state desk.old) (Ok Command.Summary)) result
         (shown desk.old (K.held sink.old) out.old (K.faults sink.old) steps) (shown desk.new (K.held sink.new) out.new (K.faults sink.new) steps) }
 {
     desk.write_summary(out, sink)
@@ -146,7 +146,7 @@ fn reply_summary<K: Sink>(desk: &mut Desk, out: &mut Out, sink: &mut K) -> Resul
 
 // The work of the last edit or undo that was made.
 fn reply_work<K: Sink>(desk: &Desk, out: &mut Out, sink: &mut K) -> Result<(), WriteFault>
-    ensures { (line steps : ℕ) → SaysSome (Replies desk.now.names line (state_of desk.now) (Ok Command.Work)) result
+    ensures { (line steps : ℕ) → SaysSome (Replies desk.now.names line (desk_state desk.now) (Ok Command.Work)) result
         (shown desk.now (K.held sink.old) out.old (K.faults sink.old) steps) (shown desk.now (K.held sink.new) out.new (K.faults sink.new) steps) }
 {
     desk.write_work(out, sink)
@@ -163,7 +163,7 @@ fn reply_command<K: Sink, L: Ledger>(
 ) -> Result<(), WriteFault>
     requires goes_on { command ≢ Command.Quit }
     requires line { line ≤ input_limit }
-    ensures { desk.old.index < line → SaysSome (Replies desk.old.names line (state_of desk.old) (Ok command)) result
+    ensures { desk.old.index < line → SaysSome (Replies desk.old.names line (desk_state desk.old) (Ok command)) result
         (shown desk.old (K.held sink.old) out.old (K.faults sink.old) steps.old) (shown desk.new (K.held sink.new) out.new (K.faults sink.new) steps.new) }
 {
     match command {
@@ -191,7 +191,7 @@ pub(crate) fn reply<K: Sink, L: Ledger>(
 ) -> Result<(), WriteFault>
     requires goes_on { command ≢ Ok Command.Quit }
     requires line { line ≤ input_limit }
-    ensures { desk.old.index < line → SaysSome (Replies desk.old.names line (state_of desk.old) command) result
+    ensures { desk.old.index < line → SaysSome (Replies desk.old.names line (desk_state desk.old) command) result
         (shown desk.old (K.held sink.old) out.old (K.faults sink.old) steps.old) (shown desk.new (K.held sink.new) out.new (K.faults sink.new) steps.new) }
 {
     match command {

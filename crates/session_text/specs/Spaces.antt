@@ -1,7 +1,7 @@
 -- Tables that reports are made in.
 use Rattle.std.specs.Prelude.{◌≡◌, length}
 use Rattle.evac_law.specs.declared.model.Model.{Model}
-use Rattle.bottleneck_report.specs.Crossings.{HasRoom, PeriodCounts}
+use Rattle.bottleneck_report.specs.Crossings.{HasCounts, PeriodCounts}
 use Rattle.building_table.specs.Names.{NameTable}
 use Rattle.clearing_report.specs.Clearing.{ClearingView}
 use Rattle.floor_index.specs.Floors.{FloorTable, table_of}
@@ -16,4 +16,4 @@ pub record SpaceView : Type 0 where
 pub record IsSpace (m : Model) (names : NameTable) (t : SpaceView) : Type 0 where
   pub nodes_fit : length t.clearing.moments ≡ length m.nodes
   pub floors_are : t.floors ≡ table_of m names.floors
-  pub room : HasRoom m t.bottlenecks
+  pub room : HasCounts m t.bottlenecks

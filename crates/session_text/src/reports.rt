@@ -3,7 +3,7 @@ ghost use Rattle.std.specs.Prelude.{◌≡◌, ℕ, List, ◌++◌, IfOk, length
 ghost use Rattle.evac_law.specs.Building.{IsValid};
 ghost use Rattle.line_io.specs.Causes.{HasCause};
 ghost use Rattle.line_io.specs.Writer.{PutsText};
-ghost use Rattle.bottleneck_report.specs.Crossings.{HasRoom, counts_of};
+ghost use Rattle.bottleneck_report.specs.Crossings.{HasCounts, counts_of};
 ghost use Rattle.building_table.specs.Names.{NameTable};
 ghost use Rattle.clearing_report.specs.Clearing.{IsReport};
 ghost use Rattle.report_text.specs.ReportText.{summary_text};
@@ -69,9 +69,9 @@ impl ReportSpace {
 
     /// Reports on the labels of a session.
     pub fn report_labels(&mut self, session: &Session)
-        requires room { HasRoom session.now.state.model self.old.bottlenecks }
+        requires room { HasCounts session.now.state.model self.old.bottlenecks }
         ensures report { self.new.bottlenecks ≡ counts_of session.now.state.model session.now.state.labels session.now.state.last }
-        ensures room { HasRoom session.now.state.model self.new.bottlenecks }
+        ensures room { HasCounts session.now.state.model self.new.bottlenecks }
         ensures clearing { self.new.clearing ≡ self.old.clearing }
         ensures floors { self.new.floors ≡ self.old.floors }
     {
@@ -113,7 +113,7 @@ fn put_bottlenecks<K: Sink>(
     index: u32,
     space: &ReportSpace,
 ) -> Result<(), WriteFault>
-    requires room { HasRoom session.now.state.model space.now.bottlenecks }
+    requires room { HasCounts session.now.state.model space.now.bottlenecks }
     requires report { space.now.bottlenecks ≡ counts_of session.now.state.model session.now.state.labels session.now.state.last }
     ensures text { PutsText (K.held sink.old) out.old (bottlenecks_of index session.now.state) (K.held sink.new) out.new result }
     ensures cause { HasCause (K.faults sink.old) (K.faults sink.new) result }
@@ -186,7 +186,7 @@ pub fn write_bottlenecks<K: Sink>(
     index: u32,
     space: &mut ReportSpace,
 ) -> Result<(), WriteFault>
-    requires room { HasRoom session.now.state.model space.old.bottlenecks }
+    requires room { HasCounts session.now.state.model space.old.bottlenecks }
     ensures text { PutsText (K.held sink.old) out.old (bottlenecks_of index session.now.state) (K.held sink.new) out.new result }
     ensures space { (names : NameTable) → IsSpace session.now.state.model names space.old → IsSpace session.now.state.model names space.new }
     ensures cause { HasCause (K.faults sink.old) (K.faults sink.new) result }

@@ -14,10 +14,10 @@ use Rattle.terminal_augment.specs.declared.spot.Start.{Start}
 use Rattle.terminal_augment.specs.declared.spot.Start.TheVariants as starts
 use Rattle.terminal_augment.specs.declared.spot.Way.{Way}
 use Rattle.terminal_augment.specs.declared.work.Work.{Work}
-use Rattle.terminal_augment.specs.Frames.{HasRoom, IsFound, IsWay, end_of, top_end}
+use Rattle.terminal_augment.specs.Frames.{HaveRoom, IsFound, IsWay, end_of, top_end}
 use Rattle.terminal_augment.specs.Marking.{is_marked}
 use Rattle.terminal_augment.specs.Piles.{top_of}
-use Rattle.terminal_augment.specs.Searching.{entered, left, retried}
+use Rattle.terminal_augment.specs.Searching.{entered, popped, retried}
 use Rattle.terminal_augment.specs.Spots.{IsInside}
 use Rattle.terminal_augment.specs.Ways.{passed}
 use Rattle.terminal_augment.proofs.SearchLemmas.{IsEntry, all_cons, all_rest, top_cons}
@@ -58,23 +58,23 @@ pub not_at : (r : Start) → (r ≡ starts.Source) ⊎ ((t : ℕ) × r ≡ start
 not_at r (inl a) p e = cc
 not_at r (inr a) p e = let b = a.1 in cc
 
-pub room_left : (w : Network) (x z : Work) (f : Frame) → HasRoom w x.frames.list → top_of x.frames.list ≡ Some f → z ≡ left x → HasRoom w z.frames.list
-room_left w x z f h e same = subst (λ (v : Work). HasRoom w v.frames.list) (sym same) (here (drop 1 x.frames.list) (top_cons _ f e))
+pub room_left : (w : Network) (x z : Work) (f : Frame) → HaveRoom w x.frames.list → top_of x.frames.list ≡ Some f → z ≡ popped x → HaveRoom w z.frames.list
+room_left w x z f h e same = subst (λ (v : Work). HaveRoom w v.frames.list) (sym same) (here (drop 1 x.frames.list) (top_cons _ f e))
   where
-    here : (fs : List Frame) → x.frames.list ≡ f ∷ fs → HasRoom w fs
-    here fs q = all_rest (λ g. 0 < residual_room w g.step) f fs (subst (λ (v : List Frame). HasRoom w v) q h)
+    here : (fs : List Frame) → x.frames.list ≡ f ∷ fs → HaveRoom w fs
+    here fs q = all_rest (λ g. 0 < residual_room w g.step) f fs (subst (λ (v : List Frame). HaveRoom w v) q h)
 
-pub room_retried : (w : Network) (x z : Work) (f : Frame) (n : ℕ) → HasRoom w x.frames.list → top_of x.frames.list ≡ Some f → z ≡ retried x f n → HasRoom w z.frames.list
-room_retried w x z f n h e same = subst (λ (v : Work). HasRoom w v.frames.list) (sym same) (here (drop 1 x.frames.list) (top_cons _ f e))
+pub room_retried : (w : Network) (x z : Work) (f : Frame) (n : ℕ) → HaveRoom w x.frames.list → top_of x.frames.list ≡ Some f → z ≡ retried x f n → HaveRoom w z.frames.list
+room_retried w x z f n h e same = subst (λ (v : Work). HaveRoom w v.frames.list) (sym same) (here (drop 1 x.frames.list) (top_cons _ f e))
   where
-    here : (fs : List Frame) → x.frames.list ≡ f ∷ fs → HasRoom w (record f { next = n } ∷ fs)
+    here : (fs : List Frame) → x.frames.list ≡ f ∷ fs → HaveRoom w (record f { next = n } ∷ fs)
     here fs q =
-        let old : HasRoom w (f ∷ fs) = subst (λ (v : List Frame). HasRoom w v) q h in
+        let old : HaveRoom w (f ∷ fs) = subst (λ (v : List Frame). HaveRoom w v) q h in
         all_cons (λ g. 0 < residual_room w g.step) _ fs (old 0 f (omega arith)) (all_rest (λ g. 0 < residual_room w g.step) f fs old)
 
-pub room_entered : (w : Network) (x z : Work) (p : Spot) (y : PathStep) → HasRoom w x.frames.list → 0 < residual_room w y → z ≡ entered x p y → HasRoom w z.frames.list
+pub room_entered : (w : Network) (x z : Work) (p : Spot) (y : PathStep) → HaveRoom w x.frames.list → 0 < residual_room w y → z ≡ entered x p y → HaveRoom w z.frames.list
 room_entered w x z p y h some same =
-    subst (λ (v : Work). HasRoom w v.frames.list) (sym same) (all_cons (λ g. 0 < residual_room w g.step) _ x.frames.list some h)
+    subst (λ (v : Work). HaveRoom w v.frames.list) (sym same) (all_cons (λ g. 0 < residual_room w g.step) _ x.frames.list some h)
 
 pub effort_retried : (x z : Work) (f : Frame) (n : ℕ) → top_of x.frames.list ≡ Some f → z ≡ retried x f n
     → length z.frames.list ≡ length x.frames.list

@@ -11,7 +11,7 @@ use Rattle.residual_net.specs.declared.place.PathStep.{PathStep}
 use Rattle.residual_net.specs.Closed.{IsClosed, reached}
 use Rattle.residual_net.specs.Network.{Network, IsNet, residual_room}
 use Rattle.residual_net.specs.NetLaws.{labelled}
-use Rattle.residual_net.specs.Site.{Site, End, IsPlace, IsSite, arcs_of, arrival_at, exit_at, head_of, is_barred, start_of, stop_of, tail_of}
+use Rattle.residual_net.specs.Site.{Site, End, IsPlace, IsSite, arc_count, arrival_at, exit_at, head_of, is_barred, start_of, stop_of, tail_of}
 use Rattle.residual_net.specs.Site.End.{Source, Pair, Door}
 use Rattle.residual_net.proofs.Arrivals.{into_door, open_step}
 use Rattle.terminal_augment.specs.declared.spot.Frame.{Frame}
@@ -106,7 +106,7 @@ passed_more l m k i Source q h = absurd (cc)
 passed_more l m k i (Pair n t) q h = or_here (ltb (label_at l n t) k) (is_marked m n t) (lt-ltb _ _ (omega (arith, leb-true _ _ h, q)))
 passed_more l m k i (Door j) q h = le-leb _ _ (omega (arith, leb-true _ _ h, q))
 
-pub passed_closed : (w : Network) (l : LabelTable) (k : ℕ) (x : Work) → IsNet w → IsClosedBelow w l k → IsExplored w l k (arcs_of w.site) x
+pub passed_closed : (w : Network) (l : LabelTable) (k : ℕ) (x : Work) → IsNet w → IsClosedBelow w l k → IsExplored w l k (arc_count w.site) x
     → x.frames.list ≡ [] → IsClosed w (passed l x.marks k) k
 passed_closed w l k x net closed explored none y place room inside = by (stop_of w.site y) refl inside
   where
@@ -190,7 +190,7 @@ labelled_after s l m k x searching free labels = record {
     others n t unlabelled (inr h) = inr (h.1 ∙ unlabelled)
 
 pub closed_after : (w : Network) (l m : LabelTable) (k : ℕ) (x : Work) → IsNet w → k ≤ w.site.shape.horizon → IsLabelsOf w.site l → IsUnsetFrom l k
-    → IsClosedBelow w l k → IsSearching w.site l k x → IsExplored w l k (arcs_of w.site) x → x.frames.list ≡ [] → AreLabelled l m x.seen.list k
+    → IsClosedBelow w l k → IsSearching w.site l k x → IsExplored w l k (arc_count w.site) x → x.frames.list ≡ [] → AreLabelled l m x.seen.list k
     → IsClosedBelow w m (k + 1)
 closed_after w l m k x net in_time of free closed searching explored none labels i q = elim (cases_lt i k) [
   | inl before ↦ closed_same w (labelled l i) (labelled m i) i net (λ n t a. earlier n t a before) (closed i before)

@@ -18,7 +18,7 @@ use Rattle.terminal_augment.specs.Floods.{AreExpanded, IsFlooding, IsGrown, IsWa
 use Rattle.terminal_augment.specs.Frames.{IsChain, IsExpanded, IsTried, spots}
 use Rattle.terminal_augment.specs.Marking.{MarkTable, IsMarks, is_marked, mark_place, open_count, with_stamp}
 use Rattle.terminal_augment.specs.Piles.{Pile}
-use Rattle.terminal_augment.specs.Searching.{AreDoorsDone, IsCleared, IsExplored, IsSearching, IsWork, noted}
+use Rattle.terminal_augment.specs.Searching.{AreDoorsDone, IsUnmarked, IsExplored, IsSearching, IsWork, noted}
 use Rattle.terminal_augment.specs.Spots.{IsInside, has}
 use Rattle.terminal_augment.specs.Ways.{IsDone, in_count, out_count, passed, way_at, way_back, way_before, way_behind, way_by_arc, way_count, way_in}
 use Rattle.terminal_augment.proofs.MarkLemmas.{IsIn, marked_grows, marked_here, marked_listed, open_few, open_marked}
@@ -57,7 +57,7 @@ none_has : (ps : List Spot) → ps ≡ [] → (n t : ℕ) → has ps n t ≡ fal
 none_has [] e n t = refl
 none_has (p ∷ ps) e n t = cc
 
-pub flooding_begins : (s : Site) (l : LabelTable) (k : ℕ) (x y : Work) → IsWork s.shape.nodes s.shape.horizon x → IsCleared x y → IsFlooding s l k y
+pub flooding_begins : (s : Site) (l : LabelTable) (k : ℕ) (x y : Work) → IsWork s.shape.nodes s.shape.horizon x → IsUnmarked x y → IsFlooding s l k y
 flooding_begins s l k x y w c =
     let seen : y.seen.list ≡ [] = ap (λ (p : Pile Spot). p.list) c.seen in
     let work = cleared_work x y _ _ w c in

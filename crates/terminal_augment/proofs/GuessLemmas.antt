@@ -17,7 +17,7 @@ use Rattle.terminal_augment.specs.declared.spot.Start.{Start}
 use Rattle.terminal_augment.specs.declared.spot.Start.TheVariants as starts
 use Rattle.terminal_augment.specs.Frames.{IsChain, IsFound, IsFrame, IsStart, end_of, spots, steps_of, top_end}
 use Rattle.terminal_augment.specs.declared.work.Work.{Work}
-use Rattle.terminal_augment.specs.Guesses.{IsCarried, IsLookedAt, IsMarkedOn, IsStep, IsTail, IsWait, frame_of, frames_of, spot_of}
+use Rattle.terminal_augment.specs.Guesses.{CarriesPeople, IsLookedAt, IsMarkedOn, IsStep, IsTail, IsWait, frame_of, frames_of, spot_of}
 use Rattle.terminal_augment.specs.Marking.{MarkTable, IsMarks, is_marked, with_stamp}
 use Rattle.terminal_augment.specs.Searching.{IsWork}
 use Rattle.terminal_augment.specs.Settled.{IsPushedOn}
@@ -91,7 +91,7 @@ steps_of_frames s [] = refl
 steps_of_frames s (x ∷ xs) = ap (λ (z : List PathStep). x ∷ z) (steps_of_frames s xs)
 
 pub all_carried : (w : Network) (k : ℕ) (m : MarkTable) (e r : Start) (people next : ℕ) (y : PathStep) (path whole : List PathStep) → IsTail w k m e people path
-    → IsStep w y r e → IsOrigin k (end_of r) → next ≤ people → next ≤ residual_room w y → whole ≡ y ∷ path → IsCarried w k whole next
+    → IsStep w y r e → IsOrigin k (end_of r) → next ≤ people → next ≤ residual_room w y → whole ≡ y ∷ path → CarriesPeople w k whole next
 all_carried w k m e r people next y path whole tail step origin few room same = (start_of w.site y, subst (λ (z : List PathStep). IsAugmentingPath w z next (start_of w.site y) k) (sym same) here)
   where
     found : IsFound w k (frames_of w.site path) y
@@ -163,7 +163,7 @@ looked_more w k m v x z path blank marks nodes horizon old some fits inside wait
     subst (λ (s : List PathStep). IsTail w k v (starts.At z.spot) z.people s) (sym steps) now
 
 -- a push along a path that was looked at
-pub carried_pushed : (w v : Network) (k people : ℕ) (path trail : List PathStep) → IsNet v → IsWithinLimits v → 1 ≤ people → IsCarried w k path people
+pub carried_pushed : (w v : Network) (k people : ℕ) (path trail : List PathStep) → IsNet v → IsWithinLimits v → 1 ≤ people → CarriesPeople w k path people
     → path ≡ trail → IsPushed w v trail people → IsPushedOn w v k 1
 carried_pushed w v k people path trail net within one carried same pushed =
     let here = subst (λ (z : List PathStep). IsAugmentingPath w z people carried.0 k) same carried.1 in

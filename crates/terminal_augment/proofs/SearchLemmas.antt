@@ -17,7 +17,7 @@ use Rattle.terminal_augment.specs.declared.work.Work.{Work}
 use Rattle.terminal_augment.specs.Frames.{AreDone, IsChain, IsExpanded, IsTried, spots, top_end}
 use Rattle.terminal_augment.specs.Marking.{MarkTable, IsMarks, is_marked, mark_place, open_count, with_stamp}
 use Rattle.terminal_augment.specs.Piles.{Pile, top_of}
-use Rattle.terminal_augment.specs.Searching.{IsCleared, IsExplored, IsSearching, IsWork, entered, freed, freed_from, left, released, retried}
+use Rattle.terminal_augment.specs.Searching.{IsUnmarked, IsExplored, IsSearching, IsWork, entered, freed, freed_from, popped, released, retried}
 use Rattle.terminal_augment.specs.Spots.{IsInside, has}
 use Rattle.terminal_augment.specs.Ways.{IsDone, passed, way_count}
 use Rattle.terminal_augment.proofs.MarkLemmas.{IsIn, marked_grows, marked_here, marked_listed, marked_other, open_few, open_marked, open_unmarked}
@@ -70,7 +70,7 @@ chain_in s k x (f ∷ fs) w c (suc j) d l = chain_in s k x fs w c.1 j d (omega (
 
 -- ---- a search begins
 
-pub cleared_work : (x y : Work) (n h : ℕ) → IsWork n h x → IsCleared x y → IsWork n h y
+pub cleared_work : (x y : Work) (n h : ℕ) → IsWork n h x → IsUnmarked x y → IsWork n h y
 cleared_work x y n h w c = record {
   marks = c.marks;
   nodes = c.nodes ∙ w.nodes;
@@ -80,7 +80,7 @@ cleared_work x y n h w c = record {
   path = omega (arith, w.path, ap (λ (p : Pile Frame). p.room) c.frames, ap (λ (p : Trail). p.room) c.path);
 }
 
-pub searching_begins : (s : Site) (l : LabelTable) (k : ℕ) (x y : Work) → IsWork s.shape.nodes s.shape.horizon x → IsCleared x y → IsSearching s l k y
+pub searching_begins : (s : Site) (l : LabelTable) (k : ℕ) (x y : Work) → IsWork s.shape.nodes s.shape.horizon x → IsUnmarked x y → IsSearching s l k y
 searching_begins s l k x y w c =
     let frames : y.frames.list ≡ [] = ap (λ (p : Pile Frame). p.list) c.frames in
     let seen : y.seen.list ≡ [] = ap (λ (p : Pile Spot). p.list) c.seen in
@@ -98,7 +98,7 @@ searching_begins s l k x y w c =
     none [] e n t h = cc
     none (f ∷ fs) e n t h = cc
 
-pub explored_begins : (w : Network) (l : LabelTable) (k : ℕ) (x y : Work) → IsCleared x y → IsExplored w l k 0 y
+pub explored_begins : (w : Network) (l : LabelTable) (k : ℕ) (x y : Work) → IsUnmarked x y → IsExplored w l k 0 y
 explored_begins w l k x y c =
     let frames : y.frames.list ≡ [] = ap (λ (p : Pile Frame). p.list) c.frames in
     let seen : y.seen.list ≡ [] = ap (λ (p : Pile Spot). p.list) c.seen in
@@ -321,10 +321,10 @@ left_here s l k x f fs h e =
     }
 
 pub searching_left : (s : Site) (l : LabelTable) (k : ℕ) (x z : Work) (f : Frame) → IsSearching s l k x → top_of x.frames.list ≡ Some f
-    → z ≡ left x → IsSearching s l k z
+    → z ≡ popped x → IsSearching s l k z
 searching_left s l k x z f h e same = subst (λ (v : Work). IsSearching s l k v) (sym same) (left_here s l k x f (drop 1 x.frames.list) h (top_cons _ f e))
 
-pub measure_left : (x z : Work) (f : Frame) → top_of x.frames.list ≡ Some f → z ≡ left x
+pub measure_left : (x z : Work) (f : Frame) → top_of x.frames.list ≡ Some f → z ≡ popped x
     → 2 * open_count z.marks + length z.frames.list < 2 * open_count x.marks + length x.frames.list
 measure_left x z f e same =
     omega (arith, ap length (top_cons x.frames.list f e), ap (λ (v : Work). open_count v.marks) same, ap (λ (v : Work). length v.frames.list) same)
@@ -338,7 +338,7 @@ all_expanded w l m k f inside tried done y place stop =
     subst (λ (o : Option PathStep). MatchOption o (Unit {0}) (λ z. IsDone w l m k z)) way.is here
 
 pub explored_left : (w : Network) (l : LabelTable) (k n : ℕ) (x z : Work) (f : Frame) → IsSearching w.site l k x → IsExplored w l k n x
-    → top_of x.frames.list ≡ Some f → AreDone w l x.marks k f (way_count w.site f.spot.node) → z ≡ left x → IsExplored w l k n z
+    → top_of x.frames.list ≡ Some f → AreDone w l x.marks k f (way_count w.site f.spot.node) → z ≡ popped x → IsExplored w l k n z
 explored_left w l k n x z f h r e done same = subst (λ (v : Work). IsExplored w l k n v) (sym same) (here (drop 1 x.frames.list) (top_cons _ f e))
   where
     here : (fs : List Frame) → x.frames.list ≡ f ∷ fs → IsExplored w l k n (record x { frames = record { list = fs; room = x.frames.room } })

@@ -9,7 +9,7 @@ use Rattle.time_expansion.proofs.Lists as lists
 use Rattle.residual_net.specs.declared.place.Place.{Place}
 use Rattle.residual_net.specs.declared.place.Place.TheVariants.{Arc, Hold, Supply}
 use Rattle.residual_net.specs.declared.place.PathStep.{PathStep}
-use Rattle.residual_net.specs.Site.{Site, End, IsPlace, arcs_of, arrival_at, exit_at, head_of, stop_of}
+use Rattle.residual_net.specs.Site.{Site, End, IsPlace, arc_count, arrival_at, exit_at, head_of, stop_of}
 use Rattle.residual_net.specs.Site.End.{Source, Pair, Door}
 use Rattle.terminal_augment.specs.Spots.{IsInside}
 use Rattle.terminal_augment.specs.Ways.{in_count, out_count, way_at, way_back, way_before, way_behind, way_by_arc, way_count, way_in}
@@ -40,7 +40,7 @@ step p b = record { place = p; back = b }
 some_same : {A : Type 0} (x y : A) → Some x ≡ Some y → y ≡ x
 some_same x y e = cc
 
-in_leads : (s : Site) (n t a : ℕ) (y : PathStep) → IsInside s n t → a < arcs_of s → to_at s.shape a ≡ n → way_in s a t ≡ Some y → LeadsTo s n t y
+in_leads : (s : Site) (n t a : ℕ) (y : PathStep) → IsInside s n t → a < arc_count s → to_at s.shape a ≡ n → way_in s a t ≡ Some y → LeadsTo s n t y
 in_leads s n t a y inside l to e = elim (cases_Bool (leb (arrival_at s a 0) t)) [
   | inl h ↦
       let le : arrival_at s a 0 ≤ t = leb-true _ _ h in

@@ -43,8 +43,8 @@ IsChain s k [] = Unit {0}
 IsChain s k (f ∷ fs) = IsFrame s k f fs × IsChain s k fs
 
 -- each frame's step has room
-abbrev pub HasRoom : Network → List Frame → Type 0
-HasRoom w = All (λ f. 0 < residual_room w f.step)
+abbrev pub HaveRoom : Network → List Frame → Type 0
+HaveRoom w = All (λ f. 0 < residual_room w f.step)
 
 -- the ways into a frame's pair before its next one are done
 abbrev pub IsTried : Network → LabelTable → MarkTable → ℕ → Frame → Type 0

@@ -56,8 +56,8 @@ abbrev pub IsLookedAt : Network → ℕ → MarkTable → Look → List PathStep
 IsLookedAt w k m x path = IsTail w k m (starts.At x.spot) x.people (drop x.left path)
 
 -- the path brings that many people to moment k
-abbrev pub IsCarried : Network → ℕ → List PathStep → ℕ → Type 0
-IsCarried w k path people = (e : End) × IsAugmentingPath w path people e k
+abbrev pub CarriesPeople : Network → ℕ → List PathStep → ℕ → Type 0
+CarriesPeople w k path people = (e : End) × IsAugmentingPath w path people e k
 
 -- other marks on the same nodes and moments
 pub record IsMarkedOn (m v : MarkTable) : Type 0 where

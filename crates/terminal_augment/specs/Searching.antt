@@ -58,8 +58,8 @@ abbrev pub retried : Work → Frame → ℕ → Work
 retried x f n = record x { frames = piled (record f { next = n }) (unpiled x.frames) }
 
 -- the top frame is off
-abbrev pub left : Work → Work
-left x = record x { frames = unpiled x.frames }
+abbrev pub popped : Work → Work
+popped x = record x { frames = unpiled x.frames }
 
 -- the top frame is off, and its pair isn't marked any more
 abbrev pub freed_from : Work → List Frame → Work
@@ -75,7 +75,7 @@ released x zero = x
 released x (suc n) = freed (released x n)
 
 -- nothing is marked or seen, and there is no frame
-pub record IsCleared (x y : Work) : Type 0 where
+pub record IsUnmarked (x y : Work) : Type 0 where
   pub nodes : y.marks.nodes ≡ x.marks.nodes
   pub horizon : y.marks.horizon ≡ x.marks.horizon
   pub size : length y.marks.list ≡ length x.marks.list

@@ -2,13 +2,13 @@
 use Rattle.std.specs.Prelude.{ℕ, false, [], ◌∷◌}
 use Rattle.evac_law.specs.declared.model.Model.{Model}
 use Rattle.evac_law.specs.declared.name.Kind.TheVariants as kinds
-use Rattle.residual_net.specs.Worked.{node_row}
+use Rattle.residual_net.specs.Worked.{floor_node}
 
 -- the room and the exit, up to a horizon
-abbrev pub one_room : ℕ → Model
-one_room horizon = record {
+abbrev pub room_with_exit : ℕ → Model
+room_with_exit horizon = record {
   seconds = 5;
   horizon = horizon;
-  nodes = node_row kinds.Work 1 10 3 ∷ (node_row kinds.Exit 1 0 0 ∷ []);
+  nodes = floor_node kinds.Work 1 10 3 ∷ (floor_node kinds.Exit 1 0 0 ∷ []);
   arcs = record { from = 0; to = 1; travel = 1; rate = 2; shut = false } ∷ [];
 }

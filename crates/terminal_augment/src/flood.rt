@@ -3,7 +3,7 @@ ghost use Rattle.std.specs.Prelude.{◌≡◌, ℕ, ◌+◌, ◌<◌, ◌≤◌,
 ghost use Rattle.time_expansion.specs.Expansion.{arcs_from, arcs_to};
 ghost use Rattle.residual_net.specs.declared.place.Place.TheVariants.{Arc};
 ghost use Rattle.residual_net.specs.Network.{IsWithinLimits};
-ghost use Rattle.residual_net.specs.Site.{IsPlace, arcs_of};
+ghost use Rattle.residual_net.specs.Site.{IsPlace, arc_count};
 ghost use Rattle.terminal_augment.specs.Floods.{IsFlooding, IsGrown, IsWayDone};
 ghost use Rattle.terminal_augment.specs.Frames.{IsExpanded};
 ghost use Rattle.terminal_augment.specs.Searching.{AreDoorsDone, IsExplored, IsSearching, IsWork};
@@ -47,7 +47,7 @@ fn meet(net: &Net, labels: &Labels, work: &mut Work, step: PathStep, k: u16) -> 
 fn meet_in(net: &Net, labels: &Labels, work: &mut Work, arc: u32, moment: u16, k: u16) -> bool
     requires within { IsWithinLimits net.now }
     requires labels { IsLabelsOf net.now.site labels.now }
-    requires arc { arc < arcs_of net.now.site }
+    requires arc { arc < arc_count net.now.site }
     requires moment { moment ≤ net.now.site.shape.horizon }
     requires flooding { IsFlooding net.now.site labels.now k work.old }
     ensures flooding { IsFlooding net.now.site labels.now k work.new }
@@ -162,7 +162,7 @@ fn expand(net: &Net, labels: &Labels, work: &mut Work, spot: Spot, k: u16) -> bo
 fn open(net: &Net, labels: &Labels, work: &mut Work, arc: u32, k: u16) -> bool
     requires within { IsWithinLimits net.now }
     requires labels { IsLabelsOf net.now.site labels.now }
-    requires arc { arc < arcs_of net.now.site }
+    requires arc { arc < arc_count net.now.site }
     requires moment { k ≤ net.now.site.shape.horizon }
     requires flooding { IsFlooding net.now.site labels.now k work.old }
     ensures flooding { IsFlooding net.now.site labels.now k work.new }
@@ -182,7 +182,7 @@ fn open_all(net: &Net, labels: &Labels, work: &mut Work, k: u16) -> bool
     requires moment { k ≤ net.now.site.shape.horizon }
     requires flooding { IsFlooding net.now.site labels.now k work.old }
     ensures flooding { IsFlooding net.now.site labels.now k work.new }
-    ensures doors { IsTrue result → AreDoorsDone net.now labels.now work.new.marks k (arcs_of net.now.site) }
+    ensures doors { IsTrue result → AreDoorsDone net.now labels.now work.new.marks k (arc_count net.now.site) }
 {
     let arcs = net.shape().ends().len() as u32;
     for arc in 0..arcs {
@@ -201,7 +201,7 @@ pub fn flood(net: &Net, labels: &Labels, work: &mut Work, k: u16) -> bool
     requires work { IsWork net.now.site.shape.nodes net.now.site.shape.horizon work.old }
     ensures searching { IsSearching net.now.site labels.now k work.new }
     ensures none { work.new.frames.list ≡ [] }
-    ensures explored { IsTrue result → IsExplored net.now labels.now k (arcs_of net.now.site) work.new }
+    ensures explored { IsTrue result → IsExplored net.now labels.now k (arc_count net.now.site) work.new }
 {
     work.clear();
     if !open_all(net, labels, work, k) {

@@ -5,7 +5,7 @@ ghost use Rattle.residual_net.specs.declared.place.Place.TheVariants.{Hold};
 ghost use Rattle.residual_net.specs.Network.{IsNet, IsWithinLimits, residual_room};
 ghost use Rattle.residual_net.specs.Site.{IsPlace, cell_of, head_of, stop_of, tail_of};
 ghost use Rattle.terminal_augment.specs.Frames.{IsStart, end_of};
-ghost use Rattle.terminal_augment.specs.Guesses.{IsCarried, IsLookedAt, IsMarkedOn, IsStep, IsWait};
+ghost use Rattle.terminal_augment.specs.Guesses.{CarriesPeople, IsLookedAt, IsMarkedOn, IsStep, IsWait};
 ghost use Rattle.terminal_augment.specs.Marking.{IsMarks};
 ghost use Rattle.terminal_augment.specs.Searching.{IsWork};
 ghost use Rattle.terminal_augment.specs.Settled.{IsPushedOn};
@@ -207,7 +207,7 @@ fn carried(net: &Net, marks: &mut Marks, path: &[PathStep], most: u32, k: u16) -
     requires marks { IsMarks marks.old }
     requires nodes { marks.old.nodes ≡ net.now.site.shape.nodes }
     requires horizon { marks.old.horizon ≡ net.now.site.shape.horizon }
-    ensures path { 0 < result → IsCarried net.now k path.now result }
+    ensures path { 0 < result → CarriesPeople net.now k path.now result }
     ensures marks { IsMarkedOn marks.old marks.new }
 {
     let mut end = Start::Door(k);

@@ -5,8 +5,8 @@ ghost use Rattle.evac_law.specs.Building.{IsValid};
 ghost use Rattle.evac_law.specs.LabelTable.{label_at};
 ghost use Rattle.residual_net.specs.Network.{IsNet, IsWithinLimits};
 ghost use Rattle.residual_net.specs.OfModel.{site_of};
-ghost use Rattle.residual_net.specs.Site.{arcs_of};
-ghost use Rattle.terminal_augment.specs.Frames.{HasRoom};
+ghost use Rattle.residual_net.specs.Site.{arc_count};
+ghost use Rattle.terminal_augment.specs.Frames.{HaveRoom};
 ghost use Rattle.terminal_augment.specs.Searching.{IsExplored, IsSearching, IsWork};
 ghost use Rattle.terminal_augment.specs.Settled.{IsClosedBelow, IsLabelled, IsLabelsOf, IsPushedOn, IsSearchOf, IsSentOn, IsUnsetFrom, KeepsLimits};
 ghost use Rattle.terminal_augment.specs.Spots.{has};
@@ -29,12 +29,12 @@ use std::sync::ledger::Ledger;
 fn open_door(net: &Net, labels: &Labels, work: &mut Work, arc: u32, k: u16)
     requires within { IsWithinLimits net.now }
     requires labels { IsLabelsOf net.now.site labels.now }
-    requires arc { arc < arcs_of net.now.site }
+    requires arc { arc < arc_count net.now.site }
     requires moment { k ≤ net.now.site.shape.horizon }
     requires searching { IsSearching net.now.site labels.now k work.old }
     requires none { work.old.frames.list ≡ [] }
     ensures searching { IsSearching net.now.site labels.now k work.new }
-    ensures room { HasRoom net.now work.new.frames.list }
+    ensures room { HaveRoom net.now work.new.frames.list }
     ensures explored { IsExplored net.now labels.now k arc work.old → IsExplored net.now labels.now k (arc + 1) work.new }
 {
     if let Some(step) = door_step(net, arc, k) {
@@ -58,7 +58,7 @@ fn send_by<L: Ledger>(
     requires within { IsWithinLimits net.old }
     requires net { IsNet net.old }
     requires labels { IsLabelsOf net.old.site labels.now }
-    requires arc { arc < arcs_of net.old.site }
+    requires arc { arc < arc_count net.old.site }
     requires moment { k ≤ net.old.site.shape.horizon }
     requires searching { IsSearching net.old.site labels.now k work.old }
     requires none { work.old.frames.list ≡ [] }
@@ -92,7 +92,7 @@ fn round<L: Ledger>(
     ensures searching { IsSearching net.new.site labels.now k work.new }
     ensures none { work.new.frames.list ≡ [] }
     ensures pushed { IsPushedOn net.old net.new k result }
-    ensures explored { result ≡ 0 → IsExplored net.new labels.now k (arcs_of net.new.site) work.new }
+    ensures explored { result ≡ 0 → IsExplored net.new labels.now k (arc_count net.new.site) work.new }
     ensures ticked { steps.new ≡ steps.old + result }
 {
     work.clear();
@@ -120,7 +120,7 @@ fn send_all<L: Ledger>(
     ensures searching { IsSearching net.new.site labels.now k work.new }
     ensures none { work.new.frames.list ≡ [] }
     ensures pushed { IsPushedOn net.old net.new k result }
-    ensures explored { IsExplored net.new labels.now k (arcs_of net.new.site) work.new }
+    ensures explored { IsExplored net.new labels.now k (arc_count net.new.site) work.new }
     ensures ticked { steps.new ≡ steps.old + result }
 {
     let mut pushes = 0;
@@ -149,7 +149,7 @@ fn send_both<L: Ledger>(
     ensures searching { IsSearching net.new.site labels.now k work.new }
     ensures none { work.new.frames.list ≡ [] }
     ensures pushed { IsPushedOn net.old net.new k result }
-    ensures explored { IsExplored net.new labels.now k (arcs_of net.new.site) work.new }
+    ensures explored { IsExplored net.new labels.now k (arc_count net.new.site) work.new }
     ensures ticked { steps.new ≡ steps.old + result }
 {
     if scout.waits(net, k) && flood(net, labels, work, k) {

@@ -2,9 +2,9 @@
 ghost use Rattle.std.specs.Prelude.{◌≡◌, ◌+◌, ◌≤◌, IfOk};
 ghost use Rattle.evac_law.specs.Building.{IsValid};
 ghost use Rattle.residual_net.specs.Network.{IsWithinLimits};
-ghost use Rattle.residual_net.specs.Worked.{arc_row, node_row, two_rooms};
+ghost use Rattle.residual_net.specs.Worked.{unit_arc, floor_node, two_rooms};
 ghost use Rattle.terminal_augment.specs.Settled.{IsLabelsOf, IsSearchOf, IsUnsetFrom};
-ghost use Rattle.terminal_augment.specs.Worked.{one_room};
+ghost use Rattle.terminal_augment.specs.Worked.{room_with_exit};
 
 use crate::moment::{Search, settle};
 use evac_law::{ArcRow, Kind, Labels, Model, NodeName, NodeRow, Rows, Steps};
@@ -15,7 +15,7 @@ use std::process::Abort;
 use std::sync::ledger::{Blank, Ledger};
 
 fn room(kind: Kind, number: u16, capacity: u32, start: u32) -> NodeRow
-    ensures { result ≡ node_row kind number capacity start }
+    ensures { result ≡ floor_node kind number capacity start }
 {
     NodeRow {
         name: NodeName {
@@ -30,7 +30,7 @@ fn room(kind: Kind, number: u16, capacity: u32, start: u32) -> NodeRow
 }
 
 fn passage(from: u32, to: u32, travel: u16) -> ArcRow
-    ensures { result ≡ arc_row from to travel }
+    ensures { result ≡ unit_arc from to travel }
 {
     ArcRow {
         from,
@@ -42,7 +42,7 @@ fn passage(from: u32, to: u32, travel: u16) -> ArcRow
 }
 
 fn room_and_exit(alloc: Global) -> Result<Model, AllocError>
-    ensures { IfOk result (λ m. m ≡ one_room 20) }
+    ensures { IfOk result (λ m. m ≡ room_with_exit 20) }
 {
     let nodes = [room(Kind::Work, 1, 10, 3), room(Kind::Exit, 1, 0, 0)];
     let arcs = [ArcRow {

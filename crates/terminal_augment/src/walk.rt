@@ -3,7 +3,7 @@ ghost use Rattle.std.specs.Prelude.{◌≡◌, ℕ, ◌+◌, ◌*◌, ◌<◌, �
 ghost use Rattle.std.specs.List.{All};
 ghost use Rattle.residual_net.specs.Network.{IsNet, IsWithinLimits, residual_room};
 ghost use Rattle.residual_net.specs.Site.{IsPlace};
-ghost use Rattle.terminal_augment.specs.Frames.{HasRoom, IsFound, steps_of};
+ghost use Rattle.terminal_augment.specs.Frames.{HaveRoom, IsFound, steps_of};
 ghost use Rattle.terminal_augment.specs.Marking.{open_count};
 ghost use Rattle.terminal_augment.specs.Piles.{top_of};
 ghost use Rattle.terminal_augment.specs.Searching.{IsExplored, IsSearching, effort};
@@ -23,10 +23,10 @@ fn advance(net: &Net, labels: &Labels, work: &mut Work, frame: Frame, k: u16) ->
     requires within { IsWithinLimits net.now }
     requires labels { IsLabelsOf net.now.site labels.now }
     requires searching { IsSearching net.now.site labels.now k work.old }
-    requires room { HasRoom net.now work.old.frames.list }
+    requires room { HaveRoom net.now work.old.frames.list }
     requires top { top_of work.old.frames.list ≡ Some frame }
     ensures searching { IsSearching net.now.site labels.now k work.new }
-    ensures room { HasRoom net.now work.new.frames.list }
+    ensures room { HaveRoom net.now work.new.frames.list }
     ensures explored { (arc : ℕ) → IsExplored net.now labels.now k arc work.old → IsExplored net.now labels.now k arc work.new }
     ensures found { MatchOption result (effort work.new < effort work.old) (λ y. IsFound net.now k work.new.frames.list y) }
 {
@@ -53,9 +53,9 @@ fn descend(net: &Net, labels: &Labels, work: &mut Work, k: u16) -> Option<PathSt
     requires within { IsWithinLimits net.now }
     requires labels { IsLabelsOf net.now.site labels.now }
     requires searching { IsSearching net.now.site labels.now k work.old }
-    requires room { HasRoom net.now work.old.frames.list }
+    requires room { HaveRoom net.now work.old.frames.list }
     ensures searching { IsSearching net.now.site labels.now k work.new }
-    ensures room { HasRoom net.now work.new.frames.list }
+    ensures room { HaveRoom net.now work.new.frames.list }
     ensures explored { (arc : ℕ) → IsExplored net.now labels.now k arc work.old → IsExplored net.now labels.now k arc work.new }
     ensures found { MatchOption result (work.new.frames.list ≡ []) (λ y. IsFound net.now k work.new.frames.list y) }
 {
@@ -74,7 +74,7 @@ fn lay(net: &Net, path: &mut Path, frames: &Pile<Frame>, found: PathStep) -> u32
     requires place { IsPlace net.now.site found.place }
     requires places { All (λ f. IsPlace net.now.site f.step.place) frames.now.list }
     requires some { 0 < residual_room net.now found }
-    requires room { HasRoom net.now frames.now.list }
+    requires room { HaveRoom net.now frames.now.list }
     ensures path { path.new ≡ record { steps = found ∷ steps_of frames.now.list; room = path.old.room } }
     ensures some { 1 ≤ result }
     ensures room { All (λ y. result ≤ residual_room net.now y) path.new.steps }
@@ -95,7 +95,7 @@ fn full_count(net: &Net, frames: &Pile<Frame>) -> usize
     requires within { IsWithinLimits net.now }
     requires places { All (λ f. IsPlace net.now.site f.step.place) frames.now.list }
     ensures count { result ≤ length frames.now.list }
-    ensures room { HasRoom net.now (drop result frames.now.list) }
+    ensures room { HaveRoom net.now (drop result frames.now.list) }
 {
     let mut count = 0;
     for number in 0..frames.len() {
@@ -118,9 +118,9 @@ pub fn send_next<L: Ledger>(
     requires net { IsNet net.old }
     requires labels { IsLabelsOf net.old.site labels.now }
     requires searching { IsSearching net.old.site labels.now k work.old }
-    requires room { HasRoom net.old work.old.frames.list }
+    requires room { HaveRoom net.old work.old.frames.list }
     ensures searching { IsSearching net.new.site labels.now k work.new }
-    ensures room { HasRoom net.new work.new.frames.list }
+    ensures room { HaveRoom net.new work.new.frames.list }
     ensures pushed { IsPushedOn net.old net.new k (if result then 1 else 0) }
     ensures over { IsFalse result → work.new.frames.list ≡ [] }
     ensures explored { IsFalse result → (arc : ℕ) → IsExplored net.old labels.now k arc work.old → IsExplored net.new labels.now k arc work.new }

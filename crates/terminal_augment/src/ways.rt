@@ -1,7 +1,7 @@
 // The steps that lead into a node at a moment, and which of them a search may take.
 ghost use Rattle.std.specs.Prelude.{◌≡◌, ℕ, ◌+◌, ◌<◌, ◌≤◌, ◌^◌, IsFalse, IsTrue, false, length, not, true};
 ghost use Rattle.residual_net.specs.Network.{IsWithinLimits, flow_at, limit_at, residual_room};
-ghost use Rattle.residual_net.specs.Site.{IsPlace, arcs_of, head_of, start_of, tail_of};
+ghost use Rattle.residual_net.specs.Site.{IsPlace, arc_count, head_of, start_of, tail_of};
 ghost use Rattle.terminal_augment.specs.Frames.{IsLooked, IsStart, end_of};
 ghost use Rattle.terminal_augment.specs.Settled.{IsLabelsOf};
 ghost use Rattle.terminal_augment.specs.Spots.{IsInside};
@@ -26,7 +26,7 @@ pub fn back(place: Place) -> PathStep
 
 /// An arc forwards, for whoever arrives at a moment.
 fn way_in(net: &Net, arc: u32, moment: u16) -> Option<PathStep>
-    requires { arc < arcs_of net.now.site }
+    requires { arc < arc_count net.now.site }
     ensures { result ≡ way_in net.now.site arc moment }
 {
     let travel = net.travel(arc);
@@ -228,7 +228,7 @@ pub fn look(net: &Net, labels: &Labels, marks: &Marks, frame: Frame, k: u16) -> 
 
 /// The step over an arc that arrives at an exit at a moment, where there is one.
 pub fn door_step(net: &Net, arc: u32, k: u16) -> Option<PathStep>
-    requires arc { arc < arcs_of net.now.site }
+    requires arc { arc < arc_count net.now.site }
     requires moment { k ≤ net.now.site.shape.horizon }
     ensures { IsDoorStep net.now.site arc k result }
 {

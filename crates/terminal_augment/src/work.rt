@@ -3,7 +3,7 @@ ghost use Rattle.std.specs.Prelude.{◌≡◌, ◌<◌, ◌≤◌, IfOk, length}
 ghost use Rattle.std.specs.List.{All};
 ghost use Rattle.terminal_augment.specs.Marking.{IsMarks};
 ghost use Rattle.terminal_augment.specs.Piles.{top_of};
-ghost use Rattle.terminal_augment.specs.Searching.{IsCleared, IsWork, entered, freed, left, noted, released, retried};
+ghost use Rattle.terminal_augment.specs.Searching.{IsUnmarked, IsWork, entered, freed, popped, noted, released, retried};
 
 use crate::marks::Marks;
 use crate::pile::Pile;
@@ -37,7 +37,7 @@ impl Work {
 
     /// Begins anew: nothing is marked or seen.
     pub fn clear(&mut self)
-        ensures { IsCleared self.old self.new }
+        ensures { IsUnmarked self.old self.new }
     {
         self.marks.clear();
         self.frames.clear();
@@ -89,7 +89,7 @@ impl Work {
     /// Takes the top frame off.
     pub fn leave(&mut self)
         requires { 0 < length self.old.frames.list }
-        ensures { self.new ≡ left self.old }
+        ensures { self.new ≡ popped self.old }
     {
         self.frames.pop();
     }

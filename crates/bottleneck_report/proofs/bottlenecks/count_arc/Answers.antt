@@ -3,7 +3,7 @@ use Rattle.std.specs.List.{list_any}
 use Rattle.evac_law.specs.Certificates.{label_cut}
 use Rattle.evac_law.specs.Cuts.{leaves_cut}
 use Rattle.evac_law.specs.Sums.{below}
-use Rattle.bottleneck_report.proofs.CoverLemmas.{any-below}
+use Rattle.evac_law.proofs.PartLemmas.{any-below}
 use Rattle.bottleneck_report.proofs.ItemLemmas.{arc_counted}
 use Rattle.bottleneck_report.proofs.bottlenecks.count_arc.Goals as goal
 

@@ -1,7 +1,7 @@
 use Rattle.std.proofs.Common.{◌≡◌, ◌∙◌, ◌||◌, ap, ap₂, sym, arith, add-one}
 use Rattle.std.specs.List.{list_any}
 use Rattle.evac_law.specs.Sums.{below}
-use Rattle.bottleneck_report.proofs.CoverLemmas.{any-below}
+use Rattle.evac_law.proofs.PartLemmas.{any-below}
 use Rattle.bottleneck_report.proofs.ItemLemmas.{hold_counted, is_held_out}
 use Rattle.bottleneck_report.proofs.bottlenecks.count_hold.Goals as goal
 

@@ -1,12 +1,12 @@
 use Rattle.std.proofs.Common.{◌≡◌, ◌≤◌, ℕ, ◌+◌, ◌*◌, ◌^◌, length, sum_by}
 use Rattle.evac_law.specs.Sums.{below}
-use Rattle.cut_witness.specs.Changes.{IsNet, turnover}
+use Rattle.cut_witness.specs.Changes.{IsBalance, turnover}
 use Rattle.cut_witness.specs.Shares.{entry_share}
 use Rattle.cut_witness.proofs.values.add_entries_of.Given as goal
 
 abbrev pub invariant-loop-moment : goal.invariant-loop-moment
 invariant-loop-moment l = record {
   periods : length l.differences.rises ≡ l.model.horizon + 1;
-  net : (k v : ℕ) → k ≤ l.model.horizon → IsNet l.fn.differences k v → IsNet l.differences k (v + sum_by (entry_share l.model l.labels k l.node) (below l.moment));
+  net : (k v : ℕ) → k ≤ l.model.horizon → IsBalance l.fn.differences k v → IsBalance l.differences k (v + sum_by (entry_share l.model l.labels k l.node) (below l.moment));
   turnover : turnover l.differences ≤ turnover l.fn.differences + l.moment * 2 ^ 33;
 }

@@ -1,12 +1,12 @@
 use Rattle.std.proofs.Common.{◌≡◌, ◌≤◌, ℕ, ◌+◌, ◌*◌, ◌^◌, length, sum_by}
 use Rattle.evac_law.specs.Sums.{below}
-use Rattle.cut_witness.specs.Changes.{IsNet, turnover}
+use Rattle.cut_witness.specs.Changes.{IsBalance, turnover}
 use Rattle.cut_witness.specs.Shares.{hold_shares}
 use Rattle.cut_witness.proofs.values.add_holds.Given as goal
 
 abbrev pub invariant-loop-node : goal.invariant-loop-node
 invariant-loop-node l = record {
   periods : length l.differences.rises ≡ l.model.horizon + 1;
-  net : (k v : ℕ) → k ≤ l.model.horizon → IsNet l.fn.differences k v → IsNet l.differences k (v + sum_by (hold_shares l.model l.labels k) (below l.node));
+  net : (k v : ℕ) → k ≤ l.model.horizon → IsBalance l.fn.differences k v → IsBalance l.differences k (v + sum_by (hold_shares l.model l.labels k) (below l.node));
   turnover : turnover l.differences ≤ turnover l.fn.differences + l.node * 2 ^ 49;
 }

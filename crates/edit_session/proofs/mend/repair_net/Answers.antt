@@ -5,15 +5,16 @@ use Rattle.residual_net.specs.OfModel.{IsNetOf, last_move, plan_of}
 use Rattle.residual_net.specs.Site.{Site, IsPlace}
 use Rattle.residual_net.proofs.Effects.{arrived_all_sent}
 use Rattle.residual_net.proofs.Kept.{same_saved}
+use Rattle.residual_net.proofs.LastArrival.{last_fits}
 use Rattle.terminal_augment.specs.Settled.{IsClosedBelow}
 use Rattle.lex_flow.specs.declared.outcome.Outcome.{Outcome}
 use Rattle.lex_flow.specs.declared.outcome.Outcome.TheVariants.{Cleared, Short}
 use Rattle.lex_flow.specs.Outcomes.{IsAnswer, IsBounded, IsCleared, last_settled, pushes_of}
 use Rattle.lex_flow.specs.Settling.{arrivals_below}
 use Rattle.lex_flow.proofs.SettleLemmas.{net_of_kept}
-use Rattle.flow_repair.proofs.Whole.{last_in, valid_now}
+use Rattle.flow_repair.proofs.Whole.{valid_now}
 use Rattle.edit_session.specs.declared.work.Work.{Work}
-use Rattle.edit_session.specs.Mended.{last_of}
+use Rattle.edit_session.specs.Mended.{last_arrival_of}
 use Rattle.edit_session.proofs.Saved.{arrived_saved, closed_saved, edit_saved, flow_saved, of_saved, plan_saved, sent_saved, within_saved}
 use Rattle.edit_session.proofs.Thrifty.{spent, thrifty}
 use Rattle.edit_session.proofs.mend.repair_net.Goals as goal
@@ -40,7 +41,7 @@ settle_all-requires-clause-from g c =
     let same : s.site ≡ w.site = ap (λ (z : Network). z.site) c.save.ensures in
     let plan : plan_of s ≡ plan_of w = ap plan_of c.save.ensures ∙ plan_saved w in
     let last : last_move s.site (plan_of s) ≡ last_move w.site (plan_of w) = ap₂ last_move same plan in
-    omega (arith, c.reshape-taken.ensures.least.most, last, last_in w c.shape.ensures.net, ap (λ (z : Site). z.shape.horizon) (site ∙ same))
+    omega (arith, c.reshape-taken.ensures.least.most, last, last_fits w c.shape.ensures.net, ap (λ (z : Site). z.shape.horizon) (site ∙ same))
 
 pub returns-in-Cleared-clause-mended : goal.returns-in-Cleared-clause-mended
 returns-in-Cleared-clause-mended g c =
@@ -63,7 +64,7 @@ returns-in-Cleared-clause-mended g c =
     let idle : pushes ≡ 0 → u ≡ v = λ e. done.idle (ap pushes_of c.in-Cleared.is ∙ e) in
     let same : s.site ≡ w.site = ap (λ (z : Network). z.site) c.save.ensures in
     let site : u.site ≡ w.site = done.limits.site ∙ taken.site ∙ same in
-    let last : moment ≡ last_of u = answer.last in
+    let last : moment ≡ last_arrival_of u = answer.last in
     rw c.copy_from-in-Cleared.ensures (record {
       site = site;
       standing = record {
@@ -85,7 +86,7 @@ returns-in-Cleared-clause-mended g c =
       thrifty = λ b valid_b of_b.
           let of_s : IsNetOf b s = rw c.save.ensures (of_saved b w of_b) in
           let work : Work = record { cancelled = c.reshape-taken.result.cancelled; pushes = pushes } in
-          thrifty b m w v u (last_of u) work valid_b valid c.shape.ensures.net c.shape-in-Cleared.ensures.net of_b of_u (taken.site ∙ same)
+          thrifty b m w v u (last_arrival_of u) work valid_b valid c.shape.ensures.net c.shape-in-Cleared.ensures.net of_b of_u (taken.site ∙ same)
           (subst (λ z. c.reshape-taken.result.cancelled ≤ violation b z m) (ap plan_of c.save.ensures ∙ plan_saved w) (taken.few b valid_b of_s))
           (λ k. omega (arith, taken.arrivals k, ap (λ (z : Network). arrived_by z k) c.save.ensures, arrived_saved w k))
           (λ e p i. taken.idle e p (subst (λ (z : Site). IsPlace z p) (sym same) i) ∙ ap (λ (z : Network). flow_at z p) c.save.ensures ∙ flow_saved w p)

@@ -23,16 +23,16 @@ returns-in-Err-read_block-clause-takes g c =
     let read = c.in-Ok.ensures in
     let block = c.in-Err-read_block.ensures in
     let p = passes-then _ _ _ _ _ _ read.bytes.texts block.bytes.texts read.bytes.passes block.bytes.passes in
-    takes IsOpenClaim (Err c.fault_of.result) c.args.lines.now c.read_block.new.lines _ _ _ c.requires p tt
-    (λ e. (let same : c.fault_of.result ≡ ReadFault = cc in
-    let f = failed-reading c.in-Err-read_block.fault (sym c.fault_of.ensures ∙ same) in
+    takes IsOpenClaim (Err c.block_fault.result) c.args.lines.now c.read_block.new.lines _ _ _ c.requires p tt
+    (λ e. (let same : c.block_fault.result ≡ ReadFault = cc in
+    let f = failed-reading c.in-Err-read_block.fault (sym c.block_fault.ensures ∙ same) in
     (block.unfinished (ap Err f), open-in-block _ _ _ _ _ _ c.in-Ok.building c.in-Err-read_block.fault c.requires read.bytes block.bytes f)))
 
 pub returns-in-Err-read_block-clause-failed : goal.returns-in-Err-read_block-clause-failed
 returns-in-Err-read_block-clause-failed g c e =
-    let same : c.fault_of.result ≡ ReadFault = cc in
+    let same : c.block_fault.result ≡ ReadFault = cc in
     subst (λ (n : Count). Rose n (g.S.Source.faults c.read_block.new.source)) (c.in-Ok.ensures.quiet (λ e. cc))
-    (c.in-Err-read_block.ensures.failed (ap Err (failed-reading c.in-Err-read_block.fault (sym c.fault_of.ensures ∙ same))))
+    (c.in-Err-read_block.ensures.failed (ap Err (failed-reading c.in-Err-read_block.fault (sym c.block_fault.ensures ∙ same))))
 
 pub returns-in-Ok-read_tail-clause-input : goal.returns-in-Ok-read_tail-clause-input
 returns-in-Ok-read_tail-clause-input g c =

@@ -1,5 +1,5 @@
 use Rattle.std.proofs.Common.{Err, ap, refl}
-use Rattle.evac_top.specs.Solve.{IsSolved}
+use Rattle.evac_top.specs.Solve.{IsPlannedOrShort}
 use Rattle.evac_top.specs.declared.words.Mode.TheVariants.{Solve}
 use Rattle.evac_top.proofs.SolveLemmas.{said-building, solve-fault, solved-few}
 use Rattle.evac_top.proofs.TellLemmas.{no-memory, read-told, solve-reads, stopped, told-map}
@@ -13,7 +13,7 @@ returns-in-Ok g c =
     let flags = c.args.flags in
     let input = c.in-Ok.input in
     let told = c.answer.ensures in
-    read-told (Solve flags) (solve-reads flags) (IsSolved flags input.building.names input.building.model input.last) input c.answer.result told.0 _ _ c.in-Ok.ensures.takes
+    read-told (Solve flags) (solve-reads flags) (IsPlannedOrShort flags input.building.names input.building.model input.last) input c.answer.result told.0 _ _ c.in-Ok.ensures.takes
     (c.in-Ok.ensures.quiet (λ e. cc)) told.1 told.2 (solved-few flags input.building.names input.building.model input.last)
     (told-map _ _ _ (said-building flags input) c.in-Ok.ensures.input)
 

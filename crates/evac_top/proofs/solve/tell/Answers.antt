@@ -1,5 +1,5 @@
 use Rattle.std.proofs.Common.{inr}
-use Rattle.evac_top.specs.Solve.{IsSolved}
+use Rattle.evac_top.specs.Solve.{IsPlannedOrShort}
 use Rattle.evac_top.proofs.SolveLemmas.{begins-own, begun-as, fault-as, told-planned, told-short}
 use Rattle.evac_top.proofs.solve.tell.Goals as goal
 
@@ -22,5 +22,5 @@ returns-in-Ok g c = λ m steps ends.
 pub returns-in-Err : goal.returns-in-Err
 returns-in-Err g c = λ m steps ends.
     let line = c.args.line in
-    told-short (IsSolved c.args.flags c.args.names.now m line) m line steps c.stop_short.result _ _ (λ x h. inr h)
+    told-short (IsPlannedOrShort c.args.flags c.args.names.now m line) m line steps c.stop_short.result _ _ (λ x h. inr h)
     (c.stop_short.ensures m steps (fault-as m steps c.args.begun c.in-Err.fault c.in-Err.is ends))

@@ -1,7 +1,7 @@
 use Rattle.std.proofs.Common.{◌&&◌, eqb, refl, sym, subst}
 use Rattle.evac_law.specs.declared.edit.Edit.{Edit}
 use Rattle.evac_law.specs.declared.edit.Edit.TheVariants.{Shift}
-use Rattle.residual_net.specs.Start.{is_kind, number_of}
+use Rattle.residual_net.specs.Start.{is_kind, row_of}
 use Rattle.residual_net.specs.declared.start.Kind.TheVariants as kinds
 use Rattle.flow_repair.specs.Refit.{IsRefitted}
 use Rattle.flow_repair.specs.Touched.{touches}
@@ -17,7 +17,7 @@ returns-in-Shift-clause-refitted g c =
     let u = c.fit_row-in-Shift.new.net in
     let from = c.in-Shift.from in
     let to = c.in-Shift.to in
-    let both = refitted_then m l w v u (λ p. is_kind kinds.Supply p && eqb (number_of p) from) (λ p. is_kind kinds.Supply p && eqb (number_of p) to)
+    let both = refitted_then m l w v u (λ p. is_kind kinds.Supply p && eqb (row_of p) from) (λ p. is_kind kinds.Supply p && eqb (row_of p) to)
     (touches w.site (Shift from to c.in-Shift.people)) c.args.done c.fit_row-left.result c.fit_row-in-Shift.result
     c.fit_row-left.ensures.refitted c.fit_row-in-Shift.ensures.refitted (λ p _. refl) in
     subst (λ (e : Edit). IsRefitted m l w u (touches w.site e) c.args.done c.fit_row-in-Shift.result) (sym c.in-Shift.is) both

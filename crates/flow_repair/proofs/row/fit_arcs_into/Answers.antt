@@ -2,7 +2,7 @@ use Rattle.std.proofs.Common.{◌≡◌, ◌+◌, ℕ, eqb, ltb, ◌&&◌, ap, s
 use Rattle.evac_law.specs.Limits.{arc_limit}
 use Rattle.time_expansion.specs.Expansion.{to_at}
 use Rattle.residual_net.specs.Site.{Site}
-use Rattle.residual_net.specs.Start.{is_kind, number_of}
+use Rattle.residual_net.specs.Start.{is_kind, row_of}
 use Rattle.residual_net.specs.declared.start.Kind.TheVariants as kinds
 use Rattle.flow_repair.specs.Refit.{IsRefitted}
 use Rattle.flow_repair.proofs.Arcs.{arcs_step}
@@ -17,7 +17,7 @@ overflow_cast-arc-end g c = omega (arith, c.requires.valid.arcs_fit, c.len-arc-e
 pub fit_arc_into-now-requires-clause-between : goal.fit_arc_into-now-requires-clause-between
 fit_arc_into-now-requires-clause-between g c =
     still_between c.args.model.now c.args.labels.now c.args.net.now c.loop-arc.net
-    (λ p. (is_kind kinds.Arc p && eqb (to_at c.args.net.now.site.shape (number_of p)) c.args.node) && ltb (number_of p) c.loop-arc.arc) c.args.done
+    (λ p. (is_kind kinds.Arc p && eqb (to_at c.args.net.now.site.shape (row_of p)) c.args.node) && ltb (row_of p) c.loop-arc.arc) c.args.done
     c.loop-arc.now c.requires.between c.loop-arc.invariant.refitted
 
 pub loop-arc-preserved : goal.loop-arc-preserved
@@ -33,11 +33,11 @@ loop-arc-preserved g c =
     let n = c.args.node in
     let f = λ (i : ℕ). to_at w.site.shape i in
     let same : to_at u.site.shape a ≡ f a = ap (λ (s : Site). to_at s.shape a) old.refitted.site in
-    let here = subst (λ (y : ℕ). IsRefitted m l u v (λ p. (is_kind kinds.Arc p && eqb (number_of p) a) && eqb y n) c.loop-arc.now c.fit_arc_into-now.result) same done.refitted in
+    let here = subst (λ (y : ℕ). IsRefitted m l u v (λ p. (is_kind kinds.Arc p && eqb (row_of p) a) && eqb y n) c.loop-arc.now c.fit_arc_into-now.result) same done.refitted in
     record {
-      refitted = refitted_then m l w u v (λ p. (is_kind kinds.Arc p && eqb (f (number_of p)) n) && ltb (number_of p) a)
-          (λ p. (is_kind kinds.Arc p && eqb (number_of p) a) && eqb (f a) n) (λ p. (is_kind kinds.Arc p && eqb (f (number_of p)) n) && ltb (number_of p) (a + 1))
-          c.args.done c.loop-arc.now c.fit_arc_into-now.result old.refitted here (λ p _. arcs_step f (is_kind kinds.Arc p) (number_of p) a n);
+      refitted = refitted_then m l w u v (λ p. (is_kind kinds.Arc p && eqb (f (row_of p)) n) && ltb (row_of p) a)
+          (λ p. (is_kind kinds.Arc p && eqb (row_of p) a) && eqb (f a) n) (λ p. (is_kind kinds.Arc p && eqb (f (row_of p)) n) && ltb (row_of p) (a + 1))
+          c.args.done c.loop-arc.now c.fit_arc_into-now.result old.refitted here (λ p _. arcs_step f (is_kind kinds.Arc p) (row_of p) a n);
       within = done.within;
       room = done.room ∙ old.room;
       counted = omega (arith, done.counted, old.counted);

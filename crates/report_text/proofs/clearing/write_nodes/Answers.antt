@@ -1,17 +1,17 @@
 use Rattle.std.proofs.Common.{◌∙◌, arith, length}
 use Rattle.line_io.proofs.TextLemmas.{text-failed}
 use Rattle.certificate_text.proofs.TextParts.{front-part, puts-part}
-use Rattle.clearing_report.specs.Clearing.{moment_of}
+use Rattle.clearing_report.specs.Clearing.{clearing_moment}
 use Rattle.report_text.specs.ReportText.{node_clear_part}
 use Rattle.report_text.proofs.clearing.write_nodes.Goals as goal
 
 pub loop-node-preserved : goal.loop-node-preserved
 loop-node-preserved g c = record {
-  text = puts-part (node_clear_part c.args.model.now (moment_of c.args.clearing.now)) c.loop-node.node c.loop-node.invariant.text c.in_ok-write_node.ensures.text.ok;
+  text = puts-part (node_clear_part c.args.model.now (clearing_moment c.args.clearing.now)) c.loop-node.node c.loop-node.invariant.text c.in_ok-write_node.ensures.text.ok;
   faults = c.in_ok-write_node.ensures.cause.same ∙ c.loop-node.invariant.faults;
 }
 
 pub returns-in_err-write_node-clause-text : goal.returns-in_err-write_node-clause-text
 returns-in_err-write_node-clause-text g c =
     text-failed c.from_residual.result c.from_residual.ensures.0
-    (front-part (node_clear_part c.args.model.now (moment_of c.args.clearing.now)) c.loop-node.node (length c.args.model.now.nodes) (omega (arith, c.loop-node-test.true)) c.loop-node.invariant.text c.in_err-write_node.ensures.text.err)
+    (front-part (node_clear_part c.args.model.now (clearing_moment c.args.clearing.now)) c.loop-node.node (length c.args.model.now.nodes) (omega (arith, c.loop-node-test.true)) c.loop-node.invariant.text c.in_err-write_node.ensures.text.err)

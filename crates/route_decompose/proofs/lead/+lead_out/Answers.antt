@@ -3,7 +3,7 @@ use Rattle.std.proofs.lemmas.List.{length-append}
 use Rattle.evac_law.specs.Building.{arrival, head, is_exit_at}
 use Rattle.evac_law.specs.Limits.{horizon_limit, travel_limit}
 use Rattle.evac_law.specs.declared.model.ArcRow.{ArcRow}
-use Rattle.route_decompose.specs.Stocks.{TrailView, IsLedOn, before, coming}
+use Rattle.route_decompose.specs.Stocks.{TrailView, IsLedOn, before, left_coming}
 use Rattle.route_decompose.specs.Tables.{people_at}
 use Rattle.route_decompose.proofs.Going.{arc_of, arrives_in_time, comes, on_by_hold, on_by_move, on_to_exit, stays, stays_before, still_left}
 use Rattle.route_decompose.proofs.Leading.{step_of}
@@ -46,8 +46,8 @@ lead_out-people-requires-2 t c =
     let inside : IsFalse (is_exit_at s.model c.arc-row.result.to) = sym c.is_exit.ensures ∙ c.if-is_exit.false in
     let time : 1 ≤ c.arc-row.result.travel = subst (λ (r : ArcRow). 1 ≤ r.travel) (sym row) arc.travel_fits.0 in
     let within : m + c.arc-row.result.travel ≤ s.model.horizon = subst (λ (r : ArcRow). m + r.travel ≤ s.model.horizon) (sym row) (arrives_in_time s c.requires.left a m facts.0 facts.2) in
-    let someone : 0 < before s c.arc-row.result.to (m + c.arc-row.result.travel) + coming s c.arc-row.result.to (m + c.arc-row.result.travel) =
-    subst (λ (r : ArcRow). 0 < before s r.to (m + r.travel) + coming s r.to (m + r.travel)) (sym row) (comes s c.requires.left a m facts.0 facts.2) in
+    let someone : 0 < before s c.arc-row.result.to (m + c.arc-row.result.travel) + left_coming s c.arc-row.result.to (m + c.arc-row.result.travel) =
+    subst (λ (r : ArcRow). 0 < before s r.to (m + r.travel) + left_coming s r.to (m + r.travel)) (sym row) (comes s c.requires.left a m facts.0 facts.2) in
     let some : 1 ≤ c.min-2.result = omega (arith, c.min-2.ensures, c.requires.some, c.left-left.ensures, facts.2) in
     let longer : length c.add.new.self.steps ≡ length c.args.trail.now.steps + 1 =
     ap (λ (x : TrailView). length x.steps) c.add.ensures ∙ length-append c.args.trail.now.steps (record { moment = m; arc = a } ∷ []) in

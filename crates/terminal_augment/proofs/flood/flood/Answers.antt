@@ -1,5 +1,5 @@
 use Rattle.std.proofs.Common.{◌≡◌, ℕ, ◌+◌, ◌-◌, ◌<◌, length, get_or, ap, subst, ◌∙◌, refl, arith}
-use Rattle.residual_net.specs.Site.{arcs_of}
+use Rattle.residual_net.specs.Site.{arc_count}
 use Rattle.terminal_augment.specs.declared.spot.Spot.{Spot}
 use Rattle.terminal_augment.specs.Frames.{IsExpanded}
 use Rattle.terminal_augment.proofs.FloodLemmas.{doors_later, expanded_more, flooding_begins, flooding_explored, flooding_searches}
@@ -31,7 +31,7 @@ loop-done-preserved c =
     let some : c.loop-done.done < length x.seen.list = omega (arith, c.loop-done-test.true, c.len.ensures) in
     record {
       flooding = c.expand.ensures.flooding;
-      doors = doors_later w l c.args.k (arcs_of w.site) x y grown old.doors;
+      doors = doors_later w l c.args.k (arc_count w.site) x y grown old.doors;
       fits = omega (arith, grown.more, some);
       expanded = expanded_more w l c.args.k c.loop-done.done x y c.get-spot.result grown some old.expanded
           (subst (λ (z : Spot). IsExpanded w l y.marks c.args.k z.node z.moment) is (c.if-not-expand.ensures.expanded refl));
@@ -45,5 +45,5 @@ pub returns-clause-explored : goal.returns-clause-explored
 returns-clause-explored c q =
     let x = c.loop-done.work in
     let old = c.loop-done.invariant in
-    flooding_explored c.args.net.now c.args.labels.now c.args.k (arcs_of c.args.net.now.site) c.loop-done.done x old.flooding old.doors old.expanded
+    flooding_explored c.args.net.now c.args.labels.now c.args.k (arc_count c.args.net.now.site) c.loop-done.done x old.flooding old.doors old.expanded
     (omega (arith, c.loop-done-test.false, c.len.ensures))

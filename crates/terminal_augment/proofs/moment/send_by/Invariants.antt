@@ -1,7 +1,7 @@
 use Rattle.std.proofs.Common.{◌≡◌, ◌+◌, ◌-◌}
 use Rattle.residual_net.specs.Limits.{supply_limit}
 use Rattle.residual_net.specs.Network.{arrived_by}
-use Rattle.terminal_augment.specs.Frames.{HasRoom}
+use Rattle.terminal_augment.specs.Frames.{HaveRoom}
 use Rattle.terminal_augment.specs.Searching.{IsExplored, IsSearching}
 use Rattle.terminal_augment.specs.Settled.{IsPushedOn}
 use Rattle.terminal_augment.proofs.moment.send_by.Given as goal
@@ -9,7 +9,7 @@ use Rattle.terminal_augment.proofs.moment.send_by.Given as goal
 abbrev pub invariant-loop-pushes : goal.invariant-loop-pushes
 invariant-loop-pushes g l = record {
   searching : IsSearching l.net.site l.labels l.k l.work;
-  room : HasRoom l.net l.work.frames.list;
+  room : HaveRoom l.net l.work.frames.list;
   pushed : IsPushedOn l.fn.net l.net l.k l.pushes;
   explored : l.pushes ≡ 0 → IsExplored l.fn.net l.labels l.k l.arc l.fn.work → IsExplored l.net l.labels l.k (l.arc + 1) l.work;
   ticked : l.steps ≡ l.fn.steps + l.pushes;

@@ -4,7 +4,7 @@ use Rattle.residual_net.specs.Route.{Trail}
 use Rattle.residual_net.specs.Site.{Site, IsPlace, start_of}
 use Rattle.terminal_augment.specs.declared.spot.Frame.{Frame}
 use Rattle.terminal_augment.specs.declared.work.Work.{Work}
-use Rattle.terminal_augment.specs.Frames.{HasRoom, steps_of}
+use Rattle.terminal_augment.specs.Frames.{HaveRoom, steps_of}
 use Rattle.terminal_augment.specs.Searching.{IsSearching}
 use Rattle.terminal_augment.proofs.SearchLemmas as search
 use Rattle.terminal_augment.proofs.SendLemmas as send
@@ -52,7 +52,7 @@ returns-in-Some-clause-room g c =
     let x : Work = record { marks = d.marks; frames = d.frames; seen = c.clear.new.self; path = c.lay-people.new.path } in
     let n = c.full_count-full.result in
     let list = ap (λ (v : Work). v.frames.list) c.release.ensures.released ∙ search.released_list x n in
-    subst (λ (fs : List Frame). HasRoom c.push.new.self fs) (sym list) c.full_count-full.ensures.room
+    subst (λ (fs : List Frame). HaveRoom c.push.new.self fs) (sym list) c.full_count-full.ensures.room
 
 pub returns-in-Some-clause-pushed : goal.returns-in-Some-clause-pushed
 returns-in-Some-clause-pushed g c =

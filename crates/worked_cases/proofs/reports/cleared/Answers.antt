@@ -1,10 +1,10 @@
-use Rattle.worked_cases.proofs.Solved.{all_out_by, feasible_by}
+use Rattle.session_text.proofs.Solved.{all_out_of, feasible_of}
 use Rattle.worked_cases.proofs.reports.cleared.Goals as goal
 
 pub fill-requires-clause-feasible : goal.fill-requires-clause-feasible
 fill-requires-clause-feasible g c =
-    feasible_by c.args.session.now.state c.model-model.result.now c.model-model.ensures.model c.model-model.ensures.solved
+    feasible_of c.args.session.now.state c.model-model.result.now c.model-model.ensures.model c.model-model.ensures.solved
 
 pub fill-requires-clause-all_out : goal.fill-requires-clause-all_out
 fill-requires-clause-all_out g c =
-    all_out_by c.args.session.now.state c.model-model.result.now c.model-model.ensures.model c.model-model.ensures.solved
+    all_out_of c.args.session.now.state c.model-model.result.now c.model-model.ensures.model c.model-model.ensures.solved

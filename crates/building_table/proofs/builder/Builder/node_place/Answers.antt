@@ -3,7 +3,7 @@ use Rattle.std.specs.List.{position}
 use Rattle.evac_law.specs.Building.{no_node}
 use Rattle.evac_law.specs.Limits.{node_limit}
 use Rattle.evac_law.specs.declared.model.NodeRow.{NodeRow}
-use Rattle.model_text.specs.Taken.{same_name, place_of}
+use Rattle.model_text.specs.Taken.{same_name, place_of_node}
 use Rattle.building_table.specs.Built.{Built}
 use Rattle.building_table.specs.Taking.{holds_node}
 use Rattle.building_table.proofs.PlaceLemmas.{position-some, position-any, position-none}
@@ -24,7 +24,7 @@ returns-in-Some c =
     let rows : List NodeRow = c.self.inside.nodes.items in
     let found = position-some p rows c.in-Some.place (c.in-Some.ensures ∙ ap (position p) c.as_slice.ensures.value) in (
       ap (λ (b : Built). holds_node b c.args.name) (sym c.self.view_is) ∙ position-any p rows no_node found.1,
-      found.0 ∙ ap (λ (b : Built). place_of b.nodes c.args.name) c.self.view_is,
+      found.0 ∙ ap (λ (b : Built). place_of_node b.nodes c.args.name) c.self.view_is,
     )
 
 pub returns-in-None : goal.returns-in-None

@@ -6,7 +6,7 @@ use Rattle.terminal_augment.specs.Settled.{IsSearchOf, SearchSize}
 use Rattle.lex_flow.specs.Settling.{arrivals_below}
 use Rattle.edit_session.specs.declared.scratch.Scratch.{Scratch}
 use Rattle.edit_session.specs.declared.work.Work.{Work}
-use Rattle.edit_session.specs.Mended.{IsScratchOf, last_of}
+use Rattle.edit_session.specs.Mended.{IsScratchOf, last_arrival_of}
 use Rattle.edit_session.specs.Sessions.{kept_limit, no_labels}
 use Rattle.edit_session.proofs.Going.{session_begun}
 use Rattle.edit_session.proofs.Standing.{begun_by, not_cleared_by}
@@ -67,7 +67,7 @@ returns-in-Cleared g c =
     (ap (λ z. z.items) made.ensures'''') (ap (λ z. z.capacity) made.ensures'''') scratch in
     let pushes = c.in-Cleared.pushes in
     let answer = done.answer m c.requires made.ensures.of in
-    let bounded : pushes + arrivals_below made.net (last_of u + 1) ≤ arrivals_below u (last_of u + 1) =
+    let bounded : pushes + arrivals_below made.net (last_arrival_of u + 1) ≤ arrivals_below u (last_arrival_of u + 1) =
     subst (λ (k : ℕ). pushes + arrivals_below made.net (k + 1) ≤ arrivals_below u (k + 1)) answer.last (done.bounded m c.requires made.ensures.of) in
     let work : Work = record { cancelled = 0; pushes = pushes } in
     let blank : ℕ → LabelTable = λ n. record { nodes = n; horizon = m.horizon; list = replicate (n * (m.horizon + 1)) unset } in (
