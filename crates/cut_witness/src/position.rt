@@ -4,7 +4,7 @@ ghost use Rattle.std.specs.Option.{option_to_list};
 ghost use Rattle.evac_law.specs.Building.{IsValid};
 ghost use Rattle.evac_law.specs.Certificates.{IsTableOf, label_cut};
 ghost use Rattle.evac_law.specs.Cuts.{Cut, arc_part, entry_part, hold_part};
-ghost use Rattle.cut_witness.specs.Crossing.{IsPosition, left_at, next_part, part_at, rest_at, rows_of, width_of};
+ghost use Rattle.cut_witness.specs.Crossing.{IsCrossing, IsPosition, left_at, next_part, part_at, rest_at, rows_of, width_of};
 
 use crate::membership::{in_cut, leaves_cut};
 use evac_law::{CutItem, Labels, Model};
@@ -126,10 +126,7 @@ fn item_at(model: &Model, labels: &Labels, k: u16, place: Position) -> Option<Cu
 
 /// Goes one step on.
 pub fn step(model: &Model, labels: &Labels, k: u16, place: &mut Position) -> Option<CutItem>
-    requires valid { IsValid model.now }
-    requires table { IsTableOf model.now labels.now }
-    requires k_in { k ≤ model.now.horizon }
-    requires position { IsPosition model.now k place.old }
+    requires crossing { IsCrossing model.now labels.now k place.old }
     requires more { 0 < left_at model.now k place.old }
     ensures rest { let x = label_cut model.now labels.now k in
         rest_at model.now x k place.old ≡ option_to_list result ++ rest_at model.now x k place.new }

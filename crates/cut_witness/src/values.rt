@@ -7,7 +7,7 @@ ghost use Rattle.evac_law.specs.Cuts.{cut_value};
 ghost use Rattle.evac_law.specs.Limits.{arc_limit, node_limit};
 ghost use Rattle.evac_law.specs.Sums.{places};
 ghost use Rattle.cut_witness.specs.Changes.{IsBalance, turnover};
-ghost use Rattle.cut_witness.specs.Shares.{arc_shares, entry_shares, hold_shares};
+ghost use Rattle.cut_witness.specs.Shares.{IsSummable, arc_shares, entry_shares, hold_shares};
 
 use crate::differences::Differences;
 use crate::span::{arc_span, entry_span, hold_span};
@@ -34,10 +34,8 @@ impl std::marker::Model for CutValues {
 /// Adds the entries of a node to the periods in whose cuts they are.
 #[tactic(auto, using(evac_law::proofs::SumLemmas::sum_steps), unfolding(evac_law::specs::Limits::horizon_limit))]
 fn add_entries_of(differences: &mut Differences, model: &Model, labels: &Labels, node: u32)
-    requires valid { IsValid model.now }
-    requires table { IsTableOf model.now labels.now }
+    requires summable { IsSummable model.now labels.now differences.old }
     requires node_in { node < length model.now.nodes }
-    requires periods { length differences.old.rises ≡ model.now.horizon + 1 }
     requires room { turnover differences.old < 2 ^ 62 }
     ensures periods { length differences.new.rises ≡ length differences.old.rises }
     ensures net { (k v : ℕ) → k ≤ model.now.horizon → IsBalance differences.old k v → IsBalance differences.new k (v + entry_shares model.now labels.now k node) }
@@ -52,10 +50,8 @@ fn add_entries_of(differences: &mut Differences, model: &Model, labels: &Labels,
 /// Adds the capacity of a node to the periods whose cuts it leaves, for each moment after which it does.
 #[tactic(auto, using(evac_law::proofs::SumLemmas::sum_steps))]
 fn add_holds_of(differences: &mut Differences, model: &Model, labels: &Labels, node: u32)
-    requires valid { IsValid model.now }
-    requires table { IsTableOf model.now labels.now }
+    requires summable { IsSummable model.now labels.now differences.old }
     requires node_in { node < length model.now.nodes }
-    requires periods { length differences.old.rises ≡ model.now.horizon + 1 }
     requires room { turnover differences.old < 2 ^ 62 }
     ensures periods { length differences.new.rises ≡ length differences.old.rises }
     ensures net { (k v : ℕ) → k ≤ model.now.horizon → IsBalance differences.old k v → IsBalance differences.new k (v + hold_shares model.now labels.now k node) }
@@ -71,10 +67,8 @@ fn add_holds_of(differences: &mut Differences, model: &Model, labels: &Labels, n
 /// Adds the rates of an arc to the periods whose cuts it leaves, for each moment at which it does.
 #[tactic(auto, using(evac_law::proofs::SumLemmas::sum_steps), unfolding(evac_law::specs::Limits::horizon_limit))]
 fn add_arcs_of(differences: &mut Differences, model: &Model, labels: &Labels, arc: u32)
-    requires valid { IsValid model.now }
-    requires table { IsTableOf model.now labels.now }
+    requires summable { IsSummable model.now labels.now differences.old }
     requires arc_in { arc < length model.now.arcs }
-    requires periods { length differences.old.rises ≡ model.now.horizon + 1 }
     requires room { turnover differences.old < 2 ^ 62 }
     ensures periods { length differences.new.rises ≡ length differences.old.rises }
     ensures net { (k v : ℕ) → k ≤ model.now.horizon → IsBalance differences.old k v → IsBalance differences.new k (v + arc_shares model.now labels.now k arc) }
@@ -89,9 +83,7 @@ fn add_arcs_of(differences: &mut Differences, model: &Model, labels: &Labels, ar
 /// Adds all nodes' entries.
 #[tactic(auto, using(evac_law::proofs::SumLemmas::sum_steps), unfolding(evac_law::specs::Limits::node_limit))]
 fn add_entries(differences: &mut Differences, model: &Model, labels: &Labels)
-    requires valid { IsValid model.now }
-    requires table { IsTableOf model.now labels.now }
-    requires periods { length differences.old.rises ≡ model.now.horizon + 1 }
+    requires summable { IsSummable model.now labels.now differences.old }
     requires room { turnover differences.old < 2 ^ 61 }
     ensures periods { length differences.new.rises ≡ length differences.old.rises }
     ensures net { (k v : ℕ) → k ≤ model.now.horizon → IsBalance differences.old k v
@@ -106,9 +98,7 @@ fn add_entries(differences: &mut Differences, model: &Model, labels: &Labels)
 /// Adds all nodes' capacities.
 #[tactic(auto, using(evac_law::proofs::SumLemmas::sum_steps), unfolding(evac_law::specs::Limits::node_limit))]
 fn add_holds(differences: &mut Differences, model: &Model, labels: &Labels)
-    requires valid { IsValid model.now }
-    requires table { IsTableOf model.now labels.now }
-    requires periods { length differences.old.rises ≡ model.now.horizon + 1 }
+    requires summable { IsSummable model.now labels.now differences.old }
     requires room { turnover differences.old < 2 ^ 61 }
     ensures periods { length differences.new.rises ≡ length differences.old.rises }
     ensures net { (k v : ℕ) → k ≤ model.now.horizon → IsBalance differences.old k v
@@ -123,9 +113,7 @@ fn add_holds(differences: &mut Differences, model: &Model, labels: &Labels)
 /// Adds all arcs' rates.
 #[tactic(auto, using(evac_law::proofs::SumLemmas::sum_steps), unfolding(evac_law::specs::Limits::arc_limit))]
 fn add_arcs(differences: &mut Differences, model: &Model, labels: &Labels)
-    requires valid { IsValid model.now }
-    requires table { IsTableOf model.now labels.now }
-    requires periods { length differences.old.rises ≡ model.now.horizon + 1 }
+    requires summable { IsSummable model.now labels.now differences.old }
     requires room { turnover differences.old < 2 ^ 61 }
     ensures periods { length differences.new.rises ≡ length differences.old.rises }
     ensures net { (k v : ℕ) → k ≤ model.now.horizon → IsBalance differences.old k v
@@ -140,9 +128,7 @@ fn add_arcs(differences: &mut Differences, model: &Model, labels: &Labels)
 /// Adds the items of all cuts.
 #[tactic(auto, unfolding(evac_law::specs::Limits::arc_limit, evac_law::specs::Limits::node_limit))]
 fn add_items(differences: &mut Differences, model: &Model, labels: &Labels)
-    requires valid { IsValid model.now }
-    requires table { IsTableOf model.now labels.now }
-    requires periods { length differences.old.rises ≡ model.now.horizon + 1 }
+    requires summable { IsSummable model.now labels.now differences.old }
     requires room { turnover differences.old < 2 ^ 60 }
     ensures periods { length differences.new.rises ≡ length differences.old.rises }
     ensures net { (k v : ℕ) → k ≤ model.now.horizon → IsBalance differences.old k v

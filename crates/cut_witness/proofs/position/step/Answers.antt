@@ -9,40 +9,40 @@ returns-then-place-rows-clause-rest c =
     let p = c.args.place.now in
     let last = c.if-place-rows.true ∙ c.size_of-rows.ensures.rows in
     rw c.next.ensures
-    (at_end c.args.model.now (label_cut c.args.model.now c.args.labels.now c.args.k) c.args.k p last (c.requires.position.end_first last) c.requires.more).0
+    (at_end c.args.model.now (label_cut c.args.model.now c.args.labels.now c.args.k) c.args.k p last (c.requires.crossing.position.end_first last) c.requires.more).0
 
 pub returns-then-place-rows-clause-fewer : goal.returns-then-place-rows-clause-fewer
 returns-then-place-rows-clause-fewer c =
     let p = c.args.place.now in
     let last = c.if-place-rows.true ∙ c.size_of-rows.ensures.rows in
     rw c.next.ensures
-    (at_end c.args.model.now (label_cut c.args.model.now c.args.labels.now c.args.k) c.args.k p last (c.requires.position.end_first last) c.requires.more).1
+    (at_end c.args.model.now (label_cut c.args.model.now c.args.labels.now c.args.k) c.args.k p last (c.requires.crossing.position.end_first last) c.requires.more).1
 
 pub returns-then-place-columns-clause-rest : goal.returns-then-place-columns-clause-rest
 returns-then-place-columns-clause-rest c =
     let p = c.args.place.now in
-    let in_rows : p.row < rows_of c.args.model.now c.args.k p.part = omega (arith, c.size_of-rows.ensures.rows, c.requires.position.row_in) in
+    let in_rows : p.row < rows_of c.args.model.now c.args.k p.part = omega (arith, c.size_of-rows.ensures.rows, c.requires.crossing.position.row_in) in
     (at_turn c.args.model.now (label_cut c.args.model.now c.args.labels.now c.args.k) c.args.k p in_rows
     (c.if-place-columns.true ∙ c.size_of-rows.ensures.columns)).0
 
 pub returns-then-place-columns-clause-fewer : goal.returns-then-place-columns-clause-fewer
 returns-then-place-columns-clause-fewer c =
     let p = c.args.place.now in
-    let in_rows : p.row < rows_of c.args.model.now c.args.k p.part = omega (arith, c.size_of-rows.ensures.rows, c.requires.position.row_in) in
+    let in_rows : p.row < rows_of c.args.model.now c.args.k p.part = omega (arith, c.size_of-rows.ensures.rows, c.requires.crossing.position.row_in) in
     (at_turn c.args.model.now (label_cut c.args.model.now c.args.labels.now c.args.k) c.args.k p in_rows
     (c.if-place-columns.true ∙ c.size_of-rows.ensures.columns)).1
 
 pub returns-else-place-columns-clause-rest : goal.returns-else-place-columns-clause-rest
 returns-else-place-columns-clause-rest c =
     let p = c.args.place.now in
-    let in_rows : p.row < rows_of c.args.model.now c.args.k p.part = omega (arith, c.size_of-rows.ensures.rows, c.requires.position.row_in) in
-    let in_columns : p.column < width_of c.args.model.now c.args.k p.part = omega (arith, c.size_of-rows.ensures.columns, c.requires.position.column_in) in
+    let in_rows : p.row < rows_of c.args.model.now c.args.k p.part = omega (arith, c.size_of-rows.ensures.rows, c.requires.crossing.position.row_in) in
+    let in_columns : p.column < width_of c.args.model.now c.args.k p.part = omega (arith, c.size_of-rows.ensures.columns, c.requires.crossing.position.column_in) in
     rw c.item_at-item.ensures
     (at_more c.args.model.now (label_cut c.args.model.now c.args.labels.now c.args.k) c.args.k p in_rows in_columns).0
 
 pub returns-else-place-columns-clause-fewer : goal.returns-else-place-columns-clause-fewer
 returns-else-place-columns-clause-fewer c =
     let p = c.args.place.now in
-    let in_rows : p.row < rows_of c.args.model.now c.args.k p.part = omega (arith, c.size_of-rows.ensures.rows, c.requires.position.row_in) in
-    let in_columns : p.column < width_of c.args.model.now c.args.k p.part = omega (arith, c.size_of-rows.ensures.columns, c.requires.position.column_in) in
+    let in_rows : p.row < rows_of c.args.model.now c.args.k p.part = omega (arith, c.size_of-rows.ensures.rows, c.requires.crossing.position.row_in) in
+    let in_columns : p.column < width_of c.args.model.now c.args.k p.part = omega (arith, c.size_of-rows.ensures.columns, c.requires.crossing.position.column_in) in
     (at_more c.args.model.now (label_cut c.args.model.now c.args.labels.now c.args.k) c.args.k p in_rows in_columns).1
