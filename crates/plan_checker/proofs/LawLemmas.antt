@@ -3,8 +3,7 @@ use Rattle.std.proofs.Common.{◌≡◌, ℕ, ◌<◌, ◌≤◌, refl, ap, ap�
 use Rattle.std.specs.Prelude.{◌↔◌}
 use Rattle.evac_law.specs.declared.model.Model.{Model}
 use Rattle.evac_law.specs.declared.plan.Move.{Move}
-use Rattle.evac_law.specs.Building.{IsValid, people}
-use Rattle.evac_law.specs.Certificates.{IsCertified}
+use Rattle.evac_law.specs.Building.{IsValid}
 use Rattle.evac_law.specs.Plans.{IsFeasible}
 use Rattle.evac_law.proofs.Optimal.{certified_is_best, certified_is_quickest, certified_plans_agree, out_le_people}
 use Rattle.certificate_text.specs.declared.block.Block.{Block}

@@ -1,9 +1,10 @@
 -- People counted by node and moment, as a checker adds them up.
-use Rattle.std.specs.Prelude.{◌≡◌, ℕ, ◌+◌, ◌*◌, ◌≤◌, ◌&&◌, if◌then◌else◌, ◌==◌, List, length, slice_index}
+use Rattle.std.specs.Prelude.{◌≡◌, ℕ, ◌+◌, ◌*◌, ◌^◌, ◌<◌, ◌≤◌, ◌&&◌, if◌then◌else◌, ◌==◌, List, length, slice_index}
 use Rattle.std.specs.List.{sum_by}
 use Rattle.evac_law.specs.declared.model.Model.{Model}
 use Rattle.evac_law.specs.declared.plan.Move.{Move}
-use Rattle.evac_law.specs.Building.{is_exit_at, capacity, tail, head, arrival, entry}
+use Rattle.evac_law.specs.Building.{IsValid, is_exit_at, capacity, tail, head, arrival, entry}
+use Rattle.evac_law.specs.Stands.{IsOrdered}
 use Rattle.evac_law.specs.Sums.{moments_to}
 
 -- a number for each node and each moment up to the last, node by node
@@ -43,3 +44,20 @@ left_by left n t = sum_by (count left n) (moments_to t)
 -- no more left the node by the moment than came, and what is left fits its capacity
 abbrev pub IsCountedWell : Model → Counts → Counts → ℕ → ℕ → Type 0
 IsCountedWell m came left n t = (left_by left n t ≤ came_by m came n t) × (came_by m came n t ≤ left_by left n t + capacity m n)
+
+-- what a count of moves starts from: a valid model, moves in order and few enough, and the number 0 for each node at each moment
+pub record IsCountable (m : Model) (p : List Move) (c : Counts) : Type 0 where
+  pub valid : IsValid m
+  pub ordered : IsOrdered (length m.arcs) m.horizon p
+  pub few : all_moved p < 2 ^ 62
+  pub nodes : c.nodes ≡ length m.nodes
+  pub blank : (n t : ℕ) → n < c.nodes → t ≤ c.last → count c n t ≡ 0
+
+-- counts of who comes and who leaves that reach every node of a valid model at every moment before one
+pub record AreTallies (m : Model) (came left : Counts) (until : ℕ) : Type 0 where
+  pub valid : IsValid m
+  pub came_nodes : came.nodes ≡ length m.nodes
+  pub left_nodes : left.nodes ≡ length m.nodes
+  pub came_until : until ≤ came.last + 1
+  pub left_until : until ≤ left.last + 1
+  pub until_in : until ≤ m.horizon + 1

@@ -1,8 +1,8 @@
 // Whether a plan keeps the capacities.
-ghost use Rattle.std.specs.Prelude.{◌≡◌, ℕ, ◌+◌, ◌<◌, ◌≤◌, ◌^◌, IfOk, IsFalse, IfSome, MatchOption, length};
+ghost use Rattle.std.specs.Prelude.{ℕ, ◌+◌, ◌<◌, ◌≤◌, ◌^◌, IfOk, IsFalse, IfSome, MatchOption, length};
 ghost use Rattle.evac_law.specs.Building.{IsValid, is_exit_at};
 ghost use Rattle.evac_law.specs.Stands.{IsOrdered};
-ghost use Rattle.plan_checker.specs.Counts.{IsCountedWell, all_moved, came_by, left_by};
+ghost use Rattle.plan_checker.specs.Counts.{AreTallies, IsCountedWell, all_moved, came_by, left_by};
 ghost use Rattle.plan_checker.specs.Parts.{Earlier, HoldsKept, IsFirstHold};
 
 use crate::tally::{Tally, count_coming, count_leaving};
@@ -18,13 +18,8 @@ fn first_broken_moment(
     node: u32,
     until: u16,
 ) -> Option<u16>
-    requires valid { IsValid model.now }
+    requires tallies { AreTallies model.now came.now left.now until }
     requires node_in { node < length model.now.nodes }
-    requires came_nodes { came.now.nodes ≡ length model.now.nodes }
-    requires left_nodes { left.now.nodes ≡ length model.now.nodes }
-    requires came_until { until ≤ came.now.last + 1 }
-    requires left_until { until ≤ left.now.last + 1 }
-    requires until_in { until ≤ model.now.horizon + 1 }
     requires few { (t : ℕ) → t < until → (came_by model.now came.now node t < 2 ^ 63) × (left_by left.now node t < 2 ^ 63) }
     ensures well { MatchOption result ((t : ℕ) → t < until → IsCountedWell model.now came.now left.now node t)
         (λ k. (t : ℕ) → t < k → IsCountedWell model.now came.now left.now node t) }
@@ -46,11 +41,7 @@ fn first_broken_moment(
 /// The first moment and node, that is no exit, at which by the counts the node holds fewer than none or more than its capacity.
 #[tactic(auto, unfolding(evac_law::specs::Limits::horizon_limit))]
 fn first_broken_count(model: &Model, came: &Tally, left: &Tally) -> Option<(u16, u32)>
-    requires valid { IsValid model.now }
-    requires came_nodes { came.now.nodes ≡ length model.now.nodes }
-    requires left_nodes { left.now.nodes ≡ length model.now.nodes }
-    requires last_in { came.now.last ≤ model.now.horizon }
-    requires same_last { left.now.last ≡ came.now.last }
+    requires tallies { AreTallies model.now came.now left.now (came.now.last + 1) }
     requires few { (n t : ℕ) → n < length model.now.nodes → t ≤ came.now.last → (came_by model.now came.now n t < 2 ^ 63) × (left_by left.now n t < 2 ^ 63) }
     ensures well { MatchOption result
         ((n t : ℕ) → n < length model.now.nodes → IsFalse (is_exit_at model.now n) → t ≤ came.now.last → IsCountedWell model.now came.now left.now n t)

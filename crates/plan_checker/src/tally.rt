@@ -1,8 +1,6 @@
 // People counted by node and moment.
-ghost use Rattle.std.specs.Prelude.{◌≡◌, ℕ, ◌+◌, ◌<◌, ◌≤◌, ◌^◌, ◌&&◌, if◌then◌else◌, ◌==◌, IfOk, length};
-ghost use Rattle.evac_law.specs.Building.{IsValid};
-ghost use Rattle.evac_law.specs.Stands.{IsOrdered};
-ghost use Rattle.plan_checker.specs.Counts.{all_moved, coming_at, count, leaving_at};
+ghost use Rattle.std.specs.Prelude.{◌≡◌, ℕ, ◌+◌, ◌<◌, ◌≤◌, ◌^◌, ◌&&◌, if◌then◌else◌, ◌==◌, IfOk};
+ghost use Rattle.plan_checker.specs.Counts.{IsCountable, coming_at, count, leaving_at};
 
 use evac_law::{Model, Move};
 use std::alloc::{AllocError, Global};
@@ -70,11 +68,7 @@ impl Tally {
 
 /// Adds the people who leave the nodes.
 pub fn count_leaving(tally: &mut Tally, model: &Model, moves: &[Move])
-    requires valid { IsValid model.now }
-    requires ordered { IsOrdered (length model.now.arcs) model.now.horizon moves.now }
-    requires few { all_moved moves.now < 2 ^ 62 }
-    requires nodes { tally.old.nodes ≡ length model.now.nodes }
-    requires blank { (n t : ℕ) → n < tally.old.nodes → t ≤ tally.old.last → count tally.old n t ≡ 0 }
+    requires countable { IsCountable model.now moves.now tally.old }
     ensures nodes { tally.new.nodes ≡ tally.old.nodes }
     ensures last { tally.new.last ≡ tally.old.last }
     ensures counts { (n t : ℕ) → n < tally.old.nodes → t ≤ tally.old.last → count tally.new n t ≡ leaving_at model.now moves.now n t }
@@ -90,11 +84,7 @@ pub fn count_leaving(tally: &mut Tally, model: &Model, moves: &[Move])
 /// Adds the people who come to the nodes along arcs.
 #[tactic(auto, unfolding(evac_law::specs::Limits::horizon_limit, evac_law::specs::Limits::travel_limit))]
 pub fn count_coming(tally: &mut Tally, model: &Model, moves: &[Move])
-    requires valid { IsValid model.now }
-    requires ordered { IsOrdered (length model.now.arcs) model.now.horizon moves.now }
-    requires few { all_moved moves.now < 2 ^ 62 }
-    requires nodes { tally.old.nodes ≡ length model.now.nodes }
-    requires blank { (n t : ℕ) → n < tally.old.nodes → t ≤ tally.old.last → count tally.old n t ≡ 0 }
+    requires countable { IsCountable model.now moves.now tally.old }
     ensures nodes { tally.new.nodes ≡ tally.old.nodes }
     ensures last { tally.new.last ≡ tally.old.last }
     ensures counts { (n t : ℕ) → n < tally.old.nodes → t ≤ tally.old.last → count tally.new n t ≡ coming_at model.now moves.now n t }

@@ -16,16 +16,16 @@ add-requires-clause-room c =
     let node : c.arc-node.result.from < c.args.tally.now.nodes =
     omega (
       arith,
-      tail_in c.args.model.now v.arc c.requires.valid (c.requires.ordered.in_range i no_move c.loop-step-test.true).0,
+      tail_in c.args.model.now v.arc c.requires.countable.valid (c.requires.countable.ordered.in_range i no_move c.loop-step-test.true).0,
       ap (λ (r : ArcRow). r.from) c.arc-node.ensures,
-      c.requires.nodes,
+      c.requires.countable.nodes,
     ) in
     let moment : v.moment ≤ c.args.tally.now.last = omega (arith, c.if-step-last.true, c.last.ensures, c.loop-step.invariant.last) in
     omega (
       arith,
       c.loop-step.invariant.counts c.arc-node.result.from v.moment node moment,
       leaving_room c.args.model.now p i c.arc-node.result.from v.moment no_move c.loop-step-test.true,
-      c.requires.few,
+      c.requires.countable.few,
     )
 
 pub loop-step-preserved : goal.loop-step-preserved
