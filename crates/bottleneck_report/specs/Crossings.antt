@@ -1,10 +1,11 @@
 -- In how many periods an arc, or waiting in a node, is an item of the period's cut.
-use Rattle.std.specs.Prelude.{◌≡◌, ℕ, ◌+◌, Bool, false, ◌==◌, List, length, map}
+use Rattle.std.specs.Prelude.{◌≡◌, ℕ, ◌+◌, ◌≤◌, Bool, false, ◌==◌, List, length, map}
 use Rattle.std.specs.List.{filter, list_any}
 use Rattle.evac_law.specs.declared.cut.CutItem.{CutItem}
 use Rattle.evac_law.specs.declared.cut.CutItem.TheVariants.{Arc, Hold}
 use Rattle.evac_law.specs.declared.model.Model.{Model}
-use Rattle.evac_law.specs.Certificates.{label_cut}
+use Rattle.evac_law.specs.Building.{IsValid}
+use Rattle.evac_law.specs.Certificates.{IsTableOf, label_cut}
 use Rattle.evac_law.specs.Cuts.{cut_items}
 use Rattle.evac_law.specs.LabelTable.{LabelTable}
 use Rattle.evac_law.specs.Sums.{below, places}
@@ -43,3 +44,10 @@ pub record HasCounts (m : Model) (v : PeriodCounts) : Type 0 where
   pub arcs_fit : length v.arcs ≡ length m.arcs
   pub holds_fit : length v.holds ≡ length m.nodes
   pub periods_fit : v.room ≡ m.horizon + 1
+
+-- what a count of periods stands on: a valid model, labels for it, a moment up to its horizon, and a number for each of its periods
+pub record IsReportable (m : Model) (l : LabelTable) (c : ℕ) (ends : List ℕ) : Type 0 where
+  pub valid : IsValid m
+  pub table : IsTableOf m l
+  pub in_time : c ≤ m.horizon
+  pub room : length ends ≡ m.horizon + 1

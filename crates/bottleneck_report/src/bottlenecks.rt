@@ -3,7 +3,7 @@ ghost use Rattle.std.specs.Prelude.{◌≡◌, ◌+◌, ◌<◌, ◌≤◌, IfOk
 ghost use Rattle.evac_law.specs.Building.{IsValid};
 ghost use Rattle.evac_law.specs.Certificates.{IsTableOf};
 ghost use Rattle.evac_law.specs.Sums.{places};
-ghost use Rattle.bottleneck_report.specs.Crossings.{HasCounts, arc_periods, counts_of, hold_periods};
+ghost use Rattle.bottleneck_report.specs.Crossings.{HasCounts, IsReportable, arc_periods, counts_of, hold_periods};
 
 use crate::cover::{add, clear, count};
 use cut_witness::{arc_span, hold_span};
@@ -37,11 +37,8 @@ fn count_arc(
     arc: u32,
     cleared: u16,
 ) -> u32
-    requires valid { IsValid model.now }
-    requires table { IsTableOf model.now labels.now }
+    requires reportable { IsReportable model.now labels.now cleared ends.old }
     requires arc_in { arc < length model.now.arcs }
-    requires in_time { cleared ≤ model.now.horizon }
-    requires room { length ends.old ≡ model.now.horizon + 1 }
     ensures count { result ≡ arc_periods model.now labels.now cleared arc }
     ensures size { length ends.new ≡ length ends.old }
 {
@@ -60,11 +57,8 @@ fn count_hold(
     node: u32,
     cleared: u16,
 ) -> u32
-    requires valid { IsValid model.now }
-    requires table { IsTableOf model.now labels.now }
+    requires reportable { IsReportable model.now labels.now cleared ends.old }
     requires node_in { node < length model.now.nodes }
-    requires in_time { cleared ≤ model.now.horizon }
-    requires room { length ends.old ≡ model.now.horizon + 1 }
     ensures count { result ≡ hold_periods model.now labels.now cleared node }
     ensures size { length ends.new ≡ length ends.old }
 {
@@ -83,11 +77,8 @@ fn write_arcs(
     labels: &Labels,
     cleared: u16,
 )
-    requires valid { IsValid model.now }
-    requires table { IsTableOf model.now labels.now }
-    requires in_time { cleared ≤ model.now.horizon }
+    requires reportable { IsReportable model.now labels.now cleared ends.old }
     requires arcs { length numbers.old ≡ length model.now.arcs }
-    requires room { length ends.old ≡ model.now.horizon + 1 }
     ensures numbers { numbers.new ≡ map (arc_periods model.now labels.now cleared) (places model.now.arcs) }
     ensures size { length ends.new ≡ length ends.old }
 {
@@ -104,11 +95,8 @@ fn write_holds(
     labels: &Labels,
     cleared: u16,
 )
-    requires valid { IsValid model.now }
-    requires table { IsTableOf model.now labels.now }
-    requires in_time { cleared ≤ model.now.horizon }
+    requires reportable { IsReportable model.now labels.now cleared ends.old }
     requires nodes { length numbers.old ≡ length model.now.nodes }
-    requires room { length ends.old ≡ model.now.horizon + 1 }
     ensures numbers { numbers.new ≡ map (hold_periods model.now labels.now cleared) (places model.now.nodes) }
     ensures size { length ends.new ≡ length ends.old }
 {

@@ -15,7 +15,7 @@ loop-moment-preserved c =
     record {
       size = c.add.ensures.size ∙ c.loop-moment.invariant.size;
       covered = λ k h.
-          c.add.ensures.covered k (omega (arith, h, c.loop-moment.invariant.size, c.requires.room))
+          c.add.ensures.covered k (omega (arith, h, c.loop-moment.invariant.size, c.requires.reportable.room))
           ∙ ap₂ (λ x y. x || y) (c.loop-moment.invariant.covered k h) (c.arc_span.ensures k h)
           ∙ sym (any-below (λ i. leaves_cut m (label_cut m l k) k i c.args.arc) t)
           ∙ ap (λ i. list_any (λ j. leaves_cut m (label_cut m l k) k j c.args.arc) (below i)) (sym (add-one t));
@@ -27,5 +27,5 @@ returns-clause-count c =
     let l = c.args.labels.now in
     let last : c.loop-moment.moment ≡ m.horizon + 1 = omega (arith, c.loop-moment-test.false, c.loop-moment.auto.moment-end) in
     c.count.ensures
-    ∙ arc_counted m l c.args.cleared c.args.arc c.loop-moment.ends c.requires.arc_in c.requires.in_time
+    ∙ arc_counted m l c.args.cleared c.args.arc c.loop-moment.ends c.requires.arc_in c.requires.reportable.in_time
     (λ k h. c.loop-moment.invariant.covered k h ∙ ap (λ i. list_any (λ j. leaves_cut m (label_cut m l k) k j c.args.arc) (below i)) last)

@@ -13,7 +13,7 @@ loop-moment-preserved c =
     record {
       size = c.add.ensures.size ∙ c.loop-moment.invariant.size;
       covered = λ k h.
-          c.add.ensures.covered k (omega (arith, h, c.loop-moment.invariant.size, c.requires.room))
+          c.add.ensures.covered k (omega (arith, h, c.loop-moment.invariant.size, c.requires.reportable.room))
           ∙ ap₂ (λ x y. x || y) (c.loop-moment.invariant.covered k h) (c.hold_span.ensures k h)
           ∙ sym (any-below (is_held_out m l k c.args.node) t)
           ∙ ap (λ i. list_any (is_held_out m l k c.args.node) (below i)) (sym (add-one t));
@@ -25,5 +25,5 @@ returns-clause-count c =
     let l = c.args.labels.now in
     let last : c.loop-moment.moment ≡ m.horizon = omega (arith, c.loop-moment-test.false, c.loop-moment.auto.moment-end) in
     c.count.ensures
-    ∙ hold_counted m l c.args.cleared c.args.node c.loop-moment.ends c.requires.node_in c.requires.in_time
+    ∙ hold_counted m l c.args.cleared c.args.node c.loop-moment.ends c.requires.node_in c.requires.reportable.in_time
     (λ k h. c.loop-moment.invariant.covered k h ∙ ap (λ i. list_any (is_held_out m l k c.args.node) (below i)) last)
