@@ -5,7 +5,7 @@ use Rattle.std.proofs.lemmas.Bool.{lt-ltb}
 use Rattle.std.proofs.lemmas.Bool.Decides.{nat_tests}
 use Rattle.evac_law.specs.declared.model.Model.{Model}
 use Rattle.evac_law.specs.Building.{arc_at, arrival, head, is_exit_at, tail}
-use Rattle.evac_law.specs.Sums.{below, places}
+use Rattle.evac_law.specs.Sums.{places}
 use Rattle.evac_law.proofs.SumLemmas.{All-below, pick_le, sum_by-add, sum_by-le_all, sum_by-nothing, sum_by-same, sum_below-pick}
 use Rattle.route_decompose.specs.Tables.{IsLess, PeopleTable, people_at}
 use Rattle.route_decompose.specs.Stocks.{IsBalancedBut, Stock, before, left_coming, going}

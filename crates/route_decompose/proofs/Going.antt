@@ -1,24 +1,20 @@
 -- How people go on from a node at a moment.
-use Rattle.std.proofs.Common.{◌≡◌, ℕ, ◌+◌, ◌<◌, ◌≤◌, ◌⊎◌, inl, inr, Bool, true, false, cond, ◌&&◌, eqb, List, [], ◌∷◌, ◌++◌, length, refl, ap, ◌∙◌, arith, add-one}
+use Rattle.std.proofs.Common.{◌≡◌, ℕ, ◌+◌, ◌<◌, ◌≤◌, ◌⊎◌, inl, inr, Bool, true, false, cond, List, [], ◌∷◌, ◌++◌, length, refl, ap, ◌∙◌, arith, add-one}
 use Rattle.std.proofs.lemmas.List.{append_assoc}
 use Rattle.std.proofs.lemmas.List.Elements.{All-get_or}
 use Rattle.std.proofs.lemmas.Bool.{cases_lt}
 use Rattle.evac_law.specs.Building.{IsArc, arc_at, arrival, head, is_exit_at, no_arc, tail}
 use Rattle.route_decompose.specs.declared.route.RouteStep.{RouteStep}
-use Rattle.route_decompose.specs.Tables.{IsLess, people_at}
+use Rattle.route_decompose.specs.Tables.{people_at}
 use Rattle.route_decompose.specs.Routes.{enters}
-use Rattle.route_decompose.specs.Stocks.{IsLedOn, IsOpen, IsStock, Stock, TrailView, before, left_coming, going}
+use Rattle.route_decompose.specs.Stocks.{IsLeadable, IsLedOn, IsLessHeld, IsLessLeft, IsOpen, IsStock, Stock, TrailView, before}
 use Rattle.route_decompose.proofs.Balance.{coming_some}
 use Rattle.route_decompose.proofs.Leading.{led_by_hold, led_by_move, led_to_exit, not_entered, step_of, takes_time}
 
-nothing : (b : Bool) → ◌≡◌ {A = ℕ} (cond b 0 0) 0
-nothing true = refl
-nothing false = refl
-
-module _ (s : Stock) (whole : IsOpen s) (n t : ℕ) (l : n < length s.model.nodes) (inside : is_exit_at s.model n ≡ false) where
+module _ (s : Stock) (n t : ℕ) (here : IsLeadable s n t) where
   -- whoever stays does so before the horizon
-  pub stays_before : t ≤ s.model.horizon → 0 < people_at s.holds n t → t + 1 ≤ s.model.horizon
-  stays_before h some = by_last (le_cases (t + 1) s.model.horizon t h)
+  stays_before : 0 < people_at s.holds n t → t + 1 ≤ s.model.horizon
+  stays_before some = by_last (le_cases (t + 1) s.model.horizon t here.moment_in)
     where
       le_cases : (x y z : ℕ) → z ≤ y → (z + 1 ≤ y) ⊎ (z ≡ y)
       le_cases x y z e = split (cases_lt z y)
@@ -29,50 +25,49 @@ module _ (s : Stock) (whole : IsOpen s) (n t : ℕ) (l : n < length s.model.node
 
       by_last : (t + 1 ≤ s.model.horizon) ⊎ (t ≡ s.model.horizon) → t + 1 ≤ s.model.horizon
       by_last (inl e) = e
-      by_last (inr e) = absurd (omega (arith, some, ap (people_at s.holds n) e, whole.closing.none_stay n l inside))
+      by_last (inr e) = absurd (omega (arith, some, ap (people_at s.holds n) e, here.left.closing.none_stay n here.node_in here.inside))
 
-  pub stays : 0 < people_at s.holds n t → 0 < before s n (t + 1) + left_coming s n (t + 1)
-  stays some = let next : before s n (t + 1) ≡ people_at s.holds n t = ap (before s n) (add-one t) in omega (arith, next, some)
-
-  -- whoever is in a node and doesn't stay leaves it
-  pub leaves : t ≤ s.model.horizon → 0 < before s n t + left_coming s n t → people_at s.holds n t ≡ 0 → going s n t ≡ 0 → ⊥
-  leaves h some held gone = omega (arith, whole.balanced n t l inside h, nothing (eqb 0 n && eqb 0 t), some, held, gone)
+  pub stays : 0 < people_at s.holds n t → IsLeadable s n (t + 1)
+  stays some =
+      let next : before s n (t + 1) ≡ people_at s.holds n t = ap (before s n) (add-one t) in
+      record { left = here.left; node_in = here.node_in; inside = here.inside; moment_in = stays_before some; someone = omega (arith, next, some) }
 
 -- whoever enters an arc comes to its head in time
 module _ (s : Stock) (whole : IsOpen s) (a t : ℕ) (l : a < length s.model.arcs) (some : 0 < people_at s.left a t) where
   pub arc_of : IsArc s.model.nodes (arc_at s.model a)
   arc_of = All-get_or (IsArc s.model.nodes) s.model.arcs a no_arc l whole.stock.valid.arcs
 
-  pub arrives_in_time : arrival s.model a t ≤ s.model.horizon
-  arrives_in_time = whole.closing.in_time a t l some
-
-  pub comes : 0 < before s (head s.model a) (arrival s.model a t) + left_coming s (head s.model a) (arrival s.model a t)
-  comes = omega (arith, coming_some s a t l, some)
+  pub comes : is_exit_at s.model (head s.model a) ≡ false → IsLeadable s (head s.model a) (arrival s.model a t)
+  comes inside = record {
+    left = whole;
+    node_in = arc_of.to_in;
+    inside = inside;
+    moment_in = whole.closing.in_time a t l some;
+    someone = omega (arith, coming_some s a t l, some);
+  }
 
 -- the trail of people who go on
-pub on_by_hold : (s v w : Stock) (n t p : ℕ) (r u : TrailView) → IsLedOn s v n (t + 1) p r u → w.model ≡ v.model → w.left ≡ v.left → w.waiting ≡ v.waiting
-    → IsLess v.holds w.holds n t p → IsLedOn s w n t p r u
-on_by_hold s v w n t p r u on same left waiting less = record {
+pub on_by_hold : (s v w : Stock) (n t p : ℕ) (r u : TrailView) → IsLedOn s v n (t + 1) p r u → IsLessHeld v w n t p → IsLedOn s w n t p r u
+on_by_hold s v w n t p r u on kept = record {
   more = on.more;
-  led = led_by_hold s v w n t p on.more on.led same left waiting less;
+  led = led_by_hold s v w n t p on.more on.led kept;
   trail = on.trail;
 }
 
 pub on_by_move : (s v w : Stock) (a t p : ℕ) (r u : TrailView) → IsStock s → a < length s.model.arcs
     → IsLedOn s v (head s.model a) (arrival s.model a t) p (record { steps = r.steps ++ step_of a t ∷ []; room = r.room }) u
-    → w.model ≡ v.model → IsLess v.left w.left a t p → w.holds ≡ v.holds → w.waiting ≡ v.waiting → IsLedOn s w (tail s.model a) t p r u
-on_by_move s v w a t p r u stock l on same less holds waiting = record {
+    → IsLessLeft v w a t p → IsLedOn s w (tail s.model a) t p r u
+on_by_move s v w a t p r u stock l on kept = record {
   more = step_of a t ∷ on.more;
-  led = led_by_move s v w a t p l on.more same holds waiting less stock on.led;
+  led = led_by_move s v w a t p l on.more kept stock on.led;
   trail = on.trail ∙ ap (λ (x : List RouteStep). record { steps = x; room = r.room }) (append_assoc r.steps (step_of a t ∷ []) on.more);
 }
 
 pub on_to_exit : (s w : Stock) (a t p : ℕ) (r : TrailView) → IsOpen s → a < length s.model.arcs → is_exit_at s.model (head s.model a) ≡ true
-    → w.model ≡ s.model → IsLess s.left w.left a t p → w.holds ≡ s.holds → w.waiting ≡ s.waiting
-    → IsLedOn s w (tail s.model a) t p r (record { steps = r.steps ++ step_of a t ∷ []; room = r.room })
-on_to_exit s w a t p r whole l exit same less holds waiting = record {
+    → IsLessLeft s w a t p → IsLedOn s w (tail s.model a) t p r (record { steps = r.steps ++ step_of a t ∷ []; room = r.room })
+on_to_exit s w a t p r whole l exit kept = record {
   more = step_of a t ∷ [];
-  led = led_to_exit s w a t p l same holds waiting less whole.stock whole.balanced exit;
+  led = led_to_exit s w a t p l kept whole.stock whole.balanced exit;
   trail = refl;
 }
 

@@ -7,7 +7,7 @@ use Rattle.evac_law.specs.Building.{IsArc, IsValid, arc_at, arrival, head, is_ex
 use Rattle.route_decompose.specs.declared.route.RouteStep.{RouteStep}
 use Rattle.route_decompose.specs.Routes.{LeadsOut, enters}
 use Rattle.route_decompose.specs.Tables.{IsLess, PeopleTable, people_at}
-use Rattle.route_decompose.specs.Stocks.{IsBalancedBut, IsClosing, IsLedOut, IsStock, Stock}
+use Rattle.route_decompose.specs.Stocks.{IsBalancedBut, IsClosing, IsLedOut, IsLessHeld, IsLessLeft, IsStock, Stock}
 use Rattle.route_decompose.proofs.Balance.{exit_step, hold_step, move_step}
 
 -- ---- steps
@@ -76,22 +76,22 @@ other_cell x y n t p i k d e = grind (arith, nat_tests)
 -- ---- people who first stay, and then are led out from the next moment on
 
 module _ (s v w : Stock) (n t p : ℕ) (steps : List RouteStep) (led : IsLedOut s v n (t + 1) p steps)
-    (same : w.model ≡ v.model) (left : w.left ≡ v.left) (waiting : w.waiting ≡ v.waiting) (less : IsLess v.holds w.holds n t p) where
+    (kept : IsLessHeld v w n t p) where
   stay_earlier : (i k : ℕ) → k < t → people_at w.holds i k ≡ people_at s.holds i k
   stay_earlier i k l =
-      other_cell (people_at w.holds i k) (people_at v.holds i k) n t p i k (inl l) (less.cells i k) ∙ led.earlier_holds i k (omega (arith, l))
+      other_cell (people_at w.holds i k) (people_at v.holds i k) n t p i k (inl l) (kept.less.cells i k) ∙ led.earlier_holds i k (omega (arith, l))
 
   pub led_by_hold : IsLedOut s w n t p steps
   led_by_hold = record {
-    same_model = same ∙ led.same_model;
-    same_waiting = waiting ∙ led.same_waiting;
+    same_model = kept.model ∙ led.same_model;
+    same_waiting = kept.waiting ∙ led.same_waiting;
     leads = leads_earlier s.model n (t + 1) t steps (omega arith) led.leads;
-    left = λ a k. let e = ap (λ (c : PeopleTable). people_at c a k) left in omega (arith, e, led.left a k);
-    holds = λ i k. omega (arith, less_le v.holds w.holds n t p less i k, led.holds i k);
+    left = λ a k. let e = ap (λ (c : PeopleTable). people_at c a k) kept.left in omega (arith, e, led.left a k);
+    holds = λ i k. omega (arith, less_le v.holds w.holds n t p kept.less i k, led.holds i k);
     earlier_holds = stay_earlier;
-    stock = stock_on v w same (ap (λ (c : PeopleTable). c.rows) left) (ap (λ (c : PeopleTable). c.last) left) less.rows less.last
-        (ap (λ (c : PeopleTable). c.rows) waiting) (ap (λ (c : PeopleTable). c.last) waiting) led.stock;
-    balanced = hold_step v w n t p same left waiting less led.balanced;
+    stock = stock_on v w kept.model (ap (λ (c : PeopleTable). c.rows) kept.left) (ap (λ (c : PeopleTable). c.last) kept.left)
+        kept.less.rows kept.less.last (ap (λ (c : PeopleTable). c.rows) kept.waiting) (ap (λ (c : PeopleTable). c.last) kept.waiting) led.stock;
+    balanced = hold_step v w n t p kept.model kept.left kept.waiting kept.less led.balanced;
   }
 
 -- ---- people who enter an arc
@@ -111,8 +111,7 @@ first_or_rest false false p l m r d e f = omega (arith, e, f)
 at_moment : (a b t k : ℕ) → (eqb a b && eqb t k) ≡ true → t ≡ k
 at_moment a b t k e = grind (arith, nat_tests)
 
-module _ (s v w : Stock) (a t p : ℕ) (here : a < length s.model.arcs) (steps : List RouteStep)
-    (same : w.model ≡ v.model) (holds : w.holds ≡ v.holds) (waiting : w.waiting ≡ v.waiting) (less : IsLess v.left w.left a t p) where
+module _ (s v w : Stock) (a t p : ℕ) (here : a < length s.model.arcs) (steps : List RouteStep) (kept : IsLessLeft v w a t p) where
   -- and are led out from where it leads
   pub led_by_move : IsStock s → IsLedOut s v (head s.model a) (arrival s.model a t) p steps → IsLedOut s w (tail s.model a) t p (step_of a t ∷ steps)
   led_by_move stock led =
@@ -125,32 +124,31 @@ module _ (s v w : Stock) (a t p : ℕ) (here : a < length s.model.arcs) (steps :
       let from : IsBalancedBut v (head v.model a) (arrival v.model a t) p =
       subst (λ z. IsBalancedBut v z (arrival v.model a t) p) (sym heads) (subst (λ z. IsBalancedBut v (head m a) z p) (sym arrivals) led.balanced) in
       record {
-        same_model = same ∙ led.same_model;
-        same_waiting = waiting ∙ led.same_waiting;
+        same_model = kept.model ∙ led.same_model;
+        same_waiting = kept.waiting ∙ led.same_waiting;
         leads = (here, refl, omega arith, led.leads);
         left = λ b k.
             first_or_rest (eqb a b && eqb t k) (enters steps b k) p (people_at v.left b k) (people_at w.left b k) (people_at s.left b k)
             (λ e. not_entered m (head m a) (arrival m a t) steps b k led.leads (omega (arith, at_moment a b t k e, time)))
-            (less.cells b k) (led.left b k);
-        holds = λ i k. let e = ap (λ (c : PeopleTable). people_at c i k) holds in omega (arith, e, led.holds i k);
-        earlier_holds = λ i k l. let e = ap (λ (c : PeopleTable). people_at c i k) holds in e ∙ led.earlier_holds i k (omega (arith, l));
-        stock = stock_on v w same less.rows less.last (ap (λ (c : PeopleTable). c.rows) holds) (ap (λ (c : PeopleTable). c.last) holds)
-            (ap (λ (c : PeopleTable). c.rows) waiting) (ap (λ (c : PeopleTable). c.last) waiting) led.stock;
-        balanced = subst (λ z. IsBalancedBut w z t p) tails (move_step v w a t p same less there holds waiting from);
+            (kept.less.cells b k) (led.left b k);
+        holds = λ i k. let e = ap (λ (c : PeopleTable). people_at c i k) kept.holds in omega (arith, e, led.holds i k);
+        earlier_holds = λ i k l. let e = ap (λ (c : PeopleTable). people_at c i k) kept.holds in e ∙ led.earlier_holds i k (omega (arith, l));
+        stock = stock_on v w kept.model kept.less.rows kept.less.last (ap (λ (c : PeopleTable). c.rows) kept.holds)
+            (ap (λ (c : PeopleTable). c.last) kept.holds) (ap (λ (c : PeopleTable). c.rows) kept.waiting) (ap (λ (c : PeopleTable). c.last) kept.waiting) led.stock;
+        balanced = subst (λ z. IsBalancedBut w z t p) tails (move_step v w a t p kept.model kept.less there kept.holds kept.waiting from);
       }
 
 -- an arc into an exit
-module _ (s w : Stock) (a t p : ℕ) (here : a < length s.model.arcs)
-    (same : w.model ≡ s.model) (holds : w.holds ≡ s.holds) (waiting : w.waiting ≡ s.waiting) (less : IsLess s.left w.left a t p) where
+module _ (s w : Stock) (a t p : ℕ) (here : a < length s.model.arcs) (kept : IsLessLeft s w a t p) where
   pub led_to_exit : IsStock s → IsBalancedBut s 0 0 0 → is_exit_at s.model (head s.model a) ≡ true → IsLedOut s w (tail s.model a) t p (step_of a t ∷ [])
   led_to_exit stock balanced exit = record {
-    same_model = same;
-    same_waiting = waiting;
+    same_model = kept.model;
+    same_waiting = kept.waiting;
     leads = (here, refl, omega arith, exit);
-    left = λ b k. first_or_rest (eqb a b && eqb t k) false p (people_at s.left b k) (people_at w.left b k) (people_at s.left b k) (λ e. refl) (less.cells b k) (omega arith);
-    holds = λ i k. let e = ap (λ (c : PeopleTable). people_at c i k) holds in omega (arith, e);
-    earlier_holds = λ i k l. ap (λ (c : PeopleTable). people_at c i k) holds;
-    stock = stock_on s w same less.rows less.last (ap (λ (c : PeopleTable). c.rows) holds) (ap (λ (c : PeopleTable). c.last) holds)
-        (ap (λ (c : PeopleTable). c.rows) waiting) (ap (λ (c : PeopleTable). c.last) waiting) stock;
-    balanced = exit_step s w a t p same less here holds waiting exit balanced;
+    left = λ b k. first_or_rest (eqb a b && eqb t k) false p (people_at s.left b k) (people_at w.left b k) (people_at s.left b k) (λ e. refl) (kept.less.cells b k) (omega arith);
+    holds = λ i k. let e = ap (λ (c : PeopleTable). people_at c i k) kept.holds in omega (arith, e);
+    earlier_holds = λ i k l. ap (λ (c : PeopleTable). people_at c i k) kept.holds;
+    stock = stock_on s w kept.model kept.less.rows kept.less.last (ap (λ (c : PeopleTable). c.rows) kept.holds)
+        (ap (λ (c : PeopleTable). c.last) kept.holds) (ap (λ (c : PeopleTable). c.rows) kept.waiting) (ap (λ (c : PeopleTable). c.last) kept.waiting) stock;
+    balanced = exit_step s w a t p kept.model kept.less here kept.holds kept.waiting exit balanced;
   }

@@ -1,5 +1,5 @@
 -- What is left of a plan while it is handed out, and its balance.
-use Rattle.std.specs.Prelude.{◌≡◌, ℕ, zero, suc, ◌+◌, ◌-◌, ◌<◌, ◌≤◌, ◌&&◌, if◌then◌else◌, ◌==◌, nat_le, List, ◌++◌, length, map, Bool, IsFalse}
+use Rattle.std.specs.Prelude.{◌≡◌, ℕ, zero, suc, ◌+◌, ◌-◌, ◌<◌, ◌≤◌, ◌&&◌, if◌then◌else◌, ◌==◌, nat_le, List, ◌++◌, length, map, IsFalse}
 use Rattle.std.specs.List.{sum_by}
 use Rattle.evac_law.specs.declared.model.Model.{Model}
 use Rattle.evac_law.specs.Building.{IsValid, arc_at, arrival, head, is_exit_at, start, tail}
@@ -9,7 +9,7 @@ use Rattle.evac_law.specs.Sums.{places}
 use Rattle.time_expansion.specs.Expansion.{Expansion}
 use Rattle.route_decompose.specs.declared.route.RouteStep.{RouteStep}
 use Rattle.route_decompose.specs.Routes.{LeadsOut, ends_of, enters}
-use Rattle.route_decompose.specs.Tables.{PeopleTable, people_at}
+use Rattle.route_decompose.specs.Tables.{IsLess, PeopleTable, people_at}
 
 -- of a model: the people left on each arc at each moment, those who stay in each node from a moment to the next, and those who start
 pub record Stock : Type 0 where
@@ -63,6 +63,28 @@ pub record IsOpen (s : Stock) : Type 0 where
   pub stock : IsStock s
   pub balanced : IsBalancedBut s 0 0 0
   pub closing : IsClosing s
+
+-- what is left is a plan, and by it somebody is in a node, which is no exit, at a moment up to the horizon
+pub record IsLeadable (s : Stock) (n t : ℕ) : Type 0 where
+  pub left : IsOpen s
+  pub node_in : n < length s.model.nodes
+  pub inside : IsFalse (is_exit_at s.model n)
+  pub moment_in : t ≤ s.model.horizon
+  pub someone : 0 < before s n t + left_coming s n t
+
+-- some people are taken off an arc at a moment, and the rest is as before
+pub record IsLessLeft (s v : Stock) (a t p : ℕ) : Type 0 where
+  pub model : v.model ≡ s.model
+  pub less : IsLess s.left v.left a t p
+  pub holds : v.holds ≡ s.holds
+  pub waiting : v.waiting ≡ s.waiting
+
+-- some people are taken off those who stay in a node from a moment to the next, and the rest is as before
+pub record IsLessHeld (s v : Stock) (n t p : ℕ) : Type 0 where
+  pub model : v.model ≡ s.model
+  pub left : v.left ≡ s.left
+  pub less : IsLess s.holds v.holds n t p
+  pub waiting : v.waiting ≡ s.waiting
 
 -- some people went from a node at a moment into an exit, along steps and holds, and are taken off these
 pub record IsLedOut (s v : Stock) (n t p : ℕ) (steps : List RouteStep) : Type 0 where

@@ -1,8 +1,8 @@
 // How tables take the people of a plan.
-ghost use Rattle.std.specs.Prelude.{◌≡◌, ℕ, ◌<◌, ◌≤◌, ◌&&◌, if◌then◌else◌, ◌==◌, nat_le, length, slice_index_or};
+ghost use Rattle.std.specs.Prelude.{◌≡◌, ℕ, ◌<◌, ◌≤◌, length, slice_index_or};
 ghost use Rattle.evac_law.specs.Building.{no_node};
 ghost use Rattle.evac_law.specs.Plans.{moved};
-ghost use Rattle.route_decompose.specs.Tables.{people_at};
+ghost use Rattle.route_decompose.specs.Tables.{IsRowFilled, people_at};
 
 use crate::table::Table;
 use evac_law::{NodeRow, Standing};
@@ -13,10 +13,7 @@ fn fill_left_row<F: Standing>(table: &mut Table, standing: &F, arc: u32)
     requires arcs { table.old.rows ≡ (F.stand standing.now).arcs }
     requires horizon { table.old.last ≡ (F.stand standing.now).horizon }
     requires short { table.old.last < 1000 }
-    ensures rows { table.new.rows ≡ table.old.rows }
-    ensures last { table.new.last ≡ table.old.last }
-    ensures row { (k : ℕ) → k ≤ table.old.last → people_at table.new arc k ≡ moved (F.stand standing.now).plan arc k }
-    ensures others { (i k : ℕ) → i < arc → people_at table.new i k ≡ people_at table.old i k }
+    ensures filled { IsRowFilled table.old table.new arc (moved (F.stand standing.now).plan arc) }
 {
     for moment in 0..table.last() + 1 {
         table.put(arc, moment, standing.moved(arc, moment));
@@ -43,10 +40,7 @@ fn fill_holds_row<F: Standing>(table: &mut Table, standing: &F, node: u32)
     requires nodes { table.old.rows ≡ (F.stand standing.now).nodes }
     requires horizon { table.old.last ≡ (F.stand standing.now).horizon }
     requires short { table.old.last < 1000 }
-    ensures rows { table.new.rows ≡ table.old.rows }
-    ensures last { table.new.last ≡ table.old.last }
-    ensures row { (k : ℕ) → k ≤ table.old.last → people_at table.new node k ≡ (F.stand standing.now).contents node k }
-    ensures others { (i k : ℕ) → i < node → people_at table.new i k ≡ people_at table.old i k }
+    ensures filled { IsRowFilled table.old table.new node ((F.stand standing.now).contents node) }
 {
     for moment in 0..table.last() + 1 {
         table.put(node, moment, standing.held(node, moment));

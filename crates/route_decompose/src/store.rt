@@ -2,7 +2,7 @@
 ghost use Rattle.std.specs.Prelude.{◌≡◌, ℕ, ◌<◌, ◌≤◌, IfNone, IfOk, IfSome, length, map};
 ghost use Rattle.evac_law.specs.Building.{IsValid, arc_at, is_exit_at, tail};
 ghost use Rattle.route_decompose.specs.Tables.{IsLess, people_at};
-ghost use Rattle.route_decompose.specs.Stocks.{IsEmpty, IsStock, IsStockOf, going, shape_of};
+ghost use Rattle.route_decompose.specs.Stocks.{IsEmpty, IsLessHeld, IsLessLeft, IsStock, IsStockOf, going, shape_of};
 ghost use Rattle.route_decompose.specs.Routes.{IsSameSite, ends_of};
 ghost use Rattle.time_expansion.specs.Expansion.{arcs_from};
 
@@ -204,10 +204,7 @@ impl Store {
         requires arc_in { arc < length self.old.model.arcs }
         requires moment_in { moment ≤ self.old.model.horizon }
         requires enough { people ≤ people_at self.old.left arc moment }
-        ensures model { self.new.model ≡ self.old.model }
-        ensures less { IsLess self.old.left self.new.left arc moment people }
-        ensures holds { self.new.holds ≡ self.old.holds }
-        ensures waiting { self.new.waiting ≡ self.old.waiting }
+        ensures { IsLessLeft self.old self.new arc moment people }
     {
         self.left.take(arc, moment, people);
     }
@@ -217,10 +214,7 @@ impl Store {
         requires node_in { node < length self.old.model.nodes }
         requires moment_in { moment ≤ self.old.model.horizon }
         requires enough { people ≤ people_at self.old.holds node moment }
-        ensures model { self.new.model ≡ self.old.model }
-        ensures left { self.new.left ≡ self.old.left }
-        ensures less { IsLess self.old.holds self.new.holds node moment people }
-        ensures waiting { self.new.waiting ≡ self.old.waiting }
+        ensures { IsLessHeld self.old self.new node moment people }
     {
         self.holds.take(node, moment, people);
     }

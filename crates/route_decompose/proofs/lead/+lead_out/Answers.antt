@@ -3,36 +3,35 @@ use Rattle.std.proofs.lemmas.List.{length-append}
 use Rattle.evac_law.specs.Building.{arrival, head, is_exit_at}
 use Rattle.evac_law.specs.Limits.{horizon_limit, travel_limit}
 use Rattle.evac_law.specs.declared.model.ArcRow.{ArcRow}
-use Rattle.route_decompose.specs.Stocks.{TrailView, IsLedOn, before, left_coming}
+use Rattle.route_decompose.specs.Stocks.{TrailView, IsLeadable, IsLedOn}
 use Rattle.route_decompose.specs.Tables.{people_at}
-use Rattle.route_decompose.proofs.Going.{arc_of, arrives_in_time, comes, on_by_hold, on_by_move, on_to_exit, stays, stays_before, still_left}
+use Rattle.route_decompose.proofs.Going.{arc_of, comes, on_by_hold, on_by_move, on_to_exit, stays, still_left}
 use Rattle.route_decompose.proofs.Leading.{step_of}
 use Rattle.route_decompose.proofs.lead.+lead_out.Goals as goal
 
 pub overflow_add-moment : goal.overflow_add-moment
 unfolding horizon_limit
-overflow_add-moment t c = omega (arith, c.requires.moment_in, c.requires.left.stock.valid.horizon)
+overflow_add-moment t c = omega (arith, c.requires.leadable.moment_in, c.requires.leadable.left.stock.valid.horizon)
 
 pub lead_out-people-requires : goal.lead_out-people-requires
 lead_out-people-requires t c =
     let s = c.args.store.now in
     let some : 0 < people_at s.holds c.args.node c.args.moment = omega (arith, c.hold-held.ensures, c.if-held-gt0.true) in
-    let within = stays_before s c.requires.left c.args.node c.args.moment c.requires.node_in c.requires.inside c.requires.moment_in some in
-    let someone = stays s c.requires.left c.args.node c.args.moment c.requires.node_in c.requires.inside some in
+    let next = stays s c.args.node c.args.moment c.requires.leadable some in
     search rules
 
 pub returns-then-held-gt0-clause-led : goal.returns-then-held-gt0-clause-led
 returns-then-held-gt0-clause-led t c =
     on_by_hold c.args.store.now c.lead_out-people.new.store c.take_hold.new.self c.args.node c.args.moment c.lead_out-people.result c.args.trail.now
-    c.lead_out-people.new.trail c.lead_out-people.ensures.led c.take_hold.ensures.model c.take_hold.ensures.left c.take_hold.ensures.waiting c.take_hold.ensures.less
+    c.lead_out-people.new.trail c.lead_out-people.ensures.led c.take_hold.ensures
 
 pub overflow_add-moment-2 : goal.overflow_add-moment-2
 unfolding horizon_limit travel_limit
 overflow_add-moment-2 t c =
     let s = c.args.store.now in
-    let arc = arc_of s c.requires.left c.in-Some.arc c.args.moment c.in-Some.ensures.some.0 c.in-Some.ensures.some.2 in
+    let arc = arc_of s c.requires.leadable.left c.in-Some.arc c.args.moment c.in-Some.ensures.some.0 c.in-Some.ensures.some.2 in
     let row = ap (λ (r : ArcRow). r.travel) c.arc-row.ensures in
-    omega (arith, c.requires.moment_in, c.requires.left.stock.valid.horizon, arc.travel_fits.1, row)
+    omega (arith, c.requires.leadable.moment_in, c.requires.leadable.left.stock.valid.horizon, arc.travel_fits.1, row)
 
 pub lead_out-people-requires-2 : goal.lead_out-people-requires-2
 lead_out-people-requires-2 t c =
@@ -40,14 +39,13 @@ lead_out-people-requires-2 t c =
     let a = c.in-Some.arc in
     let m = c.args.moment in
     let facts = c.in-Some.ensures.some in
-    let arc = arc_of s c.requires.left a m facts.0 facts.2 in
+    let arc = arc_of s c.requires.leadable.left a m facts.0 facts.2 in
     let row = c.arc-row.ensures in
-    let to_in : c.arc-row.result.to < length s.model.nodes = subst (λ (r : ArcRow). r.to < length s.model.nodes) (sym row) arc.to_in in
-    let inside : IsFalse (is_exit_at s.model c.arc-row.result.to) = sym c.is_exit.ensures ∙ c.if-is_exit.false in
+    let inside : IsFalse (is_exit_at s.model (head s.model a)) =
+    subst (λ (r : ArcRow). IsFalse (is_exit_at s.model r.to)) row (sym c.is_exit.ensures ∙ c.if-is_exit.false) in
     let time : 1 ≤ c.arc-row.result.travel = subst (λ (r : ArcRow). 1 ≤ r.travel) (sym row) arc.travel_fits.0 in
-    let within : m + c.arc-row.result.travel ≤ s.model.horizon = subst (λ (r : ArcRow). m + r.travel ≤ s.model.horizon) (sym row) (arrives_in_time s c.requires.left a m facts.0 facts.2) in
-    let someone : 0 < before s c.arc-row.result.to (m + c.arc-row.result.travel) + left_coming s c.arc-row.result.to (m + c.arc-row.result.travel) =
-    subst (λ (r : ArcRow). 0 < before s r.to (m + r.travel) + left_coming s r.to (m + r.travel)) (sym row) (comes s c.requires.left a m facts.0 facts.2) in
+    let next : IsLeadable s c.arc-row.result.to (m + c.arc-row.result.travel) =
+    subst (λ (r : ArcRow). IsLeadable s r.to (m + r.travel)) (sym row) (comes s c.requires.leadable.left a m facts.0 facts.2 inside) in
     let some : 1 ≤ c.min-2.result = omega (arith, c.min-2.ensures, c.requires.some, c.left-left.ensures, facts.2) in
     let longer : length c.add.new.self.steps ≡ length c.args.trail.now.steps + 1 =
     ap (λ (x : TrailView). length x.steps) c.add.ensures ∙ length-append c.args.trail.now.steps (record { moment = m; arc = a } ∷ []) in
@@ -64,7 +62,7 @@ take_left-requires-2-clause-enough t c =
     let p = c.lead_out-people-2.result in
     let on : IsLedOn s v (head s.model a) (arrival s.model a c.args.moment) p c.add.new.self c.lead_out-people-2.new.trail =
     subst (λ (r : ArcRow). IsLedOn s v r.to (c.args.moment + r.travel) p c.add.new.self c.lead_out-people-2.new.trail) c.arc-row.ensures c.lead_out-people-2.ensures.led in
-    let still = still_left s v a c.args.moment p c.add.new.self c.lead_out-people-2.new.trail c.requires.left.stock c.in-Some.ensures.some.0 on in
+    let still = still_left s v a c.args.moment p c.add.new.self c.lead_out-people-2.new.trail c.requires.leadable.left.stock c.in-Some.ensures.some.0 on in
     omega (arith, still, c.lead_out-people-2.ensures.most, c.min-2.ensures, c.left-left.ensures)
 
 pub returns-then-is_exit-clause-led : goal.returns-then-is_exit-clause-led
@@ -74,8 +72,7 @@ returns-then-is_exit-clause-led t c =
     let w = c.take_left.new.self in
     let exit : is_exit_at s.model (head s.model a) ≡ true =
     subst (λ (r : ArcRow). is_exit_at s.model r.to ≡ true) c.arc-row.ensures (sym c.is_exit.ensures ∙ c.if-is_exit.true) in
-    let on = on_to_exit s w a c.args.moment c.min-people.result c.args.trail.now c.requires.left c.in-Some.ensures.some.0 exit c.take_left.ensures.model
-    c.take_left.ensures.less c.take_left.ensures.holds c.take_left.ensures.waiting in
+    let on = on_to_exit s w a c.args.moment c.min-people.result c.args.trail.now c.requires.leadable.left c.in-Some.ensures.some.0 exit c.take_left.ensures in
     subst (λ (x : TrailView). IsLedOn s w c.args.node c.args.moment c.min-people.result c.args.trail.now x) (sym c.add.ensures)
     (subst (λ n. IsLedOn s w n c.args.moment c.min-people.result c.args.trail.now (record { steps = c.args.trail.now.steps ++ step_of a c.args.moment ∷ []; room = c.args.trail.now.room }))
     c.in-Some.ensures.some.1 on)
@@ -94,5 +91,4 @@ returns-clause-led t c =
     let from : IsLedOn s v (head s.model a) (arrival s.model a m) p (record { steps = c.args.trail.now.steps ++ step_of a m ∷ []; room = c.args.trail.now.room }) u =
     subst (λ (x : TrailView). IsLedOn s v (head s.model a) (arrival s.model a m) p x u) c.add.ensures on in
     subst (λ n. IsLedOn s w n m p c.args.trail.now u) c.in-Some.ensures.some.1
-    (on_by_move s v w a m p c.args.trail.now u c.requires.left.stock c.in-Some.ensures.some.0 from c.take_left-2.ensures.model c.take_left-2.ensures.less
-    c.take_left-2.ensures.holds c.take_left-2.ensures.waiting)
+    (on_by_move s v w a m p c.args.trail.now u c.requires.leadable.left.stock c.in-Some.ensures.some.0 from c.take_left-2.ensures)
