@@ -1,5 +1,5 @@
 -- A search that goes on from all pairs that it has met.
-use Rattle.std.proofs.Common.{◌≡◌, ℕ, suc, ◌+◌, ◌-◌, ◌<◌, ◌≤◌, Bool, true, false, not, ◌&&◌, ◌||◌, eqb, ltb, List, [], ◌∷◌, length, get_or, drop, Option, MatchOption, ap, sym, subst, ◌∙◌, ◌⊎◌, refl, arith, inl, inr, add-one, drop-cons}
+use Rattle.std.proofs.Common.{◌≡◌, ℕ, suc, ◌+◌, ◌-◌, ◌<◌, ◌≤◌, Bool, true, false, not, ◌&&◌, ◌||◌, eqb, ltb, List, [], ◌∷◌, length, get_or, drop, Option, ap, sym, subst, ◌∙◌, refl, arith, inl, inr, add-one, drop-cons}
 use Rattle.std.specs.List.{All}
 use Rattle.std.proofs.lemmas.Bool.{cases_Bool, or_cases, ltb-false, ltb-true}
 use Rattle.std.proofs.lemmas.List.{drop-drop, length-set}
@@ -9,18 +9,18 @@ use Rattle.residual_net.specs.declared.place.PathStep.{PathStep}
 use Rattle.residual_net.specs.declared.place.Place.TheVariants.{Arc, Hold, Supply}
 use Rattle.residual_net.specs.Closed.{reached}
 use Rattle.residual_net.specs.Network.{Network}
-use Rattle.residual_net.specs.Site.{Site, IsPlace, start_of, stop_of}
+use Rattle.residual_net.specs.Site.{Site, start_of}
 use Rattle.residual_net.specs.Site.End.{Pair}
 use Rattle.terminal_augment.specs.declared.spot.Frame.{Frame}
 use Rattle.terminal_augment.specs.declared.spot.Spot.{Spot}
 use Rattle.terminal_augment.specs.declared.work.Work.{Work}
 use Rattle.terminal_augment.specs.Floods.{AreExpanded, IsFlooding, IsGrown, IsWayDone}
-use Rattle.terminal_augment.specs.Frames.{IsChain, IsExpanded, IsTried, spots}
+use Rattle.terminal_augment.specs.Frames.{IsChain, IsExpanded, spots}
 use Rattle.terminal_augment.specs.Marking.{MarkTable, IsMarks, is_marked, mark_place, open_count, with_stamp}
 use Rattle.terminal_augment.specs.Piles.{Pile}
-use Rattle.terminal_augment.specs.Searching.{AreDoorsDone, IsUnmarked, IsExplored, IsSearching, IsWork, noted}
+use Rattle.terminal_augment.specs.Searching.{AreDoorsDone, IsUnmarked, IsExplored, IsResting, IsWork, noted}
 use Rattle.terminal_augment.specs.Spots.{IsInside, has}
-use Rattle.terminal_augment.specs.Ways.{IsDone, in_count, out_count, passed, way_at, way_back, way_before, way_behind, way_by_arc, way_count, way_in}
+use Rattle.terminal_augment.specs.Ways.{IsDone, in_count, out_count, passed, way_at, way_back, way_before, way_behind, way_by_arc, way_in}
 use Rattle.terminal_augment.proofs.MarkLemmas.{IsIn, marked_grows, marked_here, marked_listed, open_few, open_marked}
 use Rattle.terminal_augment.proofs.SearchLemmas.{all_cons, at_spot, cleared_work, done_grows, is_in, or_later, way_done}
 use Rattle.terminal_augment.proofs.WayLemmas.{each_way}
@@ -223,14 +223,17 @@ expanded_more w l k done x y blank g q old here =
     same = below_grown x y (done + 1) g (omega (arith, q)) ∙ ap (λ i. drop i x.seen.list) first ∙ drop-cons x.seen.list (left - 1) blank lt
         ∙ ap (λ (i : ℕ). get_or x.seen.list (left - 1) blank ∷ drop i x.seen.list) (sym (add-one (left - 1)) ∙ next)
 
-pub flooding_searches : (s : Site) (l : LabelTable) (k : ℕ) (x : Work) → IsFlooding s l k x → IsSearching s l k x
-flooding_searches s l k x h = record {
-  work = h.work;
-  frames = omega (arith, open_few x.marks, h.work.frames, ap length h.none);
-  seen = h.seen;
-  chain = subst (λ (z : List Frame). IsChain s k z) (sym h.none) tt;
-  marked = λ n t q. absurd (no_spot x.frames.list h.none n t q);
-  unset = h.unset;
+pub flooding_rests : (s : Site) (l : LabelTable) (k : ℕ) (x : Work) → IsFlooding s l k x → IsResting s l k x
+flooding_rests s l k x h = record {
+  searching = record {
+    work = h.work;
+    frames = omega (arith, open_few x.marks, h.work.frames, ap length h.none);
+    seen = h.seen;
+    chain = subst (λ (z : List Frame). IsChain s k z) (sym h.none) tt;
+    marked = λ n t q. absurd (no_spot x.frames.list h.none n t q);
+    unset = h.unset;
+  };
+  none = h.none;
 }
   where
     no_spot : (fs : List Frame) → fs ≡ [] → (n t : ℕ) → has (spots fs) n t ≡ true → ⊥

@@ -15,7 +15,7 @@ use Rattle.terminal_augment.specs.declared.spot.Frame.{Frame}
 use Rattle.terminal_augment.specs.declared.spot.Spot.{Spot}
 use Rattle.terminal_augment.specs.declared.spot.Start.{Start}
 use Rattle.terminal_augment.specs.declared.spot.Start.TheVariants as starts
-use Rattle.terminal_augment.specs.Frames.{IsChain, IsFound, IsFrame, IsStart, end_of, spots, steps_of, top_end}
+use Rattle.terminal_augment.specs.Frames.{IsChain, IsFound, IsFrame, end_of, spots, steps_of, top_end}
 use Rattle.terminal_augment.specs.declared.work.Work.{Work}
 use Rattle.terminal_augment.specs.Guesses.{CarriesPeople, IsLookedAt, IsMarkedOn, IsStep, IsTail, IsWait, frame_of, frames_of, spot_of}
 use Rattle.terminal_augment.specs.Marking.{MarkTable, IsMarks, is_marked, with_stamp}

@@ -16,7 +16,7 @@ use Rattle.residual_net.proofs.Effects.{push_moves}
 use Rattle.residual_net.proofs.Survive.{closed_survives}
 use Rattle.terminal_augment.specs.declared.spot.Frame.{Frame}
 use Rattle.terminal_augment.specs.Frames.{IsChain, IsFound, spots, steps_of, top_end}
-use Rattle.terminal_augment.specs.Settled.{IsPushedOn}
+use Rattle.terminal_augment.specs.Settled.{IsCountedOn, IsPushedOn}
 use Rattle.terminal_augment.specs.Spots.{has}
 use Rattle.terminal_augment.proofs.AdvanceLemmas.{or_none}
 use Rattle.terminal_augment.proofs.SearchLemmas.{all_cons, all_rest, differs}
@@ -181,6 +181,16 @@ pushed_more w v u k a b c p q e = record {
     idle = λ z. q.sent.idle (omega (arith, e, z)) ∙ p.sent.idle (omega (arith, e, z));
   };
   closed = λ s i l closed. q.closed s i l (p.closed s i l closed);
+}
+
+pub counted_none : (w : Network) (k before : ℕ) → IsNet w → IsWithinLimits w → IsCountedOn w w k 0 before before
+counted_none w k before net within = record { pushed = pushed_none w k net within; ticked = omega arith }
+
+pub counted_more : (w v u : Network) (k a b c before next after : ℕ) → IsCountedOn w v k a before next → IsCountedOn v u k b next after → a + b ≡ c
+    → IsCountedOn w u k c before after
+counted_more w v u k a b c before next after p q e = record {
+  pushed = pushed_more w v u k a b c p.pushed q.pushed e;
+  ticked = omega (arith, p.ticked, q.ticked, e);
 }
 
 -- no more arrive than may be sent

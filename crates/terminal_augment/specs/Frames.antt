@@ -54,6 +54,13 @@ IsTried w l m k f = (i : ℕ) → i < f.next → MatchOption (way_at w.site f.sp
 abbrev pub IsExpanded : Network → LabelTable → MarkTable → ℕ → ℕ → ℕ → Type 0
 IsExpanded w l m k n t = (y : PathStep) → IsPlace w.site y.place → stop_of w.site y ≡ Pair n t → IsDone w l m k y
 
+-- a found step and those of the frames are over places of the network, and have room
+pub record AreOpen (w : Network) (fs : List Frame) (y : PathStep) : Type 0 where
+  pub place : IsPlace w.site y.place
+  pub places : All (λ f. IsPlace w.site f.step.place) fs
+  pub some : 0 < residual_room w y
+  pub room : HaveRoom w fs
+
 -- a step with room leads to the frames from the source or from a later arrival
 pub record IsFound (w : Network) (k : ℕ) (fs : List Frame) (y : PathStep) : Type 0 where
   pub some : 0 < residual_room w y

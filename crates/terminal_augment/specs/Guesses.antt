@@ -14,7 +14,7 @@ use Rattle.terminal_augment.specs.declared.spot.Start.{Start}
 use Rattle.terminal_augment.specs.declared.spot.Start.TheVariants as starts
 use Rattle.terminal_augment.specs.Frames.{IsChain, IsStart, end_of, spots, top_end}
 use Rattle.terminal_augment.specs.Marking.{MarkTable, IsMarks, is_marked}
-use Rattle.terminal_augment.specs.Spots.{has}
+use Rattle.terminal_augment.specs.Spots.{IsInside, has}
 
 -- the pair of an end, where it is one
 abbrev pub spot_of : End → Spot
@@ -55,9 +55,20 @@ pub record IsTail (w : Network) (k : ℕ) (m : MarkTable) (e : Start) (people : 
 abbrev pub IsLookedAt : Network → ℕ → MarkTable → Look → List PathStep → Type 0
 IsLookedAt w k m x path = IsTail w k m (starts.At x.spot) x.people (drop x.left path)
 
+-- a look has come to a pair of the network, with so many steps left at most
+pub record IsLookWithin (s : Site) (most : ℕ) (x : Look) : Type 0 where
+  pub inside : IsInside s x.spot.node x.spot.moment
+  pub left : x.left ≤ most
+
 -- the path brings that many people to moment k
 abbrev pub CarriesPeople : Network → ℕ → List PathStep → ℕ → Type 0
 CarriesPeople w k path people = (e : End) × IsAugmentingPath w path people e k
+
+-- marks for the nodes and moments of a network
+pub record IsMarksOf (s : Site) (m : MarkTable) : Type 0 where
+  pub marks : IsMarks m
+  pub nodes : m.nodes ≡ s.shape.nodes
+  pub horizon : m.horizon ≡ s.shape.horizon
 
 -- other marks on the same nodes and moments
 pub record IsMarkedOn (m v : MarkTable) : Type 0 where

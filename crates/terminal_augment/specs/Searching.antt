@@ -4,17 +4,17 @@ use Rattle.std.specs.List.{All}
 use Rattle.evac_law.specs.LabelTable.{LabelTable, label_at}
 use Rattle.residual_net.specs.declared.place.PathStep.{PathStep}
 use Rattle.residual_net.specs.declared.place.Place.TheVariants.{Arc}
-use Rattle.residual_net.specs.Network.{Network}
+use Rattle.residual_net.specs.Network.{Network, IsNet}
 use Rattle.residual_net.specs.Site.{Site, IsPlace, stop_of}
 use Rattle.residual_net.specs.Site.End.{Door}
 use Rattle.terminal_augment.specs.declared.spot.Frame.{Frame}
 use Rattle.terminal_augment.specs.declared.spot.Spot.{Spot}
 use Rattle.terminal_augment.specs.declared.work.Work.{Work}
-use Rattle.terminal_augment.specs.Frames.{IsChain, IsExpanded, IsTried, spots}
+use Rattle.terminal_augment.specs.Frames.{HaveRoom, IsChain, IsExpanded, IsTried, spots}
 use Rattle.terminal_augment.specs.Marking.{MarkTable, IsMarks, is_marked, open_count, with_stamp}
 use Rattle.terminal_augment.specs.Piles.{Pile}
 use Rattle.terminal_augment.specs.Spots.{IsInside, has}
-use Rattle.terminal_augment.specs.Ways.{IsDone}
+use Rattle.terminal_augment.specs.Ways.{IsDone, IsSearchable}
 
 -- ---- the scratch
 
@@ -95,6 +95,24 @@ pub record IsSearching (s : Site) (l : LabelTable) (k : ℕ) (x : Work) : Type 0
   pub chain : IsChain s k x.frames.list
   pub marked : (n t : ℕ) → IsTrue (has (spots x.frames.list) n t) → IsTrue (is_marked x.marks n t)
   pub unset : All (λ p. IsInside s p.node p.moment × (k ≤ label_at l p.node p.moment)) x.seen.list
+
+-- a search of a net goes on, and each frame's step has room
+pub record IsWalking (w : Network) (l : LabelTable) (k : ℕ) (x : Work) : Type 0 where
+  pub searchable : IsSearchable w l
+  pub searching : IsSearching w.site l k x
+  pub room : HaveRoom w x.frames.list
+
+-- a search has no frame left
+pub record IsResting (s : Site) (l : LabelTable) (k : ℕ) (x : Work) : Type 0 where
+  pub searching : IsSearching s l k x
+  pub none : x.frames.list ≡ []
+
+-- people may be sent to moment k of a net: it can be searched with the labels and the scratch
+pub record IsSendable (w : Network) (l : LabelTable) (k : ℕ) (x : Work) : Type 0 where
+  pub net : IsNet w
+  pub searchable : IsSearchable w l
+  pub moment : k ≤ w.site.shape.horizon
+  pub work : IsWork w.site.shape.nodes w.site.shape.horizon x
 
 -- each step with room over an arc of a smaller number into an arrival at k begins at what is passed
 abbrev pub AreDoorsDone : Network → LabelTable → MarkTable → ℕ → ℕ → Type 0

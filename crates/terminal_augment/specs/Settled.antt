@@ -21,6 +21,14 @@ pub record IsSearchOf (s : Site) (x : SearchSize) : Type 0 where
 abbrev pub IsUnsetFrom : LabelTable → ℕ → Type 0
 IsUnsetFrom l k = (n t : ℕ) → n < l.nodes → t ≤ l.horizon → k ≤ label_at l n t → label_at l n t ≡ unset
 
+-- the moments below k are settled: what their labels reach is closed, and the other labels are unset
+pub record IsSettledBelow (w : Network) (l : LabelTable) (k : ℕ) : Type 0 where
+  pub within : IsWithinLimits w
+  pub labels : IsLabelsOf w.site l
+  pub moment : k ≤ w.site.shape.horizon
+  pub closed : IsClosedBelow w l k
+  pub unset : IsUnsetFrom l k
+
 -- no limit changes, nor what was saved
 pub record KeepsLimits (w v : Network) : Type 0 where
   pub site : v.site ≡ w.site
@@ -52,3 +60,8 @@ pub record IsPushedOn (w v : Network) (k pushes : ℕ) : Type 0 where
   pub net : IsNet v
   pub sent : IsSentOn w v k pushes
   pub closed : KeepsClosed w v k
+
+-- pushes to moment k, each counted as a step
+pub record IsCountedOn (w v : Network) (k pushes before after : ℕ) : Type 0 where
+  pub pushed : IsPushedOn w v k pushes
+  pub ticked : after ≡ before + pushes

@@ -1,14 +1,25 @@
 -- The steps that lead into a node at a moment, one after another.
-use Rattle.std.specs.Prelude.{◌≡◌, ℕ, ◌+◌, ◌-◌, ◌<◌, Bool, true, false, ◌||◌, if◌then◌else◌, ◌==◌, nat_le, nat_lt, length, slice_index, Option, Some, None, IsTrue, IsFalse}
+use Rattle.std.specs.Prelude.{◌≡◌, ℕ, ◌+◌, ◌-◌, ◌<◌, ◌≤◌, Bool, true, false, ◌||◌, if◌then◌else◌, ◌==◌, nat_le, nat_lt, length, slice_index, Option, Some, None, IsTrue, IsFalse}
 use Rattle.evac_law.specs.LabelTable.{LabelTable, label_at}
 use Rattle.time_expansion.specs.Expansion.{arcs_from, arcs_to}
 use Rattle.residual_net.specs.declared.place.Place.TheVariants.{Arc, Hold, Supply}
 use Rattle.residual_net.specs.declared.place.PathStep.{PathStep}
 use Rattle.residual_net.specs.Closed.{reached}
-use Rattle.residual_net.specs.Network.{Network, residual_room}
-use Rattle.residual_net.specs.Site.{Site, IsPlace, arrival_at, head_of, start_of}
+use Rattle.residual_net.specs.Labelled.{IsLabelsOf}
+use Rattle.residual_net.specs.Network.{Network, IsWithinLimits, residual_room}
+use Rattle.residual_net.specs.Site.{Site, IsPlace, arc_count, arrival_at, head_of, start_of}
 use Rattle.residual_net.specs.Site.End.{Door}
 use Rattle.terminal_augment.specs.Marking.{MarkTable, is_marked}
+
+-- a net is within its limits, and labels are for its nodes and moments
+pub record IsSearchable (w : Network) (l : LabelTable) : Type 0 where
+  pub within : IsWithinLimits w
+  pub labels : IsLabelsOf w.site l
+
+-- an arc and a moment are the network's
+pub record IsArcAt (s : Site) (a t : ℕ) : Type 0 where
+  pub arc : a < arc_count s
+  pub moment : t ≤ s.shape.horizon
 
 -- how many arcs enter a node, and how many leave it
 abbrev pub in_count : Site → ℕ → ℕ

@@ -1,15 +1,13 @@
 // The last search to a moment: through all pairs that reach an arrival then, in the order in which they are met.
-ghost use Rattle.std.specs.Prelude.{◌≡◌, ℕ, ◌+◌, ◌<◌, ◌≤◌, IsTrue, [], length, slice_index, false, true};
+ghost use Rattle.std.specs.Prelude.{◌≡◌, ℕ, ◌+◌, ◌<◌, ◌≤◌, IsTrue, length, slice_index, false, true};
 ghost use Rattle.time_expansion.specs.Expansion.{arcs_from, arcs_to};
 ghost use Rattle.residual_net.specs.declared.place.Place.TheVariants.{Arc};
-ghost use Rattle.residual_net.specs.Network.{IsWithinLimits};
 ghost use Rattle.residual_net.specs.Site.{IsPlace, arc_count};
 ghost use Rattle.terminal_augment.specs.Floods.{IsFlooding, IsGrown, IsWayDone};
 ghost use Rattle.terminal_augment.specs.Frames.{IsExpanded};
-ghost use Rattle.terminal_augment.specs.Searching.{AreDoorsDone, IsExplored, IsSearching, IsWork};
-ghost use Rattle.terminal_augment.specs.Settled.{IsLabelsOf};
+ghost use Rattle.terminal_augment.specs.Searching.{AreDoorsDone, IsExplored, IsResting, IsWork};
 ghost use Rattle.terminal_augment.specs.Spots.{IsInside};
-ghost use Rattle.terminal_augment.specs.Ways.{IsDone, in_count, out_count, way_before, way_in};
+ghost use Rattle.terminal_augment.specs.Ways.{IsArcAt, IsDone, IsSearchable, in_count, out_count, way_before, way_in};
 
 use crate::spot::{Spot, Start};
 use crate::ways::{back, door_step, forth, is_fresh, start};
@@ -19,8 +17,7 @@ use residual_net::{Net, PathStep, Place};
 
 /// Marks where a step begins, if it may be taken. Whether nobody can be sent from there.
 fn meet(net: &Net, labels: &Labels, work: &mut Work, step: PathStep, k: u16) -> bool
-    requires within { IsWithinLimits net.now }
-    requires labels { IsLabelsOf net.now.site labels.now }
+    requires searchable { IsSearchable net.now labels.now }
     requires place { IsPlace net.now.site step.place }
     requires flooding { IsFlooding net.now.site labels.now k work.old }
     ensures flooding { IsFlooding net.now.site labels.now k work.new }
@@ -45,10 +42,8 @@ fn meet(net: &Net, labels: &Labels, work: &mut Work, step: PathStep, k: u16) -> 
 
 /// Marks where an arc begins by which people come to a node at a moment. Whether nobody can be sent from there.
 fn meet_in(net: &Net, labels: &Labels, work: &mut Work, arc: u32, moment: u16, k: u16) -> bool
-    requires within { IsWithinLimits net.now }
-    requires labels { IsLabelsOf net.now.site labels.now }
-    requires arc { arc < arc_count net.now.site }
-    requires moment { moment ≤ net.now.site.shape.horizon }
+    requires searchable { IsSearchable net.now labels.now }
+    requires arc { IsArcAt net.now.site arc moment }
     requires flooding { IsFlooding net.now.site labels.now k work.old }
     ensures flooding { IsFlooding net.now.site labels.now k work.new }
     ensures grown { IsGrown work.old work.new }
@@ -68,8 +63,7 @@ fn meet_in(net: &Net, labels: &Labels, work: &mut Work, arc: u32, moment: u16, k
 
 /// Marks where the arcs begin by which people come to a pair. Whether nobody can be sent from there.
 fn expand_in(net: &Net, labels: &Labels, work: &mut Work, spot: Spot, k: u16) -> bool
-    requires within { IsWithinLimits net.now }
-    requires labels { IsLabelsOf net.now.site labels.now }
+    requires searchable { IsSearchable net.now labels.now }
     requires inside { IsInside net.now.site spot.node spot.moment }
     requires flooding { IsFlooding net.now.site labels.now k work.old }
     ensures flooding { IsFlooding net.now.site labels.now k work.new }
@@ -87,8 +81,7 @@ fn expand_in(net: &Net, labels: &Labels, work: &mut Work, spot: Spot, k: u16) ->
 
 /// Marks where the wait before a pair begins. Whether nobody can be sent from there.
 fn meet_before(net: &Net, labels: &Labels, work: &mut Work, spot: Spot, k: u16) -> bool
-    requires within { IsWithinLimits net.now }
-    requires labels { IsLabelsOf net.now.site labels.now }
+    requires searchable { IsSearchable net.now labels.now }
     requires inside { IsInside net.now.site spot.node spot.moment }
     requires flooding { IsFlooding net.now.site labels.now k work.old }
     ensures flooding { IsFlooding net.now.site labels.now k work.new }
@@ -108,8 +101,7 @@ fn meet_before(net: &Net, labels: &Labels, work: &mut Work, spot: Spot, k: u16) 
 
 /// Marks where the arcs lead by which people leave a pair. Whether nobody can be sent from there.
 fn expand_out(net: &Net, labels: &Labels, work: &mut Work, spot: Spot, k: u16) -> bool
-    requires within { IsWithinLimits net.now }
-    requires labels { IsLabelsOf net.now.site labels.now }
+    requires searchable { IsSearchable net.now labels.now }
     requires inside { IsInside net.now.site spot.node spot.moment }
     requires flooding { IsFlooding net.now.site labels.now k work.old }
     ensures flooding { IsFlooding net.now.site labels.now k work.new }
@@ -129,8 +121,7 @@ fn expand_out(net: &Net, labels: &Labels, work: &mut Work, spot: Spot, k: u16) -
 
 /// Marks all pairs from which steps lead to a pair. Whether nobody can be sent from there.
 fn expand(net: &Net, labels: &Labels, work: &mut Work, spot: Spot, k: u16) -> bool
-    requires within { IsWithinLimits net.now }
-    requires labels { IsLabelsOf net.now.site labels.now }
+    requires searchable { IsSearchable net.now labels.now }
     requires inside { IsInside net.now.site spot.node spot.moment }
     requires flooding { IsFlooding net.now.site labels.now k work.old }
     ensures flooding { IsFlooding net.now.site labels.now k work.new }
@@ -160,10 +151,8 @@ fn expand(net: &Net, labels: &Labels, work: &mut Work, spot: Spot, k: u16) -> bo
 
 /// Marks where an arc begins by which people arrive at a moment. Whether nobody can be sent from there.
 fn open(net: &Net, labels: &Labels, work: &mut Work, arc: u32, k: u16) -> bool
-    requires within { IsWithinLimits net.now }
-    requires labels { IsLabelsOf net.now.site labels.now }
-    requires arc { arc < arc_count net.now.site }
-    requires moment { k ≤ net.now.site.shape.horizon }
+    requires searchable { IsSearchable net.now labels.now }
+    requires arc { IsArcAt net.now.site arc k }
     requires flooding { IsFlooding net.now.site labels.now k work.old }
     ensures flooding { IsFlooding net.now.site labels.now k work.new }
     ensures grown { IsGrown work.old work.new }
@@ -177,8 +166,7 @@ fn open(net: &Net, labels: &Labels, work: &mut Work, arc: u32, k: u16) -> bool
 
 /// Marks where the arcs begin by which people arrive at a moment. Whether nobody can be sent from there.
 fn open_all(net: &Net, labels: &Labels, work: &mut Work, k: u16) -> bool
-    requires within { IsWithinLimits net.now }
-    requires labels { IsLabelsOf net.now.site labels.now }
+    requires searchable { IsSearchable net.now labels.now }
     requires moment { k ≤ net.now.site.shape.horizon }
     requires flooding { IsFlooding net.now.site labels.now k work.old }
     ensures flooding { IsFlooding net.now.site labels.now k work.new }
@@ -195,12 +183,10 @@ fn open_all(net: &Net, labels: &Labels, work: &mut Work, k: u16) -> bool
 
 /// Marks all pairs that reach an arrival at a moment. Whether nobody can be sent from any of them.
 pub fn flood(net: &Net, labels: &Labels, work: &mut Work, k: u16) -> bool
-    requires within { IsWithinLimits net.now }
-    requires labels { IsLabelsOf net.now.site labels.now }
+    requires searchable { IsSearchable net.now labels.now }
     requires moment { k ≤ net.now.site.shape.horizon }
     requires work { IsWork net.now.site.shape.nodes net.now.site.shape.horizon work.old }
-    ensures searching { IsSearching net.now.site labels.now k work.new }
-    ensures none { work.new.frames.list ≡ [] }
+    ensures resting { IsResting net.now.site labels.now k work.new }
     ensures explored { IsTrue result → IsExplored net.now labels.now k (arc_count net.now.site) work.new }
 {
     work.clear();

@@ -5,10 +5,9 @@ ghost use Rattle.residual_net.specs.declared.place.Place.TheVariants.{Hold};
 ghost use Rattle.residual_net.specs.Network.{IsNet, IsWithinLimits, residual_room};
 ghost use Rattle.residual_net.specs.Site.{IsPlace, cell_of, head_of, stop_of, tail_of};
 ghost use Rattle.terminal_augment.specs.Frames.{IsStart, end_of};
-ghost use Rattle.terminal_augment.specs.Guesses.{CarriesPeople, IsLookedAt, IsMarkedOn, IsStep, IsWait};
-ghost use Rattle.terminal_augment.specs.Marking.{IsMarks};
+ghost use Rattle.terminal_augment.specs.Guesses.{CarriesPeople, IsLookWithin, IsLookedAt, IsMarkedOn, IsMarksOf, IsStep, IsWait};
 ghost use Rattle.terminal_augment.specs.Searching.{IsWork};
-ghost use Rattle.terminal_augment.specs.Settled.{IsPushedOn};
+ghost use Rattle.terminal_augment.specs.Settled.{IsCountedOn};
 ghost use Rattle.terminal_augment.specs.Spots.{IsInside};
 
 use crate::marks::Marks;
@@ -148,13 +147,9 @@ struct Look {
 /// Looks back over waits one after another, as long as they have room and no pair comes twice.
 fn over_waits(net: &Net, marks: &mut Marks, path: &[PathStep], from: Look) -> Look
     requires within { IsWithinLimits net.now }
-    requires marks { IsMarks marks.old }
-    requires nodes { marks.old.nodes ≡ net.now.site.shape.nodes }
-    requires horizon { marks.old.horizon ≡ net.now.site.shape.horizon }
-    requires inside { IsInside net.now.site from.spot.node from.spot.moment }
-    requires left { from.left ≤ length path.now }
-    ensures left { result.left ≤ from.left }
-    ensures inside { IsInside net.now.site result.spot.node result.spot.moment }
+    requires marks { IsMarksOf net.now.site marks.old }
+    requires from { IsLookWithin net.now.site (length path.now) from }
+    ensures look { IsLookWithin net.now.site from.left result }
     ensures tail { (k : ℕ) → IsLookedAt net.now k marks.old from path.now → IsLookedAt net.now k marks.new result path.now }
     ensures marks { IsMarkedOn marks.old marks.new }
 {
@@ -204,9 +199,7 @@ fn begins(net: &Net, step: PathStep, end: Start) -> Option<Start>
 /// pair, or over a step with no room.
 fn carried(net: &Net, marks: &mut Marks, path: &[PathStep], most: u32, k: u16) -> u32
     requires within { IsWithinLimits net.now }
-    requires marks { IsMarks marks.old }
-    requires nodes { marks.old.nodes ≡ net.now.site.shape.nodes }
-    requires horizon { marks.old.horizon ≡ net.now.site.shape.horizon }
+    requires marks { IsMarksOf net.now.site marks.old }
     ensures path { 0 < result → CarriesPeople net.now k path.now result }
     ensures marks { IsMarkedOn marks.old marks.new }
 {
@@ -259,8 +252,7 @@ pub fn send_guessed<L: Ledger>(
     requires moment { k ≤ net.old.site.shape.horizon }
     requires work { IsWork net.old.site.shape.nodes net.old.site.shape.horizon work.old }
     ensures work { IsWork net.new.site.shape.nodes net.new.site.shape.horizon work.new }
-    ensures pushed { IsPushedOn net.old net.new k result }
-    ensures ticked { steps.new ≡ steps.old + result }
+    ensures counted { IsCountedOn net.old net.new k result steps.old steps.new }
 {
     scout.begin(net, labels, k);
     let mut pushes = 0;

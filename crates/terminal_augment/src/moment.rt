@@ -1,15 +1,15 @@
 // One arrival moment, settled.
-ghost use Rattle.std.specs.Prelude.{◌≡◌, ℕ, ◌+◌, ◌<◌, ◌≤◌, IfOk, [], if◌then◌else◌};
+ghost use Rattle.std.specs.Prelude.{◌≡◌, ℕ, ◌+◌, ◌<◌, ◌≤◌, IfOk, if◌then◌else◌};
 ghost use Rattle.std.specs.List.{All};
 ghost use Rattle.evac_law.specs.Building.{IsValid};
 ghost use Rattle.evac_law.specs.LabelTable.{label_at};
-ghost use Rattle.residual_net.specs.Network.{IsNet, IsWithinLimits};
 ghost use Rattle.residual_net.specs.OfModel.{site_of};
 ghost use Rattle.residual_net.specs.Site.{arc_count};
 ghost use Rattle.terminal_augment.specs.Frames.{HaveRoom};
-ghost use Rattle.terminal_augment.specs.Searching.{IsExplored, IsSearching, IsWork};
-ghost use Rattle.terminal_augment.specs.Settled.{IsClosedBelow, IsLabelled, IsLabelsOf, IsPushedOn, IsSearchOf, IsSentOn, IsUnsetFrom, KeepsLimits};
+ghost use Rattle.terminal_augment.specs.Searching.{IsExplored, IsResting, IsSearching, IsSendable, IsWork};
+ghost use Rattle.terminal_augment.specs.Settled.{IsClosedBelow, IsCountedOn, IsLabelled, IsSearchOf, IsSettledBelow};
 ghost use Rattle.terminal_augment.specs.Spots.{has};
+ghost use Rattle.terminal_augment.specs.Ways.{IsArcAt, IsSearchable};
 
 use crate::flood::flood;
 use crate::guess::send_guessed;
@@ -27,12 +27,9 @@ use std::sync::ledger::Ledger;
 
 /// Enters the pair from which an arc leads to an arrival at a moment, where a search may take that step.
 fn open_door(net: &Net, labels: &Labels, work: &mut Work, arc: u32, k: u16)
-    requires within { IsWithinLimits net.now }
-    requires labels { IsLabelsOf net.now.site labels.now }
-    requires arc { arc < arc_count net.now.site }
-    requires moment { k ≤ net.now.site.shape.horizon }
-    requires searching { IsSearching net.now.site labels.now k work.old }
-    requires none { work.old.frames.list ≡ [] }
+    requires searchable { IsSearchable net.now labels.now }
+    requires arc { IsArcAt net.now.site arc k }
+    requires resting { IsResting net.now.site labels.now k work.old }
     ensures searching { IsSearching net.now.site labels.now k work.new }
     ensures room { HaveRoom net.now work.new.frames.list }
     ensures explored { IsExplored net.now labels.now k arc work.old → IsExplored net.now labels.now k (arc + 1) work.new }
@@ -55,18 +52,12 @@ fn send_by<L: Ledger>(
     k: u16,
     steps: &mut Steps<L>,
 ) -> u32
-    requires within { IsWithinLimits net.old }
-    requires net { IsNet net.old }
-    requires labels { IsLabelsOf net.old.site labels.now }
+    requires sendable { IsSendable net.old labels.now k work.old }
     requires arc { arc < arc_count net.old.site }
-    requires moment { k ≤ net.old.site.shape.horizon }
-    requires searching { IsSearching net.old.site labels.now k work.old }
-    requires none { work.old.frames.list ≡ [] }
-    ensures searching { IsSearching net.new.site labels.now k work.new }
-    ensures none { work.new.frames.list ≡ [] }
-    ensures pushed { IsPushedOn net.old net.new k result }
+    requires resting { IsResting net.old.site labels.now k work.old }
+    ensures resting { IsResting net.new.site labels.now k work.new }
+    ensures counted { IsCountedOn net.old net.new k result steps.old steps.new }
     ensures explored { result ≡ 0 → IsExplored net.old labels.now k arc work.old → IsExplored net.new labels.now k (arc + 1) work.new }
-    ensures ticked { steps.new ≡ steps.old + result }
 {
     open_door(net, labels, work, arc, k);
     let mut pushes = 0;
@@ -84,16 +75,10 @@ fn round<L: Ledger>(
     k: u16,
     steps: &mut Steps<L>,
 ) -> u32
-    requires within { IsWithinLimits net.old }
-    requires net { IsNet net.old }
-    requires labels { IsLabelsOf net.old.site labels.now }
-    requires moment { k ≤ net.old.site.shape.horizon }
-    requires work { IsWork net.old.site.shape.nodes net.old.site.shape.horizon work.old }
-    ensures searching { IsSearching net.new.site labels.now k work.new }
-    ensures none { work.new.frames.list ≡ [] }
-    ensures pushed { IsPushedOn net.old net.new k result }
+    requires sendable { IsSendable net.old labels.now k work.old }
+    ensures resting { IsResting net.new.site labels.now k work.new }
+    ensures counted { IsCountedOn net.old net.new k result steps.old steps.new }
     ensures explored { result ≡ 0 → IsExplored net.new labels.now k (arc_count net.new.site) work.new }
-    ensures ticked { steps.new ≡ steps.old + result }
 {
     work.clear();
     let mut pushes = 0;
@@ -112,16 +97,10 @@ fn send_all<L: Ledger>(
     k: u16,
     steps: &mut Steps<L>,
 ) -> u32
-    requires within { IsWithinLimits net.old }
-    requires net { IsNet net.old }
-    requires labels { IsLabelsOf net.old.site labels.now }
-    requires moment { k ≤ net.old.site.shape.horizon }
-    requires work { IsWork net.old.site.shape.nodes net.old.site.shape.horizon work.old }
-    ensures searching { IsSearching net.new.site labels.now k work.new }
-    ensures none { work.new.frames.list ≡ [] }
-    ensures pushed { IsPushedOn net.old net.new k result }
+    requires sendable { IsSendable net.old labels.now k work.old }
+    ensures resting { IsResting net.new.site labels.now k work.new }
+    ensures counted { IsCountedOn net.old net.new k result steps.old steps.new }
     ensures explored { IsExplored net.new labels.now k (arc_count net.new.site) work.new }
-    ensures ticked { steps.new ≡ steps.old + result }
 {
     let mut pushes = 0;
     let mut last = round(net, labels, work, k, steps);
@@ -141,16 +120,10 @@ fn send_both<L: Ledger>(
     k: u16,
     steps: &mut Steps<L>,
 ) -> u32
-    requires within { IsWithinLimits net.old }
-    requires net { IsNet net.old }
-    requires labels { IsLabelsOf net.old.site labels.now }
-    requires moment { k ≤ net.old.site.shape.horizon }
-    requires work { IsWork net.old.site.shape.nodes net.old.site.shape.horizon work.old }
-    ensures searching { IsSearching net.new.site labels.now k work.new }
-    ensures none { work.new.frames.list ≡ [] }
-    ensures pushed { IsPushedOn net.old net.new k result }
+    requires sendable { IsSendable net.old labels.now k work.old }
+    ensures resting { IsResting net.new.site labels.now k work.new }
+    ensures counted { IsCountedOn net.old net.new k result steps.old steps.new }
     ensures explored { IsExplored net.new labels.now k (arc_count net.new.site) work.new }
-    ensures ticked { steps.new ≡ steps.old + result }
 {
     if scout.waits(net, k) && flood(net, labels, work, k) {
         return 0;
@@ -187,17 +160,12 @@ fn settle_with<L: Ledger>(
     k: u16,
     steps: &mut Steps<L>,
 ) -> u32
-    requires labels { IsLabelsOf net.old.site labels.old }
+    requires settled { IsSettledBelow net.old labels.old k }
     requires work { IsWork net.old.site.shape.nodes net.old.site.shape.horizon work.old }
-    requires moment { k ≤ net.old.site.shape.horizon }
-    requires within { IsWithinLimits net.old }
-    requires closed { IsClosedBelow net.old labels.old k }
-    requires unset { IsUnsetFrom labels.old k }
-    ensures pushed { IsPushedOn net.old net.new k result }
+    ensures counted { IsCountedOn net.old net.new k result steps.old steps.new }
     ensures labels { IsLabelled labels.old labels.new k }
     ensures closed { IsClosedBelow net.new labels.new (k + 1) }
     ensures work { IsWork net.new.site.shape.nodes net.new.site.shape.horizon work.new }
-    ensures ticked { steps.new ≡ steps.old + result }
 {
     let _ = net.shape();
     let pushes = send_both(net, labels, work, scout, k, steps);
@@ -251,20 +219,12 @@ pub fn settle<L: Ledger>(
     k: u16,
     steps: &mut Steps<L>,
 ) -> u32
-    requires labels { IsLabelsOf net.old.site labels.old }
+    requires settled { IsSettledBelow net.old labels.old k }
     requires search { IsSearchOf net.old.site search.old }
-    requires moment { k ≤ net.old.site.shape.horizon }
-    requires within { IsWithinLimits net.old }
-    requires closed { IsClosedBelow net.old labels.old k }
-    requires unset { IsUnsetFrom labels.old k }
-    ensures limits { KeepsLimits net.old net.new }
-    ensures within { IsWithinLimits net.new }
-    ensures net { IsNet net.new }
-    ensures sent { IsSentOn net.old net.new k result }
+    ensures counted { IsCountedOn net.old net.new k result steps.old steps.new }
     ensures labels { IsLabelled labels.old labels.new k }
     ensures closed { IsClosedBelow net.new labels.new (k + 1) }
     ensures search { search.new ≡ search.old }
-    ensures ticked { steps.new ≡ steps.old + result }
 {
     settle_with(net, labels, &mut search.work, &mut search.scout, k, steps)
 }

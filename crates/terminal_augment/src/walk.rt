@@ -3,11 +3,11 @@ ghost use Rattle.std.specs.Prelude.{◌≡◌, ℕ, ◌+◌, ◌*◌, ◌<◌, �
 ghost use Rattle.std.specs.List.{All};
 ghost use Rattle.residual_net.specs.Network.{IsNet, IsWithinLimits, residual_room};
 ghost use Rattle.residual_net.specs.Site.{IsPlace};
-ghost use Rattle.terminal_augment.specs.Frames.{HaveRoom, IsFound, steps_of};
+ghost use Rattle.terminal_augment.specs.Frames.{AreOpen, HaveRoom, IsFound, steps_of};
 ghost use Rattle.terminal_augment.specs.Marking.{open_count};
 ghost use Rattle.terminal_augment.specs.Piles.{top_of};
-ghost use Rattle.terminal_augment.specs.Searching.{IsExplored, IsSearching, effort};
-ghost use Rattle.terminal_augment.specs.Settled.{IsLabelsOf, IsPushedOn};
+ghost use Rattle.terminal_augment.specs.Searching.{IsExplored, IsSearching, IsWalking, effort};
+ghost use Rattle.terminal_augment.specs.Settled.{IsCountedOn};
 
 use crate::pile::Pile;
 use crate::spot::{Frame, Start};
@@ -20,10 +20,7 @@ use std::sync::ledger::Ledger;
 /// Takes one step of a search: over a way into the top frame's pair, or off that frame. A step at whose start people may be had
 /// is the answer.
 fn advance(net: &Net, labels: &Labels, work: &mut Work, frame: Frame, k: u16) -> Option<PathStep>
-    requires within { IsWithinLimits net.now }
-    requires labels { IsLabelsOf net.now.site labels.now }
-    requires searching { IsSearching net.now.site labels.now k work.old }
-    requires room { HaveRoom net.now work.old.frames.list }
+    requires walking { IsWalking net.now labels.now k work.old }
     requires top { top_of work.old.frames.list ≡ Some frame }
     ensures searching { IsSearching net.now.site labels.now k work.new }
     ensures room { HaveRoom net.now work.new.frames.list }
@@ -50,10 +47,7 @@ fn advance(net: &Net, labels: &Labels, work: &mut Work, frame: Frame, k: u16) ->
 
 /// Goes on with a search until it meets a step at whose start people may be had, or until no frame is left.
 fn descend(net: &Net, labels: &Labels, work: &mut Work, k: u16) -> Option<PathStep>
-    requires within { IsWithinLimits net.now }
-    requires labels { IsLabelsOf net.now.site labels.now }
-    requires searching { IsSearching net.now.site labels.now k work.old }
-    requires room { HaveRoom net.now work.old.frames.list }
+    requires walking { IsWalking net.now labels.now k work.old }
     ensures searching { IsSearching net.now.site labels.now k work.new }
     ensures room { HaveRoom net.now work.new.frames.list }
     ensures explored { (arc : ℕ) → IsExplored net.now labels.now k arc work.old → IsExplored net.now labels.now k arc work.new }
@@ -71,10 +65,7 @@ fn descend(net: &Net, labels: &Labels, work: &mut Work, k: u16) -> Option<PathSt
 fn lay(net: &Net, path: &mut Path, frames: &Pile<Frame>, found: PathStep) -> u32
     requires within { IsWithinLimits net.now }
     requires space { length frames.now.list < path.old.room }
-    requires place { IsPlace net.now.site found.place }
-    requires places { All (λ f. IsPlace net.now.site f.step.place) frames.now.list }
-    requires some { 0 < residual_room net.now found }
-    requires room { HaveRoom net.now frames.now.list }
+    requires steps { AreOpen net.now frames.now.list found }
     ensures path { path.new ≡ record { steps = found ∷ steps_of frames.now.list; room = path.old.room } }
     ensures some { 1 ≤ result }
     ensures room { All (λ y. result ≤ residual_room net.now y) path.new.steps }
@@ -114,17 +105,12 @@ pub fn send_next<L: Ledger>(
     k: u16,
     steps: &mut Steps<L>,
 ) -> bool
-    requires within { IsWithinLimits net.old }
     requires net { IsNet net.old }
-    requires labels { IsLabelsOf net.old.site labels.now }
-    requires searching { IsSearching net.old.site labels.now k work.old }
-    requires room { HaveRoom net.old work.old.frames.list }
-    ensures searching { IsSearching net.new.site labels.now k work.new }
-    ensures room { HaveRoom net.new work.new.frames.list }
-    ensures pushed { IsPushedOn net.old net.new k (if result then 1 else 0) }
+    requires walking { IsWalking net.old labels.now k work.old }
+    ensures walking { IsWalking net.new labels.now k work.new }
+    ensures counted { IsCountedOn net.old net.new k (if result then 1 else 0) steps.old steps.new }
     ensures over { IsFalse result → work.new.frames.list ≡ [] }
     ensures explored { IsFalse result → (arc : ℕ) → IsExplored net.old labels.now k arc work.old → IsExplored net.new labels.now k arc work.new }
-    ensures ticked { steps.new ≡ steps.old + (if result then 1 else 0) }
 {
     match descend(net, labels, work, k) {
         None => false,

@@ -1,11 +1,10 @@
 // The steps that lead into a node at a moment, and which of them a search may take.
 ghost use Rattle.std.specs.Prelude.{◌≡◌, ℕ, ◌+◌, ◌<◌, ◌≤◌, ◌^◌, IsFalse, IsTrue, false, length, not, true};
-ghost use Rattle.residual_net.specs.Network.{IsWithinLimits, flow_at, limit_at, residual_room};
+ghost use Rattle.residual_net.specs.Network.{flow_at, limit_at, residual_room};
 ghost use Rattle.residual_net.specs.Site.{IsPlace, arc_count, head_of, start_of, tail_of};
 ghost use Rattle.terminal_augment.specs.Frames.{IsLooked, IsStart, end_of};
-ghost use Rattle.terminal_augment.specs.Settled.{IsLabelsOf};
 ghost use Rattle.terminal_augment.specs.Spots.{IsInside};
-ghost use Rattle.terminal_augment.specs.Ways.{IsDone, IsDoorStep, IsUsable, passed, way_at, way_back, way_before, way_behind, way_by_arc, way_count, way_in};
+ghost use Rattle.terminal_augment.specs.Ways.{IsArcAt, IsDone, IsDoorStep, IsSearchable, IsUsable, passed, way_at, way_back, way_before, way_behind, way_by_arc, way_count, way_in};
 
 use crate::marks::Marks;
 use crate::spot::{Frame, Spot, Start, Way};
@@ -188,8 +187,7 @@ pub fn is_fresh(labels: &Labels, marks: &Marks, spot: Spot, k: u16) -> bool
 
 /// Whether a step has room, and begins neither at what is passed nor at an arrival by k.
 pub fn is_usable(net: &Net, labels: &Labels, marks: &Marks, step: PathStep, k: u16) -> bool
-    requires within { IsWithinLimits net.now }
-    requires labels { IsLabelsOf net.now.site labels.now }
+    requires searchable { IsSearchable net.now labels.now }
     requires nodes { marks.now.nodes ≡ net.now.site.shape.nodes }
     requires horizon { marks.now.horizon ≡ net.now.site.shape.horizon }
     requires place { IsPlace net.now.site step.place }
@@ -208,8 +206,7 @@ pub fn is_usable(net: &Net, labels: &Labels, marks: &Marks, step: PathStep, k: u
 
 /// The first way into a frame's pair, from its next one on, that a search may take.
 pub fn look(net: &Net, labels: &Labels, marks: &Marks, frame: Frame, k: u16) -> Option<Way>
-    requires within { IsWithinLimits net.now }
-    requires labels { IsLabelsOf net.now.site labels.now }
+    requires searchable { IsSearchable net.now labels.now }
     requires nodes { marks.now.nodes ≡ net.now.site.shape.nodes }
     requires horizon { marks.now.horizon ≡ net.now.site.shape.horizon }
     requires inside { IsInside net.now.site frame.spot.node frame.spot.moment }
@@ -228,8 +225,7 @@ pub fn look(net: &Net, labels: &Labels, marks: &Marks, frame: Frame, k: u16) -> 
 
 /// The step over an arc that arrives at an exit at a moment, where there is one.
 pub fn door_step(net: &Net, arc: u32, k: u16) -> Option<PathStep>
-    requires arc { arc < arc_count net.now.site }
-    requires moment { k ≤ net.now.site.shape.horizon }
+    requires { IsArcAt net.now.site arc k }
     ensures { IsDoorStep net.now.site arc k result }
 {
     let node = net.shape().ends()[arc as usize].to;

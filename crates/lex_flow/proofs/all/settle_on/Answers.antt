@@ -23,11 +23,12 @@ pub loop-next-preserved : goal.loop-next-preserved
 loop-next-preserved g c =
     let old = c.loop-next.invariant in
     let here = c.settle.ensures in
+    let pushed = here.counted.pushed in
     record {
       settled = settled_more c.args.net.now c.loop-next.net c.settle.new.net c.args.labels.now c.loop-next.labels c.settle.new.labels c.args.from c.loop-next.next
-          c.loop-next.pushes c.settle.result old.settled (iff_false c.is_over.ensures c.if-not-is_over.true) (omega (arith, c.loop-next-test.true, old.horizon)) here.limits here.within here.net here.sent here.labels here.closed;
-      horizon = old.horizon ∙ ap (λ (s : Site). s.shape.horizon) (sym here.limits.site);
+          c.loop-next.pushes c.settle.result old.settled (iff_false c.is_over.ensures c.if-not-is_over.true) (omega (arith, c.loop-next-test.true, old.horizon)) pushed.limits pushed.within pushed.net pushed.sent here.labels here.closed;
+      horizon = old.horizon ∙ ap (λ (s : Site). s.shape.horizon) (sym pushed.limits.site);
       next = omega (arith, c.loop-next-test.true);
       search = here.search ∙ old.search;
-      ticked = omega (arith, old.ticked, here.ticked);
+      ticked = omega (arith, old.ticked, here.counted.ticked);
     }

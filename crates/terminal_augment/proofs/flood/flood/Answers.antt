@@ -1,21 +1,21 @@
-use Rattle.std.proofs.Common.{◌≡◌, ℕ, ◌+◌, ◌-◌, ◌<◌, length, get_or, ap, subst, ◌∙◌, refl, arith}
+use Rattle.std.proofs.Common.{◌≡◌, ℕ, ◌-◌, ◌<◌, length, get_or, ap, subst, ◌∙◌, refl, arith}
 use Rattle.residual_net.specs.Site.{arc_count}
 use Rattle.terminal_augment.specs.declared.spot.Spot.{Spot}
 use Rattle.terminal_augment.specs.Frames.{IsExpanded}
-use Rattle.terminal_augment.proofs.FloodLemmas.{doors_later, expanded_more, flooding_begins, flooding_explored, flooding_searches}
+use Rattle.terminal_augment.proofs.FloodLemmas.{doors_later, expanded_more, flooding_begins, flooding_explored, flooding_rests}
 use Rattle.terminal_augment.proofs.flood.flood.Goals as goal
 
 pub open_all-requires-clause-flooding : goal.open_all-requires-clause-flooding
 open_all-requires-clause-flooding c =
     flooding_begins c.args.net.now.site c.args.labels.now c.args.k c.args.work.now c.clear.new.self c.requires.work c.clear.ensures
 
-pub returns-then-not-open_all-clause-searching : goal.returns-then-not-open_all-clause-searching
-returns-then-not-open_all-clause-searching c =
-    flooding_searches c.args.net.now.site c.args.labels.now c.args.k c.open_all.new.work c.open_all.ensures.flooding
+pub returns-then-not-open_all-clause-resting : goal.returns-then-not-open_all-clause-resting
+returns-then-not-open_all-clause-resting c =
+    flooding_rests c.args.net.now.site c.args.labels.now c.args.k c.open_all.new.work c.open_all.ensures.flooding
 
-pub returns-then-not-expand-clause-searching : goal.returns-then-not-expand-clause-searching
-returns-then-not-expand-clause-searching c =
-    flooding_searches c.args.net.now.site c.args.labels.now c.args.k c.expand.new.work c.expand.ensures.flooding
+pub returns-then-not-expand-clause-resting : goal.returns-then-not-expand-clause-resting
+returns-then-not-expand-clause-resting c =
+    flooding_rests c.args.net.now.site c.args.labels.now c.args.k c.expand.new.work c.expand.ensures.flooding
 
 pub loop-done-preserved : goal.loop-done-preserved
 loop-done-preserved c =
@@ -37,9 +37,9 @@ loop-done-preserved c =
           (subst (λ (z : Spot). IsExpanded w l y.marks c.args.k z.node z.moment) is (c.if-not-expand.ensures.expanded refl));
     }
 
-pub returns-clause-searching : goal.returns-clause-searching
-returns-clause-searching c =
-    flooding_searches c.args.net.now.site c.args.labels.now c.args.k c.loop-done.work c.loop-done.invariant.flooding
+pub returns-clause-resting : goal.returns-clause-resting
+returns-clause-resting c =
+    flooding_rests c.args.net.now.site c.args.labels.now c.args.k c.loop-done.work c.loop-done.invariant.flooding
 
 pub returns-clause-explored : goal.returns-clause-explored
 returns-clause-explored c q =

@@ -18,17 +18,17 @@ loop-left-preserved c =
     let p = c.in-At.spot in
     let old = c.loop-left.invariant in
     let some = c.loop-left-test.true in
-    let marks = old.marks.marks c.requires.marks in
+    let marks = old.marks.marks c.requires.marks.marks in
     let same = c.mark.ensures.marked in
     let on = c.over_waits-look.ensures.marks in
     let tail = subst (λ (z : List PathStep). IsTail w k c.mark.new.self (starts.At p) c.min-people.result z)
     (sym (one_more c.args.path.now c.loop-left.left _ some old.fits))
-    (tail_more w k m c.mark.new.self c.loop-left.end c.in-Some.before p c.loop-left.people c.min-people.result _ _ marks (old.marks.nodes ∙ c.requires.nodes)
-    (old.marks.horizon ∙ c.requires.horizon) old.tail c.in-Some.ensures c.in-At.is (sym c.is_marked.ensures ∙ c.if-is_marked.false) same
+    (tail_more w k m c.mark.new.self c.loop-left.end c.in-Some.before p c.loop-left.people c.min-people.result _ _ marks (old.marks.nodes ∙ c.requires.marks.nodes)
+    (old.marks.horizon ∙ c.requires.marks.horizon) old.tail c.in-Some.ensures c.in-At.is (sym c.is_marked.ensures ∙ c.if-is_marked.false) same
     (omega (arith, c.min-people.ensures, c.room.ensures, old.tail.some, c.in-Some.ensures.room)) (omega (arith, c.min-people.ensures))
     (omega (arith, c.min-people.ensures, c.room.ensures))) in
     record {
-      fits = omega (arith, old.fits, c.over_waits-look.ensures.left);
+      fits = omega (arith, old.fits, c.over_waits-look.ensures.look.left);
       tail = c.over_waits-look.ensures.tail k tail;
       marks = record {
         nodes = on.nodes ∙ ap (λ (t : MarkTable). t.nodes) same ∙ old.marks.nodes;

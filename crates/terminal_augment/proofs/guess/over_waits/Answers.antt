@@ -17,18 +17,17 @@ loop-look-preserved c =
     let wait = c.in-Some.ensures in
     let old = c.loop-look.invariant in
     let some = c.loop-look-test.true in
-    let fits : x.left ≤ length c.args.path.now = omega (arith, old.left, c.requires.left) in
-    let marks = old.marks.marks c.requires.marks in
+    let fits : x.left ≤ length c.args.path.now = omega (arith, old.look.left, c.requires.from.left) in
+    let marks = old.marks.marks c.requires.marks.marks in
     let same = c.mark_at.ensures.marked in
     let z : Look = record { spot = p; people = c.min-people.result; left = x.left - 1 } in
     record {
-      left = omega (arith, old.left);
       node = sym (ap (λ (s : Spot). s.node) wait.end) ∙ old.node;
-      inside = wait_begins w.site _ x.spot p wait old.inside;
+      look = record { inside = wait_begins w.site _ x.spot p wait old.look.inside; left = omega (arith, old.look.left) };
       tail = λ k h.
           let tail = old.tail k h in
-          looked_more w k m c.mark_at.new.self x z c.args.path.now _ marks (old.marks.nodes ∙ c.requires.nodes) (old.marks.horizon ∙ c.requires.horizon) tail some fits
-          old.inside wait refl (sym c.is_marked_at.ensures ∙ c.if-is_marked_at.false) same
+          looked_more w k m c.mark_at.new.self x z c.args.path.now _ marks (old.marks.nodes ∙ c.requires.marks.nodes) (old.marks.horizon ∙ c.requires.marks.horizon) tail some fits
+          old.look.inside wait refl (sym c.is_marked_at.ensures ∙ c.if-is_marked_at.false) same
           (omega (arith, c.min-people.ensures, tail.some, c.if-room-eq0.false)) (omega (arith, c.min-people.ensures))
           (omega (arith, c.min-people.ensures, c.wait_room-room.ensures, ap (λ (s : PathStep). residual_room w s) wait.step));
       marks = record {

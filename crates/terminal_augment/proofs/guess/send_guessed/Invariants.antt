@@ -1,11 +1,9 @@
-use Rattle.std.proofs.Common.{◌≡◌, ◌+◌}
 use Rattle.terminal_augment.specs.Searching.{IsWork}
-use Rattle.terminal_augment.specs.Settled.{IsPushedOn}
+use Rattle.terminal_augment.specs.Settled.{IsCountedOn}
 use Rattle.terminal_augment.proofs.guess.send_guessed.Given as goal
 
 abbrev pub invariant-loop : goal.invariant-loop
 invariant-loop g l = record {
   work : IsWork l.net.site.shape.nodes l.net.site.shape.horizon l.work;
-  pushed : IsPushedOn l.fn.net l.net l.k l.pushes;
-  ticked : l.steps ≡ l.fn.steps + l.pushes;
+  counted : IsCountedOn l.fn.net l.net l.k l.pushes l.fn.steps l.steps;
 }

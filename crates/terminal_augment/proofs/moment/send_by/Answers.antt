@@ -1,18 +1,18 @@
 use Rattle.std.proofs.Common.{◌+◌, refl, arith}
 use Rattle.residual_net.specs.Limits.{supply_limit}
-use Rattle.terminal_augment.proofs.SendLemmas.{few_by, pushed_more}
+use Rattle.terminal_augment.proofs.SendLemmas.{counted_more, few_by}
 use Rattle.terminal_augment.proofs.moment.send_by.Goals as goal
 
 pub overflow_add-pushes : goal.overflow_add-pushes
 unfolding supply_limit
 overflow_add-pushes g c =
-    let next = c.loop-pushes-test.ensures.pushed in
+    let next = c.loop-pushes-test.ensures.counted.pushed in
     let few = few_by c.send_next.new.net c.args.k next.net in
-    omega (arith, c.loop-pushes.invariant.pushed.sent.risen, next.sent.risen, few)
+    omega (arith, c.loop-pushes.invariant.counted.pushed.sent.risen, next.sent.risen, few)
 
 pub loop-pushes-smaller : goal.loop-pushes-smaller
 loop-pushes-smaller g c =
-    let next = c.loop-pushes-test.ensures.pushed in
+    let next = c.loop-pushes-test.ensures.counted.pushed in
     let few = few_by c.send_next.new.net c.args.k next.net in
     omega (arith, next.sent.risen, few)
 
@@ -21,11 +21,9 @@ loop-pushes-preserved g c =
     let here = c.loop-pushes-test.ensures in
     let old = c.loop-pushes.invariant in
     record {
-      searching = here.searching;
-      room = here.room;
-      pushed = pushed_more c.args.net.now c.loop-pushes.net c.send_next.new.net c.args.k c.loop-pushes.pushes 1 (c.loop-pushes.pushes + 1) old.pushed here.pushed refl;
+      walking = here.walking;
+      counted = counted_more c.args.net.now c.loop-pushes.net c.send_next.new.net c.args.k c.loop-pushes.pushes 1 (c.loop-pushes.pushes + 1) _ _ _ old.counted here.counted refl;
       explored = λ q _. absurd (omega (arith, q));
-      ticked = omega (arith, old.ticked, here.ticked);
     }
 
 pub returns-clause-explored : goal.returns-clause-explored

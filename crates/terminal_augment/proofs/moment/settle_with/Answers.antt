@@ -13,7 +13,7 @@ returns-clause-labels g c =
       horizon = c.label_all.ensures.horizon;
       labels = c.label_all.ensures.labels;
     } in
-    labelled_after c.send_both-pushes.new.net.site c.args.labels.now c.label_all.new.labels c.args.k x c.send_both-pushes.ensures.searching c.requires.unset labels
+    labelled_after c.send_both-pushes.new.net.site c.args.labels.now c.label_all.new.labels c.args.k x c.send_both-pushes.ensures.resting.searching c.requires.settled.unset labels
 
 pub returns-clause-closed : goal.returns-clause-closed
 returns-clause-closed g c =
@@ -25,8 +25,8 @@ returns-clause-closed g c =
       horizon = c.label_all.ensures.horizon;
       labels = c.label_all.ensures.labels;
     } in
-    let site = done.pushed.limits.site in
-    let of = subst (λ (s : Site). IsLabelsOf s c.args.labels.now) (sym site) c.requires.labels in
-    let in_time : c.args.k ≤ v.site.shape.horizon = omega (arith, c.requires.moment, ap (λ (s : Site). s.shape.horizon) site) in
-    closed_after v c.args.labels.now c.label_all.new.labels c.args.k x done.pushed.net in_time of c.requires.unset
-    (λ i l. done.pushed.closed (labelled c.args.labels.now i) i l (c.requires.closed i l)) done.searching done.explored done.none labels
+    let site = done.counted.pushed.limits.site in
+    let of = subst (λ (s : Site). IsLabelsOf s c.args.labels.now) (sym site) c.requires.settled.labels in
+    let in_time : c.args.k ≤ v.site.shape.horizon = omega (arith, c.requires.settled.moment, ap (λ (s : Site). s.shape.horizon) site) in
+    closed_after v c.args.labels.now c.label_all.new.labels c.args.k x done.counted.pushed.net in_time of c.requires.settled.unset
+    (λ i l. done.counted.pushed.closed (labelled c.args.labels.now i) i l (c.requires.settled.closed i l)) done.resting.searching done.explored done.resting.none labels

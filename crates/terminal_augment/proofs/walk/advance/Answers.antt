@@ -12,7 +12,7 @@ enter-requires-clause-frames c =
     let x = c.args.work.now in
     let z = c.retry.new.self in
     let entry = step.entry_of w l c.args.k x z c.args.frame c.in-Some.way c.in-At.spot c.in-Some.ensures c.retry.ensures c.in-At.ensures.start c.in-At.ensures.inside in
-    let searching = search.searching_retried w.site l c.args.k x z c.args.frame c.in-Some.way.number c.requires.searching c.requires.top c.retry.ensures in
+    let searching = search.searching_retried w.site l c.args.k x z c.args.frame c.in-Some.way.number c.requires.walking.searching c.requires.top c.retry.ensures in
     (search.entry_room w.site l c.args.k z c.in-At.spot c.in-Some.way.step searching entry).0
 
 pub enter-requires-clause-seen : goal.enter-requires-clause-seen
@@ -22,15 +22,15 @@ enter-requires-clause-seen c =
     let x = c.args.work.now in
     let z = c.retry.new.self in
     let entry = step.entry_of w l c.args.k x z c.args.frame c.in-Some.way c.in-At.spot c.in-Some.ensures c.retry.ensures c.in-At.ensures.start c.in-At.ensures.inside in
-    let searching = search.searching_retried w.site l c.args.k x z c.args.frame c.in-Some.way.number c.requires.searching c.requires.top c.retry.ensures in
+    let searching = search.searching_retried w.site l c.args.k x z c.args.frame c.in-Some.way.number c.requires.walking.searching c.requires.top c.retry.ensures in
     (search.entry_room w.site l c.args.k z c.in-At.spot c.in-Some.way.step searching entry).1
 
 pub returns-in-None-clause-room : goal.returns-in-None-clause-room
-returns-in-None-clause-room c = step.room_left c.args.net.now c.args.work.now c.leave.new.self c.args.frame c.requires.room c.requires.top c.leave.ensures
+returns-in-None-clause-room c = step.room_left c.args.net.now c.args.work.now c.leave.new.self c.args.frame c.requires.walking.room c.requires.top c.leave.ensures
 
 pub returns-in-None-clause-explored : goal.returns-in-None-clause-explored
 returns-in-None-clause-explored c n explored =
-    search.explored_left c.args.net.now c.args.labels.now c.args.k n c.args.work.now c.leave.new.self c.args.frame c.requires.searching explored c.requires.top
+    search.explored_left c.args.net.now c.args.labels.now c.args.k n c.args.work.now c.leave.new.self c.args.frame c.requires.walking.searching explored c.requires.top
     c.in-None.ensures c.leave.ensures
 
 pub returns-in-At-clause-searching : goal.returns-in-At-clause-searching
@@ -40,14 +40,14 @@ returns-in-At-clause-searching c =
     let x = c.args.work.now in
     let z = c.retry.new.self in
     let entry = step.entry_of w l c.args.k x z c.args.frame c.in-Some.way c.in-At.spot c.in-Some.ensures c.retry.ensures c.in-At.ensures.start c.in-At.ensures.inside in
-    let searching = search.searching_retried w.site l c.args.k x z c.args.frame c.in-Some.way.number c.requires.searching c.requires.top c.retry.ensures in
+    let searching = search.searching_retried w.site l c.args.k x z c.args.frame c.in-Some.way.number c.requires.walking.searching c.requires.top c.retry.ensures in
     search.searching_entered w.site l c.args.k z c.enter.new.self c.in-At.spot c.in-Some.way.step searching entry c.enter.ensures.entered c.enter.ensures.marks
 
 pub returns-in-At-clause-room : goal.returns-in-At-clause-room
 returns-in-At-clause-room c =
     let w = c.args.net.now in
     let z = c.retry.new.self in
-    let room = step.room_retried w c.args.work.now z c.args.frame c.in-Some.way.number c.requires.room c.requires.top c.retry.ensures in
+    let room = step.room_retried w c.args.work.now z c.args.frame c.in-Some.way.number c.requires.walking.room c.requires.top c.retry.ensures in
     step.room_entered w z c.enter.new.self c.in-At.spot c.in-Some.way.step room c.in-Some.ensures.usable.room c.enter.ensures.entered
 
 pub returns-in-At-clause-explored : goal.returns-in-At-clause-explored
@@ -57,7 +57,7 @@ returns-in-At-clause-explored c n explored =
     let x = c.args.work.now in
     let z = c.retry.new.self in
     let entry = step.entry_of w l c.args.k x z c.args.frame c.in-Some.way c.in-At.spot c.in-Some.ensures c.retry.ensures c.in-At.ensures.start c.in-At.ensures.inside in
-    let searching = search.searching_retried w.site l c.args.k x z c.args.frame c.in-Some.way.number c.requires.searching c.requires.top c.retry.ensures in
+    let searching = search.searching_retried w.site l c.args.k x z c.args.frame c.in-Some.way.number c.requires.walking.searching c.requires.top c.retry.ensures in
     let retried = search.explored_retried w l c.args.k n x z c.args.frame c.in-Some.way.number explored c.requires.top c.in-Some.ensures.before c.retry.ensures in
     search.explored_entered w l c.args.k n z c.enter.new.self c.in-At.spot c.in-Some.way.step searching entry c.enter.ensures.entered retried
 
@@ -68,7 +68,7 @@ returns-in-At-clause-found c =
     let x = c.args.work.now in
     let z = c.retry.new.self in
     let entry = step.entry_of w l c.args.k x z c.args.frame c.in-Some.way c.in-At.spot c.in-Some.ensures c.retry.ensures c.in-At.ensures.start c.in-At.ensures.inside in
-    let searching = search.searching_retried w.site l c.args.k x z c.args.frame c.in-Some.way.number c.requires.searching c.requires.top c.retry.ensures in
+    let searching = search.searching_retried w.site l c.args.k x z c.args.frame c.in-Some.way.number c.requires.walking.searching c.requires.top c.retry.ensures in
     let less = search.measure_entered w.site l c.args.k z c.enter.new.self c.in-At.spot c.in-Some.way.step searching entry c.enter.ensures.entered in
     let same = step.effort_retried x z c.args.frame c.in-Some.way.number c.requires.top c.retry.ensures in
     omega (arith, less, same, ap (λ (v : Work). open_count v.marks) c.retry.ensures)
@@ -80,8 +80,8 @@ returns-in-Source c =
     let x = c.args.work.now in
     let z = c.retry.new.self in
     record {
-      searching = search.searching_retried w.site l c.args.k x z c.args.frame c.in-Some.way.number c.requires.searching c.requires.top c.retry.ensures;
-      room = step.room_retried w x z c.args.frame c.in-Some.way.number c.requires.room c.requires.top c.retry.ensures;
+      searching = search.searching_retried w.site l c.args.k x z c.args.frame c.in-Some.way.number c.requires.walking.searching c.requires.top c.retry.ensures;
+      room = step.room_retried w x z c.args.frame c.in-Some.way.number c.requires.walking.room c.requires.top c.retry.ensures;
       explored = λ n explored. search.explored_retried w l c.args.k n x z c.args.frame c.in-Some.way.number explored c.requires.top c.in-Some.ensures.before c.retry.ensures;
       found = step.found_of w l c.args.k x z c.args.frame c.in-Some.way c.start.result c.in-Some.ensures c.retry.ensures c.start.ensures.start (step.not_at c.start.result c.in-Source.is);
     }
