@@ -14,7 +14,8 @@ use Rattle.residual_net.specs.OfModel.{model_limit, site_of}
 use Rattle.residual_net.proofs.Effects.{supplies_between}
 use Rattle.residual_net.proofs.Places.{same-place}
 use Rattle.flow_repair.specs.declared.reshaped.Reshaped.{Reshaped}
-use Rattle.flow_repair.specs.Refit.{IsBetween, IsRefitted, IsThinned}
+use Rattle.flow_repair.specs.Refit.{IsBetween, IsFittable, IsRefitted, IsThinned}
+use Rattle.flow_repair.proofs.Refitting.{still_cancellable}
 
 -- the supplies fit, whichever of the two models gives each its limit
 pub supplies_fit : (m : Model) (w : Network) (p : Place) (x : ℕ) → IsValid m → IsBetween m w → IsPlace w.site p → x ≡ model_limit m p
@@ -40,6 +41,15 @@ still_between m l w v b r s h g = record {
             let kept : limit_at v p ≡ limit_at w p = g.limits p at ∙ ap (λ z. cond z (model_limit m p) (limit_at w p)) e in
             elim (h.limits p at) [ inl old ↦ inl (kept ∙ old) | inr new ↦ inr (kept ∙ new) ]
       ];
+}
+
+pub still_fittable : (m : Model) (l : LabelTable) (w v : Network) (b : Place → Bool) (x y : ℕ) (r s : Reshaped) → IsRefitted m l w v b r s
+    → IsWithinLimits v → y ≡ x → IsFittable m w l x r → IsFittable m v l y s
+still_fittable m l w v b x y r s g within same h = record {
+  valid = h.valid;
+  between = still_between m l w v b r s h.between g;
+  within = within;
+  cancellable = still_cancellable w v l x y r s g.site g.sent same h.cancellable;
 }
 
 -- ---- within limits again

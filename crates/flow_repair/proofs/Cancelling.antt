@@ -1,9 +1,9 @@
 -- What a cancel does to places, and to what is above the limits of a model.
-use Rattle.std.proofs.Common.{◌≡◌, ℕ, ◌+◌, ◌<◌, ◌≤◌, false, List, length, get_or, ap, sym, ◌∙◌, arith, subst}
+use Rattle.std.proofs.Common.{◌≡◌, ℕ, ◌+◌, ◌<◌, ◌≤◌, false, List, length, get_or, ap, ◌∙◌, arith, subst}
 use Rattle.std.specs.List.{All}
 use Rattle.residual_net.specs.declared.place.Place.{Place}
 use Rattle.residual_net.specs.declared.place.PathStep.{PathStep}
-use Rattle.residual_net.specs.Site.{Site, IsPlace, is_barred}
+use Rattle.residual_net.specs.Site.{IsPlace, is_barred}
 use Rattle.residual_net.specs.Network.{Network, IsNet, excess_at, flow_at}
 use Rattle.residual_net.specs.Change.{IsCancelled}
 use Rattle.residual_net.proofs.Steps.{added_on}

@@ -127,9 +127,7 @@ after_start m n s (places.Supply k t) e =
     entry_kept m (with_node m n row) k t (ap (λ (r : NodeRow). r.start) (get_or-set_other m.nodes n k row no_node (not_number k n e)))
 
 neither : (b c : Bool) → (b || c) ≡ false → (b ≡ false) × (c ≡ false)
-neither false false e = (refl, refl)
-neither true c e = absurd (cc)
-neither false true e = absurd (cc)
+neither b c e = (grind arith, grind arith)
 
 pub untouched : (m : Model) (e : Edit) (p : Place) → IsPlace (site_of m) p → touches (site_of m) e p ≡ false → model_limit (edited m e) p ≡ model_limit m p
 untouched m (Shut a) p i t = after_arc m a (record (arc_at m a) { shut = true }) p t

@@ -7,23 +7,23 @@ use Rattle.evac_law.specs.LabelTable.{LabelTable}
 use Rattle.residual_net.specs.declared.place.Place.{Place}
 use Rattle.residual_net.specs.declared.place.PathStep.{PathStep}
 use Rattle.residual_net.specs.Site.{Site, IsPlace, door_by, is_source, same_place, sum_places}
-use Rattle.residual_net.specs.Network.{Network, flow_at, limit_at}
+use Rattle.residual_net.specs.Network.{Network, flow_at, flow_out, limit_at}
 use Rattle.residual_net.specs.Change.{IsCancelled, IsLimitSet}
 use Rattle.residual_net.specs.OfModel.{model_limit}
 use Rattle.residual_net.proofs.Effects.{cancel_lowers, fewer_sent}
 use Rattle.residual_net.proofs.Kept.{into_same, out_same}
 use Rattle.residual_net.proofs.Places.{place-same, same-place, sum_places-add, sum_places-le, sum_places-pick, sum_places-same}
 use Rattle.flow_repair.specs.declared.reshaped.Reshaped.{Reshaped}
-use Rattle.flow_repair.specs.Opened.{IsLeastOpened, IsOpened, head_number}
-use Rattle.flow_repair.specs.Refit.{IsRefitted, IsThinned, overrun}
+use Rattle.flow_repair.specs.Opened.{IsLabelsOf, IsLeastOpened, IsOpened, head_number}
+use Rattle.flow_repair.specs.Refit.{IsCancellable, IsRefitted, IsStepPerPerson, IsThinned, overrun}
 use Rattle.residual_net.proofs.Steps.{added_some}
 use Rattle.flow_repair.proofs.Cancelling.{falls, less_over, on_path}
+use Rattle.flow_repair.proofs.Numbers.{least_of}
 
 -- ---- one cancel
 
 at_most : (b : Bool) (x : ℕ) → cond b x 0 ≤ x
-at_most true x = omega arith
-at_most false x = omega arith
+at_most b x = grind arith
 
 pub one_cancelled : (l : LabelTable) (w v : Network) (p : Place) (path : List PathStep) (x : ℕ) (before after : Reshaped)
     → IsCancelled w v p path x → after.cancelled ≡ before.cancelled + x
@@ -115,6 +115,18 @@ least_then l w v u a b c site falls_v falls_u stays late h g = record {
     second p i (inl rose) = inl (late p i rose)
     second p i (inr fell) = inr (omega (arith, fell, falls_v p i))
 
+pub steps_then : (a b c : ℕ) (r s t : Reshaped) → IsStepPerPerson a b r s → IsStepPerPerson b c s t → IsStepPerPerson a c r t
+steps_then a b c r s t h g = record { counted = omega (arith, h.counted, g.counted); ticked = omega (arith, h.ticked, g.ticked) }
+
+-- while the counts add up, more people can be taken off
+pub still_cancellable : (w v : Network) (l : LabelTable) (x y : ℕ) (r s : Reshaped) → v.site ≡ w.site
+    → flow_out v is_source + s.cancelled ≡ flow_out w is_source + r.cancelled → y ≡ x → IsCancellable w l x r → IsCancellable v l y s
+still_cancellable w v l x y r s site sent same h = record {
+  labels = subst (λ (z : Site). IsLabelsOf z l) (sym site) h.labels;
+  room = omega (arith, ap (λ (z : Site). z.shape.horizon) site, h.room, same);
+  few = omega (arith, sent, h.few);
+}
+
 pub thinned_then : (l : LabelTable) (w v u : Network) (p : Place) (r s t : Reshaped) → IsThinned p l w v r s → IsThinned p l v u s t → IsThinned p l w u r t
 thinned_then l w v u p r s t h g = record {
   site = g.site ∙ h.site;
@@ -134,19 +146,14 @@ thinned_then l w v u p r s t h g = record {
     mid q i = subst (λ (z : Site). IsPlace z q) (sym h.site) i
 
 either : (c b : Bool) (x y : ℕ) → cond c x (cond b x y) ≡ cond (c || b) x y
-either true b x y = refl
-either false b x y = refl
+either c b x y = grind arith
 
 -- what was opened stays so, and no more is opened than one by one
 rose_stays : (b c : Bool) (x old mid new : ℕ) → mid ≡ cond b x old → new ≡ cond c x mid → old < mid → old < new
-rose_stays true true x o m n e f l = omega (arith, e, f, l)
-rose_stays true false x o m n e f l = omega (arith, e, f, l)
-rose_stays false c x o m n e f l = absurd (omega (arith, e, l))
+rose_stays b c x o m n e f l = grind arith
 
 rose_late : (b c : Bool) (x old mid new : ℕ) → mid ≡ cond b x old → new ≡ cond c x mid → mid < new → old < new
-rose_late true true x o m n e f l = absurd (omega (arith, e, f, l))
-rose_late false true x o m n e f l = omega (arith, e, f, l)
-rose_late b false x o m n e f l = absurd (omega (arith, f, l))
+rose_late b c x o m n e f l = grind arith
 
 pub refitted_then : (m : Model) (l : LabelTable) (w v u : Network) (b c d : Place → Bool) (r s t : Reshaped) → IsRefitted m l w v b r s
     → IsRefitted m l v u c s t → ((p : Place) → IsPlace w.site p → d p ≡ (c p || b p)) → IsRefitted m l w u d r t
@@ -259,26 +266,17 @@ opened_one m w v p q set i (inl rose) = elim (cases_Bool (same_place p q)) [
 pub least_raised : (m : Model) (l : LabelTable) (w v : Network) (p : Place) (first x least : ℕ) → IsLimitSet w v p (model_limit m p) → IsPlace w.site p
     → limit_at w p < model_limit m p → x ≡ head_number l w.site p → least ≡ min first x → IsLeastOpened l w v first least
 least_raised m l w v p first x least set i rose e f = record {
-  most = low_left least first x f;
+  most = (least_of least first x f).0;
   places = λ q j o.
       let one = opened_one m w v p q set j o in
-      subst (λ z. least ≤ head_number l w.site z) one.0 (omega (arith, e, low_right least first x f));
-  one = elim (which least first x f) [
+      subst (λ z. least ≤ head_number l w.site z) one.0 (omega (arith, e, (least_of least first x f).1));
+  one = elim (least_of least first x f).2 [
     | inl g ↦ inl g
     | inr g ↦
         let new : limit_at v p ≡ model_limit m p = set.limits p i ∙ ap (λ b. cond b (model_limit m p) (limit_at w p)) (place-same p) in
         inr (p, i, inl (omega (arith, rose, new)), g ∙ e)
   ];
 }
-  where
-    low_left : (z a b : ℕ) → z ≡ min a b → z ≤ a
-    low_left z a b h = grind arith
-
-    low_right : (z a b : ℕ) → z ≡ min a b → z ≤ b
-    low_right z a b h = grind arith
-
-    which : (z a b : ℕ) → z ≡ min a b → (z ≡ a) ⊎ (z ≡ b)
-    which z a b h = elim (cases_lt a b) [ inl s ↦ inl (omega (arith, h, s)) | inr s ↦ inr (omega (arith, h, s)) ]
 
 pub least_lowered : (m : Model) (l : LabelTable) (w v : Network) (p : Place) (first : ℕ) → IsLimitSet w v p (model_limit m p)
     → model_limit m p ≤ limit_at w p → IsLeastOpened l w v first first

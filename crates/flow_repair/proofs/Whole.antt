@@ -1,5 +1,5 @@
 -- The whole repair: the limits of the edited model, what it takes off, and the closed sets that stand.
-use Rattle.std.proofs.Common.{◌≡◌, ℕ, ◌+◌, ◌-◌, ◌<◌, ◌≤◌, Bool, true, false, cond, ◌||◌, eqb, ltb, length, refl, ap, ap₂, sym, ◌∙◌, arith, inl, inr, ◌⊎◌, subst}
+use Rattle.std.proofs.Common.{◌≡◌, ℕ, ◌+◌, ◌-◌, ◌<◌, ◌≤◌, Bool, true, false, cond, ◌||◌, eqb, ltb, length, ap, ap₂, sym, ◌∙◌, arith, inl, inr, ◌⊎◌, subst}
 use Rattle.std.proofs.lemmas.Bool.{cases_Bool, cases_lt, leb-true}
 use Rattle.std.proofs.lemmas.List.{length-map}
 use Rattle.evac_law.specs.declared.edit.Edit.{Edit}
@@ -15,13 +15,12 @@ use Rattle.residual_net.specs.declared.place.Place.TheVariants.{Arc, Hold, Suppl
 use Rattle.residual_net.specs.Closed.{reached}
 use Rattle.residual_net.specs.Network.{Network, IsAllSent, IsNet, IsWithinLimits, flow_at, limit_at, residual_room}
 use Rattle.residual_net.specs.NetLaws.{labelled}
-use Rattle.residual_net.specs.OfModel.{IsNetOf, last_move, model_limit, plan_of, site_of, stand_of}
+use Rattle.residual_net.specs.OfModel.{IsNetOf, model_limit, plan_of, site_of, stand_of}
 use Rattle.residual_net.specs.Site.{Site, End, IsPlace, arc_count, exit_at, head_of, is_barred, start_of, stop_of, sum_places}
 use Rattle.residual_net.specs.Site.End.{Source, Pair, Door}
 use Rattle.residual_net.proofs.Begin.{joined}
 use Rattle.residual_net.proofs.Fit.{fits}
 use Rattle.residual_net.proofs.Held.{arcs_same, arrival_is, horizon_same, nodes_same}
-use Rattle.residual_net.proofs.LastArrival.{last_fits}
 use Rattle.residual_net.proofs.Law.{moved_is}
 use Rattle.flow_repair.specs.declared.reshaped.Reshaped.{Reshaped}
 use Rattle.flow_repair.specs.Opened.{IsClosedBelow, IsLeastOpened, IsOpened, end_number}
@@ -108,8 +107,7 @@ edit_now m e w h =
 -- ---- what is taken off is at most what the edit breaks
 
 none_late : (b : Bool) (f x y : ℕ) → (b ≡ true → f ≡ 0) → f - cond b 0 x ≤ f - x
-none_late true f x y h = omega (arith, h refl)
-none_late false f x y h = omega arith
+none_late b f x y h = grind arith
 
 module _ (m n : Model) (w : Network) (valid : IsValid m) (net : IsNet w) (of : IsNetOf m w) (within : IsWithinLimits w) (all : IsAllSent w) (site : w.site ≡ site_of n) where
   horizon_now : w.site.shape.horizon ≡ n.horizon

@@ -1,11 +1,8 @@
 // A place brought under its limit.
-ghost use Rattle.std.specs.Prelude.{◌≡◌, ◌+◌, ◌<◌, ◌≤◌};
-ghost use Rattle.evac_law.specs.Building.{IsValid};
-ghost use Rattle.residual_net.specs.Limits.{supply_limit};
-ghost use Rattle.residual_net.specs.Network.{IsWithinLimits, excess_at, flow_at, flow_out};
-ghost use Rattle.residual_net.specs.Site.{IsPlace, is_source, same_place};
-ghost use Rattle.flow_repair.specs.Opened.{IsLabelsOf};
-ghost use Rattle.flow_repair.specs.Refit.{IsBetween, IsRefitted, IsThinned};
+ghost use Rattle.std.specs.Prelude.{◌≡◌, ◌+◌, ◌<◌};
+ghost use Rattle.residual_net.specs.Network.{IsWithinLimits, excess_at};
+ghost use Rattle.residual_net.specs.Site.{IsPlace, same_place};
+ghost use Rattle.flow_repair.specs.Refit.{IsCancellable, IsFittable, IsOneTaken, IsRefitted, IsStepPerPerson, IsThinned};
 
 use crate::number::{head_number, least_on};
 use crate::reshaped::Reshaped;
@@ -24,12 +21,8 @@ fn cancel_one<L: Ledger>(
 ) -> Reshaped
     requires place { IsPlace net.old.site place }
     requires over { 0 < excess_at net.old place }
-    requires labels { IsLabelsOf net.old.site labels.now }
-    requires room { net.old.site.shape.horizon + 2 ≤ path.old.room }
-    requires few { done.cancelled + flow_out net.old is_source ≤ supply_limit }
-    ensures thinned { IsThinned place labels.now net.old net.new done result }
-    ensures less { flow_at net.new place < flow_at net.old place }
-    ensures more { done.cancelled + 1 ≤ result.cancelled }
+    requires cancellable { IsCancellable net.old labels.now path.old.room done }
+    ensures taken { IsOneTaken place labels.now net.old net.new done result }
     ensures room { path.new.room ≡ path.old.room }
     ensures ticked { steps.new ≡ steps.old + 1 }
 {
@@ -52,14 +45,11 @@ fn cancel_all<L: Ledger>(
     done: Reshaped,
 ) -> Reshaped
     requires place { IsPlace net.old.site place }
-    requires labels { IsLabelsOf net.old.site labels.now }
-    requires room { net.old.site.shape.horizon + 2 ≤ path.old.room }
-    requires few { done.cancelled + flow_out net.old is_source ≤ supply_limit }
+    requires cancellable { IsCancellable net.old labels.now path.old.room done }
     ensures thinned { IsThinned place labels.now net.old net.new done result }
     ensures fits { excess_at net.new place ≡ 0 }
     ensures room { path.new.room ≡ path.old.room }
-    ensures counted { steps.old ≤ steps.new }
-    ensures ticked { steps.new + done.cancelled ≤ steps.old + result.cancelled }
+    ensures steps { IsStepPerPerson steps.old steps.new done result }
 {
     let mut now = done;
     while net.excess(place) > 0 {
@@ -78,18 +68,12 @@ pub fn fit_place<L: Ledger>(
     steps: &mut Steps<L>,
     done: Reshaped,
 ) -> Reshaped
-    requires valid { IsValid model.now }
-    requires between { IsBetween model.now net.old }
-    requires within { IsWithinLimits net.old }
+    requires fittable { IsFittable model.now net.old labels.now path.old.room done }
     requires place { IsPlace net.old.site place }
-    requires labels { IsLabelsOf net.old.site labels.now }
-    requires room { net.old.site.shape.horizon + 2 ≤ path.old.room }
-    requires few { done.cancelled + flow_out net.old is_source ≤ supply_limit }
     ensures refitted { IsRefitted model.now labels.now net.old net.new (same_place place) done result }
     ensures within { IsWithinLimits net.new }
     ensures room { path.new.room ≡ path.old.room }
-    ensures counted { steps.old ≤ steps.new }
-    ensures ticked { steps.new + done.cancelled ≤ steps.old + result.cancelled }
+    ensures steps { IsStepPerPerson steps.old steps.new done result }
 {
     let old = net.limit(place);
     let limit = limit_of(model, place);

@@ -1,16 +1,15 @@
 // A net brought under the limits of an edited model.
-ghost use Rattle.std.specs.Prelude.{◌≡◌, ℕ, ◌+◌, ◌<◌, ◌≤◌};
+ghost use Rattle.std.specs.Prelude.{◌≡◌, ℕ, ◌+◌, ◌≤◌};
 ghost use Rattle.evac_law.specs.declared.model.Model.{Model};
 ghost use Rattle.evac_law.specs.Building.{IsValid};
 ghost use Rattle.evac_law.specs.Edits.{IsEditOf};
 ghost use Rattle.evac_law.specs.Plans.{violation};
 ghost use Rattle.residual_net.specs.declared.place.Place.{Place};
-ghost use Rattle.residual_net.specs.Limits.{supply_limit};
-ghost use Rattle.residual_net.specs.Network.{IsAllSent, IsWithinLimits, arrived_by, flow_at, flow_out};
+ghost use Rattle.residual_net.specs.Network.{IsAllSent, IsWithinLimits, arrived_by, flow_at};
 ghost use Rattle.residual_net.specs.OfModel.{IsNetOf, last_move, plan_of};
-ghost use Rattle.residual_net.specs.Site.{IsPlace, is_source};
+ghost use Rattle.residual_net.specs.Site.{IsPlace};
 ghost use Rattle.flow_repair.specs.Opened.{IsClosedBelow, IsLabelsOf, IsLeastOpened};
-ghost use Rattle.flow_repair.specs.Refit.{IsBetween, IsEditOfNet, IsRefitted};
+ghost use Rattle.flow_repair.specs.Refit.{IsEditOfNet, IsFittable, IsRefitted, IsStepPerPerson};
 ghost use Rattle.flow_repair.specs.Touched.{touches};
 
 use crate::reshaped::Reshaped;
@@ -29,18 +28,12 @@ fn fit_edit<L: Ledger>(
     steps: &mut Steps<L>,
     done: Reshaped,
 ) -> Reshaped
-    requires valid { IsValid model.now }
-    requires between { IsBetween model.now net.old }
+    requires fittable { IsFittable model.now net.old labels.now path.old.room done }
     requires in_range { IsEditOf model.now edit }
-    requires within { IsWithinLimits net.old }
-    requires labels { IsLabelsOf net.old.site labels.now }
-    requires room { net.old.site.shape.horizon + 2 ≤ path.old.room }
-    requires few { done.cancelled + flow_out net.old is_source ≤ supply_limit }
     ensures refitted { IsRefitted model.now labels.now net.old net.new (touches net.old.site edit) done result }
     ensures within { IsWithinLimits net.new }
     ensures room { path.new.room ≡ path.old.room }
-    ensures counted { steps.old ≤ steps.new }
-    ensures ticked { steps.new + done.cancelled ≤ steps.old + result.cancelled }
+    ensures steps { IsStepPerPerson steps.old steps.new done result }
 {
     match edit {
         Edit::Shut { arc } => fit_row(net, model, labels, Kind::Arc, arc, path, steps, done),

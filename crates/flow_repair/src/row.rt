@@ -1,14 +1,11 @@
 // All moments of an arc or a node, and all arcs into an exit.
-ghost use Rattle.std.specs.Prelude.{◌≡◌, ◌+◌, ◌<◌, ◌≤◌, ◌==◌, ◌&&◌, length};
-ghost use Rattle.evac_law.specs.Building.{IsValid};
-ghost use Rattle.residual_net.specs.Limits.{supply_limit};
-ghost use Rattle.residual_net.specs.Network.{IsWithinLimits, flow_out};
-ghost use Rattle.residual_net.specs.Site.{IsPlace, is_source};
+ghost use Rattle.std.specs.Prelude.{◌≡◌, ◌<◌, ◌==◌, ◌&&◌, length};
+ghost use Rattle.residual_net.specs.Network.{IsWithinLimits};
+ghost use Rattle.residual_net.specs.Site.{IsPlace};
 ghost use Rattle.residual_net.specs.Start.{is_kind, row_of, place_of};
 ghost use Rattle.residual_net.specs.declared.start.Kind.TheVariants as kinds;
 ghost use Rattle.time_expansion.specs.Expansion.{to_at};
-ghost use Rattle.flow_repair.specs.Opened.{IsLabelsOf};
-ghost use Rattle.flow_repair.specs.Refit.{IsBetween, IsRefitted};
+ghost use Rattle.flow_repair.specs.Refit.{IsFittable, IsRefitted, IsStepPerPerson};
 
 use crate::fit::fit_place;
 use crate::reshaped::Reshaped;
@@ -27,18 +24,12 @@ pub fn fit_row<L: Ledger>(
     steps: &mut Steps<L>,
     done: Reshaped,
 ) -> Reshaped
-    requires valid { IsValid model.now }
-    requires between { IsBetween model.now net.old }
-    requires within { IsWithinLimits net.old }
+    requires fittable { IsFittable model.now net.old labels.now path.old.room done }
     requires number { IsPlace net.old.site (place_of kind number 0) }
-    requires labels { IsLabelsOf net.old.site labels.now }
-    requires room { net.old.site.shape.horizon + 2 ≤ path.old.room }
-    requires few { done.cancelled + flow_out net.old is_source ≤ supply_limit }
     ensures refitted { IsRefitted model.now labels.now net.old net.new (λ p. is_kind kind p && row_of p == number) done result }
     ensures within { IsWithinLimits net.new }
     ensures room { path.new.room ≡ path.old.room }
-    ensures counted { steps.old ≤ steps.new }
-    ensures ticked { steps.new + done.cancelled ≤ steps.old + result.cancelled }
+    ensures steps { IsStepPerPerson steps.old steps.new done result }
 {
     let mut now = done;
     for moment in 0..model.horizon + 1 {
@@ -59,18 +50,12 @@ fn fit_arc_into<L: Ledger>(
     steps: &mut Steps<L>,
     done: Reshaped,
 ) -> Reshaped
-    requires valid { IsValid model.now }
-    requires between { IsBetween model.now net.old }
-    requires within { IsWithinLimits net.old }
+    requires fittable { IsFittable model.now net.old labels.now path.old.room done }
     requires arc { arc < length model.now.arcs }
-    requires labels { IsLabelsOf net.old.site labels.now }
-    requires room { net.old.site.shape.horizon + 2 ≤ path.old.room }
-    requires few { done.cancelled + flow_out net.old is_source ≤ supply_limit }
     ensures refitted { IsRefitted model.now labels.now net.old net.new (λ p. (is_kind kinds.Arc p && row_of p == arc) && to_at net.old.site.shape arc == node) done result }
     ensures within { IsWithinLimits net.new }
     ensures room { path.new.room ≡ path.old.room }
-    ensures counted { steps.old ≤ steps.new }
-    ensures ticked { steps.new + done.cancelled ≤ steps.old + result.cancelled }
+    ensures steps { IsStepPerPerson steps.old steps.new done result }
 {
     if model.arc(arc).to == node {
         fit_row(net, model, labels, Kind::Arc, arc, path, steps, done)
@@ -89,17 +74,11 @@ pub fn fit_arcs_into<L: Ledger>(
     steps: &mut Steps<L>,
     done: Reshaped,
 ) -> Reshaped
-    requires valid { IsValid model.now }
-    requires between { IsBetween model.now net.old }
-    requires within { IsWithinLimits net.old }
-    requires labels { IsLabelsOf net.old.site labels.now }
-    requires room { net.old.site.shape.horizon + 2 ≤ path.old.room }
-    requires few { done.cancelled + flow_out net.old is_source ≤ supply_limit }
+    requires fittable { IsFittable model.now net.old labels.now path.old.room done }
     ensures refitted { IsRefitted model.now labels.now net.old net.new (λ p. is_kind kinds.Arc p && to_at net.old.site.shape (row_of p) == node) done result }
     ensures within { IsWithinLimits net.new }
     ensures room { path.new.room ≡ path.old.room }
-    ensures counted { steps.old ≤ steps.new }
-    ensures ticked { steps.new + done.cancelled ≤ steps.old + result.cancelled }
+    ensures steps { IsStepPerPerson steps.old steps.new done result }
 {
     let mut now = done;
     for arc in 0..model.arcs.len() as u32 {

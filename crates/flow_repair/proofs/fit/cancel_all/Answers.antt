@@ -1,7 +1,6 @@
-use Rattle.std.proofs.Common.{subst, sym, ap, arith, ◌∙◌}
+use Rattle.std.proofs.Common.{subst, sym, arith, ◌∙◌}
 use Rattle.residual_net.specs.Site.{Site, IsPlace}
-use Rattle.flow_repair.specs.Opened.{IsLabelsOf}
-use Rattle.flow_repair.proofs.Refitting.{thinned_then}
+use Rattle.flow_repair.proofs.Refitting.{still_cancellable, thinned_then}
 use Rattle.flow_repair.proofs.fit.cancel_all.Goals as goal
 
 pub excess-requires : goal.excess-requires
@@ -10,23 +9,19 @@ excess-requires g c = subst (λ (s : Site). IsPlace s c.args.place) (sym c.loop-
 pub cancel_one-now-requires-clause-place : goal.cancel_one-now-requires-clause-place
 cancel_one-now-requires-clause-place g c = subst (λ (s : Site). IsPlace s c.args.place) (sym c.loop-place.invariant.thinned.site) c.requires.place
 
-pub cancel_one-now-requires-clause-labels : goal.cancel_one-now-requires-clause-labels
-cancel_one-now-requires-clause-labels g c = subst (λ (s : Site). IsLabelsOf s c.args.labels.now) (sym c.loop-place.invariant.thinned.site) c.requires.labels
-
-pub cancel_one-now-requires-clause-room : goal.cancel_one-now-requires-clause-room
-cancel_one-now-requires-clause-room g c =
-    omega (arith, ap (λ (s : Site). s.shape.horizon) c.loop-place.invariant.thinned.site, c.requires.room, c.loop-place.invariant.room)
-
-pub cancel_one-now-requires-clause-few : goal.cancel_one-now-requires-clause-few
-cancel_one-now-requires-clause-few g c = omega (arith, c.loop-place.invariant.thinned.sent, c.requires.few)
+pub cancel_one-now-requires-clause-cancellable : goal.cancel_one-now-requires-clause-cancellable
+cancel_one-now-requires-clause-cancellable g c =
+    let old = c.loop-place.invariant in
+    still_cancellable c.args.net.now c.loop-place.net c.args.labels.now c.args.path.now.room c.loop-place.path.room c.args.done c.loop-place.now
+    old.thinned.site old.thinned.sent old.room c.requires.cancellable
 
 pub loop-place-preserved : goal.loop-place-preserved
 loop-place-preserved g c =
+    let old = c.loop-place.invariant in
     let done = c.cancel_one-now.ensures in
     record {
       thinned = thinned_then c.args.labels.now c.args.net.now c.loop-place.net c.cancel_one-now.new.net c.args.place c.args.done c.loop-place.now
-          c.cancel_one-now.result c.loop-place.invariant.thinned done.thinned;
-      room = done.room ∙ c.loop-place.invariant.room;
-      counted = omega (arith, done.ticked, c.loop-place.invariant.counted);
-      ticked = omega (arith, done.ticked, done.more, c.loop-place.invariant.ticked);
+          c.cancel_one-now.result old.thinned done.taken.thinned;
+      room = done.room ∙ old.room;
+      steps = record { counted = omega (arith, done.ticked, old.steps.counted); ticked = omega (arith, done.ticked, done.taken.more, old.steps.ticked) };
     }

@@ -21,21 +21,18 @@ overflow_add-result g c =
     let w = c.args.net.now in
     let v = c.cancel-people.new.self in
     let sent = fewer_sent w v c.args.place c.cancel-people.new.path.steps c.cancel-people.result c.cancel-people.ensures.cancelled in
-    omega (arith, sent, c.requires.few)
+    omega (arith, sent, c.requires.cancellable.few)
 
-pub returns-clause-thinned : goal.returns-clause-thinned
-returns-clause-thinned g c =
+pub returns-clause-taken : goal.returns-clause-taken
+returns-clause-taken g c =
     let w = c.args.net.now in
     let v = c.cancel-people.new.self in
     let x = c.cancel-people.result in
     let made = subst (λ (z : List PathStep). IsCancelled w v c.args.place z x) (sym c.steps.ensures) c.cancel-people.ensures.cancelled in
     let least = c.least_on-least_label.ensures in
-    one_cancelled c.args.labels.now w v c.args.place c.steps.result.now x c.args.done
-    (record { cancelled = c.args.done.cancelled + x; least_label = c.least_on-least_label.result }) made refl least.first least.all least.one
-
-pub returns-clause-less : goal.returns-clause-less
-returns-clause-less g c =
-    let w = c.args.net.now in
-    let v = c.cancel-people.new.self in
-    let made = c.cancel-people.ensures.cancelled in
-    omega (arith, here w v c.args.place c.cancel-people.new.path.steps c.cancel-people.result made, made.some)
+    record {
+      thinned = one_cancelled c.args.labels.now w v c.args.place c.steps.result.now x c.args.done
+          (record { cancelled = c.args.done.cancelled + x; least_label = c.least_on-least_label.result }) made refl least.first least.all least.one;
+      less = omega (arith, here w v c.args.place c.steps.result.now x made, made.some);
+      more = omega (arith, made.some);
+    }

@@ -6,21 +6,24 @@ use Rattle.residual_net.specs.Site.{Site, is_source}
 use Rattle.flow_repair.specs.Opened.{head_number}
 use Rattle.residual_net.proofs.Kept.{out_same}
 use Rattle.flow_repair.proofs.Between.{supplies_fit, within_raised, within_thinned}
-use Rattle.flow_repair.proofs.Refitting.{least_raised, lowered_refits, right_already, set_refitted}
+use Rattle.flow_repair.proofs.Refitting.{least_raised, lowered_refits, right_already, set_refitted, still_cancellable}
 use Rattle.flow_repair.proofs.fit.fit_place.Goals as goal
 
 pub set_limit-requires-clause-supplies : goal.set_limit-requires-clause-supplies
 set_limit-requires-clause-supplies g c =
-    supplies_fit c.args.model.now c.args.net.now c.args.place c.limit_of-limit.result c.requires.valid c.requires.between c.requires.place c.limit_of-limit.ensures
+    supplies_fit c.args.model.now c.args.net.now c.args.place c.limit_of-limit.result c.requires.fittable.valid c.requires.fittable.between c.requires.place c.limit_of-limit.ensures
 
 pub set_limit-requires-then-limit-old-2-clause-supplies : goal.set_limit-requires-then-limit-old-2-clause-supplies
 set_limit-requires-then-limit-old-2-clause-supplies g c =
-    supplies_fit c.args.model.now c.args.net.now c.args.place c.limit_of-limit.result c.requires.valid c.requires.between c.requires.place c.limit_of-limit.ensures
+    supplies_fit c.args.model.now c.args.net.now c.args.place c.limit_of-limit.result c.requires.fittable.valid c.requires.fittable.between c.requires.place c.limit_of-limit.ensures
 
-pub cancel_all-requires-clause-few : goal.cancel_all-requires-clause-few
-cancel_all-requires-clause-few g c =
+pub cancel_all-requires-clause-cancellable : goal.cancel_all-requires-clause-cancellable
+cancel_all-requires-clause-cancellable g c =
+    let w = c.args.net.now in
+    let v = c.set_limit-then-limit-old-2.new.self in
     let set = c.set_limit-then-limit-old-2.ensures in
-    omega (arith, out_same c.args.net.now c.set_limit-then-limit-old-2.new.self set.site set.flows is_source, c.requires.few)
+    still_cancellable w v c.args.labels.now c.args.path.now.room c.args.path.now.room c.args.done c.args.done set.site
+    (omega (arith, out_same w v set.site set.flows is_source)) refl c.requires.fittable.cancellable
 
 pub returns-then-limit-old-clause-refitted : goal.returns-then-limit-old-clause-refitted
 returns-then-limit-old-clause-refitted g c =
@@ -40,7 +43,7 @@ returns-then-limit-old-clause-within g c =
     let w = c.args.net.now in
     let p = c.args.place in
     let more : limit_at w p ≤ c.limit_of-limit.result = omega (arith, c.limit-old.ensures, c.if-limit-old.true) in
-    within_raised w c.set_limit.new.self p c.limit_of-limit.result c.requires.within c.set_limit.ensures more
+    within_raised w c.set_limit.new.self p c.limit_of-limit.result c.requires.fittable.within c.set_limit.ensures more
 
 pub returns-then-limit-old-2-clause-refitted : goal.returns-then-limit-old-2-clause-refitted
 returns-then-limit-old-2-clause-refitted g c =
@@ -57,7 +60,7 @@ returns-then-limit-old-2-clause-refitted g c =
 pub returns-then-limit-old-2-clause-within : goal.returns-then-limit-old-2-clause-within
 returns-then-limit-old-2-clause-within g c =
     within_thinned c.args.labels.now c.args.net.now c.set_limit-then-limit-old-2.new.self c.cancel_all.new.net c.args.place c.limit_of-limit.result c.args.done
-    c.cancel_all.result c.requires.within c.set_limit-then-limit-old-2.ensures c.cancel_all.ensures.thinned c.cancel_all.ensures.fits
+    c.cancel_all.result c.requires.fittable.within c.set_limit-then-limit-old-2.ensures c.cancel_all.ensures.thinned c.cancel_all.ensures.fits
 
 pub returns-else-limit-old-2-clause-refitted : goal.returns-else-limit-old-2-clause-refitted
 returns-else-limit-old-2-clause-refitted g c =

@@ -1,19 +1,14 @@
-use Rattle.std.proofs.Common.{◌≡◌, ◌≤◌, ◌⊎◌, ℕ, false, get_or, min, ap, sym, ◌∙◌, arith, inl, inr}
+use Rattle.std.proofs.Common.{◌≡◌, false, get_or, min, ap, sym, ◌∙◌, arith, inl, inr}
 use Rattle.std.proofs.lemmas.List.{get_or_default}
 use Rattle.std.proofs.lemmas.Bool.{cases_lt}
 use Rattle.residual_net.specs.declared.place.Place.TheVariants.{Arc}
 use Rattle.residual_net.specs.declared.place.PathStep.{PathStep}
 use Rattle.flow_repair.specs.Opened.{head_number}
+use Rattle.flow_repair.proofs.Numbers.{least_of}
 use Rattle.flow_repair.proofs.number.least_on.Goals as goal
 
 abbrev blank : PathStep
 blank = record { place = Arc 0 0; back = false }
-
-which : (z a b : ℕ) → z ≡ min a b → (z ≡ a) ⊎ (z ≡ b)
-which z a b h = elim (cases_lt a b) [ inl s ↦ inl (omega (arith, h, s)) | inr s ↦ inr (omega (arith, h, s)) ]
-
-low : (z a b : ℕ) → z ≡ min a b → (z ≤ a) × (z ≤ b)
-low z a b h = (omega (arith, h), omega (arith, h))
 
 pub loop-step-preserved : goal.loop-step-preserved
 loop-step-preserved c =
@@ -23,7 +18,7 @@ loop-step-preserved c =
     let old = c.loop-step.invariant in
     let here : c.head_number.result ≡ f (get_or path i blank) = c.head_number.ensures in
     let least : c.min-least.result ≡ min c.loop-step.least c.head_number.result = c.min-least.ensures in
-    let both = low c.min-least.result c.loop-step.least c.head_number.result least in
+    let both = least_of c.min-least.result c.loop-step.least c.head_number.result least in
     record {
       most = omega (arith, both.0, old.most);
       all = λ j d l. elim (cases_lt j i) [
@@ -34,7 +29,7 @@ loop-step-preserved c =
             let there : f (get_or path j d) ≡ c.head_number.result = ap f same ∙ sym here in
             omega (arith, both.1, there)
       ];
-      one = elim (which c.min-least.result c.loop-step.least c.head_number.result least) [
+      one = elim both.2 [
         | inl e ↦ elim old.one [
           | inl g ↦ inl (e ∙ g)
           | inr g ↦ inr (g.0, g.1, omega (arith, g.2), g.3, e ∙ g.4)

@@ -11,11 +11,13 @@ overflow_add-first g c =
     let w = c.args.net.now in
     omega (arith, last_fits w c.shape.ensures.net, horizon_small w.site c.shape.ensures.net.site, c.last_arrival-first.ensures)
 
-pub fit_edit-requires-clause-valid : goal.fit_edit-requires-clause-valid
-fit_edit-requires-clause-valid g c = valid_now c.args.model.now c.args.edit c.args.net.now c.requires.edited
-
-pub fit_edit-requires-clause-between : goal.fit_edit-requires-clause-between
-fit_edit-requires-clause-between g c = between_now c.args.model.now c.args.edit c.args.net.now c.requires.edited
+pub fit_edit-requires-clause-fittable : goal.fit_edit-requires-clause-fittable
+fit_edit-requires-clause-fittable g c = record {
+  valid = valid_now c.args.model.now c.args.edit c.args.net.now c.requires.edited;
+  between = between_now c.args.model.now c.args.edit c.args.net.now c.requires.edited;
+  within = c.requires.within;
+  cancellable = record { labels = c.requires.labels; room = c.requires.room; few = omega (arith, c.shape.ensures.net.few_sent) };
+}
 
 pub returns-clause-of : goal.returns-clause-of
 returns-clause-of g c =

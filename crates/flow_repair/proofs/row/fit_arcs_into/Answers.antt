@@ -6,19 +6,20 @@ use Rattle.residual_net.specs.Start.{is_kind, row_of}
 use Rattle.residual_net.specs.declared.start.Kind.TheVariants as kinds
 use Rattle.flow_repair.specs.Refit.{IsRefitted}
 use Rattle.flow_repair.proofs.Arcs.{arcs_step}
-use Rattle.flow_repair.proofs.Between.{still_between}
-use Rattle.flow_repair.proofs.Refitting.{refitted_then}
+use Rattle.flow_repair.proofs.Between.{still_fittable}
+use Rattle.flow_repair.proofs.Refitting.{refitted_then, steps_then}
 use Rattle.flow_repair.proofs.row.fit_arcs_into.Goals as goal
 
 pub overflow_cast-arc-end : goal.overflow_cast-arc-end
 unfolding arc_limit
-overflow_cast-arc-end g c = omega (arith, c.requires.valid.arcs_fit, c.len-arc-end.ensures)
+overflow_cast-arc-end g c = omega (arith, c.requires.fittable.valid.arcs_fit, c.len-arc-end.ensures)
 
-pub fit_arc_into-now-requires-clause-between : goal.fit_arc_into-now-requires-clause-between
-fit_arc_into-now-requires-clause-between g c =
-    still_between c.args.model.now c.args.labels.now c.args.net.now c.loop-arc.net
-    (λ p. (is_kind kinds.Arc p && eqb (to_at c.args.net.now.site.shape (row_of p)) c.args.node) && ltb (row_of p) c.loop-arc.arc) c.args.done
-    c.loop-arc.now c.requires.between c.loop-arc.invariant.refitted
+pub fit_arc_into-now-requires-clause-fittable : goal.fit_arc_into-now-requires-clause-fittable
+fit_arc_into-now-requires-clause-fittable g c =
+    let old = c.loop-arc.invariant in
+    still_fittable c.args.model.now c.args.labels.now c.args.net.now c.loop-arc.net
+    (λ p. (is_kind kinds.Arc p && eqb (to_at c.args.net.now.site.shape (row_of p)) c.args.node) && ltb (row_of p) c.loop-arc.arc)
+    c.args.path.now.room c.loop-arc.path.room c.args.done c.loop-arc.now old.refitted old.within old.room c.requires.fittable
 
 pub loop-arc-preserved : goal.loop-arc-preserved
 loop-arc-preserved g c =
@@ -40,6 +41,5 @@ loop-arc-preserved g c =
           c.args.done c.loop-arc.now c.fit_arc_into-now.result old.refitted here (λ p _. arcs_step f (is_kind kinds.Arc p) (row_of p) a n);
       within = done.within;
       room = done.room ∙ old.room;
-      counted = omega (arith, done.counted, old.counted);
-      ticked = omega (arith, done.ticked, old.ticked);
+      steps = steps_then c.args.steps.now c.loop-arc.steps c.fit_arc_into-now.new.steps c.args.done c.loop-arc.now c.fit_arc_into-now.result old.steps done.steps;
     }

@@ -5,18 +5,19 @@ use Rattle.residual_net.specs.Site.{same_place}
 use Rattle.residual_net.specs.Start.{place_of}
 use Rattle.residual_net.proofs.Begin.{row_so_far, row_step}
 use Rattle.flow_repair.specs.Refit.{IsRefitted}
-use Rattle.flow_repair.proofs.Between.{still_between}
-use Rattle.flow_repair.proofs.Refitting.{refitted_then}
+use Rattle.flow_repair.proofs.Between.{still_fittable}
+use Rattle.flow_repair.proofs.Refitting.{refitted_then, steps_then}
 use Rattle.flow_repair.proofs.row.fit_row.Goals as goal
 
 pub overflow_add-moment-end : goal.overflow_add-moment-end
 unfolding horizon_limit
-overflow_add-moment-end g c = omega (arith, c.requires.valid.horizon)
+overflow_add-moment-end g c = omega (arith, c.requires.fittable.valid.horizon)
 
-pub fit_place-now-requires-clause-between : goal.fit_place-now-requires-clause-between
-fit_place-now-requires-clause-between g c =
-    still_between c.args.model.now c.args.labels.now c.args.net.now c.loop-moment.net (row_so_far c.args.kind c.args.number c.loop-moment.moment) c.args.done
-    c.loop-moment.now c.requires.between c.loop-moment.invariant.refitted
+pub fit_place-now-requires-clause-fittable : goal.fit_place-now-requires-clause-fittable
+fit_place-now-requires-clause-fittable g c =
+    let old = c.loop-moment.invariant in
+    still_fittable c.args.model.now c.args.labels.now c.args.net.now c.loop-moment.net (row_so_far c.args.kind c.args.number c.loop-moment.moment)
+    c.args.path.now.room c.loop-moment.path.room c.args.done c.loop-moment.now old.refitted old.within old.room c.requires.fittable
 
 pub loop-moment-preserved : goal.loop-moment-preserved
 loop-moment-preserved g c =
@@ -34,6 +35,5 @@ loop-moment-preserved g c =
           c.args.done c.loop-moment.now c.fit_place-now.result old.refitted here (λ q _. row_step c.args.kind c.args.number t q);
       within = done.within;
       room = done.room ∙ old.room;
-      counted = omega (arith, done.counted, old.counted);
-      ticked = omega (arith, done.ticked, old.ticked);
+      steps = steps_then c.args.steps.now c.loop-moment.steps c.fit_place-now.new.steps c.args.done c.loop-moment.now c.fit_place-now.result old.steps done.steps;
     }

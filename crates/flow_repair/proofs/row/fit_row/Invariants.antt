@@ -1,7 +1,7 @@
-use Rattle.std.proofs.Common.{◌≡◌, ◌+◌, ◌≤◌}
+use Rattle.std.proofs.Common.{◌≡◌}
 use Rattle.residual_net.specs.Network.{IsWithinLimits}
 use Rattle.residual_net.proofs.Begin.{row_so_far}
-use Rattle.flow_repair.specs.Refit.{IsRefitted}
+use Rattle.flow_repair.specs.Refit.{IsRefitted, IsStepPerPerson}
 use Rattle.flow_repair.proofs.row.fit_row.Given as goal
 
 abbrev pub invariant-loop-moment : goal.invariant-loop-moment
@@ -9,6 +9,5 @@ invariant-loop-moment g l = record {
   refitted : IsRefitted l.model l.labels l.fn.net l.net (row_so_far l.kind l.number l.moment) l.fn.done l.now;
   within : IsWithinLimits l.net;
   room : l.path.room ≡ l.fn.path.room;
-  counted : l.fn.steps ≤ l.steps;
-  ticked : l.steps + l.fn.done.cancelled ≤ l.fn.steps + l.now.cancelled;
+  steps : IsStepPerPerson l.fn.steps l.steps l.fn.done l.now;
 }
