@@ -1,20 +1,19 @@
 -- Moment after moment settled, and what it comes to.
-use Rattle.std.proofs.Common.{◌≡◌, ◌≢◌, ℕ, zero, suc, ◌+◌, ◌-◌, ◌*◌, ◌<◌, ◌≤◌, Bool, true, false, cond, List, [], ◌∷◌, length, get_or, max, ap, sym, subst, ◌∙◌, ◌⊎◌, refl, arith, inl, inr, add-one}
+use Rattle.std.proofs.Common.{◌≡◌, ◌≢◌, ℕ, zero, suc, ◌+◌, ◌-◌, ◌*◌, ◌<◌, ◌≤◌, true, false, List, [], ◌∷◌, ap, sym, subst, ◌∙◌, refl, arith, inl, inr, add-one}
 use Rattle.std.specs.List.{All}
-use Rattle.std.proofs.lemmas.Bool.{cases_lt, cases_eq, le-leb, lt-leb, ne_eqb}
+use Rattle.std.proofs.lemmas.Bool.{cases_lt, cases_eq}
 use Rattle.evac_law.specs.declared.model.Model.{Model}
 use Rattle.evac_law.specs.declared.plan.Move.{Move}
-use Rattle.evac_law.specs.Building.{IsValid, arrival, people, start}
+use Rattle.evac_law.specs.Building.{IsValid, arrival, people}
 use Rattle.evac_law.specs.Certificates.{IsCertified, IsShortfall, label_cut}
 use Rattle.evac_law.specs.LabelTable.{LabelTable, label_at, unset}
-use Rattle.evac_law.specs.Plans.{IsFeasible, last_arrival}
+use Rattle.evac_law.specs.Plans.{last_arrival}
 use Rattle.evac_law.proofs.Entries.{empty_cut_is, entered_le}
 use Rattle.evac_law.proofs.Optimal.{label_cut_is_cut}
 use Rattle.evac_law.proofs.SumLemmas as sums
-use Rattle.residual_net.specs.declared.place.Place.TheVariants.{Supply}
 use Rattle.residual_net.specs.Closed.{IsClosed}
 use Rattle.residual_net.specs.Limits.{supply_limit}
-use Rattle.residual_net.specs.Network.{Network, IsAllSent, IsNet, IsWithinLimits, arrived_by, limit_at}
+use Rattle.residual_net.specs.Network.{Network, IsAllSent, IsNet, IsWithinLimits, arrived_by}
 use Rattle.residual_net.specs.NetLaws.{labelled}
 use Rattle.residual_net.specs.OfModel.{IsNetOf, last_move, plan_of}
 use Rattle.residual_net.specs.Site.{Site, IsPlace}
@@ -24,12 +23,12 @@ use Rattle.residual_net.proofs.LastArrival.{arrived_by_last, arrived_rises, last
 use Rattle.residual_net.proofs.Law.{arrived_is_out, arrived_within, closed_is_cut}
 use Rattle.terminal_augment.proofs.ClosedLemmas.{closed_same}
 use Rattle.terminal_augment.proofs.SendLemmas.{few_by, horizon_small}
-use Rattle.terminal_augment.specs.Settled.{IsClosedBelow, IsLabelled, IsLabelsOf, IsSentOn, IsUnsetFrom, KeepsLimits}
-use Rattle.terminal_augment.specs.Spots.{IsInside}
+use Rattle.terminal_augment.specs.Settled.{IsClosedBelow, IsLabelled, IsLabelsOf, IsSentOn, KeepsLimits}
 use Rattle.lex_flow.specs.declared.outcome.Outcome.{Outcome}
 use Rattle.lex_flow.specs.declared.outcome.Outcome.TheVariants.{Cleared, Short}
 use Rattle.lex_flow.specs.Outcomes.{IsAnswer, IsBounded, IsOutcome, last_settled, pushes_of}
-use Rattle.lex_flow.specs.Settling.{IsKeptBelow, IsOver, IsSettledTo, IsUnset, arrivals_below}
+use Rattle.lex_flow.specs.Settling.{IsKeptBelow, IsOver, IsSettledThrough, IsSettledTo, IsUnset, arrivals_below}
+use Rattle.lex_flow.proofs.UnsetLemmas.{early_same, unset_late}
 
 -- ---- sums of arrivals
 
@@ -90,39 +89,28 @@ still_needed m w v (suc k) valid net of within net_v of_v within_v earlier over 
 
 -- ---- moment after moment
 
+-- with the labels as they are when the settling begins
 pub settled_begins : (w : Network) (l m : LabelTable) (from : ℕ) → IsNet w → IsWithinLimits w → IsLabelsOf w.site l → IsUnset l m from (λ _ _. true)
-    → IsKeptBelow l m from → IsUnsetFrom m from → from ≤ w.site.shape.horizon + 1 → IsClosedBelow w l from → IsSettledTo w w l m from from 0
-settled_begins w l m from net within of unset_all kept unset_late early closed = record {
+    → from ≤ w.site.shape.horizon + 1 → IsClosedBelow w l from → IsSettledTo w w m m from from 0
+settled_begins w l m from net within of unset_all early closed = record {
   since = omega arith;
   limits = record { site = refl; saved = refl; limits = λ p i. refl };
   within = within;
   net = net;
-  earlier = λ i l. refl;
+  earlier = λ i q. refl;
   later = λ i. omega arith;
   bounded = omega arith;
   idle = λ _. refl;
   none = λ _. refl;
-  labels = kept;
-  closed = λ i q. closed_same w (labelled l i) (labelled m i) i net (λ n t a. same n t a i q) (closed i q);
-  unset = unset_late;
+  labels = record { nodes = refl; horizon = refl; kept = λ n t i j less. refl };
+  closed = λ i q. closed_same w (labelled l i) (labelled m i) i net (λ n t a. same i n t q (omega (arith, a.node, of.nodes)) (omega (arith, a.moment, of.horizon)))
+      (closed i q);
+  unset = unset_late l m from unset_all;
   needed = λ b i valid of q e over. omega (arith, q, e);
 }
   where
-    same : (n t : ℕ) → IsInside w.site n t → (i : ℕ) → i < from → labelled m i n t ≡ labelled l i n t
-    same n t a i q = by (cases_lt (label_at l n t) from)
-      where
-        node : n < l.nodes
-        node = omega (arith, a.node, of.nodes)
-
-        moment : t ≤ l.horizon
-        moment = omega (arith, a.moment, of.horizon)
-
-        by : (label_at l n t < from) ⊎ (from ≤ label_at l n t) → labelled m i n t ≡ labelled l i n t
-        by (inl less) = ap (λ z. Rattle.std.proofs.Common.leb z i) (kept.kept n t node moment less)
-        by (inr late) =
-            let label : label_at m n t ≡ unset = unset_all.labels n t node moment ∙ ap (λ b. cond b unset (label_at l n t)) (le-leb from (label_at l n t) late) in
-            let few = horizon_small w net in
-            lt-leb _ _ (omega (arith, label, few, early, q)) ∙ sym (lt-leb _ _ (omega (arith, late, q)))
+    same : (i n t : ℕ) → i < from → n < l.nodes → t ≤ l.horizon → labelled m i n t ≡ labelled l i n t
+    same i n t q a b = early_same from i (label_at l n t) (label_at m n t) (unset_all.labels n t a b) q (omega (arith, early, horizon_small w net))
 
 pub settled_more : (w v u : Network) (l m z : LabelTable) (from k p r : ℕ) → IsSettledTo w v l m from k p → (IsOver v k → ⊥) → k ≤ v.site.shape.horizon
     → KeepsLimits v u → IsWithinLimits u → IsNet u → IsSentOn v u k r → IsLabelled m z k → IsClosedBelow u z (k + 1) → IsSettledTo w u l z from (k + 1) (p + r)
@@ -148,7 +136,7 @@ settled_more w v u l m z from k p r h not_over in_time limits within net sent la
         labels.kept n t (omega (arith, i, h.labels.nodes)) (omega (arith, j, h.labels.horizon)) (omega (arith, old, less, h.since)) ∙ old;
   };
   closed = closed;
-  unset = λ n t i j late. by n t (omega (arith, i, labels.nodes)) (omega (arith, j, labels.horizon)) late (cases_lt (label_at m n t) k);
+  unset = λ n t i j late. by n t (omega (arith, i, labels.nodes)) (omega (arith, j, labels.horizon)) late;
   needed = λ b i valid of q e over.
       let same : i ≡ k = omega (arith, e) in
       let at_k : IsOver u k = subst (λ y. IsOver u y) same over in
@@ -157,157 +145,51 @@ settled_more w v u l m z from k p r h not_over in_time limits within net sent la
       not_over (still_needed b v u k valid h.net of_v h.within net of_u within sent.earlier at_k (omega (arith, in_time, horizon_is b v of_v)));
 }
   where
-    by : (n t : ℕ) → n < m.nodes → t ≤ m.horizon → k + 1 ≤ label_at z n t → (label_at m n t < k) ⊎ (k ≤ label_at m n t) → label_at z n t ≡ unset
-    by n t i j late (inl less) = absurd (omega (arith, late, less, labels.kept n t i j less))
-    by n t i j late (inr more) = elim (labels.others n t i j more) [
-      | inl now ↦ absurd (omega (arith, late, now))
-      | inr none ↦ none
+    by : (n t : ℕ) → n < m.nodes → t ≤ m.horizon → k + 1 ≤ label_at z n t → label_at z n t ≡ unset
+    by n t i j late = elim (cases_lt (label_at m n t) k) [
+      | inl less ↦ absurd (omega (arith, late, less, labels.kept n t i j less))
+      | inr more ↦ elim (labels.others n t i j more) [ inl now ↦ absurd (omega (arith, late, now)) | inr none ↦ none ]
     ]
 
 -- ---- what it comes to
 
-feasible_before : (m : Model) (p : List Move) (c k : ℕ) → c ≤ k → IsFeasible m p k → IsFeasible m p c
-feasible_before m p c k l f = record {
-  arcs = f.arcs;
-  rates = λ a t i j. f.rates a t i (omega (arith, j, l));
-  holds = λ n t i e j. f.holds n t i e (omega (arith, j, l));
-}
-
-max_left : (a b : ℕ) → a ≤ max a b
-max_left a b = grind arith
-
-max_right : (a b : ℕ) → b ≤ max a b
-max_right a b = grind arith
-
 all_by_last : (m : Model) (p : List Move) → All (λ (v : Move). arrival m v.arc v.moment ≤ last_arrival m p) p
 unfolding last_arrival
 all_by_last m [] j d l = absurd (omega (arith, l))
-all_by_last m (v ∷ p) zero d l = max_left (arrival m v.arc v.moment) (last_arrival m p)
-all_by_last m (v ∷ p) (suc j) d l = omega (arith, all_by_last m p j d (omega (arith, l)), max_right (arrival m v.arc v.moment) (last_arrival m p))
+all_by_last m (v ∷ p) zero d l = omega arith
+all_by_last m (v ∷ p) (suc j) d l = omega (arith, all_by_last m p j d (omega (arith, l)))
 
 certified : (m : Model) (w : Network) (l : LabelTable) → IsValid m → IsNet w → IsNetOf m w → IsWithinLimits w → IsAllSent w
     → IsClosedBelow w l (last_move w.site (plan_of w) + 1) → (arrived_by w m.horizon ≡ people m) × IsCertified m (plan_of w) l (last_move w.site (plan_of w))
-certified m w l valid net of within all closed = (
-  everybody,
-  record {
-    in_horizon = in_time;
-    feasible = feasible_before m (plan_of w) c m.horizon in_time (feasible m w valid net of within all);
-    all_out = sym (arrived_is_out m w valid net of c) ∙ by_c;
-    arrives = λ j d q. omega (arith, all_by_last m (plan_of w) j d q, (fits m w valid net of within all).last_same);
-    cuts = λ k q. sym (arrived_is_out m w valid net of k) ∙ closed_is_cut m w valid net of within l k (omega (arith, q, in_time)) (closed k (omega (arith, q)));
-    least = λ b e. omega (arith, arrived_is_out m w valid net of b, within_people m w b valid net of within (omega (arith, e, in_time)), fewer b e);
-  },
-)
-  where
-    c : ℕ
-    c = last_move w.site (plan_of w)
-
-    everybody : arrived_by w m.horizon ≡ people m
-    everybody = all_sent_arrive m w net of within all
-
-    in_time : last_move w.site (plan_of w) ≤ m.horizon
-    in_time = omega (arith, last_by_arrived w net w.site.shape.horizon refl, horizon_is m w of)
-
-    by_c : arrived_by w (last_move w.site (plan_of w)) ≡ people m
-    by_c = arrived_by_last w net (last_move w.site (plan_of w)) (omega arith) ∙ ap (arrived_by w) (horizon_is m w of) ∙ everybody
-
-    fewer : (b : ℕ) → b + 1 ≡ last_move w.site (plan_of w) → arrived_by w b ≢ people m
-    fewer b e q =
-        let same : arrived_by w b ≡ arrived_by w w.site.shape.horizon = q ∙ sym everybody ∙ ap (arrived_by w) (sym (horizon_is m w of)) in
-        omega (arith, e, last_by_arrived w net b same)
+certified m w l valid net of within all closed =
+    let c = last_move w.site (plan_of w) in
+    let f = feasible m w valid net of within all in
+    let everybody = all_sent_arrive m w net of within all in
+    let in_time : c ≤ m.horizon = omega (arith, last_by_arrived w net w.site.shape.horizon refl, horizon_is m w of) in
+    let by_c = arrived_by_last w net c (omega arith) ∙ ap (arrived_by w) (horizon_is m w of) ∙ everybody in (
+      everybody,
+      record {
+        in_horizon = in_time;
+        feasible = record { arcs = f.arcs; rates = λ a t i j. f.rates a t i (omega (arith, j, in_time)); holds = λ n t i e j. f.holds n t i e (omega (arith, j, in_time)) };
+        all_out = sym (arrived_is_out m w valid net of c) ∙ by_c;
+        arrives = λ j d q. omega (arith, all_by_last m (plan_of w) j d q, (fits m w valid net of within all).last_same);
+        cuts = λ k q. sym (arrived_is_out m w valid net of k) ∙ closed_is_cut m w valid net of within l k (omega (arith, q, in_time)) (closed k (omega (arith, q)));
+        least = λ b e.
+            let fewer : arrived_by w b ≢ people m = λ q.
+            omega (arith, e, last_by_arrived w net b (q ∙ sym everybody ∙ ap (arrived_by w) (sym (horizon_is m w of)))) in
+            omega (arith, arrived_is_out m w valid net of b, within_people m w b valid net of within (omega (arith, e, in_time)), fewer);
+      },
+    )
 
 shortfall : (m : Model) (w : Network) (l : LabelTable) → IsValid m → IsNet w → IsNetOf m w → IsWithinLimits w → (IsAllSent w → ⊥)
     → IsClosed w (labelled l m.horizon) m.horizon → IsShortfall m (label_cut m l m.horizon) (arrived_by w m.horizon)
-shortfall m w l valid net of within unsent closed = record {
-  cut = label_cut_is_cut m l m.horizon (omega arith);
-  worth = sym (closed_is_cut m w valid net of within l m.horizon (omega arith) closed);
-  below_people = omega (arith, within_people m w m.horizon valid net of within (omega arith), fewer);
-}
-  where
-    fewer : arrived_by w m.horizon ≢ people m
-    fewer e = unsent (arrived_all_sent m w net of within e)
-
--- the last move of a settled net arrives before the next moment
-last_before : (v : Network) (k : ℕ) → IsNet v → (k ≤ v.site.shape.horizon → IsOver v k) → last_move v.site (plan_of v) < k
-last_before v k net over = elim (cases_lt v.site.shape.horizon k) [
-  | inl late ↦ omega (arith, last_fits v net, late)
-  | inr early ↦ (over early).before
-]
-
-pub closed_to : (w v : Network) (l m : LabelTable) (from k p : ℕ) (o : Outcome) → IsSettledTo w v l m from k p → k ≤ v.site.shape.horizon + 1
-    → (k ≤ v.site.shape.horizon → IsOver v k) → IsOutcome v o → IsClosedBelow v m (last_settled v.site.shape.horizon o + 1)
-closed_to w v l m from k p (Cleared moment pushes) h late over outcome i q =
-    h.closed i (omega (arith, q, outcome.1, last_before v k h.net over))
-closed_to w v l m from k p (Short most pushes) h late over outcome i q = elim (cases_lt v.site.shape.horizon k) [
-  | inl end ↦ h.closed i (omega (arith, q, end))
-  | inr early ↦ absurd (outcome.0 (over early).sent)
-]
-
-pub answer_is : (b : Model) (w v : Network) (l m : LabelTable) (from k p : ℕ) (o : Outcome) → IsSettledTo w v l m from k p → k ≤ v.site.shape.horizon + 1
-    → (k ≤ v.site.shape.horizon → IsOver v k) → IsOutcome v o → IsValid b → IsNetOf b w → IsAnswer b v m o
-answer_is b w v l m from k p (Cleared moment pushes) h late over outcome valid of =
-    let of_v = net_of_kept b w v h.limits of in
-    let closed = closed_to w v l m from k p (Cleared moment pushes) h late over outcome in
-    let best = certified b v m valid h.net of_v h.within outcome.0 (subst (λ c. IsClosedBelow v m (c + 1)) outcome.1 closed) in
+shortfall m w l valid net of within unsent closed =
+    let fewer : arrived_by w m.horizon ≢ people m = λ e. unsent (arrived_all_sent m w net of within e) in
     record {
-      arrived = best.0;
-      last = outcome.1;
-      fits = fits b v valid h.net of_v h.within outcome.0;
-      certified = subst (λ c. IsCertified b (plan_of v) m c) (sym outcome.1) best.1;
+      cut = label_cut_is_cut m l m.horizon (omega arith);
+      worth = sym (closed_is_cut m w valid net of within l m.horizon (omega arith) closed);
+      below_people = omega (arith, within_people m w m.horizon valid net of within (omega arith), fewer);
     }
-answer_is b w v l m from k p (Short most pushes) h late over outcome valid of =
-    let of_v = net_of_kept b w v h.limits of in
-    let horizon = horizon_is b v of_v in
-    let closed = closed_to w v l m from k p (Short most pushes) h late over outcome v.site.shape.horizon (omega arith) in
-    let closed_b = subst (λ c. IsClosed v (labelled m c) c) horizon closed in
-    let short = shortfall b v m valid h.net of_v h.within outcome.0 closed_b in
-    let most_is : most ≡ arrived_by v b.horizon = outcome.1 ∙ ap (arrived_by v) horizon in
-    (sym most_is, subst (λ x. IsShortfall b (label_cut b m b.horizon) x) (sym most_is) short)
-
-pub bounded_is : (b : Model) (w v : Network) (l m : LabelTable) (from k p : ℕ) (o : Outcome) → IsSettledTo w v l m from k p → k ≤ v.site.shape.horizon + 1
-    → (k ≤ v.site.shape.horizon → IsOver v k) → IsOutcome v o → pushes_of o ≡ p → IsValid b → IsNetOf b w → IsBounded w v o
-bounded_is b w v l m from k p (Short most pushes) h late over outcome same valid of = elim (cases_lt v.site.shape.horizon k) [
-  | inl end ↦
-      let is : k ≡ v.site.shape.horizon + 1 = omega (arith, end, late) in
-      let bound : pushes + arrivals_below w k ≤ arrivals_below v k = omega (arith, same, h.bounded) in
-      subst (λ c. pushes + arrivals_below w c ≤ arrivals_below v c) is bound
-  | inr early ↦ absurd (outcome.0 (over early).sent)
-]
-bounded_is b w v l m from k p (Cleared moment pushes) h late over outcome same valid of = elim (cases_eq k from) [
-  | inl none ↦
-      let no_pushes = h.none none in
-      let still = h.idle no_pushes in
-      omega (arith, same, no_pushes, ap (λ (z : Network). arrivals_below z (moment + 1)) still)
-  | inr some ↦
-      let before = last_before v k h.net over in
-      let not_sooner = h.needed b (k - 1) valid of (omega (arith, some, h.since)) (omega (arith, some, h.since)) in
-      let last_at : k - 1 ≤ last_move v.site (plan_of v) = not_before not_sooner (cases_lt (last_move v.site (plan_of v)) (k - 1)) in
-      let is : k ≡ moment + 1 = omega (arith, outcome.1, before, last_at, some, h.since) in
-      let bound : pushes + arrivals_below w k ≤ arrivals_below v k = omega (arith, same, h.bounded) in
-      subst (λ c. pushes + arrivals_below w c ≤ arrivals_below v c) is bound
-]
-  where
-    not_before : (IsOver v (k - 1) → ⊥) → (last_move v.site (plan_of v) < k - 1) ⊎ (k - 1 ≤ last_move v.site (plan_of v)) → k - 1 ≤ last_move v.site (plan_of v)
-    not_before n (inl less) = absurd (n (record { sent = outcome.0; before = less }))
-    not_before n (inr late) = late
-
--- the labels as they are when the settling begins
-pub settled_again : (w v : Network) (l m : LabelTable) (from k p : ℕ) → IsSettledTo w v l m from k p → IsSettledTo w v m m from k p
-settled_again w v l m from k p h = record {
-  since = h.since;
-  limits = h.limits;
-  within = h.within;
-  net = h.net;
-  earlier = h.earlier;
-  later = h.later;
-  bounded = h.bounded;
-  idle = h.idle;
-  none = h.none;
-  labels = record { nodes = refl; horizon = refl; kept = λ n t i j less. refl };
-  closed = h.closed;
-  unset = h.unset;
-  needed = h.needed;
-}
 
 pub kept_then : (l m z : LabelTable) (from : ℕ) → IsKeptBelow l m from → IsKeptBelow m z from → IsKeptBelow l z from
 kept_then l m z from p q = record {
@@ -317,3 +199,56 @@ kept_then l m z from p q = record {
       let old = p.kept n t i j less in
       q.kept n t (omega (arith, i, p.nodes)) (omega (arith, j, p.horizon)) (omega (arith, old, less)) ∙ old;
 }
+
+module _ (w v : Network) (l m : LabelTable) (from k p : ℕ) (h : IsSettledThrough w v l m from k p) where
+  done : IsSettledTo w v l m from k p
+  done = h.settled
+
+  -- the last move arrives before the next moment
+  last_before : last_move v.site (plan_of v) < k
+  last_before = elim (cases_lt v.site.shape.horizon k) [ inl late ↦ omega (arith, last_fits v done.net, late) | inr early ↦ (h.over early).before ]
+
+  pub closed_to : (o : Outcome) → IsOutcome v o → IsClosedBelow v m (last_settled v.site.shape.horizon o + 1)
+  closed_to (Cleared moment pushes) outcome i q = done.closed i (omega (arith, q, outcome.1, last_before))
+  closed_to (Short most pushes) outcome i q = elim (cases_lt v.site.shape.horizon k) [
+    | inl end ↦ done.closed i (omega (arith, q, end))
+    | inr early ↦ absurd (outcome.0 (h.over early).sent)
+  ]
+
+  pub answer_is : (b : Model) (o : Outcome) → IsOutcome v o → IsValid b → IsNetOf b w → IsAnswer b v m o
+  answer_is b (Cleared moment pushes) outcome valid of =
+      let of_v = net_of_kept b w v done.limits of in
+      let closed = subst (λ c. IsClosedBelow v m (c + 1)) outcome.1 (closed_to (Cleared moment pushes) outcome) in
+      let best = certified b v m valid done.net of_v done.within outcome.0 closed in
+      record {
+        arrived = best.0;
+        last = outcome.1;
+        fits = fits b v valid done.net of_v done.within outcome.0;
+        certified = subst (λ c. IsCertified b (plan_of v) m c) (sym outcome.1) best.1;
+      }
+  answer_is b (Short most pushes) outcome valid of =
+      let of_v = net_of_kept b w v done.limits of in
+      let horizon = horizon_is b v of_v in
+      let closed = closed_to (Short most pushes) outcome v.site.shape.horizon (omega arith) in
+      let short = shortfall b v m valid done.net of_v done.within outcome.0 (subst (λ c. IsClosed v (labelled m c) c) horizon closed) in
+      let most_is : most ≡ arrived_by v b.horizon = outcome.1 ∙ ap (arrived_by v) horizon in
+      (sym most_is, subst (λ x. IsShortfall b (label_cut b m b.horizon) x) (sym most_is) short)
+
+  pub bounded_is : (b : Model) (o : Outcome) → IsOutcome v o → pushes_of o ≡ p → IsValid b → IsNetOf b w → IsBounded w v o
+  bounded_is b (Short most pushes) outcome same valid of = elim (cases_lt v.site.shape.horizon k) [
+    | inl end ↦
+        let is : k ≡ v.site.shape.horizon + 1 = omega (arith, end, h.next) in
+        subst (λ c. pushes + arrivals_below w c ≤ arrivals_below v c) is (omega (arith, same, done.bounded))
+    | inr early ↦ absurd (outcome.0 (h.over early).sent)
+  ]
+  bounded_is b (Cleared moment pushes) outcome same valid of = elim (cases_eq k from) [
+    | inl none ↦ omega (arith, same, done.none none, ap (λ (z : Network). arrivals_below z (moment + 1)) (done.idle (done.none none)))
+    | inr some ↦
+        let not_sooner = done.needed b (k - 1) valid of (omega (arith, some, done.since)) (omega (arith, some, done.since)) in
+        let last_at : k - 1 ≤ last_move v.site (plan_of v) = elim (cases_lt (last_move v.site (plan_of v)) (k - 1)) [
+          | inl less ↦ absurd (not_sooner (record { sent = outcome.0; before = less }))
+          | inr late ↦ late
+        ] in
+        let is : k ≡ moment + 1 = omega (arith, outcome.1, last_before, last_at, some, done.since) in
+        subst (λ c. pushes + arrivals_below w c ≤ arrivals_below v c) is (omega (arith, same, done.bounded))
+  ]

@@ -21,23 +21,20 @@ arcs_ok (suc zero) d l = record { from_in = lit< tt; to_in = lit< tt; apart = λ
 arcs_ok (suc (suc i)) d l = absurd (omega (arith, l))
 
 names_ok : (i j : ℕ) → i < j → j < 3 → (get_or narrow_hall.nodes i no_node).name ≢ (get_or narrow_hall.nodes j no_node).name
+names_ok i zero l h e = absurd (omega (arith, l))
 names_ok zero (suc zero) l h e = let kinds_same = ap (λ (n : NodeName). n.kind) e in cc
+names_ok (suc i) (suc zero) l h e = absurd (omega (arith, l))
 names_ok zero (suc (suc zero)) l h e = let kinds_same = ap (λ (n : NodeName). n.kind) e in cc
 names_ok (suc zero) (suc (suc zero)) l h e = let kinds_same = ap (λ (n : NodeName). n.kind) e in cc
-names_ok zero (suc (suc (suc j))) l h e = absurd (omega (arith, h))
-names_ok zero zero l h e = absurd (omega (arith, l))
-names_ok (suc i) zero l h e = absurd (omega (arith, l))
-names_ok (suc zero) (suc zero) l h e = absurd (omega (arith, l))
-names_ok (suc zero) (suc (suc (suc j))) l h e = absurd (omega (arith, h))
-names_ok (suc (suc i)) (suc j) l h e = absurd (omega (arith, l, h))
+names_ok (suc (suc i)) (suc (suc zero)) l h e = absurd (omega (arith, l))
+names_ok i (suc (suc (suc j))) l h e = absurd (omega (arith, h))
 
 ends_ok : (i j : ℕ) → i < j → j < 2 → (get_or narrow_hall.arcs i no_arc).from ≡ (get_or narrow_hall.arcs j no_arc).from
     → (get_or narrow_hall.arcs i no_arc).to ≢ (get_or narrow_hall.arcs j no_arc).to
+ends_ok i zero l h e q = absurd (omega (arith, l))
 ends_ok zero (suc zero) l h e q = absurd (omega (arith, e))
-ends_ok zero (suc (suc j)) l h e q = absurd (omega (arith, h))
-ends_ok zero zero l h e q = absurd (omega (arith, l))
-ends_ok (suc i) zero l h e q = absurd (omega (arith, l))
-ends_ok (suc i) (suc j) l h e q = absurd (omega (arith, l, h))
+ends_ok (suc i) (suc zero) l h e q = absurd (omega (arith, l))
+ends_ok i (suc (suc j)) l h e q = absurd (omega (arith, h))
 
 pub valid_narrow_hall : IsValid narrow_hall
 unfolding seconds_limit horizon_limit node_limit arc_limit people_limit cell_limit people

@@ -7,7 +7,7 @@ use Rattle.evac_law.specs.LabelTable.{LabelTable, label_at, unset}
 use Rattle.evac_law.specs.Sums.{below}
 use Rattle.residual_net.specs.Network.{Network, IsAllSent, IsNet, IsWithinLimits, arrived_by, unsent_at}
 use Rattle.residual_net.specs.OfModel.{IsNetOf, last_move, plan_of}
-use Rattle.terminal_augment.specs.Settled.{IsClosedBelow, IsUnsetFrom, KeepsLimits}
+use Rattle.terminal_augment.specs.Settled.{IsClosedBelow, IsLabelsOf, IsSearchOf, IsUnsetFrom, KeepsLimits, SearchSize}
 
 -- labels below a moment stay as they are
 pub record IsKeptBelow (l m : LabelTable) (from : ℕ) : Type 0 where
@@ -51,3 +51,15 @@ pub record IsSettledTo (w v : Network) (l m : LabelTable) (from k pushes : ℕ) 
   pub closed : IsClosedBelow v m k
   pub unset : IsUnsetFrom m k
   pub needed : (b : Model) (i : ℕ) → IsValid b → IsNetOf b w → from ≤ i → i + 1 ≡ k → IsOver v i → ⊥
+
+-- the labels and the search are the network's, and a moment is one of it or the next one after
+pub record IsReadyFrom (w : Network) (l : LabelTable) (x : SearchSize) (k : ℕ) : Type 0 where
+  pub labels : IsLabelsOf w.site l
+  pub search : IsSearchOf w.site x
+  pub from : k ≤ w.site.shape.horizon + 1
+
+-- the moments are settled until everybody arrives before the next one, or to the horizon
+pub record IsSettledThrough (w v : Network) (l m : LabelTable) (from k pushes : ℕ) : Type 0 where
+  pub settled : IsSettledTo w v l m from k pushes
+  pub next : k ≤ v.site.shape.horizon + 1
+  pub over : k ≤ v.site.shape.horizon → IsOver v k

@@ -5,9 +5,9 @@ ghost use Rattle.evac_law.specs.Building.{IsValid};
 ghost use Rattle.evac_law.specs.LabelTable.{label_at, unset, with_label};
 ghost use Rattle.residual_net.specs.Network.{IsAllSent, IsWithinLimits, arrived_by};
 ghost use Rattle.residual_net.specs.OfModel.{IsNetOf};
-ghost use Rattle.terminal_augment.specs.Settled.{IsClosedBelow, IsLabelsOf, IsSearchOf, IsUnsetFrom, KeepsLimits};
+ghost use Rattle.terminal_augment.specs.Settled.{IsClosedBelow, IsLabelsOf, IsSearchOf, KeepsLimits};
 ghost use Rattle.lex_flow.specs.Outcomes.{IsAnswer, IsBounded, IsOutcome, last_settled, pushes_of};
-ghost use Rattle.lex_flow.specs.Settling.{IsKeptBelow, IsMomentSent, IsOver, IsSettledTo, IsUnset};
+ghost use Rattle.lex_flow.specs.Settling.{IsKeptBelow, IsMomentSent, IsOver, IsReadyFrom, IsSettledThrough, IsSettledTo, IsUnset};
 
 use crate::outcome::Outcome;
 use evac_law::{Labels, Steps};
@@ -96,13 +96,9 @@ fn settle_on<L: Ledger>(
     from: u16,
     steps: &mut Steps<L>,
 ) -> Progress
-    requires labels { IsLabelsOf net.old.site labels.old }
-    requires search { IsSearchOf net.old.site search.old }
-    requires from { from ≤ net.old.site.shape.horizon + 1 }
+    requires ready { IsReadyFrom net.old labels.old search.old from }
     requires begun { IsSettledTo net.old net.old labels.old labels.old from from 0 }
-    ensures settled { IsSettledTo net.old net.new labels.old labels.new from result.next result.pushes }
-    ensures next { result.next ≤ net.new.site.shape.horizon + 1 }
-    ensures over { result.next ≤ net.new.site.shape.horizon → IsOver net.new result.next }
+    ensures settled { IsSettledThrough net.old net.new labels.old labels.new from result.next result.pushes }
     ensures search { search.new ≡ search.old }
     ensures ticked { steps.new ≡ steps.old + result.pushes }
 {
