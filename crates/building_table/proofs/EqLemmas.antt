@@ -1,11 +1,8 @@
 -- Tests of names and of ends.
-use Rattle.std.proofs.Common.{◌≡◌, ℕ, ◌+◌, Bool, cond, not, nat_lt, map, Some, None, ◌&&◌, ◌==◌, refl, sym, ap, ap₂, List, [], ◌∷◌, ◌∙◌}
+use Rattle.std.proofs.Common.{◌≡◌, ℕ, ◌+◌, Bool, cond, not, nat_lt, map, Some, None, ◌&&◌, ◌||◌, ◌==◌, refl, sym, ap, ap₂, List, [], ◌∷◌, ◌∙◌}
 use Rattle.std.proofs.lemmas.Bool.Decides.{same_from_decides, Decides-eqb, Decides-like}
-use Rattle.std.specs.List.{position, prefix_len}
+use Rattle.std.specs.List.{list_any, position, prefix_len}
 use Rattle.std.proofs.lemmas.List.{length-map}
-use Rattle.building_table.specs.declared.names.Ends.{Ends}
-use Rattle.building_table.specs.contracts.names.EndsPartialEq.TheImpl.{eq-value as ends-eq}
-use Rattle.evac_law.specs.declared.model.ArcRow.{ArcRow}
 use Rattle.evac_law.specs.declared.name.NodeName.{NodeName}
 use Rattle.evac_law.specs.declared.name.Kind.{Kind}
 use Rattle.evac_law.specs.declared.name.Kind.TheVariants.{Work, Hall, Stair, Lobby, Exit}
@@ -33,22 +30,21 @@ kinds-test k l a b c d = refl
 pub name-test : (a b : NodeName) → eq-value.it a b ≡ same_name b a
 name-test a b = kinds-test a.kind b.kind a.number a.floor b.number b.floor ∙ ap (λ y. same_kind b.kind a.kind && y) (swapped a.number a.floor b.number b.floor)
 
--- tests that agree find the same place
+-- tests that agree find the same place, and the same answer
 pub position-same : {X : Type 0} (p q : X → Bool) (xs : List X) → ((x : X) → p x ≡ q x) → position p xs ≡ position q xs
 position-same {X = X} p q xs h = ap (λ (f : X → Bool). position f xs) (λ i x. h x i)
+
+pub any-same : {X : Type 0} (p q : X → Bool) (xs : List X) → ((x : X) → p x ≡ q x) → list_any p xs ≡ list_any q xs
+any-same {X = X} p q xs h = ap (λ (f : X → Bool). list_any f xs) (λ i x. h x i)
 
 prefix-map : {X Y : Type 0} (p : Y → Bool) (f : X → Y) (xs : List X) → prefix_len p (map f xs) ≡ prefix_len (λ x. p (f x)) xs
 prefix-map p f [] = refl
 prefix-map p f (x ∷ xs) = ap (λ n. cond (p (f x)) (1 + n) 0) (prefix-map p f xs)
 
--- the place of what passes among the images
+-- the place of what passes among the images, and whether some image passes
 pub position-map : {X Y : Type 0} (p : Y → Bool) (f : X → Y) (xs : List X) → position p (map f xs) ≡ position (λ x. p (f x)) xs
 position-map p f xs = ap₂ (λ n l. cond (nat_lt n l) (Some n) None) (prefix-map (λ y. not (p y)) f xs) (length-map xs f)
 
--- the test of the code tells whether two arcs have the same ends
-pub ends-test : (a b : Ends) → ends-eq.it a b ≡ (b.from == a.from && b.to == a.to)
-ends-test a b = swapped a.from a.to b.from b.to
-
--- the ends of an arc
-abbrev pub ends-of : ArcRow → Ends
-ends-of a = record { from = a.from; to = a.to }
+pub any-map : {X Y : Type 0} (p : Y → Bool) (f : X → Y) (xs : List X) → list_any p (map f xs) ≡ list_any (λ x. p (f x)) xs
+any-map p f [] = refl
+any-map p f (x ∷ xs) = ap (λ t. p (f x) || t) (any-map p f xs)

@@ -1,7 +1,7 @@
 pub mod EqLemmas
 pub mod TakeLemmas
 pub mod PlaceLemmas
-pub mod SetLemmas
+pub mod IndexLemmas
 pub mod FinishLemmas
 pub mod HearLemmas
 pub mod ReadLemmas

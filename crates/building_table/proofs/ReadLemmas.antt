@@ -26,7 +26,7 @@ use Rattle.building_table.specs.Passes.{ReadsLines, ReadsModel}
 use Rattle.building_table.specs.Reads.{Place, meaning, step_at, IsAt, Moves, HearsModel, Finishes, AnswersBy, ReadsBy, ConcludesModel}
 use Rattle.model_text.specs.Codes.{missing_end}
 use Rattle.model_text.specs.Grammar.{Said}
-use Rattle.model_text.specs.Readings.{Line, Reading, Described, Refused, Step, Passed, Took, Ended, Stopped, step_unless, after_step, after_first_step, reading_of, opening_of}
+use Rattle.model_text.specs.Readings.{Line, Reading, Refused, Step, Passed, Took, Ended, Stopped, step_unless, after_step, after_first_step, reading_of, opening_of}
 use Rattle.model_text.specs.Taken.{Description, description_of, end_fault}
 
 -- ---- what a line makes of a reading

@@ -1,5 +1,6 @@
 -- The names of a building as callers see them, and a building that a description describes.
-use Rattle.std.specs.Prelude.{◌≡◌, ◌≢◌, ℕ, ◌<◌, ◌==◌, ◌&&◌, List, length, map, position, slice_index_or}
+use Rattle.std.specs.Prelude.{◌≡◌, ◌≢◌, ℕ, ◌<◌, ◌==◌, ◌&&◌, if◌then◌else◌, List, [], ◌∷◌, ◌++◌, length, map, position, slice_index_or}
+use Rattle.std.specs.List.{list_any}
 use Rattle.std.specs.declared.option.Option.{Option}
 use Rattle.evac_law.specs.Building.{no_node, no_arc}
 use Rattle.evac_law.specs.declared.model.ArcRow.{ArcRow}
@@ -15,6 +16,18 @@ pub record NameTable : Type 0 where
   pub floors : List ℕ
   pub texts : List (List ℕ)
   pub title : Option (List ℕ)
+
+-- the names of some nodes and the ends of some arcs, each in their order
+pub record NameLists : Type 0 where
+  pub nodes : List NodeName
+  pub ends : List (ℕ × ℕ)
+
+-- with a name, or a pair of ends, behind the others where it is new
+abbrev pub with_name : List NodeName → NodeName → List NodeName
+with_name names name = if list_any (λ n. same_name n name) names then names else names ++ (name ∷ [])
+
+abbrev pub with_ends : List (ℕ × ℕ) → ℕ × ℕ → List (ℕ × ℕ)
+with_ends ends new = if list_any (λ e. e.0 == new.0 && e.1 == new.1) ends then ends else ends ++ (new ∷ [])
 
 -- the names of a model's nodes, and the ends of its arcs
 abbrev pub node_names : Model → List NodeName

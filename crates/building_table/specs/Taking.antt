@@ -1,5 +1,5 @@
 -- What a statement does to what a builder holds.
-use Rattle.std.specs.Prelude.{◌≡◌, ℕ, ◌+◌, ◌*◌, ◌≤◌, Bool, false, not, ◌&&◌, ◌||◌, ◌==◌, nat_lt, nat_le, List, [], ◌∷◌, ◌++◌, length, is_some, is_none, unwrap_or, Result, None, OnOk, OnErr, IfErr}
+use Rattle.std.specs.Prelude.{◌≡◌, ℕ, ◌+◌, ◌*◌, ◌≤◌, Bool, false, not, ◌&&◌, ◌||◌, ◌==◌, nat_lt, nat_le, List, [], ◌∷◌, ◌++◌, length, map, is_some, is_none, unwrap_or, Result, None, OnOk, OnErr, IfErr}
 use Rattle.std.specs.List.{list_any, sum_by}
 use Rattle.evac_law.specs.Limits.{floor_limit, node_limit, arc_limit, people_limit, cell_limit}
 use Rattle.evac_law.specs.Names.{is_exit}
@@ -8,6 +8,7 @@ use Rattle.evac_law.specs.declared.model.NodeRow.{NodeRow}
 use Rattle.evac_law.specs.declared.model.ArcRow.{ArcRow}
 use Rattle.building_table.specs.declared.faults.BuildFault.{BuildFault}
 use Rattle.building_table.specs.Built.{Built, build_code}
+use Rattle.building_table.specs.Names.{NameLists}
 use Rattle.model_text.specs.Codes.{repeated_setting, unknown_floor, repeated_node, over_full, unknown_node, self_arc, from_exit, repeated_arc, too_many, missing_setting, no_exit, too_large}
 use Rattle.model_text.specs.Taken.{first_code, place_of_node, same_name}
 
@@ -72,8 +73,10 @@ pub record Takes (result : Result (Unit {0}) BuildFault) (checks : List (Bool ×
   pub fault : IfErr result (λ f. first_code checks ≡ build_code f)
   pub same : OnErr result (new ≡ old)
 
--- what a builder keeps true: the people are those of the nodes, and the limits hold
-pub record IsBuilder (floors : List ℕ) (texts : ℕ) (nodes : List NodeRow) (arcs : List ArcRow) (people : ℕ) : Type 0 where
+-- what a builder keeps true: the index and the people are those of the nodes and the arcs, and the limits hold
+pub record IsBuilder (floors : List ℕ) (texts : ℕ) (nodes : List NodeRow) (arcs : List ArcRow) (index : NameLists) (people : ℕ) : Type 0 where
+  pub listed_nodes : index.nodes ≡ map (λ n. n.name) nodes
+  pub listed_arcs : index.ends ≡ map (λ a. (a.from, a.to)) arcs
   pub counted : people ≡ sum_by (λ n. n.start) nodes
   pub few_people : people ≤ people_limit
   pub few_floors : length floors ≤ floor_limit

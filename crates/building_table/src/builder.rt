@@ -1,5 +1,5 @@
 // A building from its statements, one by one.
-ghost use Rattle.std.specs.Prelude.{◌≡◌, ◌≤◌, ◌<◌, ◌+◌, ◌*◌, ◌∷◌, ◌&&◌, ◌==◌, ℕ, List, [], length, position, true, false, nat_le, nat_lt, MatchOption, ◌++◌, IfErr, IfOk, OnErr, OnOk, Some, None};
+ghost use Rattle.std.specs.Prelude.{◌≡◌, ◌≤◌, ◌<◌, ◌+◌, ◌*◌, ◌∷◌, ◌&&◌, ◌==◌, List, [], length, true, false, nat_le, nat_lt, MatchOption, ◌++◌, IfErr, IfOk, OnErr, OnOk, Some, None};
 ghost use Rattle.std.specs.List.{list_any, sum_by};
 ghost use Rattle.evac_law.specs.Building.{IsValid};
 ghost use Rattle.evac_law.specs.Limits.{arc_limit, capacity_limit, cell_limit, floor_limit, node_limit, people_limit};
@@ -12,6 +12,7 @@ ghost use Rattle.model_text.specs.Taken.{AreTaken, description_of, end_fault, fi
 
 use crate::building::Building;
 use crate::faults::{BuildFault, EndFault};
+use crate::name_index::NameIndex;
 use crate::names::Names;
 use evac_law::limits::{ARC_LIMIT, CELL_LIMIT, FLOOR_LIMIT, NODE_LIMIT, PEOPLE_LIMIT};
 use evac_law::{ArcRow, NodeName, NodeRow, Rows};
@@ -29,6 +30,7 @@ pub struct Builder {
     texts: Vec<Vec<u8>>,
     nodes: Vec<NodeRow>,
     arcs: Vec<ArcRow>,
+    index: NameIndex,
     people: u32,
 }
 
@@ -50,21 +52,7 @@ impl Model for Builder {
       arcs = b.arcs.items;
     } };
 
-    ghost invariant = { λ b. IsBuilder b.floors.items (length b.texts.items) b.nodes.items b.arcs.items b.people };
-}
-
-// The place of the first node of a name.
-fn place_in(nodes: &[NodeRow], name: NodeName) -> Option<usize>
-    ensures { result ≡ position (λ n. same_name n.name name) nodes.now }
-{
-    nodes.iter().position(|n| n.name == name)
-}
-
-// Whether there is an arc between two places.
-fn has_arc_in(arcs: &[ArcRow], from: u32, to: u32) -> bool
-    ensures { result ≡ list_any (λ a. a.from == from && a.to == to) arcs.now }
-{
-    arcs.iter().any(|a| a.from == from && a.to == to)
+    ghost invariant = { λ b. IsBuilder b.floors.items (length b.texts.items) b.nodes.items b.arcs.items b.index b.people };
 }
 
 // Whether there is an exit.
@@ -94,6 +82,7 @@ impl Builder {
             texts: Vec::new(alloc),
             nodes: Vec::new(alloc),
             arcs: Vec::new(alloc),
+            index: NameIndex::new(alloc),
             people: 0,
         })
     }
@@ -157,10 +146,7 @@ impl Builder {
     fn node_place(&self, name: NodeName) -> Option<u32>
         ensures { MatchOption result (holds_node self.now name ≡ false) (λ place. (holds_node self.now name ≡ true) × (place ≡ place_of_node self.now.nodes name)) }
     {
-        match place_in(self.nodes.as_slice(), name) {
-            Some(place) => Some(place as u32),
-            None => None,
-        }
+        self.index.find_node(name)
     }
 
     fn has_node(&self, name: NodeName) -> bool
@@ -172,7 +158,7 @@ impl Builder {
     fn has_arc(&self, from: u32, to: u32) -> bool
         ensures { result ≡ list_any (λ a. a.from == from && a.to == to) self.now.arcs }
     {
-        has_arc_in(self.arcs.as_slice(), from, to)
+        self.index.find_ends(from, to).is_some()
     }
 
     #[tactic(auto, unfolding(evac_law::specs::Limits::floor_limit))]
@@ -252,8 +238,10 @@ impl Builder {
         self.push_floor(floor, text)
     }
 
+    // Puts one more node behind the others.
     #[tactic(auto, unfolding(evac_law::specs::Limits::people_limit))]
     fn push_node(&mut self, name: NodeName, capacity: u32, start: u32) -> Result<(), BuildFault>
+        requires new { holds_node self.old name ≡ false }
         requires few { length self.old.nodes < node_limit }
         requires fits { sum_by (λ n. n.start) self.old.nodes + start ≤ people_limit }
         ensures made { OnOk result (self.new ≡ adding_node self.old name capacity start) }
@@ -267,6 +255,10 @@ impl Builder {
             shut: false,
         };
         if self.nodes.push(row).is_err() {
+            return Err(BuildFault::Memory);
+        }
+        if self.index.insert_node(name).is_err() {
+            self.nodes.pop();
             return Err(BuildFault::Memory);
         }
         self.people += start;
@@ -308,13 +300,19 @@ impl Builder {
         self.push_node(name, 0, 0)
     }
 
+    // Puts one more arc behind the others.
     fn push_arc(&mut self, row: ArcRow) -> Result<(), BuildFault>
-        requires { length self.old.arcs < arc_limit }
+        requires new { list_any (λ a. a.from == row.from && a.to == row.to) self.old.arcs ≡ false }
+        requires few { length self.old.arcs < arc_limit }
         ensures made { OnOk result (self.new ≡ record self.old { arcs = self.old.arcs ++ (row ∷ []) }) }
         ensures memory { IfErr result (λ f. f ≡ BuildFault.Memory) }
         ensures same { OnErr result (self.new ≡ self.old) }
     {
         if self.arcs.push(row).is_err() {
+            return Err(BuildFault::Memory);
+        }
+        if self.index.insert_ends(row.from, row.to).is_err() {
+            self.arcs.pop();
             return Err(BuildFault::Memory);
         }
         Ok(())
@@ -386,7 +384,7 @@ impl Builder {
     }
 
     /// The building of the statements that were taken.
-    pub fn finish(self, alloc: Global) -> Result<Building, EndFault>
+    pub fn finish(self, _alloc: Global) -> Result<Building, EndFault>
         ensures building { IfOk result (λ b. (taken : List Said) → AreTaken taken → self ≡ built_of taken → (end_fault taken ≡ None) × IsBuilding b (description_of taken)) }
         ensures valid { IfOk result (λ b. (taken : List Said) → AreTaken taken → self ≡ built_of taken → IsValid b.model) }
         ensures fault { IfErr result (λ fault. (taken : List Said) → self ≡ built_of taken → end_fault taken ≡ end_code fault) }
@@ -401,19 +399,10 @@ impl Builder {
             texts,
             nodes,
             arcs,
+            index,
             ..
         } = self;
-        let names = Names::new(
-            alloc,
-            nodes.as_slice(),
-            arcs.as_slice(),
-            floors,
-            texts,
-            title,
-        );
-        let Ok(names) = names else {
-            return Err(EndFault::Memory);
-        };
+        let names = Names::from_index(index, floors, texts, title);
         let model = evac_law::Model {
             seconds: settings.0,
             horizon: settings.1,

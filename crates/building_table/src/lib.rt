@@ -8,6 +8,7 @@ mod building;
 mod commands;
 mod faults;
 mod hear;
+mod name_index;
 mod names;
 mod read;
 #[cfg(test)]

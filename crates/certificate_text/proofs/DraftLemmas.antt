@@ -7,13 +7,13 @@ use Rattle.std.specs.Option.{option_and_then}
 use Rattle.std.proofs.lemmas.Bool.{and_parts, cases_eq, cases_lt, eqb-true, leb-true, ltb-true, not-true, or_cases, ne_eqb}
 use Rattle.std.proofs.lemmas.List.{length-map}
 use Rattle.std.proofs.lemmas.List.Elements.{All-nil, All-push}
+use Rattle.std.proofs.lemmas.List.Quantifiers.{position-Some}
 use Rattle.evac_law.specs.declared.model.Model.{Model}
 use Rattle.evac_law.specs.declared.name.NodeName.{NodeName}
 use Rattle.evac_law.specs.declared.plan.Move.{Move}
-use Rattle.evac_law.specs.Building.{is_exit_at}
+use Rattle.evac_law.specs.Building.{is_exit_at, no_node}
 use Rattle.evac_law.specs.Stands.{Before}
 use Rattle.building_table.specs.Names.{arc_ends, node_names}
-use Rattle.building_table.proofs.PlaceLemmas.{position-some}
 use Rattle.model_text.specs.Taken.{same_name}
 use Rattle.certificate_text.specs.declared.entry.Entry.{Entry}
 use Rattle.certificate_text.specs.declared.entry.Entry.TheVariants as entries
@@ -189,9 +189,9 @@ push-covers m c rs r v f fits h = λ n t l e.
 
 node-within : (m : Model) (name : NodeName) (n : ℕ) → node_of m name ≡ Some n → n < length m.nodes
 node-within m name n e =
-    let p = position-some (λ x. same_name x name) (node_names m) n (sym e) in
+    let p = position-Some (λ x. same_name x name) (node_names m) n no_node.name e in
     let size : length (node_names m) ≡ length m.nodes = length-map m.nodes (λ x. x.name) in
-    omega (arith, p.0, p.1, size)
+    omega (arith, p.0, size)
 
 run-draft : (m : Model) (d : Draft) (name : NodeName) (t v : ℕ) (new : Draft) → IsDraft m d → with_run m d name t v ≡ Some new → IsDraft m new
 unfolding Covers
@@ -241,9 +241,9 @@ all-before p x (Some q) e h pairs = before-all Before before-trans p q x pairs e
 
 arc-within : (m : Model) (i j a : ℕ) → arc_of m i j ≡ Some a → a < length m.arcs
 arc-within m i j a e =
-    let p = position-some (λ x. nat_eq x.0 i && nat_eq x.1 j) (arc_ends m) a (sym e) in
+    let p = position-Some (λ x. nat_eq x.0 i && nat_eq x.1 j) (arc_ends m) a (0, 0) e in
     let size : length (arc_ends m) ≡ length m.arcs = length-map m.arcs (λ x. (x.from, x.to)) in
-    omega (arith, p.0, p.1, size)
+    omega (arith, p.0, size)
 
 move-push : (m : Model) (d : Draft) (i j t a n : ℕ) (new : Draft) → n ≤ number_field_limit → IsDraft m d → arc_of m i j ≡ Some a
     → cond (is_move m d t a n) (Some (record d { moves = d.moves ++ (record { moment = t; arc = a; people = n } ∷ []) })) None ≡ Some new → IsDraft m new

@@ -12,7 +12,7 @@ use Rattle.evac_law.specs.declared.model.Model.{Model}
 use Rattle.evac_law.specs.declared.model.NodeRow.{NodeRow}
 use Rattle.evac_law.specs.Building.{IsValid, head, no_arc, no_node, node_at, tail}
 use Rattle.building_table.specs.Names.{arc_ends, node_names}
-use Rattle.building_table.proofs.PlaceLemmas.{position-none}
+use Rattle.building_table.proofs.PlaceLemmas.{place-found}
 use Rattle.model_text.specs.Taken.{same_name}
 use Rattle.model_text.proofs.ListFacts.{same-name-is, same-name-self}
 use Rattle.certificate_text.specs.Drafts.{arc_of, node_of}
@@ -20,7 +20,7 @@ use Rattle.certificate_text.specs.Drafts.{arc_of, node_of}
 -- a place that was found
 found-by : {X : Type 0} (p : X → Bool) (xs : List X) (n : ℕ) (d : X) (o : Option ℕ) → position p xs ≡ o → n < length xs → p (get_or xs n d) ≡ true
     → ((k : ℕ) → k < n → p (get_or xs k d) ≡ true → ⊥) → o ≡ Some n
-found-by p xs n d None e l h first = let a = position-none p xs (sym e) in let b = list_any_at p xs n d l h in let z : true ≡ false = sym b ∙ a in cc
+found-by p xs n d None e l h first = let a = place-found p xs d None (sym e) in let b = list_any_at p xs n d l h in let z : true ≡ false = sym b ∙ a in cc
 found-by p xs n d (Some i) e l h first =
     let f = position-Some p xs i d e in
     elim (cases_order i n) [
