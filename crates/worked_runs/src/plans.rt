@@ -1,0 +1,159 @@
+// Plans of small buildings, refusals of models, and sources and sinks that fail.
+use crate::runs::{check, check_failing_sink, check_failing_source, status_of, with_line};
+use crate::texts::{LONG_COMMENT, ONE_ROOM, ONE_ROOM_BLOCK, TWO_EXITS, TWO_EXITS_BLOCK};
+use line_io::{CleanSource, MemSink};
+use std::alloc::{AllocError, Global};
+use std::process::Abort;
+use std::test::Fail;
+
+// The model of one room with one line changed.
+fn changed(alloc: Global, number: usize, line: &str) -> Result<String, AllocError> {
+    with_line(alloc, ONE_ROOM, number, line)
+}
+
+#[test]
+fn one_room_is_answered(rt: HostRuntime) -> Result<(), Fail> {
+    check(&rt, &["solve"], ONE_ROOM, 0, ONE_ROOM_BLOCK)?;
+    let with_ends =
+        "evacplan\t1\r\nperiod 5\r\nhorizon \t 20\r\nfloor 1 Ground \r\nnode WP1.1 10 3\r\n\r\n # x\r\nnode\tDS1.1\r\narc WP1.1 DS1.1 1 2\r\nend\r\n#\r\n";
+    check(&rt, &["solve"], with_ends, 0, ONE_ROOM_BLOCK)?;
+    let empty = changed(rt.alloc(), 5, "node WP1.1 10 0")?;
+    check(
+        &rt,
+        &["solve"],
+        empty.as_str(),
+        0,
+        "answer 0\npeople 0\ncleared 0\nout 0 0\nend\n",
+    )?;
+    let late =
+        "evacplan 1\nperiod 5\nhorizon 10\nfloor 1 Ground\nnode WP1.1 3 3\nnode DS1.1\narc WP1.1 DS1.1 10 3\nend";
+    let block =
+        "answer 0\npeople 3\ncleared 10\nout 0 0\nout 1 0\nout 2 0\nout 3 0\nout 4 0\nout 5 0\nout 6 0\nout 7 0\nout 8 0\nout 9 0\nout 10 3\nlabel WP1.1 0 10\nmove 0 WP1.1 DS1.1 3\nend\n";
+    check(&rt, &["solve"], late, 0, block)
+}
+
+#[test]
+fn buildings_that_cannot_be_cleared_have_a_cut(rt: HostRuntime) -> Result<(), Fail> {
+    let alloc = rt.alloc();
+    let short = changed(alloc, 3, "horizon 1")?;
+    let cut = "refused 22 8\npeople 3\nmost 2\nin WP1.1 0 1\nend\n";
+    check(&rt, &["solve"], short.as_str(), 1, cut)?;
+    let trapped =
+        "evacplan 1\nperiod 5\nhorizon 10\nfloor 1 Ground\nnode WP1.1 5 5\nnode DS1.1\nend\n";
+    let cut = "refused 22 7\npeople 5\nmost 0\nin WP1.1 0 10\nend\n";
+    check(&rt, &["solve"], trapped, 1, cut)
+}
+
+// The hall where nobody may stay.
+const HALL: &str =
+    "evacplan 1\nperiod 5\nhorizon 20\nfloor 1 Ground\nnode WP1.1 5 4\nnode HA1.1 0 0\nnode DS1.1\narc WP1.1 HA1.1 1 3\narc HA1.1 DS1.1 1 1\nend\n";
+
+const HALL_BLOCK: &str =
+    "answer 0\npeople 4\ncleared 5\nout 0 0\nout 1 0\nout 2 1\nout 3 2\nout 4 3\nout 5 4\nlabel WP1.1 0 5\nlabel HA1.1 0 1\nlabel HA1.1 1 5\nmove 0 WP1.1 HA1.1 1\nmove 1 WP1.1 HA1.1 1\nmove 1 HA1.1 DS1.1 1\nmove 2 WP1.1 HA1.1 1\nmove 2 HA1.1 DS1.1 1\nmove 3 WP1.1 HA1.1 1\nmove 3 HA1.1 DS1.1 1\nmove 4 HA1.1 DS1.1 1\nend\n";
+
+// Two rooms and one hall: who goes first by the hall has to turn round.
+const TWO_ROOMS: &str =
+    "evacplan 1\nperiod 5\nhorizon 20\nfloor 1 Ground\nnode WP1.1 1 1\nnode WP2.1 1 1\nnode HA1.1 1 0\nnode DS1.1\nnode DS2.1\narc WP1.1 HA1.1 1 1\narc WP1.1 DS2.1 2 1\narc WP2.1 HA1.1 1 1\narc HA1.1 DS1.1 1 1\nend\n";
+
+const TWO_ROOMS_BLOCK: &str =
+    "answer 0\npeople 2\ncleared 2\nout 0 0\nout 1 0\nout 2 2\nlabel WP1.1 0 2\nlabel WP2.1 0 2\nlabel HA1.1 0 1\nlabel HA1.1 1 2\nmove 0 WP1.1 DS2.1 1\nmove 0 WP2.1 HA1.1 1\nmove 1 HA1.1 DS1.1 1\nend\n";
+
+#[test]
+fn worked_buildings_are_answered(rt: HostRuntime) -> Result<(), Fail> {
+    check(&rt, &["solve"], TWO_EXITS, 0, TWO_EXITS_BLOCK)?;
+    check(&rt, &["solve"], HALL, 0, HALL_BLOCK)?;
+    check(&rt, &["solve"], TWO_ROOMS, 0, TWO_ROOMS_BLOCK)
+}
+
+// A model as it is solved and as a session begins: no line stands behind it, and the answer is the same.
+fn check_model(
+    rt: &(impl Abort + AllocGlobal),
+    input: &str,
+    status: u8,
+    text: &str,
+) -> Result<(), Fail> {
+    check(rt, &["solve"], input, status, text)?;
+    check(rt, &["session"], input, status, text)
+}
+
+#[test]
+fn the_first_fault_of_a_model_is_named(rt: HostRuntime) -> Result<(), Fail> {
+    let alloc = rt.alloc();
+    for (number, line, text) in [
+        (1, "evacplan 9", "refused 1 1\n"),
+        (1, "evacplan 1 1", "refused 1 1\n"),
+        (7, "corridor WP1.1 DS1.1 1 2", "refused 4 7\n"),
+        (2, "evacplan 1", "refused 4 2\n"),
+        (7, "arc WP1.1 DS1.1 1", "refused 5 7\n"),
+        (2, "title", "refused 5 2\n"),
+        (5, "node WP1.1", "refused 5 5\n"),
+        (6, "node DS1.1 5 0", "refused 5 6\n"),
+        (8, "end now", "refused 5 8\n"),
+        (7, "arc WP1.1 DS1.1 1 2x", "refused 6 7\n"),
+        (3, "horizon 0000000020", "refused 6 3\n"),
+        (3, "horizon 000000020", ONE_ROOM_BLOCK),
+        (7, "arc WP1.1 DS1.1 0 2", "refused 7 7\n"),
+        (7, "arc WP1.1 DS1.1 1 10001", "refused 7 7\n"),
+        (3, "horizon 601", "refused 7 3\n"),
+        (7, "arc WP1.1 DS01.1 1 2", "refused 8 7\n"),
+        (5, "node WP0.1 10 3", "refused 8 5\n"),
+        (5, "node WP10000.1 10 3", "refused 8 5\n"),
+        (5, "node WP1.1000 10 3", "refused 8 5\n"),
+        (5, "node wp1.1 10 3", "refused 8 5\n"),
+        (3, "period 5", "refused 9 3\n"),
+        (5, "node WP1.2 10 3", "refused 10 5\n"),
+        (6, "node WP1.1 1 1", "refused 11 6\n"),
+        (5, "node WP1.1 2 3", "refused 12 5\n"),
+        (7, "arc WP1.1 DS2.1 1 2", "refused 13 7\n"),
+        (7, "arc WP1.1 WP1.1 1 2", "refused 14 7\n"),
+        (7, "arc DS1.1 WP1.1 1 2", "refused 15 7\n"),
+        (
+            7,
+            "arc WP1.1 DS1.1 1 2\narc WP1.1 DS1.1 1 2",
+            "refused 16 8\n",
+        ),
+        (2, "", "refused 18 7\n"),
+        (6, "", "refused 13 6\n"),
+        (6, "end", "refused 19 6\n"),
+        (8, "", "refused 21 8\n"),
+    ] {
+        let input = changed(alloc, number, line)?;
+        let status = if text.len() > 20 { 0 } else { 1 };
+        check_model(&rt, input.as_str(), status, text)?;
+    }
+    check_model(&rt, "", 1, "refused 21 1\n")?;
+    check_model(&rt, "# x", 1, "refused 21 2\n")?;
+    let behind = changed(alloc, 8, "end\nnode WP2.1 1 1")?;
+    check(&rt, &["solve"], behind.as_str(), 1, "refused 23 9\n")
+}
+
+#[test]
+fn a_line_has_at_most_200_bytes(rt: HostRuntime) -> Result<(), Fail> {
+    let alloc = rt.alloc();
+    let mut lines = String::from_str(alloc, "evacplan 1\n")?;
+    lines.push_str(LONG_COMMENT)?;
+    let input = changed(alloc, 1, lines.as_str())?;
+    check(&rt, &["solve"], input.as_str(), 0, ONE_ROOM_BLOCK)?;
+    lines.push_str("#")?;
+    let input = changed(alloc, 1, lines.as_str())?;
+    check(&rt, &["solve"], input.as_str(), 1, "refused 2 2\n")
+}
+
+#[test]
+fn a_failing_source_writes_nothing(rt: HostRuntime) -> Result<(), Fail> {
+    check_failing_source(&rt, &["solve"], ONE_ROOM, ONE_ROOM_BLOCK, 1)?;
+    check_failing_source(&rt, &["solve"], ONE_ROOM, ONE_ROOM_BLOCK, 7)?;
+    check_failing_source(&rt, &["solve"], ONE_ROOM, ONE_ROOM_BLOCK, 4096)
+}
+
+#[test]
+fn a_failing_sink_has_a_front(rt: HostRuntime) -> Result<(), Fail> {
+    check_failing_sink(&rt, &["solve"], ONE_ROOM, ONE_ROOM_BLOCK, 1)?;
+    check_failing_sink(&rt, &["solve"], ONE_ROOM, ONE_ROOM_BLOCK, 10)?;
+    let alloc = rt.alloc();
+    let mut source = CleanSource::new(alloc, ONE_ROOM.as_bytes())?;
+    let mut sink = MemSink::new(alloc, 12, 5, &[])?;
+    assert_eq!(rt; status_of(alloc, &["solve"], &mut source, &mut sink)?, 4);
+    assert_eq!(rt; sink.bytes(), b"answer 0\npeo".as_slice());
+    Ok(())
+}

@@ -1,0 +1,141 @@
+// Whole runs over sources and sinks in memory.
+ghost use Rattle.std.specs.Prelude.{◌≡◌, ◌<◌, ◌^◌};
+
+use evac_law::Steps;
+use evac_top::run;
+use line_io::{CleanSource, MemSink, MemSource, Sink, Source};
+use std::alloc::{AllocError, Global};
+use std::marker::Brand;
+use std::process::Abort;
+use std::sync::ledger::{Blank, Ledger};
+use std::test::Fail;
+
+// A run with a counter of steps that nobody reads.
+fn run_uncounted<S: Source, K: Sink, L: Ledger>(
+    alloc: Global,
+    words: &[String],
+    source: &mut S,
+    sink: &mut K,
+    blank: Blank,
+) -> u8
+    requires name { blank.name ≡ L.name }
+    requires parts { blank.parts ≡ L.parts }
+    requires one { blank.parts ≡ 1 }
+{
+    let mut steps: Steps<L> = Steps::new(blank);
+    run(alloc, words, source, sink, &mut steps)
+}
+
+// The status of a run with these words.
+pub(crate) fn status_of<S: Source, K: Sink>(
+    alloc: Global,
+    words: &[&str],
+    source: &mut S,
+    sink: &mut K,
+) -> Result<u8, AllocError> {
+    let mut list = Vec::new(alloc);
+    for word in words {
+        list.push(String::from_str(alloc, word)?)?;
+    }
+    Ok(run_uncounted::<_, _, Brand>(alloc, list.as_slice(), source, sink, Blank::new(1)))
+}
+
+// The words give this status and text for this input.
+pub(crate) fn check(
+    rt: &(impl Abort + AllocGlobal),
+    words: &[&str],
+    input: &str,
+    status: u8,
+    text: &str,
+) -> Result<(), Fail> {
+    let alloc = rt.alloc();
+    let mut source = CleanSource::new(alloc, input.as_bytes())?;
+    let mut sink = MemSink::new(alloc, 100_000, 4096, &[])?;
+    assert_eq!(rt;
+        status_of(alloc, words, &mut source, &mut sink)?,
+        status,
+        "{input}"
+    );
+    assert_eq!(rt; sink.bytes(), text.as_bytes(), "{input}");
+    Ok(())
+}
+
+// A text with one line changed; an empty line is left out.
+pub(crate) fn with_line(
+    alloc: Global,
+    lines: &str,
+    number: usize,
+    line: &str,
+) -> Result<String, AllocError> {
+    let mut text = String::new(alloc);
+    for (place, old) in lines.lines().enumerate() {
+        let new = if place + 1 == number { line } else { old };
+        if !new.is_empty() {
+            text.push_str(new)?;
+            text.push_str("\n")?;
+        }
+    }
+    Ok(text)
+}
+
+// A text with another behind it.
+pub(crate) fn joined(alloc: Global, front: &str, back: &str) -> Result<String, AllocError> {
+    let mut text = String::from_str(alloc, front)?;
+    text.push_str(back)?;
+    Ok(text)
+}
+
+// A source that fails at its j-th call, for every j of a whole run, gives status 3 and nothing is written.
+pub(crate) fn check_failing_source(
+    rt: &(impl Abort + AllocGlobal),
+    words: &[&str],
+    input: &str,
+    answer: &str,
+    piece: usize,
+) -> Result<(), Fail>
+    requires { 0 < piece }
+{
+    let alloc = rt.alloc();
+    let mut failed = 0;
+    for call in 1..1000 {
+        let mut source = MemSource::new(alloc, input.as_bytes(), piece, &[call])?;
+        let mut sink = MemSink::new(alloc, 1000, 4096, &[])?;
+        let status = status_of(alloc, words, &mut source, &mut sink)?;
+        if status == 0 {
+            assert_eq!(rt; sink.bytes(), answer.as_bytes());
+            break;
+        }
+        assert_eq!(rt; status, 3, "at call {call}");
+        assert_eq!(rt; sink.bytes().len(), 0, "at call {call}");
+        failed = call;
+    }
+    assert!(rt; failed as usize >= input.len() / piece, "pieces of {piece}");
+    Ok(())
+}
+
+// A sink that fails at its j-th call, for every j of a whole run, gives status 4 and has a front of the text.
+pub(crate) fn check_failing_sink(
+    rt: &(impl Abort + AllocGlobal),
+    words: &[&str],
+    input: &str,
+    text: &str,
+    piece: usize,
+) -> Result<(), Fail>
+    requires some { 0 < piece }
+    requires few { piece < 2 ^ 16 }
+{
+    let alloc = rt.alloc();
+    for call in 1..200u32 {
+        let mut source = CleanSource::new(alloc, input.as_bytes())?;
+        let mut sink = MemSink::new(alloc, 1000, piece, &[call])?;
+        let status = status_of(alloc, words, &mut source, &mut sink)?;
+        let count = (call as usize - 1) * piece;
+        if status == 0 {
+            assert!(rt; count >= text.len());
+            break;
+        }
+        assert_eq!(rt; status, 4, "at call {call}");
+        assert_eq!(rt; Some(sink.bytes()), text.as_bytes().get(..count));
+    }
+    Ok(())
+}

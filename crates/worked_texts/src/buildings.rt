@@ -1,0 +1,21 @@
+// How a building is read from text.
+ghost use Rattle.std.specs.Prelude.{IfOk};
+ghost use Rattle.building_table.specs.Names.{NamesFit};
+ghost use Rattle.evac_law.specs.Building.{IsValid};
+
+use building_table::{Building, read_model};
+use line_io::{CleanSource, Lines};
+use std::alloc::{AllocError, Global};
+use std::process::Abort;
+
+/// The building of a text, which has no fault.
+pub(crate) fn building(rt: &impl Abort, alloc: Global, text: &str) -> Result<Building, AllocError>
+    ensures { IfOk result (λ b. IsValid b.model × NamesFit b.names b.model) }
+{
+    let mut source = CleanSource::new(alloc, text.as_bytes())?;
+    let mut lines = Lines::new(alloc)?;
+    match read_model(alloc, &mut lines, &mut source) {
+        Ok(building) => Ok(building),
+        Err(_) => panic!(rt; "a fault in {text}"),
+    }
+}
