@@ -11,8 +11,6 @@ mod hear;
 mod name_index;
 mod names;
 mod read;
-#[cfg(test)]
-mod tests;
 
 pub use builder::Builder;
 pub use building::Building;

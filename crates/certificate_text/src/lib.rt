@@ -17,8 +17,6 @@ mod read;
 mod run;
 mod short;
 mod stage;
-#[cfg(test)]
-mod tests;
 
 pub use answer::write_answer;
 pub use block::Block;

@@ -5,8 +5,6 @@ mod building;
 mod laws;
 mod rows;
 mod summary;
-#[cfg(test)]
-mod tests;
 
 pub use building::drill_model;
 pub use laws::drills_are_valid;

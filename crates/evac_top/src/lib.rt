@@ -5,25 +5,17 @@
 #![tactic(auto)]
 
 mod check;
-#[cfg(test)]
-mod check_tests;
 mod claim;
 mod drill;
 mod laws;
 mod plan;
 mod read;
 mod reply;
-#[cfg(test)]
-mod report_tests;
 mod session;
-#[cfg(test)]
-mod session_tests;
 mod solve;
 mod status;
 mod stop;
 mod tables;
-#[cfg(test)]
-mod tests;
 mod top;
 mod verdict;
 mod words;

@@ -5,9 +5,6 @@ ghost use Rattle.std.specs.Prelude.{◌≡◌, ◌<◌, ◌≤◌, ◌==◌, IfO
 ghost use Rattle.evac_law.specs.Limits.{node_limit};
 ghost use Rattle.floor_index.specs.Floors.{ListedAreNodes, is_on, listed, nodes_on, table_of};
 
-#[cfg(test)]
-mod tests;
-
 use evac_law::Model;
 use std::alloc::{AllocError, Global};
 

@@ -22,8 +22,6 @@ mod lines;
 mod memory;
 mod out;
 mod outside;
-#[cfg(test)]
-mod tests;
 mod text_line;
 
 pub use adapters::{StdSink, StdSource};

@@ -12,8 +12,6 @@ mod name;
 mod number;
 mod parts;
 mod statement;
-#[cfg(test)]
-mod tests;
 
 pub use command::{Command, read_command};
 pub use fault::TextFault;
