@@ -7,9 +7,21 @@ use line_io::{CleanSource, Lines};
 use std::alloc::{AllocError, Global};
 use std::process::Abort;
 
+/// Three people in a room, of whom two a period go through its door.
+pub(crate) const ONE_ROOM: &str =
+    "evacplan 1\nperiod 5\nhorizon 20\nfloor 1 Ground\nnode WP1.1 10 3\nnode DS1.1\narc WP1.1 DS1.1 1 2\nend\n";
+
 /// Eight people, with a short and narrow way to one exit and a long and wide one to another.
 pub(crate) const TWO_EXITS: &str =
     "evacplan 1\nperiod 5\nhorizon 20\nfloor 1 Ground\nnode WP1.1 8 8\nnode DS1.1\nnode DS2.1\narc WP1.1 DS1.1 1 1\narc WP1.1 DS2.1 3 5\nend\n";
+
+/// The building of two exits, and a third exit that nobody can reach.
+pub(crate) const THREE_EXITS: &str =
+    "evacplan 1\nperiod 5\nhorizon 20\nfloor 1 Ground\nnode WP1.1 8 8\nnode DS1.1\nnode DS2.1\nnode DS3.1\narc WP1.1 DS1.1 1 1\narc WP1.1 DS2.1 3 5\nend\n";
+
+/// The building of two exits, a second room with nobody in it, and a third exit that nobody can reach.
+pub(crate) const TWO_ROOMS: &str =
+    "evacplan 1\nperiod 5\nhorizon 20\nfloor 1 Ground\nnode WP1.1 8 8\nnode WP2.1 4 0\nnode DS3.1\nnode DS4.1\nnode DS5.1\narc WP1.1 DS3.1 1 1\narc WP1.1 DS4.1 3 5\narc WP2.1 DS3.1 1 1\nend\n";
 
 /// Five people in a room without a door.
 pub(crate) const TRAPPED: &str =

@@ -1,4 +1,4 @@
-//! Worked cases of the reports: buildings as text, and what is known of the routes, clearing moments and bottlenecks of their plans.
+//! Worked cases: buildings as text, and what is known of the reports on their plans, and of sessions on them.
 //!
 //! Nothing here is called by a program. What is expected was worked out by hand, or by a slow solver of its own.
 #![tactic(auto)]
@@ -6,4 +6,8 @@
 #[cfg(test)]
 mod buildings;
 #[cfg(test)]
+mod calls;
+#[cfg(test)]
 mod reports;
+#[cfg(test)]
+mod session;

@@ -1,46 +1,16 @@
 // Reports on the plans of whole buildings.
-ghost use Rattle.std.specs.Prelude.{◌≡◌, ◌<◌, IfOk, length};
-ghost use Rattle.evac_law.specs.Building.{IsValid};
+ghost use Rattle.std.specs.Prelude.{◌<◌, IfOk, length};
 
 use crate::buildings::{OFFICE, TRAPPED, TWO_EXITS, building};
+use crate::calls::open_on;
 use bottleneck_report::Bottlenecks;
 use clearing_report::Clearing;
 use edit_session::Session;
-use evac_law::{Model, Standing, Steps};
+use evac_law::Standing;
 use floor_index::FloorIndex;
 use route_decompose::{Route, RouteStep, Routes};
 use std::alloc::{AllocError, Global};
-use std::marker::Brand;
 use std::process::Abort;
-use std::sync::ledger::{Blank, Ledger};
-
-fn open_counted<L: Ledger>(alloc: Global, model: Model, blank: Blank) -> Option<Session>
-    requires valid { IsValid model }
-    requires name { blank.name ≡ L.name }
-    requires parts { blank.parts ≡ L.parts }
-    requires one { blank.parts ≡ 1 }
-{
-    let mut steps = Steps::<L>::new(blank);
-    match Session::begin(alloc, model, &mut steps) {
-        Ok(session) => Some(session),
-        Err(_) => None,
-    }
-}
-
-fn opened(alloc: Global, model: Model) -> Option<Session>
-    requires { IsValid model }
-{
-    open_counted::<Brand>(alloc, model, Blank::new(1))
-}
-
-// A session on a building.
-fn open_on(rt: &impl Abort, alloc: Global, text: &str) -> Result<Session, AllocError> {
-    let building = building(rt, alloc, text)?;
-    match opened(alloc, building.model) {
-        Some(session) => Ok(session),
-        None => panic!(rt; "a building has a plan"),
-    }
-}
 
 // The people of a route, where its steps are these; with no steps given, those of any route.
 fn count(route: &Route<'_>, steps: &[RouteStep]) -> u32 {

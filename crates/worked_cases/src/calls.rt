@@ -1,0 +1,101 @@
+// The calls of a session on a building, each over a counter of steps that nobody reads.
+ghost use Rattle.std.specs.Prelude.{◌≡◌, IsTrue};
+ghost use Rattle.evac_law.specs.Building.{IsValid};
+ghost use Rattle.evac_law.specs.Edits.{IsEditOf};
+
+use crate::buildings::building;
+use edit_session::{EditRefusal, Session, UndoRefusal, Work};
+use evac_law::{Edit, Model, Steps};
+use std::alloc::{AllocError, Global};
+use std::marker::Brand;
+use std::process::Abort;
+use std::sync::ledger::{Blank, Ledger};
+
+fn open_counted<L: Ledger>(alloc: Global, model: Model, blank: Blank) -> Option<Session>
+    requires valid { IsValid model }
+    requires name { blank.name ≡ L.name }
+    requires parts { blank.parts ≡ L.parts }
+    requires one { blank.parts ≡ 1 }
+{
+    let mut steps = Steps::<L>::new(blank);
+    match Session::begin(alloc, model, &mut steps) {
+        Ok(session) => Some(session),
+        Err(_) => None,
+    }
+}
+
+fn opened(alloc: Global, model: Model) -> Option<Session>
+    requires { IsValid model }
+{
+    open_counted::<Brand>(alloc, model, Blank::new(1))
+}
+
+/// A session on the building of a text, which can be cleared.
+pub(crate) fn open_on(rt: &impl Abort, alloc: Global, text: &str) -> Result<Session, AllocError> {
+    let building = building(rt, alloc, text)?;
+    match opened(alloc, building.model) {
+        Some(session) => Ok(session),
+        None => panic!(rt; "a building has a plan"),
+    }
+}
+
+/// Whether the places that an edit names are places of a model.
+pub(crate) fn is_edit_of(model: &Model, edit: Edit) -> bool
+    ensures { IsTrue result → IsEditOf model.now edit }
+{
+    let nodes = model.nodes.len();
+    let arcs = model.arcs.len();
+    match edit {
+        Edit::Shut { arc } | Edit::Reopen { arc } | Edit::Rate { arc, .. } => (arc as usize) < arcs,
+        Edit::ShutExit { node }
+        | Edit::ReopenExit { node }
+        | Edit::Room { node, .. }
+        | Edit::Enter { node, .. }
+        | Edit::Leave { node, .. } => (node as usize) < nodes,
+        Edit::Shift { from, to, .. } => (from as usize) < nodes && (to as usize) < nodes,
+    }
+}
+
+fn edit_counted<L: Ledger>(
+    session: &mut Session,
+    edit: Edit,
+    blank: Blank,
+) -> Result<Work, EditRefusal>
+    requires within { IsEditOf session.old.state.model edit }
+    requires name { blank.name ≡ L.name }
+    requires parts { blank.parts ≡ L.parts }
+    requires one { blank.parts ≡ 1 }
+{
+    let mut steps = Steps::<L>::new(blank);
+    session.edit(edit, &mut steps)
+}
+
+fn edit_within(session: &mut Session, edit: Edit) -> Result<Work, EditRefusal>
+    requires { IsEditOf session.old.state.model edit }
+{
+    edit_counted::<Brand>(session, edit, Blank::new(1))
+}
+
+/// Makes an edit, whose places are those of the building.
+pub(crate) fn make(
+    rt: &impl Abort,
+    session: &mut Session,
+    edit: Edit,
+) -> Result<Work, EditRefusal> {
+    assert!(rt; is_edit_of(session.model(), edit));
+    edit_within(session, edit)
+}
+
+fn undo_counted<L: Ledger>(session: &mut Session, blank: Blank) -> Result<Work, UndoRefusal>
+    requires name { blank.name ≡ L.name }
+    requires parts { blank.parts ≡ L.parts }
+    requires one { blank.parts ≡ 1 }
+{
+    let mut steps = Steps::<L>::new(blank);
+    session.undo(&mut steps)
+}
+
+/// Goes back to the model before the last edit.
+pub(crate) fn undo(session: &mut Session) -> Result<Work, UndoRefusal> {
+    undo_counted::<Brand>(session, Blank::new(1))
+}
