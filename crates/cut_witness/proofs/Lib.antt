@@ -3,5 +3,3 @@ pub mod WalkLemmas
 pub mod Spans
 pub mod Nets
 pub mod AllCuts
-pub mod Tested
-pub mod Worked

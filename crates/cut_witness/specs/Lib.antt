@@ -9,4 +9,3 @@ pub mod Walk
 pub mod Crossing
 pub mod Changes
 pub mod Shares
-pub mod Worked

@@ -10,8 +10,6 @@ mod differences;
 mod membership;
 mod position;
 mod span;
-#[cfg(test)]
-mod tests;
 mod value;
 mod values;
 mod walk;

@@ -3,4 +3,3 @@ pub mod Thrifty
 pub mod Ring
 pub mod Standing
 pub mod Going
-pub mod Worked

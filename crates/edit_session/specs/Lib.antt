@@ -12,4 +12,3 @@ pub mod Thrift
 pub mod Sessions
 pub mod Kept
 pub mod Mended
-pub mod Worked

@@ -9,8 +9,6 @@ mod mend;
 mod repaired;
 mod scratch;
 mod session;
-#[cfg(test)]
-mod tests;
 mod work;
 
 pub use faults::{BeginFault, EditRefusal, Short, UndoRefusal};

@@ -1,4 +1,3 @@
 pub use Rattle.terminal_augment.specs.Settled
 pub mod Settling
 pub mod Outcomes
-pub mod Worked

@@ -4,8 +4,6 @@
 
 mod all;
 mod outcome;
-#[cfg(test)]
-mod tests;
 
 pub use all::settle_all;
 pub use outcome::Outcome;

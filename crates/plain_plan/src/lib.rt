@@ -1,14 +1,12 @@
 //! The definitions of the law, computed plainly: what a plan moves, holds and has out, and what a cut is worth.
 //!
-//! Each function is a sum over the whole list, as its definition says, and slow. The tests compute worked cases by hand with them, so
-//! that the definitions are seen to say what is meant. Nothing stands on this crate.
+//! Each function is a sum over the whole list, as its definition says, and slow. Worked cases alone are computed with them, so that the
+//! definitions are seen to say what is meant.
 #![tactic(auto)]
 
 mod cuts;
 mod parts;
 mod plans;
-#[cfg(test)]
-mod tests;
 
 pub use cuts::{cut_items, sum_of_items};
 pub use parts::{arc_at, entry, node_at, rate};

@@ -2,4 +2,3 @@ pub mod CountLemmas
 pub mod OrderedMoves
 pub mod LawLemmas
 pub mod HoldLemmas
-pub mod Worked

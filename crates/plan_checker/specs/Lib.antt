@@ -11,4 +11,3 @@ pub mod Parts
 pub mod Verdicts
 pub mod VerdictLaws
 pub mod Counts
-pub mod Worked

@@ -11,8 +11,6 @@ mod holds;
 mod laws;
 mod rates;
 mod tally;
-#[cfg(test)]
-mod tests;
 mod verdict;
 
 pub use checker::check;

@@ -1,12 +1,11 @@
 -- A label that is set, and the labels of a list's pairs.
-use Rattle.std.proofs.Common.{◌≡◌, ◌≢◌, ℕ, zero, suc, ◌+◌, ◌*◌, ◌<◌, ◌≤◌, Bool, true, false, cond, ◌&&◌, ◌||◌, eqb, List, [], ◌∷◌, length, get_or, replicate, set, take, ap, sym, ◌∙◌, ◌⊎◌, refl, arith, inl, inr}
+use Rattle.std.proofs.Common.{◌≡◌, ◌≢◌, ℕ, zero, suc, ◌+◌, ◌*◌, ◌<◌, ◌≤◌, Bool, true, false, cond, ◌&&◌, ◌||◌, eqb, List, [], ◌∷◌, length, get_or, set, take, ap, sym, ◌∙◌, ◌⊎◌, refl, arith, inl, inr}
 use Rattle.std.proofs.Math.Nat.{mul_comm}
-use Rattle.std.proofs.lemmas.Bool.{cases_eq, cases_lt, eq-eqb, ne_eqb, and_left, and_right}
-use Rattle.std.proofs.lemmas.List.{get_or-replicate, get_or-set_same, get_or-set_other}
+use Rattle.std.proofs.lemmas.Bool.{cases_eq, eq-eqb, ne_eqb, and_left, and_right}
+use Rattle.std.proofs.lemmas.List.{get_or-set_same, get_or-set_other}
 use Rattle.std.proofs.lemmas.Nat.{same_from_place, mul-add-lt}
-use Rattle.evac_law.specs.LabelTable.{LabelTable, label_at, label_place, unset, with_label}
+use Rattle.evac_law.specs.LabelTable.{LabelTable, label_at, label_place, with_label}
 use Rattle.terminal_augment.specs.declared.spot.Spot.{Spot}
-use Rattle.terminal_augment.specs.Settled.{IsLabelled, IsUnsetFrom}
 use Rattle.terminal_augment.specs.Spots.{has}
 
 pub label_set : (l : LabelTable) (n t u v k : ℕ) → length l.list ≡ l.nodes * (l.horizon + 1) → n < l.nodes → t ≤ l.horizon → u < l.nodes → v ≤ l.horizon
@@ -67,26 +66,3 @@ label_more false false false k now before old e f g = f ∙ g
 label_more true c false k now before old e f g = absurd (cc)
 label_more false true false k now before old e f g = absurd (cc)
 label_more false false true k now before old e f g = absurd (cc)
-
--- once a moment is settled, whatever isn't labelled by it is unset
-pub unset_after : (l m : LabelTable) (k : ℕ) → IsUnsetFrom l k → IsLabelled l m k → IsUnsetFrom m (k + 1)
-unset_after l m k free labels n t i j late = by (cases_lt (label_at l n t) k)
-  where
-    node : n < l.nodes
-    node = omega (arith, i, labels.nodes)
-
-    moment : t ≤ l.horizon
-    moment = omega (arith, j, labels.horizon)
-
-    by : (label_at l n t < k) ⊎ (k ≤ label_at l n t) → label_at m n t ≡ unset
-    by (inl less) = absurd (omega (arith, late, less, labels.kept n t node moment less))
-    by (inr more) = elim (labels.others n t node moment more) [
-      | inl now ↦ absurd (omega (arith, late, now))
-      | inr none ↦ none
-    ]
-
--- new labels are all unset
-pub new_unset : (nodes horizon : ℕ) → IsUnsetFrom (record { nodes = nodes; horizon = horizon; list = replicate (nodes * (horizon + 1)) unset }) 0
-new_unset nodes horizon n t i j late =
-    let below = mul-add-lt n (horizon + 1) t nodes (omega (arith, i)) (omega (arith, j)) in
-    get_or-replicate (nodes * (horizon + 1)) (n * (horizon + 1) + t) unset 0 (omega (arith, below, mul_comm (horizon + 1) nodes))

@@ -5,6 +5,5 @@ pub mod AdvanceLemmas
 pub mod SendLemmas
 pub mod LabelLemmas
 pub mod ClosedLemmas
-pub mod WorkedLemmas
 pub mod GuessLemmas
 pub mod FloodLemmas

@@ -13,4 +13,3 @@ pub mod Searching
 pub mod Settled
 pub mod Guesses
 pub mod Floods
-pub mod Worked

@@ -11,8 +11,6 @@ mod marks;
 mod moment;
 mod pile;
 mod spot;
-#[cfg(test)]
-mod tests;
 mod walk;
 mod ways;
 mod work;

@@ -1,0 +1,65 @@
+// Worked buildings settled whole.
+ghost use Rattle.std.specs.Prelude.{◌≡◌};
+ghost use Rattle.evac_law.specs.Building.{IsValid};
+
+use crate::buildings::{THROUGH_HALL, TOO_SHORT, building};
+use crate::nets::{Settled, arrived, label};
+use evac_law::{Labels, Model, Steps};
+use lex_flow::{Outcome, settle_all};
+use residual_net::Net;
+use std::alloc::{AllocError, Global};
+use std::marker::Brand;
+use std::process::Abort;
+use std::sync::ledger::{Blank, Ledger};
+use terminal_augment::Search;
+
+fn settle_counted<L: Ledger>(
+    alloc: Global,
+    model: &Model,
+    blank: Blank,
+) -> Result<(Settled, Outcome), AllocError>
+    requires valid { IsValid model.now }
+    requires name { blank.name ≡ L.name }
+    requires parts { blank.parts ≡ L.parts }
+    requires one { blank.parts ≡ 1 }
+{
+    let mut net = Net::new(alloc, model)?;
+    let mut labels = Labels::new(alloc, model.node_count(), model.horizon)?;
+    let mut search = Search::new(alloc, model)?;
+    let mut steps = Steps::<L>::new(blank);
+    let outcome = settle_all(&mut net, &mut labels, &mut search, 0, &mut steps);
+    Ok((Settled { net, labels }, outcome))
+}
+
+fn settled(alloc: Global, model: &Model) -> Result<(Settled, Outcome), AllocError>
+    requires { IsValid model.now }
+{
+    settle_counted::<Brand>(alloc, model, Blank::new(1))
+}
+
+#[test]
+fn clears_a_hall_where_nobody_may_stay(rt: HostRuntime) -> Result<(), AllocError> {
+    let model = building(&rt, rt.alloc(), THROUGH_HALL)?.model;
+    let (Settled { net, labels }, outcome) = settled(rt.alloc(), &model)?;
+    let cleared = Outcome::Cleared {
+        moment: 5,
+        pushes: 4,
+    };
+    assert_eq!(rt; outcome, cleared);
+    for (k, want) in [(0, 0), (1, 0), (2, 1), (3, 2), (4, 3), (5, 4)] {
+        assert_eq!(rt; arrived(&rt, &net, k), want);
+    }
+    for (node, moment, want) in [(1, 0, 1), (1, 1, Labels::UNSET), (0, 0, Labels::UNSET)] {
+        assert_eq!(rt; label(&rt, &labels, node, moment), want);
+    }
+    Ok(())
+}
+
+#[test]
+fn shows_that_a_horizon_is_too_short(rt: HostRuntime) -> Result<(), AllocError> {
+    let model = building(&rt, rt.alloc(), TOO_SHORT)?.model;
+    let (settled, outcome) = settled(rt.alloc(), &model)?;
+    assert_eq!(rt; outcome, Outcome::Short { most: 2, pushes: 1 });
+    assert_eq!(rt; label(&rt, &settled.labels, 0, 0), Labels::UNSET);
+    Ok(())
+}
