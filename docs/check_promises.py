@@ -1,0 +1,101 @@
+#!/usr/bin/env python3
+"""Checks that what the documents name is there.
+
+In PROMISES.md and DEFINITIONS.md a paragraph, or a row of a table, links files of the code and names things in backticks. Each name must be
+defined in a file that its paragraph links: in PROMISES.md in the file that is linked just before it, where a name that is no function of a
+source file is a clause of the function named before it. In every document each link must lead to a file, and to a heading of it.
+
+    python3 docs/check_promises.py
+
+It prints what is missing, and its status is 1 where something is.
+"""
+import pathlib
+import re
+import sys
+
+TOP = pathlib.Path(__file__).resolve().parent.parent
+LINK = re.compile(r"\[[^\]\n]*\]\(([^)\s]+)\)")
+NAME = re.compile(r"`([A-Za-z_][\w:.]*)`")
+DEFINITION = r"(?m)^\s*(?:(?:abbrev|unfoldable|record|data|pub|struct|enum|trait|const|fn|type)\s+)+(?:\(crate\)\s+)?{}\b"
+
+
+def clause_of(text, function, clause):
+    """Whether a function of a source file has a clause of this name."""
+    for found in re.finditer(rf"(?m)^(\s*)(?:pub )?fn {function}\b", text):
+        end = text.find(f"\n{found[1].strip(chr(10))}{{", found.end())
+        if re.search(rf"ensures {clause} \{{", text[found.end() : end]):
+            return True
+    return False
+
+
+def member_of(text, owner, member):
+    """Whether a record of a specification, or an impl of a source file, has a member of this name."""
+    block = re.search(rf"(?ms)^(?:pub )?record {owner}\b.*?(?=\n\S|\Z)", text)
+    if block and re.search(rf"(?m)^\s+pub {member}\s*:", block[0]):
+        return True
+    return bool(re.search(rf"\bimpl\b[^\n]*\b{owner}\b", text) and re.search(rf"(?m)^\s*pub fn {member}\b", text))
+
+
+def is_defined(text, name):
+    """Whether a file defines a name, which may be a member as `Record.field` or `Type::function`."""
+    parts = re.split(r"::|\.", name)
+    if len(parts) == 2:
+        return member_of(text, *parts)
+    return bool(re.search(DEFINITION.format(re.escape(name)), text))
+
+
+def text_of(document, target):
+    """The text of a linked file of the code, or nothing."""
+    path = (document.parent / target.split("#")[0]).resolve()
+    return path.read_text() if path.suffix in (".rt", ".antt") and path.is_file() else None
+
+
+def missing_promises(document):
+    """Names of PROMISES.md that the file linked before them doesn't have."""
+    for number, line in enumerate(document.read_text().split("\n"), 1):
+        links = list(LINK.finditer(line))
+        for link, after in zip(links, links[1:] + [None]):
+            text, function = text_of(document, link[1]), None
+            for name in NAME.findall(line[link.end() : after.start() if after else None]) if text else []:
+                if is_defined(text, name):
+                    function = re.split(r"::", name)[-1]
+                elif not (function and clause_of(text, function, name)):
+                    yield f"{document.name}:{number}: {link[1]} has no {name}"
+
+
+def missing_definitions(document):
+    """Names of a paragraph of DEFINITIONS.md that no file linked there has."""
+    for paragraph in re.split(r"\n\s*\n|\n(?=\|)", document.read_text()):
+        texts = [text for text in (text_of(document, link) for link in LINK.findall(paragraph)) if text]
+        for name in NAME.findall(paragraph) if texts else []:
+            if not any(is_defined(text, name) or re.search(rf"(?m)^\s+(?:pub )?{name}\b", text) for text in texts):
+                yield f"{document.name}: no file of its paragraph has {name}"
+
+
+def headings(path):
+    """The anchors of a document's headings."""
+    return {re.sub(r"[^\w\- ]", "", line.lower()).replace(" ", "-") for line in re.findall(r"(?m)^#+ (.*)$", path.read_text())}
+
+
+def missing_links(document):
+    """Links of a document that lead nowhere."""
+    for target in LINK.findall(document.read_text()):
+        if "://" in target:
+            continue
+        name, _, anchor = target.partition("#")
+        path = (document.parent / name).resolve() if name else document
+        if not path.exists() or anchor and anchor not in headings(path):
+            yield f"{document.name}: no {target}"
+
+
+def main():
+    documents = [TOP / "README.md", *sorted((TOP / "docs").glob("*.md"))]
+    missing = [fault for document in documents for fault in missing_links(document)]
+    missing += missing_promises(TOP / "docs/PROMISES.md")
+    missing += missing_definitions(TOP / "docs/DEFINITIONS.md")
+    print("\n".join(missing) if missing else "all that is named is there")
+    return 1 if missing else 0
+
+
+if __name__ == "__main__":
+    sys.exit(main())
