@@ -14,9 +14,9 @@ import re
 import sys
 
 TOP = pathlib.Path(__file__).resolve().parent.parent
-LINK = re.compile(r"\[[^\]\n]*\]\(([^)\s]+)\)")
+LINK = re.compile(r"\[[^\[\]]*\]\(([^)\s]+)\)")
 NAME = re.compile(r"`([A-Za-z_][\w:.]*)`")
-DEFINITION = r"(?m)^\s*(?:(?:abbrev|unfoldable|record|data|pub|struct|enum|trait|const|fn|type)\s+)+(?:\(crate\)\s+)?{}\b"
+DEFINITION = r"(?m)^\s*(?:(?:abbrev|unfoldable|record|data|pub|struct|enum|trait|const|fn|type|ghost)\s+)+(?:\(crate\)\s+)?{}\b"
 
 
 def clause_of(text, function, clause):
@@ -65,7 +65,7 @@ def missing_promises(document):
 
 def missing_definitions(document):
     """Names of a paragraph of DEFINITIONS.md that no file linked there has."""
-    for paragraph in re.split(r"\n\s*\n|\n(?=\|)", document.read_text()):
+    for paragraph in re.split(r"\n\s*\n", document.read_text()):
         texts = [text for text in (text_of(document, link) for link in LINK.findall(paragraph)) if text]
         for name in NAME.findall(paragraph) if texts else []:
             if not any(is_defined(text, name) or re.search(rf"(?m)^\s+(?:pub )?{name}\b", text) for text in texts):
