@@ -1,9 +1,11 @@
 #!/usr/bin/env python3
 """Checks that what the documents name is there.
 
-In PROMISES.md and DEFINITIONS.md a paragraph, or a row of a table, links files of the code and names things in backticks. Each name must be
-defined in a file that its paragraph links: in PROMISES.md in the file that is linked just before it, where a name that is no function of a
-source file is a clause of the function named before it. In every document each link must lead to a file, and to a heading of it.
+- In PROMISES.md each name in backticks must be defined in the file that is linked before it. A name that is no function of a source file is
+  a clause of the function named before it.
+- In DEFINITIONS.md each name must be defined in a file that its paragraph links.
+- In the README's tables each name in the right column must be a definition, a function, a clause or a field of a crate of its section.
+- In every document each link must lead to a file, and to a heading of it.
 
     python3 docs/check_promises.py
 
@@ -33,7 +35,7 @@ def member_of(text, owner, member):
     block = re.search(rf"(?ms)^(?:pub )?record {owner}\b.*?(?=\n\S|\Z)", text)
     if block and re.search(rf"(?m)^\s+pub {member}\s*:", block[0]):
         return True
-    return bool(re.search(rf"\bimpl\b[^\n]*\b{owner}\b", text) and re.search(rf"(?m)^\s*pub fn {member}\b", text))
+    return bool(re.search(rf"\bimpl\b[^\n]*\b{owner}\b", text) and re.search(rf"(?m)^\s*(?:pub )?fn {member}\b", text))
 
 
 def is_defined(text, name):
@@ -72,6 +74,40 @@ def missing_definitions(document):
                 yield f"{document.name}: no file of its paragraph has {name}"
 
 
+def code_of(crate):
+    """The source files and specifications of a crate, as texts."""
+    return [path.read_text() for part in ("src/*.rt", "specs/*.antt") for path in sorted((TOP / "crates" / crate).glob(part))]
+
+
+def is_named(texts, name, before):
+    """Whether some files define a name, or have it as a clause or a field of what a row named before it."""
+    owners = [re.split(r"::|\.", other) for other in before]
+    return any(
+        is_defined(text, name)
+        or any(clause_of(text, owner[-1], name) or member_of(text, owner[0], name) for owner in owners)
+        for text in texts
+    )
+
+
+def missing_rows(document):
+    """Names in the right column of the README's tables that no crate of the section's heading has, nor one that the cell speaks of.
+
+    A name that begins with a capital may be of any crate.
+    """
+    crates = {path.name: code_of(path.name) for path in (TOP / "crates").iterdir() if (path / "src").is_dir()}
+    everywhere = [text for texts in crates.values() for text in texts]
+    for section in re.split(r"(?m)^### ", document.read_text())[1:]:
+        heading = section.split("\n")[0].split(":")[0]
+        for row in (line for line in section.split("\n") if line.startswith("|")):
+            cell = row.rstrip("|").split("|")[-1]
+            spoken_of = [crate for crate in crates if re.search(rf"\b{crate}\b", heading) or f" of {crate} " in cell]
+            texts = [text for crate in spoken_of for text in crates[crate]]
+            names = NAME.findall(cell) if texts else []
+            for place, name in enumerate(names):
+                if not is_named(texts, name, names[:place]) and not (name[0].isupper() and is_named(everywhere, name, [])):
+                    yield f"{document.name}: no {name} in the row {row[:60]}"
+
+
 def headings(path):
     """The anchors of a document's headings."""
     return {re.sub(r"[^\w\- ]", "", line.lower()).replace(" ", "-") for line in re.findall(r"(?m)^#+ (.*)$", path.read_text())}
@@ -93,6 +129,7 @@ def main():
     missing = [fault for document in documents for fault in missing_links(document)]
     missing += missing_promises(TOP / "docs/PROMISES.md")
     missing += missing_definitions(TOP / "docs/DEFINITIONS.md")
+    missing += missing_rows(TOP / "README.md")
     print("\n".join(missing) if missing else "all that is named is there")
     return 1 if missing else 0
 
