@@ -18,12 +18,12 @@ import sys
 TOP = pathlib.Path(__file__).resolve().parent.parent
 LINK = re.compile(r"\[[^\[\]]*\]\(([^)\s]+)\)")
 NAME = re.compile(r"`([A-Za-z_][\w:.]*)`")
-DEFINITION = r"(?m)^\s*(?:(?:abbrev|unfoldable|record|data|pub|struct|enum|trait|const|fn|type|ghost)\s+)+(?:\(crate\)\s+)?{}\b"
+DEFINITION = r"(?m)^\s*(?:(?:abbrev|unfoldable|record|data|pub(?:\(crate\))?|struct|enum|trait|const|fn|type|ghost)\s+)+{}\b"
 
 
 def clause_of(text, function, clause):
     """Whether a function of a source file has a clause of this name."""
-    for found in re.finditer(rf"(?m)^(\s*)(?:pub )?fn {function}\b", text):
+    for found in re.finditer(rf"(?m)^(\s*)(?:pub(?:\(crate\))? )?fn {function}\b", text):
         end = text.find(f"\n{found[1].strip(chr(10))}{{", found.end())
         if re.search(rf"ensures {clause} \{{", text[found.end() : end]):
             return True
