@@ -14,5 +14,4 @@ pub mod Last
 pub mod LastArrival
 pub mod Walks
 pub mod Taking
-pub mod Worked
 pub mod Effects

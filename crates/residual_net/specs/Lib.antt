@@ -18,4 +18,3 @@ pub mod Start
 pub mod Sent
 pub mod NetLaws
 pub mod Labelled
-pub mod Worked

@@ -15,8 +15,6 @@ mod path;
 mod place;
 mod standing;
 mod start;
-#[cfg(test)]
-mod tests;
 
 pub use laws::{
     arrived_is_out, arrived_rises, arrived_within_cut, cancel_lowers_arrivals, closed_grows,

@@ -8,6 +8,8 @@ mod blocks;
 #[cfg(test)]
 mod buildings;
 #[cfg(test)]
+mod cancels;
+#[cfg(test)]
 mod cuts;
 #[cfg(test)]
 mod definitions;

@@ -60,8 +60,8 @@ fn settled_below(alloc: Global, model: &Model, end: u16) -> Result<Settled, Allo
     settle_counted::<Brand>(alloc, model, end, Blank::new(1))
 }
 
-// The net of a text, with the moments below a number settled.
-fn settled_text(
+/// The net of a text, with the moments below a number settled.
+pub(crate) fn settled_text(
     rt: &impl Abort,
     alloc: Global,
     text: &str,
