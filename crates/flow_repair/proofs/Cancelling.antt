@@ -7,7 +7,7 @@ use Rattle.residual_net.specs.Site.{IsPlace, is_barred}
 use Rattle.residual_net.specs.Network.{Network, IsNet, excess_at, flow_at}
 use Rattle.residual_net.specs.Change.{IsCancelled}
 use Rattle.residual_net.proofs.Steps.{added_on}
-use Rattle.residual_net.proofs.Walks.{open_flow}
+use Rattle.residual_net.proofs.Quiet.{open_flow}
 
 module _ (w v : Network) (p : Place) (path : List PathStep) (x : ℕ) (c : IsCancelled w v p path x) where
   forwards : All (λ r. r.back ≡ false) path

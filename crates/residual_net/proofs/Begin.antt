@@ -1,8 +1,11 @@
 -- A net of a model begins with no flow and the model's limits.
-use Rattle.std.proofs.Common.{◌≡◌, ℕ, ◌+◌, ◌<◌, ◌≤◌, Bool, true, false, cond, ◌&&◌, ◌||◌, eqb, ltb, List, length, map, get_or, replicate, refl, ap, sym, ◌∙◌, arith, inl, inr, ◌⊎◌, subst}
+use Rattle.std.proofs.Common.{◌≡◌, ℕ, zero, suc, ◌+◌, ◌*◌, ◌<◌, ◌≤◌, Bool, true, false, cond, ◌&&◌, ◌||◌, eqb, ltb, List, [], ◌∷◌, ◌++◌, length, length-append, map, get_or, replicate, append_assoc, add-one, refl, ap, ap₂, sym, ◌∙◌, arith, inl, inr, subst}
 use Rattle.std.specs.List.{sum_by}
-use Rattle.std.proofs.lemmas.List.{get_or-map, length-map, length-replicate, get_or-replicate}
-use Rattle.std.proofs.lemmas.Bool.{cases_Bool, lt-ltb}
+use Rattle.std.proofs.lemmas.List.{get_or-append-add, get_or_append_left, get_or-map, get_or-replicate, length-map, length-replicate, map-append}
+use Rattle.std.proofs.lemmas.List.FromFn.{get_or-range_with_len, length-map-range_with_len, length-range_with_len, map-range_with_len_more}
+use Rattle.std.proofs.lemmas.Nat.{mul-add-lt}
+use Rattle.std.proofs.Math.Nat.{mul_comm}
+use Rattle.std.proofs.lemmas.Bool.{cases_lt, lt-ltb}
 use Rattle.std.proofs.lemmas.Bool.Decides.{nat_tests}
 use Rattle.evac_law.specs.declared.model.Model.{Model}
 use Rattle.evac_law.specs.declared.model.NodeRow.{NodeRow}
@@ -13,7 +16,7 @@ use Rattle.evac_law.specs.Names.{is_exit}
 use Rattle.evac_law.specs.Sums.{below, places}
 use Rattle.evac_law.proofs.SumLemmas as sums
 use Rattle.time_expansion.specs.Limits as expansion
-use Rattle.time_expansion.specs.Expansion.{Expansion, cells}
+use Rattle.time_expansion.specs.Expansion.{Expansion, arc_cell, cells, hold_cell}
 use Rattle.time_expansion.specs.declared.ends.Ends.{Ends}
 use Rattle.residual_net.specs.declared.place.Place.{Place}
 use Rattle.residual_net.specs.declared.place.Place.TheVariants.{Arc, Hold, Supply}
@@ -21,12 +24,12 @@ use Rattle.residual_net.specs.declared.place.Cell.{Cell}
 use Rattle.residual_net.specs.declared.start.Kind.{Kind}
 use Rattle.residual_net.specs.declared.start.Kind.TheVariants as kinds
 use Rattle.residual_net.specs.Limits.{supply_limit}
-use Rattle.residual_net.specs.Site.{Site, IsSite, IsPlace, End_test, arc_count, at, exit_at, head_of, is_barred, is_door, is_source, same_place, sum_places, tail_of}
+use Rattle.residual_net.specs.Site.{Site, IsSite, IsPlace, End_test, all_cells, arc_count, cell_of, at, exit_at, head_of, is_barred, is_door, is_source, same_place, sum_places, tail_of}
 use Rattle.residual_net.specs.Site.End.{Pair, Door}
-use Rattle.residual_net.specs.Network.{Network, IsBlank, IsGrid, IsKept, IsStored, flow_at, flow_into, flow_out, limit_at, supply_limits}
+use Rattle.residual_net.specs.Network.{Network, IsKept, IsStored, no_cell, flow_at, flow_into, flow_out, limit_at, supply_limits}
 use Rattle.residual_net.specs.OfModel.{IsNetOf, model_limit, site_of}
-use Rattle.residual_net.specs.Start.{IsLimitGiven, IsUnused, SetsLimits, StartsAs, is_kind, moment_of, row_of, place_of}
-use Rattle.residual_net.proofs.Places.{sum_places-same, sum_places-none, same-place}
+use Rattle.residual_net.specs.Start.{StartsAs, cell_at, start_cells, emptied, is_kind, moment_of, place_of, row_cells, row_of, rows_cells}
+use Rattle.residual_net.proofs.Places.{sum_places-same, sum_places-none}
 use Rattle.residual_net.proofs.Held.{arrival_is, exit_is, from_is, same_in}
 
 -- ---- the network of a valid model
@@ -37,27 +40,11 @@ expanded n ends horizon = record { nodes = n; ends = ends; horizon = horizon }
 abbrev pub site_with : Expansion → List Bool → List ℕ → Site
 site_with shape exits travels = record { shape = shape; exits = exits; travels = travels }
 
-evac_nodes : (n : ℕ) → n ≤ evac.node_limit → n ≤ expansion.node_limit
-unfolding evac.node_limit expansion.node_limit
-evac_nodes n l = l
-
-evac_arcs : (n : ℕ) → n ≤ evac.arc_limit → n ≤ expansion.arc_limit
-unfolding evac.arc_limit expansion.arc_limit
-evac_arcs n l = l
-
-evac_horizon : (n : ℕ) → n ≤ evac.horizon_limit → n ≤ expansion.horizon_limit
-unfolding evac.horizon_limit expansion.horizon_limit
-evac_horizon n l = omega (arith, l)
-
-evac_cells : (n : ℕ) → n ≤ evac.cell_limit → n ≤ expansion.cell_limit
-unfolding evac.cell_limit expansion.cell_limit
-evac_cells n l = omega (arith, l)
-
 abbrev pub joined : ArcRow → Ends
 joined a = record { from = a.from; to = a.to }
 
 pub valid_site : (m : Model) → IsValid m → IsSite (site_of m)
-unfolding cells
+unfolding cells evac.node_limit evac.arc_limit evac.horizon_limit evac.cell_limit expansion.node_limit expansion.arc_limit expansion.horizon_limit expansion.cell_limit
 valid_site m valid =
     let count : length (site_of m).shape.ends ≡ length m.arcs = length-map m.arcs (λ (a : ArcRow). joined a) in
     record {
@@ -67,10 +54,10 @@ valid_site m valid =
             let arc = valid.arcs i no_arc in_arcs in
             let here : get_or (site_of m).shape.ends i d ≡ joined (get_or m.arcs i no_arc) = get_or-map (λ (a : ArcRow). joined a) m.arcs i no_arc d in_arcs in
             subst (λ (e : Ends). (e.from < length m.nodes) × (e.to < length m.nodes)) (sym here) (arc.from_in, arc.to_in);
-        nodes_fit = evac_nodes _ valid.nodes_fit;
-        arcs_fit = evac_arcs _ (omega (arith, count, valid.arcs_fit));
-        horizon_fits = evac_horizon _ valid.horizon;
-        cells_fit = evac_cells _ (rw count valid.cells_fit);
+        nodes_fit = valid.nodes_fit;
+        arcs_fit = omega (arith, count, valid.arcs_fit);
+        horizon_fits = omega (arith, valid.horizon);
+        cells_fit = omega (arith, ap (λ n. (length m.nodes + n) * (m.horizon + 1)) count, valid.cells_fit);
       };
       exits = length-map m.nodes (λ (n : NodeRow). is_exit n.name.kind);
       travels = length-map m.arcs (λ (a : ArcRow). a.travel) ∙ sym count;
@@ -95,7 +82,7 @@ site_made m shape n ends exits travels e f g h i =
     ∙ ap (λ (z : List Bool). site_with (site_of m).shape z travels) h
     ∙ ap (λ (z : List ℕ). site_with (site_of m).shape (site_of m).exits z) i
 
--- ---- limits set one after another
+-- ---- the places of a row at the moments so far
 
 step_test : (a n s t : ℕ) → (eqb a n && ltb s (t + 1)) ≡ ((eqb n a && eqb t s) || (eqb a n && ltb s t))
 step_test a n s t = grind (arith, nat_tests)
@@ -103,13 +90,8 @@ step_test a n s t = grind (arith, nat_tests)
 pub row_test : (b : Bool) (a n : ℕ) → (b && ltb a (n + 1)) ≡ ((b && eqb a n) || (b && ltb a n))
 row_test b a n = grind (arith, nat_tests)
 
--- the places of a row at the moments so far
 abbrev pub row_so_far : Kind → ℕ → ℕ → Place → Bool
 row_so_far k n t q = (is_kind k q && eqb (row_of q) n) && ltb (moment_of q) t
-
--- the places of a kind with the numbers so far
-abbrev pub rows_so_far : Kind → ℕ → Place → Bool
-rows_so_far k n q = is_kind k q && ltb (row_of q) n
 
 pub row_step : (k : Kind) (n t : ℕ) (q : Place) → row_so_far k n (t + 1) q ≡ (same_place (place_of k n t) q || row_so_far k n t q)
 row_step kinds.Arc n t (Arc a s) = step_test a n s t
@@ -128,123 +110,151 @@ none_before b s = grind (arith, nat_tests)
 pub all_before : (b : Bool) (s t : ℕ) → s < t → (b && ltb s t) ≡ b
 all_before b s t l = grind (arith, nat_tests)
 
-pub sets_none : (m : Model) (w : Network) (b : Place → Bool) → IsUnused w → ((q : Place) → b q ≡ false) → SetsLimits m w w b
-sets_none m w b g none = record {
-  unused = g;
-  site = refl;
-  flows = λ p i. refl;
-  limits = λ p i. sym (ap (λ z. cond z (model_limit m p) (limit_at w p)) (none p));
-}
-
-pub sets_same : (m : Model) (w v : Network) (b c : Place → Bool) → SetsLimits m w v b → ((q : Place) → IsPlace w.site q → b q ≡ c q) → SetsLimits m w v c
-sets_same m w v b c h same = record {
-  unused = h.unused;
-  site = h.site;
-  flows = h.flows;
-  limits = λ p i. h.limits p i ∙ ap (λ z. cond z (model_limit m p) (limit_at w p)) (same p i);
-}
-
-sets_then : (m : Model) (w u v : Network) (b c d : Place → Bool) → SetsLimits m w u b → SetsLimits m u v c
-    → ((q : Place) → d q ≡ (c q || b q)) → SetsLimits m w v d
-sets_then m w u v b c d h g or = record {
-  unused = g.unused;
-  site = g.site ∙ h.site;
-  flows = λ p i. g.flows p (subst (λ s. IsPlace s p) (sym h.site) i) ∙ h.flows p i;
-  limits = λ p i.
-      g.limits p (subst (λ s. IsPlace s p) (sym h.site) i)
-      ∙ ap (λ z. cond (c p) (model_limit m p) z) (h.limits p i)
-      ∙ either (c p) (b p) (model_limit m p) (limit_at w p)
-      ∙ ap (λ z. cond z (model_limit m p) (limit_at w p)) (sym (or p));
-}
-  where
-    either : (c b : Bool) (x y : ℕ) → cond c x (cond b x y) ≡ cond (c || b) x y
-    either true b x y = refl
-    either false b x y = refl
-
-one_set : (m : Model) (u v : Network) (p : Place) → IsLimitGiven u v p (model_limit m p) → SetsLimits m u v (same_place p)
-one_set m u v p h = record {
-  unused = h.unused;
-  site = h.site;
-  flows = h.flows;
-  limits = λ q i. h.limits q i ∙ swap q (cases_Bool (same_place p q));
-}
-  where
-    swap : (q : Place) → (same_place p q ≡ true) ⊎ (same_place p q ≡ false)
-        → cond (same_place p q) (model_limit m p) (limit_at u q) ≡ cond (same_place p q) (model_limit m q) (limit_at u q)
-    swap q (inl e) = rw e (ap (model_limit m) (same-place p q e))
-    swap q (inr e) = rw e refl
-
-pub row_begin : (m : Model) (w : Network) (k : Kind) (n : ℕ) → IsUnused w → SetsLimits m w w (row_so_far k n 0)
-row_begin m w k n g = sets_none m w (row_so_far k n 0) g (λ q. none_before (is_kind k q && eqb (row_of q) n) (moment_of q))
-
-pub row_more : (m : Model) (w u v : Network) (k : Kind) (n t : ℕ) → SetsLimits m w u (row_so_far k n t)
-    → IsLimitGiven u v (place_of k n t) (model_limit m (place_of k n t)) → SetsLimits m w v (row_so_far k n (t + 1))
-row_more m w u v k n t h set =
-    sets_then m w u v (row_so_far k n t) (same_place (place_of k n t)) (row_so_far k n (t + 1)) h (one_set m u v (place_of k n t) set) (row_step k n t)
-
 pub in_horizon : (s : Site) (q : Place) → IsPlace s q → moment_of q < s.shape.horizon + 1
 in_horizon s (Arc a t) i = omega (arith, i.1)
 in_horizon s (Hold a t) i = omega (arith, i.1)
 in_horizon s (Supply a t) i = omega (arith, i.1)
-
-pub row_end : (m : Model) (w u : Network) (k : Kind) (n t : ℕ) → SetsLimits m w u (row_so_far k n t) → w.site.shape.horizon + 1 ≤ t
-    → SetsLimits m w u (λ q. is_kind k q && eqb (row_of q) n)
-row_end m w u k n t h l =
-    sets_same m w u (row_so_far k n t) (λ q. is_kind k q && eqb (row_of q) n) h
-    (λ q i. all_before (is_kind k q && eqb (row_of q) n) (moment_of q) t (omega (arith, in_horizon w.site q i, l)))
-
-pub rows_begin : (m : Model) (w : Network) (k : Kind) → IsUnused w → SetsLimits m w w (rows_so_far k 0)
-rows_begin m w k g = sets_none m w (rows_so_far k 0) g (λ q. none_before (is_kind k q) (row_of q))
-
-pub rows_more : (m : Model) (w u v : Network) (k : Kind) (n : ℕ) → SetsLimits m w u (rows_so_far k n)
-    → SetsLimits m u v (λ q. is_kind k q && eqb (row_of q) n) → SetsLimits m w v (rows_so_far k (n + 1))
-rows_more m w u v k n h g =
-    sets_then m w u v (rows_so_far k n) (λ q. is_kind k q && eqb (row_of q) n) (rows_so_far k (n + 1)) h g (λ q. row_test (is_kind k q) (row_of q) n)
-
-pub rows_end : (m : Model) (w u : Network) (k : Kind) (n : ℕ) → SetsLimits m w u (rows_so_far k n)
-    → ((p : Place) → IsPlace w.site p → is_kind k p ≡ true → row_of p < n) → SetsLimits m w u (is_kind k)
-rows_end m w u k n h all = sets_same m w u (rows_so_far k n) (is_kind k) h (λ q i. at_kind q i (cases_Bool (is_kind k q)))
-  where
-    at_kind : (q : Place) → IsPlace w.site q → (is_kind k q ≡ true) ⊎ (is_kind k q ≡ false) → rows_so_far k n q ≡ is_kind k q
-    at_kind q i (inl e) = all_before (is_kind k q) (row_of q) n (all q i e)
-    at_kind q i (inr e) = rw e refl
 
 pub place_moment : (s : Site) (k : Kind) (n t : ℕ) → IsPlace s (place_of k n 0) → t ≤ s.shape.horizon → IsPlace s (place_of k n t)
 place_moment s kinds.Arc n t i l = (i.0, l)
 place_moment s kinds.Hold n t i l = (i.0, l)
 place_moment s kinds.Supply n t i l = (i.0, l)
 
--- arcs, holds and supplies in turn
-pub starts_as : (m : Model) (w a h v : Network) → IsBlank w → w.site ≡ site_of m → SetsLimits m w a (is_kind kinds.Arc)
-    → SetsLimits m a h (is_kind kinds.Hold) → SetsLimits m h v (is_kind kinds.Supply) → StartsAs m v
-starts_as m w a h v blank site arcs holds supplies =
-    let some = sets_then m w a h (is_kind kinds.Arc) (is_kind kinds.Hold) (λ q. is_kind kinds.Hold q || is_kind kinds.Arc q) arcs holds (λ q. refl) in
-    let all = sets_then m w h v (λ q. is_kind kinds.Hold q || is_kind kinds.Arc q) (is_kind kinds.Supply)
-    (λ q. is_kind kinds.Supply q || (is_kind kinds.Hold q || is_kind kinds.Arc q)) some supplies (λ q. refl) in
-    let in_w = λ (p : Place) (i : IsPlace v.site p). subst (λ s. IsPlace s p) all.site i in
-    record {
-      grid = all.unused.grid;
-      of = record {
-        site = all.site ∙ site;
-        limits = λ p i. all.limits p (in_w p i) ∙ ap (λ b. cond b (model_limit m p) (limit_at w p)) (every p);
-      };
-      flows = λ p i. all.flows p (in_w p i) ∙ blank.flows p (in_w p i);
-      saved = ap (λ (z : List Cell). record v { cells = z }) all.unused.saved;
-    }
+-- ---- the cells of a model
+
+pub row_more : (xs : List Cell) (m : Model) (k : Kind) (n t : ℕ)
+    → (xs ++ map (cell_at m k n) (below t)) ++ cell_at m k n t ∷ [] ≡ xs ++ map (cell_at m k n) (below (t + 1))
+row_more xs m k n t =
+    append_assoc xs (map (cell_at m k n) (below t)) (cell_at m k n t ∷ [])
+    ∙ ap (λ z. xs ++ z) (sym (map-range_with_len_more (cell_at m k n) 0 t t (omega arith)))
+
+pub rows_more : (xs : List Cell) (m : Model) (k : Kind) (n : ℕ) → (xs ++ rows_cells m k n) ++ row_cells m k n ≡ xs ++ rows_cells m k (n + 1)
+rows_more xs m k n = append_assoc xs (rows_cells m k n) (row_cells m k n) ∙ ap (λ z. xs ++ rows_cells m k z) (sym (add-one n))
+
+rows_count : (m : Model) (k : Kind) (n : ℕ) → length (rows_cells m k n) ≡ n * (m.horizon + 1)
+rows_count m k zero = omega arith
+rows_count m k (suc n) =
+    omega (arith, length-append (rows_cells m k n) (row_cells m k n), rows_count m k n, length-map-range_with_len (cell_at m k n) 0 (m.horizon + 1))
+
+pub cells_count : (m : Model) → length (start_cells m) ≡ all_cells (site_of m)
+unfolding all_cells cells
+cells_count m =
+    let arcs = rows_cells m kinds.Arc (length m.arcs) in
+    let holds = rows_cells m kinds.Hold (length m.nodes) in
+    let supplies = rows_cells m kinds.Supply (length m.nodes) in
+    let ends = ap (λ n. (length m.nodes + n) * (m.horizon + 1)) (length-map m.arcs (λ (a : ArcRow). joined a)) in
+    omega (
+      arith,
+      length-append (arcs ++ holds) supplies,
+      length-append arcs holds,
+      rows_count m kinds.Arc (length m.arcs),
+      rows_count m kinds.Hold (length m.nodes),
+      rows_count m kinds.Supply (length m.nodes),
+      ends,
+    )
+
+at_row : (m : Model) (k : Kind) (count n t : ℕ) → n < count → t ≤ m.horizon
+    → get_or (rows_cells m k count) (n * (m.horizon + 1) + t) no_cell ≡ cell_at m k n t
+at_row m k zero n t i l = absurd (omega arith)
+at_row m k (suc c) n t i l = elim (cases_lt n c) [
+  | inl less ↦
+      let inside : n * (m.horizon + 1) + t < length (rows_cells m k c) =
+      omega (arith, rows_count m k c, mul-add-lt n (m.horizon + 1) t c less (omega arith), mul_comm (m.horizon + 1) c) in
+      get_or_append_left (rows_cells m k c) (row_cells m k c) no_cell _ inside ∙ at_row m k c n t less l
+  | inr last ↦
+      let same : n ≡ c = omega arith in
+      let here : n * (m.horizon + 1) + t ≡ length (rows_cells m k c) + t = omega (arith, rows_count m k c, ap (λ z. z * (m.horizon + 1)) same) in
+      ap (λ z. get_or (rows_cells m k c ++ row_cells m k c) z no_cell) here
+      ∙ get_or-append-add (rows_cells m k c) (row_cells m k c) t no_cell
+      ∙ get_or-map (cell_at m k c) (below (m.horizon + 1)) t 0 no_cell (omega (arith, length-range_with_len 0 (m.horizon + 1)))
+      ∙ ap (cell_at m k c) (omega (arith, get_or-range_with_len 0 (m.horizon + 1) t 0 (omega arith)))
+      ∙ ap (λ z. cell_at m k z t) (sym same)
+]
+
+-- the cell of each place has no flow and the model's limit
+cell_is : (m : Model) (p : Place) → IsPlace (site_of m) p
+    → get_or (start_cells m) (cell_of (site_of m) p) no_cell ≡ record { flow = 0; limit = model_limit m p }
+unfolding cell_of arc_cell hold_cell cells
+cell_is m p i = by_place p i
   where
-    every : (p : Place) → (is_kind kinds.Supply p || (is_kind kinds.Hold p || is_kind kinds.Arc p)) ≡ true
-    every (Arc a t) = refl
-    every (Hold a t) = refl
-    every (Supply a t) = refl
+    arcs : List Cell
+    arcs = rows_cells m kinds.Arc (length m.arcs)
+
+    holds : List Cell
+    holds = rows_cells m kinds.Hold (length m.nodes)
+
+    supplies : List Cell
+    supplies = rows_cells m kinds.Supply (length m.nodes)
+
+    ends : length (site_of m).shape.ends ≡ length m.arcs
+    ends = length-map m.arcs (λ (a : ArcRow). joined a)
+
+    both : length (arcs ++ holds) ≡ (length m.nodes + length m.arcs) * (m.horizon + 1)
+    both = omega (arith, length-append arcs holds, rows_count m kinds.Arc (length m.arcs), rows_count m kinds.Hold (length m.nodes))
+
+    by_place : (p : Place) → IsPlace (site_of m) p → get_or (start_cells m) (cell_of (site_of m) p) no_cell ≡ record { flow = 0; limit = model_limit m p }
+    by_place (Arc a t) i =
+        let inside : a * (m.horizon + 1) + t < length arcs =
+        omega (arith, rows_count m kinds.Arc (length m.arcs), mul-add-lt a (m.horizon + 1) t (length m.arcs) (omega (arith, i.0, ends)) (omega arith), mul_comm (m.horizon + 1) (length m.arcs)) in
+        get_or_append_left (arcs ++ holds) supplies no_cell _ (omega (arith, inside, length-append arcs holds))
+        ∙ get_or_append_left arcs holds no_cell _ inside
+        ∙ at_row m kinds.Arc (length m.arcs) a t (omega (arith, i.0, ends)) i.1
+    by_place (Hold n t) i =
+        let inside = mul-add-lt n (m.horizon + 1) t (length m.nodes) i.0 (omega arith) in
+        let here : (length (site_of m).shape.ends + n) * (m.horizon + 1) + t ≡ length arcs + (n * (m.horizon + 1) + t) =
+        omega (arith, rows_count m kinds.Arc (length m.arcs), ap (λ z. (z + n) * (m.horizon + 1)) ends) in
+        ap (λ z. get_or (start_cells m) z no_cell) here
+        ∙ get_or_append_left (arcs ++ holds) supplies no_cell _
+        (omega (arith, inside, mul_comm (m.horizon + 1) (length m.nodes), length-append arcs holds, rows_count m kinds.Hold (length m.nodes)))
+        ∙ get_or-append-add arcs holds (n * (m.horizon + 1) + t) no_cell
+        ∙ at_row m kinds.Hold (length m.nodes) n t i.0 i.1
+    by_place (Supply n t) i =
+        let here : (length m.nodes + length (site_of m).shape.ends) * (m.horizon + 1) + (n * (m.horizon + 1) + t)
+        ≡ length (arcs ++ holds) + (n * (m.horizon + 1) + t) =
+        omega (arith, both, ap (λ z. (length m.nodes + z) * (m.horizon + 1)) ends) in
+        ap (λ z. get_or (start_cells m) z no_cell) here
+        ∙ get_or-append-add (arcs ++ holds) supplies (n * (m.horizon + 1) + t) no_cell
+        ∙ at_row m kinds.Supply (length m.nodes) n t i.0 i.1
+
+emptied_row : (f : ℕ → ℕ) (ts : List ℕ) → emptied (map (λ t. record { flow = 0; limit = f t }) ts) ≡ map (λ t. record { flow = 0; limit = f t }) ts
+emptied_row f [] = refl
+emptied_row f (t ∷ ts) = ap (λ (z : List Cell). record { flow = 0; limit = f t } ∷ z) (emptied_row f ts)
+
+emptied_both : (xs ys : List Cell) → emptied xs ≡ xs → emptied ys ≡ ys → emptied (xs ++ ys) ≡ xs ++ ys
+emptied_both xs ys e f = map-append (λ (c : Cell). record { flow = 0; limit = c.limit }) xs ys ∙ ap₂ (λ (u v : List Cell). u ++ v) e f
+
+emptied_rows : (m : Model) (k : Kind) (n : ℕ) → emptied (rows_cells m k n) ≡ rows_cells m k n
+emptied_rows m k zero = refl
+emptied_rows m k (suc n) =
+    emptied_both (rows_cells m k n) (row_cells m k n) (emptied_rows m k n)
+    (emptied_row (λ t. model_limit m (place_of k n t)) (below (m.horizon + 1)))
+
+pub starts_as : (m : Model) → IsValid m → StartsAs m (record { site = site_of m; cells = start_cells m; saved = emptied (start_cells m) })
+unfolding flow_at limit_at
+starts_as m valid =
+    let arcs = rows_cells m kinds.Arc (length m.arcs) in
+    let holds = rows_cells m kinds.Hold (length m.nodes) in
+    let both = emptied_both arcs holds (emptied_rows m kinds.Arc (length m.arcs)) (emptied_rows m kinds.Hold (length m.nodes)) in
+    let same = emptied_both (arcs ++ holds) (rows_cells m kinds.Supply (length m.nodes)) both (emptied_rows m kinds.Supply (length m.nodes)) in
+    record {
+      grid = record { site = valid_site m valid; full = cells_count m; saved_full = ap length same ∙ cells_count m };
+      of = record { site = refl; limits = λ p i. ap (λ (c : Cell). c.limit) (cell_is m p i) };
+      flows = λ p i. ap (λ (c : Cell). c.flow) (cell_is m p i);
+      saved = ap (λ (z : List Cell). record { site = site_of m; cells = z; saved = emptied (start_cells m) }) same;
+    }
+
+pub starts_made : (m : Model) (w : Network) (s : Site) (xs : List Cell) → IsValid m → w ≡ record { site = s; cells = xs; saved = emptied xs } → s ≡ site_of m
+    → xs ≡ start_cells m → StartsAs m w
+starts_made m w s xs valid e f g = rw (e, f, g) (starts_as m valid)
+
+pub cells_made : (m : Model) (none xs ys zs : List Cell) (a n : ℕ) → none ≡ [] → xs ≡ none ++ rows_cells m kinds.Arc a → ys ≡ xs ++ rows_cells m kinds.Hold n
+    → zs ≡ ys ++ rows_cells m kinds.Supply n → a ≡ length m.arcs → n ≡ length m.nodes → zs ≡ start_cells m
+cells_made m none xs ys zs a n e f g h i j = rw (h, g, f, e, i, j) refl
 
 -- ---- a net with no flow
 
 sums_none : (w : Network) → ((p : Place) → IsPlace w.site p → flow_at w p ≡ 0) → (b : Place → Bool) → sum_places w.site (λ p. cond (b p) (flow_at w p) 0) ≡ 0
-sums_none w h b = sum_places-same w.site _ (λ _. 0) (λ p i. ap (λ z. cond (b p) z 0) (h p i) ∙ nothing (b p)) ∙ sum_places-none w.site
-  where
-    nothing : (b : Bool) → ◌≡◌ {A = ℕ} (cond b 0 0) 0
-    nothing true = refl
-    nothing false = refl
+sums_none w h b = sum_places-same w.site _ (λ _. 0) (λ p i. ap (λ z. cond (b p) z 0) (h p i) ∙ sums.cond_nothing (b p)) ∙ sum_places-none w.site
 
 into_none : (w : Network) → ((p : Place) → IsPlace w.site p → flow_at w p ≡ 0) → (e : End_test) → flow_into w e ≡ 0
 unfolding flow_into
@@ -271,23 +281,25 @@ people_fit : (n : ℕ) → n ≤ evac.people_limit → n ≤ supply_limit
 unfolding evac.people_limit supply_limit
 people_fit n l = omega (arith, l)
 
-pub supplies_fit : (m : Model) (w : Network) → IsValid m → IsNetOf m w → supply_limits w ≤ supply_limit
+-- the supplies of a model's net are its people
+pub supplies_are_people : (m : Model) (w : Network) → IsNetOf m w → supply_limits w ≡ people m
 unfolding supply_limits sum_places
-supplies_fit m w valid of =
+supplies_are_people m w of =
     let k = w.site.shape.horizon + 1 in
     let nodes : w.site.shape.nodes ≡ length m.nodes = ap (λ (s : Site). s.shape.nodes) of.site in
     let same = same_in w.site.shape.nodes k (λ n t. limit_at w (Supply n t)) (entry m) (λ n t i j. of.limits (Supply n t) (i, omega (arith, j))) in
     let count : sums.sum2 w.site.shape.nodes k (entry m) ≡ sums.sum2 (length m.nodes) k (entry m) = ap (λ z. sums.sum2 z k (entry m)) nodes in
-    people_fit _
-    (omega (
+    omega (
       arith,
       sums.sum2-nothing (arc_count w.site) k,
       sums.sum2-nothing w.site.shape.nodes k,
       same,
       count,
       entries_are_people m w.site.shape.horizon,
-      valid.people_fit,
-    ))
+    )
+
+pub supplies_fit : (m : Model) (w : Network) → IsValid m → IsNetOf m w → supply_limits w ≤ supply_limit
+supplies_fit m w valid of = people_fit _ (omega (arith, supplies_are_people m w of, valid.people_fit))
 
 barred_limit : (m : Model) (p : Place) → IsValid m → IsPlace (site_of m) p → is_barred (site_of m) p ≡ true → model_limit m p ≡ 0
 barred_limit m (Arc a t) valid i b =
@@ -305,11 +317,7 @@ barred_limit m (Hold n t) valid i b =
 barred_limit m (Supply n t) valid i b =
     let node = valid.nodes n no_node i.0 in
     let none : start m n ≡ 0 = omega (arith, node.start_fits, node.exit_is_empty (sym (exit_is m n i.0) ∙ b)) in
-    at_begin (eqb t 0) (start m n) none
-  where
-    at_begin : (b : Bool) (s : ℕ) → s ≡ 0 → cond b s 0 ≡ 0
-    at_begin true s e = e
-    at_begin false s e = refl
+    ap (λ z. cond (eqb t 0) z 0) none ∙ sums.cond_nothing (eqb t 0)
 
 pub empty_stored : (m : Model) (w : Network) (arrivals : List ℕ) → IsValid m → StartsAs m w → arrivals ≡ replicate (m.horizon + 1) 0 → IsStored w arrivals
 empty_stored m w arrivals valid h e =

@@ -1,7 +1,7 @@
 -- Arrivals after pushes and cancels, everybody sent, and supplies within their limit.
-use Rattle.std.proofs.Common.{◌≡◌, ℕ, ◌+◌, ◌*◌, ◌<◌, ◌≤◌, Bool, true, false, cond, ◌&&◌, eqb, leb, List, length, get_or, refl, ap, sym, ◌∙◌, arith, inl, inr, ◌⊎◌, subst}
+use Rattle.std.proofs.Common.{◌≡◌, ℕ, ◌+◌, ◌<◌, ◌≤◌, true, false, cond, leb, List, length, get_or, refl, ap, sym, ◌∙◌, arith, inl, inr, ◌⊎◌, subst}
 use Rattle.std.specs.List.{All}
-use Rattle.std.proofs.lemmas.Bool.{cases_Bool, cases_lt, ltb-false, le-leb}
+use Rattle.std.proofs.lemmas.Bool.{cases_Bool, cases_lt}
 use Rattle.evac_law.specs.declared.model.Model.{Model}
 use Rattle.evac_law.specs.Limits.{people_limit}
 use Rattle.evac_law.specs.Building.{IsValid, entry, people}
@@ -9,18 +9,17 @@ use Rattle.evac_law.proofs.SumLemmas as sums
 use Rattle.residual_net.specs.declared.place.Place.{Place}
 use Rattle.residual_net.specs.declared.place.Place.TheVariants.{Arc, Hold, Supply}
 use Rattle.residual_net.specs.declared.place.PathStep.{PathStep}
-use Rattle.time_expansion.specs.Expansion.{to_at}
 use Rattle.residual_net.specs.Limits.{supply_limit}
-use Rattle.residual_net.specs.Site.{Site, End, IsPlace, arc_count, arrival_at, door_by, exit_at, head_of, is_door, is_source, same_place, sum_places, tail_of}
-use Rattle.residual_net.specs.Site.End.{Source, Pair, Door}
-use Rattle.residual_net.specs.Network.{Network, IsAllSent, IsNet, IsWithinLimits, arrived_by, flow_at, flow_into, flow_out, limit_at, supply_limits}
+use Rattle.residual_net.specs.Site.{Site, End, IsPlace, arc_count, door_by, is_source, same_place, sum_places, tail_of}
+use Rattle.residual_net.specs.Site.End.{Source, Door}
+use Rattle.residual_net.specs.Network.{Network, IsAllSent, IsNet, IsWithinLimits, arrived_by, flow_at, flow_out, limit_at, supply_limits}
 use Rattle.residual_net.specs.Route.{IsAugmentingPath, IsPushed, Leads}
 use Rattle.residual_net.specs.Change.{IsCancelled, IsFlowPath, supply_limits_with}
 use Rattle.residual_net.specs.OfModel.{IsNetOf, site_of}
-use Rattle.residual_net.proofs.Begin.{entries_are_people}
-use Rattle.residual_net.proofs.Held.{same_in}
-use Rattle.residual_net.proofs.Places.{cond_le, same-place, sum_places-le, sum_places-none, sum_places-pick, sum_places-same, sum_places-split}
-use Rattle.residual_net.proofs.Push.{arrived_moved, balance, cancel_arrived}
+use Rattle.residual_net.proofs.Begin.{entries_are_people, supplies_are_people}
+use Rattle.residual_net.proofs.Places.{cond_le, same-place, sum_places-le, sum_places-pick, sum_places-same, sum_places-split}
+use Rattle.residual_net.proofs.Push.{arrived_moved, balance, into_source}
+use Rattle.residual_net.proofs.LastArrival.{all_arrive}
 use Rattle.residual_net.proofs.Taking.{undone}
 
 places_after : (w v : Network) (p : Place) (path : List PathStep) (x : ℕ) → IsCancelled w v p path x → All (λ r. IsPlace v.site r.place) path
@@ -34,20 +33,7 @@ pub cancel_lowers : (w v : Network) (p : Place) (path : List PathStep) (x k : �
     → (j : ℕ) → arrived_by v j + cond (leb k j) x 0 ≡ arrived_by w j
 cancel_lowers w v p path x k c flow j =
     let leads = subst (λ (s : Site). Leads s Source path (Door k)) (sym c.taken.site) flow.leads in
-    cancel_arrived w v path x (undone w v path x c.taken flow.forwards) (places_after w v p path x c) k leads j
-
-no_source : (s : Site) (p : Place) → is_source (head_of s p) ≡ false
-no_source s (Arc a t) = of_exit (exit_at s (to_at s.shape a)) _ _ _
-  where
-    of_exit : (b : Bool) (n t u : ℕ) → is_source (cond b (Door t) (Pair n u)) ≡ false
-    of_exit true n t u = refl
-    of_exit false n t u = refl
-no_source s (Hold n t) = refl
-no_source s (Supply n t) = refl
-
-into_source : (w : Network) → flow_into w is_source ≡ 0
-unfolding flow_into
-into_source w = sum_places-same w.site _ (λ _. 0) (λ p _. ap (λ b. cond b (flow_at w p) 0) (no_source w.site p)) ∙ sum_places-none w.site
+    omega (arith, arrived_moved v w path x (undone w v path x c.taken flow.forwards) (places_after w v p path x c) Source k tt leads j)
 
 pub fewer_sent : (w v : Network) (p : Place) (path : List PathStep) (x : ℕ) → IsCancelled w v p path x → flow_out v is_source + x ≡ flow_out w is_source
 fewer_sent w v p path x c =
@@ -62,47 +48,6 @@ fewer_sent w v p path x c =
     )
 
 -- ---- everybody sent
-
--- the supplies of a model's net are its people
-supplies_are_people : (m : Model) (w : Network) → IsNetOf m w → supply_limits w ≡ people m
-unfolding supply_limits sum_places
-supplies_are_people m w of =
-    let k = w.site.shape.horizon + 1 in
-    let nodes : w.site.shape.nodes ≡ length m.nodes = ap (λ (s : Site). s.shape.nodes) of.site in
-    let same = same_in w.site.shape.nodes k (λ n t. limit_at w (Supply n t)) (entry m) (λ n t i j. of.limits (Supply n t) (i, omega (arith, j))) in
-    let count : sums.sum2 w.site.shape.nodes k (entry m) ≡ sums.sum2 (length m.nodes) k (entry m) = ap (λ z. sums.sum2 z k (entry m)) nodes in
-    omega (
-      arith,
-      sums.sum2-nothing (arc_count w.site) k,
-      sums.sum2-nothing w.site.shape.nodes k,
-      same,
-      count,
-      entries_are_people m w.site.shape.horizon,
-    )
-
--- by the horizon all have arrived who ever do
-all_arrive : (w : Network) → IsNet w → arrived_by w w.site.shape.horizon ≡ flow_into w is_door
-unfolding flow_into
-all_arrive w net = sum_places-same w.site _ _ (λ p i. at_place p i)
-  where
-    at_place : (p : Place) → IsPlace w.site p
-        → cond (door_by w.site.shape.horizon (head_of w.site p)) (flow_at w p) 0 ≡ cond (is_door (head_of w.site p)) (flow_at w p) 0
-    at_place (Arc a t) i = by_exit (exit_at w.site (to_at w.site.shape a)) (cases_lt w.site.shape.horizon (arrival_at w.site a t))
-      where
-        nothing : (b : Bool) → ◌≡◌ {A = ℕ} (cond b 0 0) 0
-        nothing true = refl
-        nothing false = refl
-
-        by_exit : (b : Bool) → (w.site.shape.horizon < arrival_at w.site a t) ⊎ (arrival_at w.site a t ≤ w.site.shape.horizon)
-            → cond (door_by w.site.shape.horizon (cond b (Door (arrival_at w.site a t)) (Pair (to_at w.site.shape a) (arrival_at w.site a t)))) (flow_at w (Arc a t)) 0
-            ≡ cond (is_door (cond b (Door (arrival_at w.site a t)) (Pair (to_at w.site.shape a) (arrival_at w.site a t)))) (flow_at w (Arc a t)) 0
-        by_exit true (inl late) =
-            let none = (net.barred (Arc a t) i (Rattle.std.proofs.lemmas.Bool.lt-ltb w.site.shape.horizon (arrival_at w.site a t) late)).0 in
-            rw none (nothing (leb (arrival_at w.site a t) w.site.shape.horizon))
-        by_exit true (inr early) = ap (λ b. cond b (flow_at w (Arc a t)) 0) (le-leb (arrival_at w.site a t) w.site.shape.horizon early)
-        by_exit false h = refl
-    at_place (Hold n t) i = refl
-    at_place (Supply n t) i = refl
 
 pub all_sent_arrive : (m : Model) (w : Network) → IsNet w → IsNetOf m w → IsWithinLimits w → IsAllSent w → arrived_by w m.horizon ≡ people m
 unfolding flow_out supply_limits

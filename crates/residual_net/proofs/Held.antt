@@ -1,6 +1,7 @@
 -- The plan of a net holds in each node what the net's holds say, where everyone who starts is sent.
 use Rattle.std.proofs.Common.{◌≡◌, ◌≢◌, ℕ, zero, suc, ◌+◌, ◌<◌, ◌≤◌, Bool, true, false, cond, ◌&&◌, eqb, List, length, refl, ap, sym, ◌∙◌, arith}
 use Rattle.std.proofs.lemmas.List.{get_or-map, length-map}
+use Rattle.std.proofs.lemmas.Bool.{ne_eqb}
 use Rattle.std.proofs.lemmas.Bool.Decides.{nat_tests}
 use Rattle.evac_law.specs.declared.model.Model.{Model}
 use Rattle.evac_law.specs.declared.plan.Move.{Move}
@@ -89,10 +90,7 @@ module _ (m : Model) (w : Network) (net : IsNet w) (of : IsNetOf m w) (valid : I
 
   arc_term : (ex : Bool) (h n arr t f : ℕ) → (ex ≡ true → h ≢ n)
       → cond (at (Pair n t) (cond ex (Door arr) (Pair h arr))) f 0 ≡ cond (eqb h n && eqb arr t) f 0
-  arc_term true h n arr t f d = let other = d refl in by_other other
-    where
-      by_other : h ≢ n → 0 ≡ cond (eqb h n && eqb arr t) f 0
-      by_other o = grind (arith, nat_tests)
+  arc_term true h n arr t f d = ap (λ b. cond (b && eqb arr t) f 0) (sym (ne_eqb h n (d refl)))
   arc_term false h n arr t f d = grind (arith, nat_tests)
 
   tail_term : (h n s t f : ℕ) → cond (eqb n h && eqb t s) f 0 ≡ cond (eqb h n && eqb s t) f 0
@@ -102,10 +100,7 @@ module _ (m : Model) (w : Network) (net : IsNet w) (of : IsNetOf m w) (valid : I
   pick f n t i j = sum2-same w.site.shape.nodes k _ _ (λ a s. tail_term a n s t (f a s)) ∙ sum2-at w.site.shape.nodes k f n t i j
 
   no_exit : (n a : ℕ) → is_exit_at m n ≡ false → is_exit_at m (head m a) ≡ true → head m a ≢ n
-  no_exit n a e h same = clash (sym h ∙ ap (is_exit_at m) same ∙ e)
-    where
-      clash : true ≡ false → ⊥
-      clash c = cc
+  no_exit n a e h same = cc
 
   into_arcs : (n t : ℕ) → is_exit_at m n ≡ false
       → sum2 (arc_count w.site) k (λ a s. cond (at (Pair n t) (head_of w.site (Arc a s))) (flow a s) 0) ≡ coming m plan n t

@@ -1,15 +1,15 @@
 -- What a net keeps beside its flow, where only limits or the saved copy change.
-use Rattle.std.proofs.Common.{◌≡◌, ℕ, ◌≤◌, true, false, cond, inl, inr, ◌⊎◌, List, length, take, drop, ◌++◌, get_or, replicate, refl, ap, sym, ◌∙◌, arith, subst}
-use Rattle.std.proofs.lemmas.List.{take_at, length-replicate, get_or-replicate}
+use Rattle.std.proofs.Common.{◌≡◌, ℕ, ◌≤◌, true, false, cond, inl, inr, ◌⊎◌, List, length, take, drop, ◌++◌, refl, ap, sym, ◌∙◌, arith, subst}
+use Rattle.std.proofs.lemmas.List.{take_at}
 use Rattle.std.proofs.lemmas.Bool.{cases_Bool}
 use Rattle.residual_net.specs.declared.place.Place.{Place}
 use Rattle.residual_net.specs.declared.place.Cell.{Cell}
 use Rattle.residual_net.specs.Limits.{supply_limit}
-use Rattle.residual_net.specs.Site.{Site, IsSite, IsPlace, End_test, all_cells, at, cell_of, head_of, is_barred, is_door, is_source, same_place, sum_places, tail_of}
+use Rattle.residual_net.specs.Site.{Site, IsPlace, End_test, at, head_of, is_barred, is_door, is_source, same_place, sum_places, tail_of}
 use Rattle.residual_net.specs.Site.End.{Pair, Door}
-use Rattle.residual_net.specs.Network.{Network, IsBlank, IsGrid, IsKept, IsStored, flow_at, flow_into, flow_out, limit_at, no_cell, saved_of, supply_limits, with_saved}
+use Rattle.residual_net.specs.Network.{Network, IsGrid, IsKept, IsStored, flow_at, flow_into, flow_out, limit_at, saved_of, supply_limits, with_saved}
 use Rattle.residual_net.specs.Change.{IsLimitSet, supply_limits_with}
-use Rattle.residual_net.proofs.Places.{sum_places-same, cell_below, same-place}
+use Rattle.residual_net.proofs.Places.{sum_places-same, same-place}
 
 -- ---- the saved copy
 
@@ -76,9 +76,7 @@ supplies_stay w p people other =
   where
     at_place : (q : Place) → (same_place p q ≡ true) ⊎ (same_place p q ≡ false)
         → cond (is_source (tail_of w.site q)) (cond (same_place p q) people (limit_at w q)) 0 ≡ cond (is_source (tail_of w.site q)) (limit_at w q) 0
-    at_place q (inl e) =
-        let none : is_source (tail_of w.site q) ≡ false = ap (λ (z : Place). is_source (tail_of w.site z)) (sym (same-place p q e)) ∙ other in
-        rw none refl
+    at_place q (inl e) = rw (← same-place p q e, other) refl
     at_place q (inr e) = rw e refl
 
 pub stored_limit : (w v : Network) (p : Place) (people : ℕ) (arrivals : List ℕ) → IsStored w arrivals → IsLimitSet w v p people → IsGrid v → IsPlace w.site p
@@ -110,18 +108,3 @@ stored_limit w v p people arrivals h a g place open_place few = record {
         → cond (same_place p q) people (limit_at w q) ≡ 0
     none q i b (inl e) = rw e (open_place (subst (λ (z : Place). is_barred w.site z ≡ true) (sym (same-place p q e)) b))
     none q i b (inr e) = rw e (h.net.barred q i b).1
-
--- ---- cells of nothing
-
-pub blank : (s : Site) (cells saved : List Cell) → IsSite s → cells ≡ replicate (all_cells s) no_cell → saved ≡ replicate (all_cells s) no_cell
-    → IsBlank (record { site = s; cells = cells; saved = saved })
-unfolding flow_at limit_at
-blank s cells saved h e f = record {
-  grid = record {
-    site = h;
-    full = ap length e ∙ length-replicate (all_cells s) no_cell;
-    saved_full = ap length f ∙ length-replicate (all_cells s) no_cell;
-  };
-  flows = λ p i. ap (λ (z : List Cell). (get_or z (cell_of s p) no_cell).flow) e ∙ ap (λ (z : Cell). z.flow) (get_or-replicate (all_cells s) (cell_of s p) no_cell no_cell (cell_below s p i));
-  limits = λ p i. ap (λ (z : List Cell). (get_or z (cell_of s p) no_cell).limit) e ∙ ap (λ (z : Cell). z.limit) (get_or-replicate (all_cells s) (cell_of s p) no_cell no_cell (cell_below s p i));
-}

@@ -1,7 +1,6 @@
 -- Arrivals of a net are at most the value of any cut, and equal to it where the net is closed.
 use Rattle.std.proofs.Common.{◌≡◌, ℕ, zero, suc, ◌+◌, ◌<◌, ◌≤◌, Bool, true, false, cond, not, ◌&&◌, ◌||◌, eqb, ltb, leb, List, [], ◌∷◌, length, get_or, refl, ap, sym, ◌∙◌, arith, inl, inr, ◌⊎◌, subst, pos, ◌≤ℤ◌}
 use Rattle.std.specs.List.{sum_by, All}
-use Rattle.std.proofs.lemmas.List.Sums.{sum_by-cons}
 use Rattle.std.proofs.lemmas.List.Elements.{All-get_or}
 use Rattle.std.proofs.lemmas.Bool.{cases_Bool, cases_lt, eqb-true, ltb-false, le-leb, lt-leb, leb-true, not-true, and_parts}
 use Rattle.std.proofs.lemmas.Bool.Decides.{nat_tests}
@@ -16,7 +15,8 @@ use Rattle.evac_law.specs.Cuts.{Cut, leaves_cut, cut_value}
 use Rattle.evac_law.specs.Names.{is_exit}
 use Rattle.evac_law.specs.Plans.{IsFeasible, moved, held, out_by}
 use Rattle.evac_law.specs.LabelTable.{LabelTable, label_at}
-use Rattle.evac_law.proofs.SumLemmas.{sum2, sum2-le, sum2-nothing, sum_by-same}
+use Rattle.evac_law.proofs.SumLemmas.{All-below, sum2, sum2-le, sum2-nothing, sum_by-le_all, sum_by-same}
+use Rattle.evac_law.proofs.SumLemmas as sums
 use Rattle.evac_law.proofs.WeakDuality.{value_is, out_le_value}
 use Rattle.evac_law.proofs.Tight.{tight_is_equal}
 use Rattle.residual_net.specs.declared.place.Place.TheVariants.{Arc, Hold, Supply}
@@ -50,23 +50,6 @@ restart-keeps p h f i [] n d = refl
 restart-keeps p h f i (r ∷ rs) zero d = h r (f i)
 restart-keeps p h f i (r ∷ rs) (suc n) d = restart-keeps p h f (suc i) rs n d
 
-restart-fewer : (f : ℕ → ℕ) (i : ℕ) (rs : List NodeRow) → ((n : ℕ) → n < length rs → f (i + n) ≤ (get_or rs n no_node).start)
-    → sum_by (λ (r : NodeRow). r.start) (restart f i rs) ≤ sum_by (λ (r : NodeRow). r.start) rs
-restart-fewer f i [] h = omega arith
-restart-fewer f i (r ∷ rs) h =
-    let first : f (i + 0) ≤ r.start = h 0 (omega arith) in
-    let here : f (i + 0) ≡ f i = ap f (omega arith) in
-    let rest = restart-fewer f (suc i) rs
-    (λ n l. let next : f (suc i + n) ≡ f (i + suc n) = ap f (omega arith) in omega (arith, next, h (suc n) (omega (arith, l)))) in
-    omega (
-      arith,
-      sum_by-cons (λ (r : NodeRow). r.start) (record r { start = f i }) (restart f (suc i) rs),
-      sum_by-cons (λ (r : NodeRow). r.start) r rs,
-      first,
-      here,
-      rest,
-    )
-
 module _ (m : Model) (w : Network) (valid : IsValid m) (net : IsNet w) (of : IsNetOf m w) where
   abbrev plan : List Move
   plan = plan_of w
@@ -88,6 +71,10 @@ module _ (m : Model) (w : Network) (valid : IsValid m) (net : IsNet w) (of : IsN
 
   count_same : length sent.nodes ≡ length m.nodes
   count_same = length-restart (λ n. flow_at w (Supply n 0)) 0 m.nodes
+
+  node_sent : (n : ℕ) (d : NodeRow) → n < length m.nodes → get_or sent.nodes n d ≡ record (get_or m.nodes n d) { start = flow_at w (Supply n 0) }
+  node_sent n d i =
+      restart-at (λ n. flow_at w (Supply n 0)) 0 m.nodes n d i ∙ ap (λ z. record (get_or m.nodes n d) { start = flow_at w (Supply z 0) }) (omega arith)
 
   -- ---- arrivals
 
@@ -130,7 +117,7 @@ module _ (m : Model) (w : Network) (valid : IsValid m) (net : IsNet w) (of : IsN
     start_le n i = supply_le n 0 i (omega arith)
 
     entry_sent : (n t : ℕ) → n < length m.nodes → t ≤ m.horizon → entry sent n t ≡ flow_at w (Supply n t)
-    entry_sent n zero i l = ap (λ (r : NodeRow). r.start) (restart-at (λ n. flow_at w (Supply n 0)) 0 m.nodes n no_node i) ∙ ap (λ z. flow_at w (Supply z 0)) (omega arith)
+    entry_sent n zero i l = ap (λ (r : NodeRow). r.start) (node_sent n no_node i)
     entry_sent n (suc t) i l =
         let none : entry m n (suc t) ≡ 0 = later t (node_at m n).start in
         let here : entry sent n (suc t) ≡ 0 = later t (node_at sent n).start in
@@ -138,6 +125,19 @@ module _ (m : Model) (w : Network) (valid : IsValid m) (net : IsNet w) (of : IsN
       where
         later : (t s : ℕ) → cond (eqb (suc t) 0) s 0 ≡ 0
         later t s = grind (arith, nat_tests)
+
+    fewer_start : sum_by (λ (r : NodeRow). r.start) sent.nodes ≤ sum_by (λ (r : NodeRow). r.start) m.nodes
+    fewer_start =
+        let le = sum_by-le_all (λ i. (node_at sent i).start) (λ i. (node_at m i).start) (below (length m.nodes))
+        (All-below (λ i. (node_at sent i).start ≤ (node_at m i).start) (length m.nodes)
+        (λ i l. omega (arith, ap (λ (r : NodeRow). r.start) (node_sent i no_node l), start_le i l))) in
+        omega (
+          arith,
+          le,
+          ap (λ c. sum_by (λ i. (node_at sent i).start) (below c)) count_same,
+          sums.sum_places (λ (r : NodeRow). r.start) sent.nodes no_node,
+          sums.sum_places (λ (r : NodeRow). r.start) m.nodes no_node,
+        )
 
     valid_sent : IsValid sent
     unfolding people
@@ -147,27 +147,24 @@ module _ (m : Model) (w : Network) (valid : IsValid m) (net : IsNet w) (of : IsN
       nodes_fit = omega (arith, count_same, valid.nodes_fit);
       arcs_fit = valid.arcs_fit;
       cells_fit = rw count_same valid.cells_fit;
-      people_fit = omega (arith, valid.people_fit, restart-fewer (λ n. flow_at w (Supply n 0)) 0 m.nodes fewer);
+      people_fit = omega (arith, valid.people_fit, fewer_start);
       nodes = λ n d l. node_ok n d (omega (arith, count_same, l));
       names_differ = λ i j a b e. valid.names_differ i j a (omega (arith, count_same, b)) (sym (name_at i) ∙ e ∙ name_at j);
       arcs = λ a d l. arc_ok a d (valid.arcs a d l);
       ends_differ = valid.ends_differ;
     }
       where
-        fewer : (n : ℕ) → n < length m.nodes → flow_at w (Supply (0 + n) 0) ≤ (get_or m.nodes n no_node).start
-        fewer n i = let same : flow_at w (Supply (0 + n) 0) ≡ flow_at w (Supply n 0) = ap (λ z. flow_at w (Supply z 0)) (omega arith) in omega (arith, same, start_le n i)
-
         name_at : (i : ℕ) → (node_at sent i).name ≡ (node_at m i).name
         name_at i = restart-keeps (λ (r : NodeRow). r.name) (λ r s. refl) (λ n. flow_at w (Supply n 0)) 0 m.nodes i no_node
 
         node_ok : (n : ℕ) (d : NodeRow) → n < length m.nodes → IsNode (get_or (restart (λ n. flow_at w (Supply n 0)) 0 m.nodes) n d)
         node_ok n d i =
             let old = valid.nodes n no_node i in
-            subst IsNode (sym (restart-at (λ n. flow_at w (Supply n 0)) 0 m.nodes n d i))
+            subst IsNode (sym (node_sent n d i))
             (rw (Rattle.std.proofs.lemmas.List.get_or_default m.nodes n d no_node i)
             (record {
               name = old.name;
-              start_fits = omega (arith, fewer n i, old.start_fits);
+              start_fits = omega (arith, start_le n i, old.start_fits);
               capacity_fits = old.capacity_fits;
               exit_is_empty = old.exit_is_empty;
               only_exits_shut = old.only_exits_shut;
@@ -196,23 +193,19 @@ module _ (m : Model) (w : Network) (valid : IsValid m) (net : IsNet w) (of : IsN
         let c = came_left m w net of valid sent.nodes n t i e l (λ s h. entry_sent n s i (omega arith)) in
         omega (arith, ints, c)
 
+    at_most : (b : Bool) (r : ℕ) → cond b 0 r ≤ r
+    at_most true r = omega arith
+    at_most false r = omega arith
+
     pub flow_rate : (a t : ℕ) → a < length m.arcs → t ≤ m.horizon → flow_at w (Arc a t) ≤ rate m a t
     flow_rate a t i l =
         let p = arc_in_site a t i l in
         omega (arith, within (Arc a t) p, of.limits (Arc a t) p, at_most (ltb m.horizon (arrival m a t)) (rate m a t))
-      where
-        at_most : (b : Bool) (r : ℕ) → cond b 0 r ≤ r
-        at_most true r = omega arith
-        at_most false r = omega arith
 
     pub hold_capacity : (n t : ℕ) → n < length m.nodes → t ≤ m.horizon → flow_at w (Hold n t) ≤ capacity m n
     hold_capacity n t i l =
         let p = in_site n t i l in
         omega (arith, within (Hold n t) p, of.limits (Hold n t) p, at_most (eqb t m.horizon) (capacity m n))
-      where
-        at_most : (b : Bool) (r : ℕ) → cond b 0 r ≤ r
-        at_most true r = omega arith
-        at_most false r = omega arith
 
     pub arcs_in : All (λ (v : Move). v.arc < length m.arcs) plan
     arcs_in = subst (λ z. All (λ (v : Move). v.arc < z) plan) (arcs_same m w net of valid)
@@ -427,11 +420,7 @@ module _ (m : Model) (w : Network) (valid : IsValid m) (net : IsNet w) (of : IsN
       no_entry n t i e =
           let node = All-get_or IsNode m.nodes n no_node i valid.nodes in
           let none : (node_at m n).start ≡ 0 = omega (arith, node.start_fits, node.exit_is_empty e) in
-          when (eqb t 0) (node_at m n).start none
-        where
-          when : (b : Bool) (u : ℕ) → u ≡ 0 → cond b u 0 ≡ 0
-          when true u h = h
-          when false u h = refl
+          ap (λ z. cond (eqb t 0) z 0) none ∙ sums.cond_nothing (eqb t 0)
 
       entry_ge : (n t : ℕ) → n < length m.nodes → t < k + 1
           → cond (x n t || eqb (entry m n t) 0) 0 (entry m n t) ≤ cond (x n t || eqb (entry sent n t) 0) 0 (entry sent n t)

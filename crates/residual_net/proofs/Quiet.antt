@@ -1,16 +1,16 @@
--- A closed set of an arrival moment has no flow at later moments, and is tight.
-use Rattle.std.proofs.Common.{◌≡◌, ℕ, zero, suc, ◌+◌, ◌<◌, ◌≤◌, Bool, true, false, ◌≢◌, get_or, cond, ◌&&◌, ◌||◌, eqb, ltb, refl, ap, ap₂, sym, ◌∙◌, arith, inl, inr, ◌⊎◌}
-use Rattle.std.proofs.lemmas.Bool.{cases_Bool, cases_lt, ltb-false, lt-leb, eqb-true, and_parts}
+-- How flow goes on through the moments, and that a closed set of an arrival moment has no flow past it.
+use Rattle.std.proofs.Common.{◌≡◌, ℕ, zero, suc, ◌+◌, ◌<◌, ◌≤◌, Bool, true, false, cond, ◌||◌, eqb, refl, ap, ap₂, sym, ◌∙◌, arith, inl, inr, ◌⊎◌}
+use Rattle.std.proofs.lemmas.Bool.{cases_Bool, cases_lt, eq-eqb, ltb-false, leb-true, eqb-true, and_parts}
 use Rattle.std.proofs.lemmas.Bool.Decides.{nat_tests}
 use Rattle.time_expansion.specs.Expansion.{to_at}
 use Rattle.residual_net.specs.declared.place.Place.{Place}
 use Rattle.residual_net.specs.declared.place.Place.TheVariants.{Arc, Hold, Supply}
-use Rattle.residual_net.specs.Site.{Site, IsPlace, End, at, is_barred, head_of, tail_of, exit_at, arrival_at, same_place, sum_places}
+use Rattle.residual_net.specs.Site.{Site, IsSite, IsPlace, End, at, is_barred, head_of, tail_of, exit_at, arrival_at, same_place, sum_places}
 use Rattle.residual_net.specs.Site.End.{Source, Pair, Door}
 use Rattle.residual_net.specs.Network.{Network, IsNet, flow_at, limit_at, flow_into, flow_out}
-use Rattle.residual_net.specs.Change.{end_moment}
+use Rattle.residual_net.specs.Change.{rank}
 use Rattle.residual_net.specs.Closed.{IsClosed, reached}
-use Rattle.residual_net.proofs.Places.{sum_places-same, sum_places-none, sum_places-le, sum_places-pick, same-place}
+use Rattle.residual_net.proofs.Places.{both_same, sum_places-same, sum_places-none, sum_places-le, sum_places-pick, same-place}
 
 -- what a closed set says of one place
 module _ (w : Network) (x : ℕ → ℕ → Bool) (k : ℕ) (closed : IsClosed w x k) where
@@ -18,23 +18,17 @@ module _ (w : Network) (x : ℕ → ℕ → Bool) (k : ℕ) (closed : IsClosed w
   pub entering_full : (p : Place) → IsPlace w.site p → reached x k (head_of w.site p) ≡ true → reached x k (tail_of w.site p) ≡ false
       → limit_at w p ≤ flow_at w p
   entering_full p i h t = elim (cases_lt (flow_at w p) (limit_at w p)) [
-    | inl more ↦ absurd (never (closed (record { place = p; back = false }) i (omega (arith, more)) h) t)
+    | inl more ↦ absurd (cc (closed (record { place = p; back = false }) i (omega (arith, more)) h, t))
     | inr full ↦ full
   ]
-    where
-      never : {b : Bool} → b ≡ true → b ≡ false → ⊥
-      never u v = cc
 
   -- out of it to the outside there is no flow
   pub leaving_none : (p : Place) → IsPlace w.site p → reached x k (tail_of w.site p) ≡ true → reached x k (head_of w.site p) ≡ false
       → flow_at w p ≡ 0
   leaving_none p i t h = elim (cases_lt 0 (flow_at w p)) [
-    | inl more ↦ absurd (never (closed (record { place = p; back = true }) i more t) h)
+    | inl more ↦ absurd (cc (closed (record { place = p; back = true }) i more t, h))
     | inr none ↦ omega (arith, none)
   ]
-    where
-      never : {b : Bool} → b ≡ true → b ≡ false → ⊥
-      never u v = cc
 
 pub at-same : (e f : End) → at e f ≡ true → f ≡ e
 at-same Source Source h = refl
@@ -49,16 +43,10 @@ at-same (Door t) Source h = absurd (cc)
 at-same (Door t) (Pair m s) h = absurd (cc)
 at-same (Door t) (Door j) h = ap (λ a. Door a) (sym (eqb-true t j h))
 
-both_same : (n t : ℕ) → (eqb n n && eqb t t) ≡ true
-both_same n t = grind (arith, nat_tests)
-
-one_same : (t : ℕ) → eqb t t ≡ true
-one_same t = grind (arith, nat_tests)
-
 pub at-self : (e : End) → at e e ≡ true
 at-self Source = refl
-at-self (Pair n t) = both_same n t
-at-self (Door t) = one_same t
+at-self (Pair n t) = both_same n n t t refl refl
+at-self (Door t) = eq-eqb t t refl
 
 -- one place is part of what leads to where it leads, and of what leads from where it does
 part_of : (w : Network) (to : Place → End) (p : Place) → IsPlace w.site p → (e : End) → to p ≡ e
@@ -103,75 +91,93 @@ pub none_from : (w : Network) (e : End) → ((p : Place) → IsPlace w.site p �
 unfolding flow_out
 none_from w e h = none_of_all w (tail_of w.site) e h
 
--- where a place that leaves a pair leads: nowhere, to a later arrival, or to a later pair
-abbrev Onward : Site → Place → ℕ → Type 0
-Onward s p t =
-    (is_barred s p ≡ true) ⊎ (((j : ℕ) × (head_of s p ≡ Door j) × (t < j) × (j ≤ s.shape.horizon))
-    ⊎ ((m : ℕ) × (u : ℕ) × (head_of s p ≡ Pair m u) × (t < u) × (u ≤ s.shape.horizon)))
+-- ---- flow goes on in time
 
-pub onward : (w : Network) → IsNet w → (p : Place) → IsPlace w.site p → (n t : ℕ) → tail_of w.site p ≡ Pair n t → Onward w.site p t
-onward w net (Supply m s) i n t e = absurd (cc)
-onward w net (Hold m s) i n t e =
-    let same : s ≡ t = ap end_moment e in
-    elim (cases_Bool (exit_at w.site m || eqb s w.site.shape.horizon)) [
-      | inl b ↦ inl b
-      | inr b ↦ inr (inr (m, s + 1, refl, omega (arith, same), omega (arith, i.1, not_last (exit_at w.site m) s w.site.shape.horizon b)))
-    ]
+pub arc_rank : (s : Site) (a t : ℕ) → rank (head_of s (Arc a t)) ≡ arrival_at s a t + 1
+arc_rank s a t = by_exit (exit_at s (to_at s.shape a))
   where
-    not_last : (b : Bool) (s h : ℕ) → (b || eqb s h) ≡ false → s ≢ h
-    not_last b s h e = grind (arith, nat_tests)
-onward w net (Arc a s) i n t e =
-    let same : s ≡ t = ap end_moment e in
-    let long : 1 ≤ get_or w.site.travels a 0 = (net.site.times a 0 (omega (arith, i.0, net.site.travels))).0 in
-    elim (cases_Bool (ltb w.site.shape.horizon (arrival_at w.site a s))) [
-      | inl b ↦ inl b
-      | inr b ↦ by_exit (exit_at w.site (to_at w.site.shape a)) (omega (arith, same, long)) (ltb-false _ _ b)
-    ]
+    by_exit : (b : Bool) → rank (cond b (Door (arrival_at s a t)) (Pair (to_at s.shape a) (arrival_at s a t))) ≡ arrival_at s a t + 1
+    by_exit true = refl
+    by_exit false = refl
+
+-- each place leads to something later
+pub rank_up : (s : Site) → IsSite s → (p : Place) → IsPlace s p → rank (tail_of s p) < rank (head_of s p)
+rank_up s h (Arc a t) i = omega (arith, arc_rank s a t, (h.times a 0 (omega (arith, i.0, h.travels))).0)
+rank_up s h (Hold n t) i = omega arith
+rank_up s h (Supply n t) i = omega arith
+
+-- and where somebody can be there, to something within the horizon
+pub rank_in : (s : Site) (p : Place) → IsPlace s p → is_barred s p ≡ false → rank (head_of s p) ≤ s.shape.horizon + 1
+rank_in s (Arc a t) i b = omega (arith, arc_rank s a t, ltb-false _ _ b)
+rank_in s (Hold n t) i b = not_last (exit_at s n) t s.shape.horizon i.1 b
   where
-    by_exit : (b : Bool) → t < arrival_at w.site a s → arrival_at w.site a s ≤ w.site.shape.horizon
-        → (ltb w.site.shape.horizon (arrival_at w.site a s) ≡ true)
-        ⊎ (((j : ℕ) × (cond b (Door (arrival_at w.site a s)) (Pair (to_at w.site.shape a) (arrival_at w.site a s)) ≡ Door j) × (t < j) × (j ≤ w.site.shape.horizon))
-        ⊎ ((m : ℕ) × (u : ℕ) × (cond b (Door (arrival_at w.site a s)) (Pair (to_at w.site.shape a) (arrival_at w.site a s)) ≡ Pair m u) × (t < u)
-        × (u ≤ w.site.shape.horizon)))
-    by_exit true l h = inr (inl (arrival_at w.site a s, refl, l, h))
-    by_exit false l h = inr (inr (to_at w.site.shape a, arrival_at w.site a s, refl, l, h))
+    not_last : (e : Bool) (t h : ℕ) → t ≤ h → (e || eqb t h) ≡ false → t + 1 + 1 ≤ h + 1
+    not_last e t h l b = grind (arith, nat_tests)
+rank_in s (Supply n t) i b = omega (arith, i.1)
+
+pub open_flow : (w : Network) → IsNet w → (p : Place) → IsPlace w.site p → 0 < flow_at w p → is_barred w.site p ≡ false
+open_flow w net p i some = elim (cases_Bool (is_barred w.site p)) [
+  | inl b ↦ absurd (omega (arith, (net.barred p i b).0, some))
+  | inr b ↦ b
+]
+
+pub in_time : (w : Network) → IsNet w → (p : Place) → IsPlace w.site p → 0 < flow_at w p → rank (head_of w.site p) ≤ w.site.shape.horizon + 1
+in_time w net p i some = rank_in w.site p i (open_flow w net p i some)
+
+-- where a place with flow leads: to an arrival within the horizon or to a pair
+pub onward : (w : Network) → IsNet w → (p : Place) → IsPlace w.site p → 0 < flow_at w p
+    → ((j : ℕ) × (head_of w.site p ≡ Door j) × (j ≤ w.site.shape.horizon)) ⊎ ((m : ℕ) × (u : ℕ) × (head_of w.site p ≡ Pair m u))
+onward w net p i some = by_end (head_of w.site p) refl
+  where
+    by_end : (e : End) → head_of w.site p ≡ e
+        → ((j : ℕ) × (head_of w.site p ≡ Door j) × (j ≤ w.site.shape.horizon)) ⊎ ((m : ℕ) × (u : ℕ) × (head_of w.site p ≡ Pair m u))
+    by_end Source h = absurd (omega (arith, rank_up w.site net.site p i, ap rank h))
+    by_end (Pair m u) h = inr (m, u, h)
+    by_end (Door j) h = inl (j, h, omega (arith, in_time w net p i some, ap rank h))
+
+-- no flow goes through the pairs of a kind that flow leaves for pairs of that kind alone
+module _ (w : Network) (net : IsNet w) (kind : ℕ → ℕ → Type 0)
+    (stays : (p : Place) → IsPlace w.site p → 0 < flow_at w p → (n t : ℕ) → tail_of w.site p ≡ Pair n t → kind n t
+    → (m : ℕ) × (u : ℕ) × (head_of w.site p ≡ Pair m u) × kind m u) where
+  none_out : (n t : ℕ) → kind n t → ((m u : ℕ) → t < u → u ≤ w.site.shape.horizon → kind m u → flow_into w (at (Pair m u)) ≡ 0)
+      → flow_into w (at (Pair n t)) ≡ 0
+  none_out n t here later = omega (arith, net.conserved.pairs n t, none_from w (Pair n t) none)
+    where
+      none : (p : Place) → IsPlace w.site p → tail_of w.site p ≡ Pair n t → flow_at w p ≡ 0
+      none p i e = elim (cases_lt 0 (flow_at w p)) [
+        | inl some ↦
+            let next = stays p i some n t e here in
+            let up : t < next.1 = omega (arith, rank_up w.site net.site p i, ap rank e, ap rank next.2) in
+            let in_horizon : next.1 ≤ w.site.shape.horizon = omega (arith, in_time w net p i some, ap rank next.2) in
+            omega (arith, part_into w p i (Pair next.0 next.1) next.2, later next.0 next.1 up in_horizon next.3)
+        | inr gone ↦ omega (arith, gone)
+      ]
+
+  drained_by : (left n t : ℕ) → w.site.shape.horizon ≤ t + left → kind n t → flow_into w (at (Pair n t)) ≡ 0
+  drained_by zero n t near here = none_out n t here (λ m u l h b. absurd (omega (arith, near, l, h)))
+  drained_by (suc left) n t near here = none_out n t here (λ m u l h b. drained_by left m u (omega (arith, near, l)) b)
+
+  pub drained : (n t : ℕ) → kind n t → flow_into w (at (Pair n t)) ≡ 0
+  drained n t here = drained_by w.site.shape.horizon n t (omega arith) here
 
 module _ (w : Network) (x : ℕ → ℕ → Bool) (k : ℕ) (net : IsNet w) (closed : IsClosed w x k) where
-  -- a place out of a pair of the set past moment k has no flow, if later pairs of the set have none
-  gone : (n t : ℕ) → k < t → x n t ≡ true
-      → ((m u : ℕ) → t < u → u ≤ w.site.shape.horizon → x m u ≡ true → flow_into w (at (Pair m u)) ≡ 0)
-      → (p : Place) → IsPlace w.site p → tail_of w.site p ≡ Pair n t → flow_at w p ≡ 0
-  gone n t later member rest p i e =
-      let inside : reached x k (tail_of w.site p) ≡ true = ap (reached x k) e ∙ member in
-      elim (onward w net p i n t e) [
-        | inl b ↦ (net.barred p i b).0
-        | inr (inl d) ↦
-            let outside : reached x k (head_of w.site p) ≡ false = ap (reached x k) d.1 ∙ lt-leb d.0 k (omega (arith, d.2, later)) in
-            leaving_none w x k closed p i inside outside
-        | inr (inr d) ↦ at_pair d.0 d.1 d.2 d.3 d.4 inside (cases_Bool (x d.0 d.1))
+  -- flow from a pair of the set past moment k goes to another one
+  stays : (p : Place) → IsPlace w.site p → 0 < flow_at w p → (n t : ℕ) → tail_of w.site p ≡ Pair n t → (k < t) × (x n t ≡ true)
+      → (m : ℕ) × (u : ℕ) × (head_of w.site p ≡ Pair m u) × ((k < u) × (x m u ≡ true))
+  stays p i some n t e here =
+      let inside : reached x k (head_of w.site p) ≡ true = closed (record { place = p; back = true }) i some (ap (reached x k) e ∙ here.1) in
+      let up = rank_up w.site net.site p i in
+      elim (onward w net p i some) [
+        | inl d ↦ absurd (omega (arith, here.0, up, ap rank e, ap rank d.1, leb-true d.0 k (sym (ap (reached x k) d.1) ∙ inside)))
+        | inr d ↦ (d.0, d.1, d.2, (omega (arith, here.0, up, ap rank e, ap rank d.2), sym (ap (reached x k) d.2) ∙ inside))
       ]
-    where
-      at_pair : (m u : ℕ) → head_of w.site p ≡ Pair m u → t < u → u ≤ w.site.shape.horizon → reached x k (tail_of w.site p) ≡ true
-          → (x m u ≡ true) ⊎ (x m u ≡ false) → flow_at w p ≡ 0
-      at_pair m u h l r inside (inl b) = omega (arith, part_into w p i (Pair m u) h, rest m u l r b)
-      at_pair m u h l r inside (inr b) = leaving_none w x k closed p i inside (ap (reached x k) h ∙ b)
-
-  -- past moment k nothing goes through a pair of a closed set
-  quiet_by : (left n t : ℕ) → w.site.shape.horizon ≤ t + left → k < t → x n t ≡ true → flow_into w (at (Pair n t)) ≡ 0
-  quiet_by zero n t near later member =
-      let out = none_from w (Pair n t) (gone n t later member (λ m u l h b. absurd (omega (arith, near, l, h)))) in
-      omega (arith, net.conserved.pairs n t, out)
-  quiet_by (suc left) n t near later member =
-      let out = none_from w (Pair n t) (gone n t later member (λ m u l h b. quiet_by left m u (omega (arith, near, l)) (omega (arith, later, l)) b)) in
-      omega (arith, net.conserved.pairs n t, out)
-
-  pub quiet : (n t : ℕ) → k < t → x n t ≡ true → flow_into w (at (Pair n t)) ≡ 0
-  quiet n t later member = quiet_by w.site.shape.horizon n t (omega arith) later member
 
   -- nothing leaves the set past moment k
   pub none_past : (p : Place) → IsPlace w.site p → reached x k (tail_of w.site p) ≡ true
       → (n t : ℕ) → head_of w.site p ≡ Pair n t → k < t → flow_at w p ≡ 0
-  none_past p i inside n t h later = elim (cases_Bool (x n t)) [
-    | inl b ↦ omega (arith, part_into w p i (Pair n t) h, quiet n t later b)
-    | inr b ↦ leaving_none w x k closed p i inside (ap (reached x k) h ∙ b)
+  none_past p i inside n t h later = elim (cases_lt 0 (flow_at w p)) [
+    | inl some ↦
+        let member : x n t ≡ true = sym (ap (reached x k) h) ∙ closed (record { place = p; back = true }) i some inside in
+        omega (arith, part_into w p i (Pair n t) h, drained w net (λ n t. (k < t) × (x n t ≡ true)) stays n t (later, member))
+    | inr none ↦ omega (arith, none)
   ]

@@ -1,9 +1,10 @@
 -- Pushes one step after another.
 use Rattle.std.proofs.Common.{◌≡◌, ◌≢◌, ℕ, zero, suc, ◌+◌, ◌-◌, ◌<◌, ◌≤◌, Bool, true, false, cond, not, ◌&&◌, eqb, List, [], ◌∷◌, ◌++◌, length, take, get_or, refl, ap, sym, ◌∙◌, arith, subst, inl, inr, ◌⊎◌}
-use Rattle.std.specs.List.{All, AllPairs}
+use Rattle.std.specs.List.{All, AllPairs, sum_by}
+use Rattle.evac_law.proofs.SumLemmas.{sum_by-nothing, sum_by-same_all}
 use Rattle.std.proofs.lemmas.List.{length-set, get_or-take, get_or_default, length-take, take_more}
 use Rattle.std.proofs.lemmas.List.Sums.{sum_by-cons, sum_by-append}
-use Rattle.std.proofs.lemmas.List.Elements.{All-head, All-tail}
+use Rattle.std.proofs.lemmas.List.Elements.{All-head, All-tail, All-weaker}
 use Rattle.std.proofs.lemmas.Bool.{cases_Bool}
 use Rattle.residual_net.specs.declared.place.Place.{Place}
 use Rattle.residual_net.specs.declared.place.PathStep.{PathStep}
@@ -14,31 +15,28 @@ use Rattle.residual_net.specs.Site.End.{Source, Pair, Door}
 use Rattle.residual_net.specs.Network.{Network, IsGrid, IsNet, IsWithinLimits, supply_limits, flow_into, flow_out, no_cell, flow_at, limit_at, residual_room, with_cell}
 use Rattle.residual_net.specs.Change.{IsLimitSet}
 use Rattle.residual_net.specs.Route.{IsPushed, IsPushable, IsOrigin, Leads, added, taken}
-use Rattle.residual_net.proofs.Places.{cell_below, cell_written, cond_le, place-same, same-place, sum_places-le, sum_places-same}
+use Rattle.residual_net.proofs.Places.{cell_below, cell_written, cond_le, cond_most, place-same, same-place, sum_places-le, sum_places-same}
 use Rattle.residual_net.proofs.Push.{still_conserved}
 
 pub cell_in : (w : Network) (p : Place) → IsGrid w → IsPlace w.site p → cell_of w.site p < length w.cells
 cell_in w p g i = omega (arith, g.full, cell_below w.site p i)
 
+-- another cell at a place, and what it says there and elsewhere
+at_cell : (f : Cell → ℕ) (b : Bool) (x y : Cell) → f (cond b x y) ≡ cond b (f x) (f y)
+at_cell f true x y = refl
+at_cell f false x y = refl
+
 pub flow-with_cell : (w : Network) (p q : Place) (c : Cell) → IsGrid w → IsPlace w.site p → IsPlace w.site q
     → flow_at (with_cell w p c) q ≡ cond (same_place p q) c.flow (flow_at w q)
 unfolding flow_at
 flow-with_cell w p q c g i j =
-    ap (λ (z : Cell). z.flow) (cell_written w.site w.cells p q c no_cell g.full i j) ∙ of_cond (same_place p q) c (get_or w.cells (cell_of w.site q) no_cell)
-  where
-    of_cond : (b : Bool) (x y : Cell) → (cond b x y).flow ≡ cond b x.flow y.flow
-    of_cond true x y = refl
-    of_cond false x y = refl
+    ap (λ (z : Cell). z.flow) (cell_written w.site w.cells p q c no_cell g.full i j) ∙ at_cell (λ z. z.flow) (same_place p q) c _
 
 pub limit-with_cell : (w : Network) (p q : Place) (c : Cell) → IsGrid w → IsPlace w.site p → IsPlace w.site q
     → limit_at (with_cell w p c) q ≡ cond (same_place p q) c.limit (limit_at w q)
 unfolding limit_at
 limit-with_cell w p q c g i j =
-    ap (λ (z : Cell). z.limit) (cell_written w.site w.cells p q c no_cell g.full i j) ∙ of_cond (same_place p q) c (get_or w.cells (cell_of w.site q) no_cell)
-  where
-    of_cond : (b : Bool) (x y : Cell) → (cond b x y).limit ≡ cond b x.limit y.limit
-    of_cond true x y = refl
-    of_cond false x y = refl
+    ap (λ (z : Cell). z.limit) (cell_written w.site w.cells p q c no_cell g.full i j) ∙ at_cell (λ z. z.limit) (same_place p q) c _
 
 pub grid-with_cell : (w : Network) (p : Place) (c : Cell) → IsGrid w → IsGrid (with_cell w p c)
 grid-with_cell w p c g = record { site = g.site; full = length-set w.cells (cell_of w.site p) c ∙ g.full; saved_full = g.saved_full }
@@ -102,34 +100,33 @@ push_none w x = record { site = refl; saved = refl; limits = λ p i. refl; flows
 
 -- ---- paths that visit no place twice
 
-pub none_of : (b c : Bool) (x : ℕ) → c ≡ false → cond (b && c) x 0 ≡ 0
-none_of b c x e = grind arith
+-- steps that fail a test bring nothing
+pub steps_none : (b : PathStep → Bool) (x : ℕ) (rs : List PathStep) → All (λ r. b r ≡ false) rs → sum_by (λ r. cond (b r) x 0) rs ≡ 0
+steps_none b x rs a =
+    sum_by-same_all (λ r. cond (b r) x 0) (λ _. 0) rs
+    (All-weaker (λ r. b r ≡ false) (λ r. cond (b r) x 0 ≡ 0) (λ r e. ap (λ z. cond z x 0) e) rs a)
+    ∙ sum_by-nothing rs
 
-differ : (p q : Place) → p ≢ q → same_place p q ≡ false
-differ p q h = elim (cases_Bool (same_place p q)) [ inl e ↦ absurd (h (same-place p q e)) | inr e ↦ e ]
+and_none : (b c : Bool) → c ≡ false → (b && c) ≡ false
+and_none b c e = grind arith
+
+elsewhere : (b : Bool) (p q : Place) → p ≢ q → (b && same_place p q) ≡ false
+elsewhere b p q h = elim (cases_Bool (same_place p q)) [ inl e ↦ absurd (h (same-place p q e)) | inr e ↦ and_none b (same_place p q) e ]
 
 -- what a path leaves at a place that it doesn't visit
+none_there : (b : PathStep → Bool) (x : ℕ) (p : Place) (rs : List PathStep) → All (λ r. r.place ≢ p) rs
+    → sum_by (λ r. cond (b r && same_place r.place p) x 0) rs ≡ 0
+none_there b x p rs a =
+    steps_none (λ r. b r && same_place r.place p) x rs
+    (All-weaker (λ (r : PathStep). r.place ≢ p) (λ r. (b r && same_place r.place p) ≡ false) (λ r h. elsewhere (b r) r.place p h) rs a)
+
 pub added_none : (rs : List PathStep) (x : ℕ) (p : Place) → All (λ r. r.place ≢ p) rs → added rs x p ≡ 0
 unfolding added
-added_none [] x p a = refl
-added_none (r ∷ rs) x p a =
-    omega (
-      arith,
-      sum_by-cons (λ (y : PathStep). cond (not y.back && same_place y.place p) x 0) r rs,
-      none_of (not r.back) (same_place r.place p) x (differ r.place p (All-head (λ (r : PathStep). r.place ≢ p) r rs a)),
-      added_none rs x p (All-tail (λ (r : PathStep). r.place ≢ p) r rs a),
-    )
+added_none rs x p a = none_there (λ r. not r.back) x p rs a
 
 pub taken_none : (rs : List PathStep) (x : ℕ) (p : Place) → All (λ r. r.place ≢ p) rs → taken rs x p ≡ 0
 unfolding taken
-taken_none [] x p a = refl
-taken_none (r ∷ rs) x p a =
-    omega (
-      arith,
-      sum_by-cons (λ (y : PathStep). cond (y.back && same_place y.place p) x 0) r rs,
-      none_of r.back (same_place r.place p) x (differ r.place p (All-head (λ (r : PathStep). r.place ≢ p) r rs a)),
-      taken_none rs x p (All-tail (λ (r : PathStep). r.place ≢ p) r rs a),
-    )
+taken_none rs x p a = none_there (λ r. r.back) x p rs a
 
 -- a path forwards adds the people to each of its places
 pub added_on : (path : List PathStep) (x i : ℕ) (d : PathStep) → All (λ r. r.back ≡ false) path → i < length path → x ≤ added path x (get_or path i d).place
@@ -152,7 +149,7 @@ added_some [] x p some = absurd (omega (arith, some))
 added_some (r ∷ rs) x p some = elim (cases_Bool (same_place r.place p)) [
   | inl e ↦ (0, r, omega arith, refl, same-place r.place p e)
   | inr e ↦
-      let none = none_of (not r.back) (same_place r.place p) x e in
+      let none : cond (not r.back && same_place r.place p) x 0 ≡ 0 = ap (λ z. cond z x 0) (and_none (not r.back) (same_place r.place p) e) in
       let more : 0 < added rs x p = omega (arith, some, sum_by-cons (λ (y : PathStep). cond (not y.back && same_place y.place p) x 0) r rs, none) in
       let rest = added_some rs x p more in
       (suc rest.0, rest.1, omega (arith, rest.2), rest.3, rest.4)
@@ -196,7 +193,7 @@ added_fits w (r ∷ rs) x p h a b =
         let same = same-place r.place p e in
         fits_one (same_place r.place p) r.back x (flow_at w p) (limit_at w p) (residual_room w r) (added rs x p) h
         (ap (λ q. cond r.back (flow_at w q) (limit_at w q - flow_at w q)) same) room none rest
-    at_place (inr e) none rest room = rw e (omega (arith, rest, none_of (not r.back) false x refl))
+    at_place (inr e) none rest room = omega (arith, rest, ap (λ z. cond z x 0) (and_none (not r.back) (same_place r.place p) e))
 
 -- a step of a path meets what it needs when the steps before it have been gone over
 pub apart_before : (path : List PathStep) (i : ℕ) (d : PathStep) → AllPairs (λ y z. y.place ≢ z.place) path → i < length path
@@ -269,11 +266,7 @@ door_le w j = sum_places-le w.site _ _ (λ p i. less (head_of w.site p) (flow_at
     less : (e : End) (f : ℕ) → cond (at (Door j) e) f 0 ≤ cond (is_door e) f 0
     less Source f = omega arith
     less (Pair n t) f = omega arith
-    less (Door t) f = at_most (eqb j t) f
-      where
-        at_most : (b : Bool) (f : ℕ) → cond b f 0 ≤ f
-        at_most true f = omega arith
-        at_most false f = omega arith
+    less (Door t) f = cond_most (eqb j t) f
 
 -- no arrival passes the limit on people
 pub few_arrive : (w : Network) (j : ℕ) → IsNet w → flow_into w (at (Door j)) ≤ supply_limit
@@ -282,17 +275,7 @@ few_arrive w j n = omega (arith, door_le w j, n.conserved.sent, n.few_sent)
 -- ---- the ends of a path
 
 pub path_some : (w : Network) (path : List PathStep) (x : ℕ) → IsPushable w path x → 0 < length path
-path_some w [] x p = absurd (no_way p.0 p.1 p.2.origin p.2.leads)
-  where
-    no_way : (e : End) (k : ℕ) → IsOrigin k e → e ≡ Door k → ⊥
-    no_way Source k o h = cc
-    no_way (Pair n t) k o h = o
-    no_way (Door j) k o h = let same = ap door h in omega (arith, o, same)
-      where
-        door : End → ℕ
-        door Source = 0
-        door (Pair n t) = 0
-        door (Door t) = t
+path_some w [] x p = absurd (omega (arith, subst (λ e. IsOrigin p.1 e) p.2.leads p.2.origin))
 path_some w (r ∷ rs) x p = omega arith
 
 pub first_start : (s : Site) (e f : End) (path : List PathStep) (d : PathStep) → Leads s e path f → 0 < length path → start_of s (get_or path 0 d) ≡ e

@@ -1,11 +1,11 @@
 -- What becomes of a net when a limit is set, and when flow is taken off.
-use Rattle.std.specs.Prelude.{◌≡◌, ◌≢◌, ℕ, ◌+◌, ◌≤◌, ◌<◌, if◌then◌else◌, List, length, Option, MatchOption, IsFalse}
+use Rattle.std.specs.Prelude.{◌≡◌, ◌≢◌, ℕ, ◌+◌, ◌≤◌, ◌<◌, ◌==◌, if◌then◌else◌, Bool, false, List, length, slice_index, Option, None, Some, MatchOption, IsFalse}
 use Rattle.std.specs.List.{All, AllPairs, Any}
 use Rattle.residual_net.specs.declared.place.Place.{Place}
 use Rattle.residual_net.specs.declared.place.Place.TheVariants.{Arc}
 use Rattle.time_expansion.specs.Expansion.{to_at}
 use Rattle.residual_net.specs.declared.place.PathStep.{PathStep}
-use Rattle.residual_net.specs.Site.{Site, End, IsPlace, arrival_at, head_of, is_source, same_place, sum_places, tail_of}
+use Rattle.residual_net.specs.Site.{Site, End, IsPlace, arrival_at, exit_at, is_door, is_source, same_place, sum_places, tail_of}
 use Rattle.residual_net.specs.Site.End.{Source, Pair, Door}
 use Rattle.residual_net.specs.Network.{Network, IsGrid, IsStored, excess_at, flow_at, limit_at}
 use Rattle.residual_net.specs.Route.{Leads, added}
@@ -22,31 +22,28 @@ pub record IsLimitSet (w v : Network) (p : Place) (people : ℕ) : Type 0 where
   pub flows : (q : Place) → IsPlace w.site q → flow_at v q ≡ flow_at w q
   pub limits : (q : Place) → IsPlace w.site q → limit_at v q ≡ (if same_place p q then people else limit_at w q)
 
--- steps forwards over places with flow, from one end to another
-pub record IsWalk (w : Network) (path : List PathStep) (e f : End) : Type 0 where
-  pub forwards : All (λ x. IsFalse x.back) path
-  pub places : All (λ x. IsPlace w.site x.place) path
-  pub flows : All (λ x. 0 < flow_at w x.place) path
+-- a step forwards over a place with flow
+abbrev pub IsAlong : Network → PathStep → Type 0
+IsAlong w x = IsFalse x.back × IsPlace w.site x.place × (0 < flow_at w x.place)
+
+-- how far on an end is: the source comes first, and then the moments
+abbrev pub rank : End → ℕ
+rank Source = 0
+rank (Pair n t) = t + 1
+rank (Door t) = t + 1
+
+-- a walk along flow from one end to another and over a place, with no more steps than the ends are apart
+pub record IsWalk (w : Network) (p : Place) (path : List PathStep) (e f : End) : Type 0 where
+  pub along : All (IsAlong w) path
   pub leads : Leads w.site e path f
-
--- the moment of an end
-abbrev pub end_moment : End → ℕ
-end_moment Source = 0
-end_moment (Pair n t) = t
-end_moment (Door t) = t
-
--- a walk from a supply to a place and over it, with at most as many steps as its last moment and one more
-pub record IsWalkBack (w : Network) (p : Place) (path : List PathStep) : Type 0 where
-  pub walk : IsWalk w path Source (head_of w.site p)
   pub through : Any (λ x. x.place ≡ p) path
-  pub place : IsPlace w.site p
-  pub some : 0 < flow_at w p
-  pub short : length path ≤ end_moment (head_of w.site p) + 1
+  pub short : length path + rank e ≤ rank f
 
--- a walk from a supply to an arrival, over a place
-pub record IsWholeWalk (w : Network) (p : Place) (path : List PathStep) : Type 0 where
-  pub arrives : (k : ℕ) × IsWalk w path Source (Door k)
-  pub through : Any (λ x. x.place ≡ p) path
+-- a node at a moment that people can be at
+pub record IsOpenPair (s : Site) (n t : ℕ) : Type 0 where
+  pub node : n < s.shape.nodes
+  pub moment : t ≤ s.shape.horizon
+  pub no_exit : IsFalse (exit_at s n)
 
 -- the arc, where there is one with flow, leads into a node at a moment, and else no arc with flow does
 abbrev pub IsArcInto : Network → ℕ → ℕ → Option Place → Type 0
@@ -54,13 +51,6 @@ IsArcInto w n t r =
     MatchOption r
     ((a s : ℕ) → IsPlace w.site (Arc a s) → to_at w.site.shape a ≡ n → arrival_at w.site a s ≡ t → flow_at w (Arc a s) ≡ 0)
     (λ p. (a : ℕ) × (s : ℕ) × (p ≡ Arc a s) × IsPlace w.site p × (to_at w.site.shape a ≡ n) × (arrival_at w.site a s ≡ t) × (0 < flow_at w p))
-
--- each place of the path has the people, and none stands on it twice
-pub record IsTakeable (w : Network) (path : List PathStep) (people : ℕ) : Type 0 where
-  pub forwards : All (λ x. IsFalse x.back) path
-  pub places : All (λ x. IsPlace w.site x.place) path
-  pub enough : All (λ x. people ≤ flow_at w x.place) path
-  pub apart : AllPairs (λ x y. x.place ≢ y.place) path
 
 -- the people are taken off each place of a path forwards, and nothing else changes
 pub record IsTaken (w v : Network) (path : List PathStep) (people : ℕ) : Type 0 where
@@ -76,6 +66,12 @@ pub record IsFlowPath (s : Site) (path : List PathStep) (k : ℕ) : Type 0 where
   pub leads : Leads s Source path (Door k)
   pub apart : AllPairs (λ x y. x.place ≢ y.place) path
 
+-- some people, whom each place of a flow path has
+pub record IsTakeable (w : Network) (path : List PathStep) (people : ℕ) : Type 0 where
+  pub some : 1 ≤ people
+  pub arrives : (k : ℕ) × IsFlowPath w.site path k
+  pub enough : All (λ x. people ≤ flow_at w x.place) path
+
 -- some people, at most the excess of a place, are taken off each place of one flow path through it, and nothing else changes
 pub record IsCancelled (w v : Network) (p : Place) (path : List PathStep) (people : ℕ) : Type 0 where
   pub some : 1 ≤ people
@@ -84,12 +80,24 @@ pub record IsCancelled (w v : Network) (p : Place) (path : List PathStep) (peopl
   pub through : Any (λ x. x.place ≡ p) path
   pub taken : IsTaken w v path people
 
+-- the moment is told where the end is an arrival, and is the arrival's
+abbrev pub IsDoorAt : End → Option ℕ → Type 0
+IsDoorAt e moment = MatchOption moment (IsFalse (is_door e)) (λ k. e ≡ Door k)
+
+-- whether a moment is the one that is told
+abbrev pub is_moment : Option ℕ → ℕ → Bool
+is_moment None j = false
+is_moment (Some k) j = j == k
+
+-- two lists differ by some people at the moment that is told
+pub record IsFewerBy (fewer more : List ℕ) (moment : Option ℕ) (people : ℕ) : Type 0 where
+  pub length_same : length fewer ≡ length more
+  pub each : (j : ℕ) → slice_index fewer j + (if is_moment moment j then people else 0) ≡ slice_index more j
+
 -- the cells are those after people were taken off a flow path, and the arrivals kept are those before
 pub record IsLowering (v : Network) (arrivals : List ℕ) (path : List PathStep) (people : ℕ) : Type 0 where
   pub before : Network
   pub stored : IsStored before arrivals
-  pub arrives : (k : ℕ) × IsFlowPath before.site path k
-  pub some : 1 ≤ people
-  pub enough : All (λ x. people ≤ flow_at before x.place) path
+  pub takeable : IsTakeable before path people
   pub taken : IsTaken before v path people
   pub grid : IsGrid v

@@ -90,12 +90,6 @@ pub record IsGrid (w : Network) : Type 0 where
   pub full : length w.cells ≡ all_cells w.site
   pub saved_full : length w.saved ≡ all_cells w.site
 
--- no flow and no limit anywhere
-pub record IsBlank (w : Network) : Type 0 where
-  pub grid : IsGrid w
-  pub flows : (p : Place) → IsPlace w.site p → flow_at w p ≡ 0
-  pub limits : (p : Place) → IsPlace w.site p → limit_at w p ≡ 0
-
 -- the net with another cell at a place
 abbrev pub with_cell : Network → Place → Cell → Network
 with_cell w p c = record w { cells = slice_set w.cells (cell_of w.site p) c }

@@ -1,13 +1,14 @@
 -- How a net of a model begins.
-use Rattle.std.specs.Prelude.{◌≡◌, ℕ, Bool, true, false, if◌then◌else◌, List, map}
+use Rattle.std.specs.Prelude.{◌≡◌, ℕ, zero, suc, ◌+◌, Bool, true, false, if◌then◌else◌, List, [], ◌++◌, length, map}
+use Rattle.evac_law.specs.Sums.{below}
 use Rattle.evac_law.specs.declared.model.Model.{Model}
 use Rattle.residual_net.specs.declared.place.Place.{Place}
 use Rattle.residual_net.specs.declared.place.Place.TheVariants as places
 use Rattle.residual_net.specs.declared.place.Cell.{Cell}
 use Rattle.residual_net.specs.declared.start.Kind.{Kind}
 use Rattle.residual_net.specs.declared.start.Kind.TheVariants as kinds
-use Rattle.residual_net.specs.Site.{IsPlace, same_place}
-use Rattle.residual_net.specs.Network.{Network, IsGrid, flow_at, limit_at, saved_of}
+use Rattle.residual_net.specs.Site.{IsPlace}
+use Rattle.residual_net.specs.Network.{Network, IsGrid, flow_at, saved_of}
 use Rattle.residual_net.specs.OfModel.{IsNetOf, model_limit}
 
 -- the place of a kind with a number at a moment
@@ -43,25 +44,22 @@ emptied cells = map (λ c. record { flow = 0; limit = c.limit }) cells
 abbrev pub saved_cells : Bool → List Cell → List Cell → List Cell
 saved_cells is_saved cells saved = if is_saved then saved else emptied cells
 
--- there is no flow yet, and what is saved are the cells as they are
-pub record IsUnused (w : Network) : Type 0 where
-  pub grid : IsGrid w
-  pub empty : emptied w.cells ≡ w.cells
-  pub saved : w.saved ≡ w.cells
+-- the cell of a place of a model, with no flow
+abbrev pub cell_at : Model → Kind → ℕ → ℕ → Cell
+cell_at m k n t = record { flow = 0; limit = model_limit m (place_of k n t) }
 
--- one limit is another, no flow changes, and there is none yet
-pub record IsLimitGiven (w v : Network) (p : Place) (people : ℕ) : Type 0 where
-  pub unused : IsUnused v
-  pub site : v.site ≡ w.site
-  pub flows : (q : Place) → IsPlace w.site q → flow_at v q ≡ flow_at w q
-  pub limits : (q : Place) → IsPlace w.site q → limit_at v q ≡ (if same_place p q then people else limit_at w q)
+-- the cells of the places of a kind with a number
+abbrev pub row_cells : Model → Kind → ℕ → List Cell
+row_cells m k n = map (cell_at m k n) (below (m.horizon + 1))
 
--- the places that pass a test have the limits of a model, and nothing else changed
-pub record SetsLimits (m : Model) (w v : Network) (b : Place → Bool) : Type 0 where
-  pub unused : IsUnused v
-  pub site : v.site ≡ w.site
-  pub flows : (p : Place) → IsPlace w.site p → flow_at v p ≡ flow_at w p
-  pub limits : (p : Place) → IsPlace w.site p → limit_at v p ≡ (if b p then model_limit m p else limit_at w p)
+-- the cells of the places of a kind with the numbers below one
+abbrev pub rows_cells : Model → Kind → ℕ → List Cell
+rows_cells m k zero = []
+rows_cells m k (suc n) = rows_cells m k n ++ row_cells m k n
+
+-- the cells of all places: those of the arcs, the holds and the supplies
+abbrev pub start_cells : Model → List Cell
+start_cells m = (rows_cells m kinds.Arc (length m.arcs) ++ rows_cells m kinds.Hold (length m.nodes)) ++ rows_cells m kinds.Supply (length m.nodes)
 
 -- no flow, the limits of a model, and saved as it is
 pub record StartsAs (m : Model) (w : Network) : Type 0 where

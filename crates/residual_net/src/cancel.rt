@@ -1,10 +1,10 @@
 // A flow path through a place: back to its supply, and on to its arrival.
 ghost use Rattle.std.specs.Prelude.{◌≡◌, ℕ, ◌+◌, ◌<◌, ◌≤◌, IsFalse, IsTrue, MatchOption, length};
-ghost use Rattle.std.specs.List.{All};
-ghost use Rattle.residual_net.specs.Site.{IsPlace, at, exit_at, head_of, is_door, tail_of};
-ghost use Rattle.residual_net.specs.Site.End.{Pair, Source};
+ghost use Rattle.std.specs.List.{All, Any};
+ghost use Rattle.residual_net.specs.Site.{IsPlace, at, head_of, is_door, tail_of};
+ghost use Rattle.residual_net.specs.Site.End.{Door, Pair, Source};
 ghost use Rattle.residual_net.specs.Network.{IsGrid, IsNet, flow_at, flow_into, flow_out};
-ghost use Rattle.residual_net.specs.Change.{IsArcInto, IsTakeable, IsTaken, IsWalkBack, IsWholeWalk};
+ghost use Rattle.residual_net.specs.Change.{IsArcInto, IsFlowPath, IsOpenPair, IsTakeable, IsTaken, IsWalk};
 
 use crate::grid::Grid;
 use crate::path::Path;
@@ -37,7 +37,7 @@ fn ahead(grid: &Grid, place: Place) -> Option<(u32, u16)>
             if grid.is_exit(ends.to) {
                 None
             } else {
-                Some((ends.to, moment + grid.travel(arc)))
+                Some((ends.to, grid.arrives(arc, moment)))
             }
         }
         Place::Hold { node, moment } => Some((node, moment + 1)),
@@ -47,8 +47,7 @@ fn ahead(grid: &Grid, place: Place) -> Option<(u32, u16)>
 
 /// An arc with flow that leads into a node at a moment.
 fn arc_into(grid: &Grid, node: u32, moment: u16) -> Option<Place>
-    requires node { node < grid.now.site.shape.nodes }
-    requires moment { moment ≤ grid.now.site.shape.horizon }
+    requires pair { IsOpenPair grid.now.site node moment }
     ensures { IsArcInto grid.now node moment result }
 {
     let arcs = grid.shape().entering(node);
@@ -69,8 +68,7 @@ fn arc_into(grid: &Grid, node: u32, moment: u16) -> Option<Place>
 
 /// A hold or a supply with flow that leads into a node at a moment, where no arc with flow does.
 fn rest_into(grid: &Grid, node: u32, moment: u16) -> Place
-    requires node { node < grid.now.site.shape.nodes }
-    requires moment { moment ≤ grid.now.site.shape.horizon }
+    requires pair { IsOpenPair grid.now.site node moment }
     requires no_arc { IsArcInto grid.now node moment None }
     requires some { 0 < flow_into grid.now (at (Pair node moment)) }
     ensures place { IsPlace grid.now.site result }
@@ -91,9 +89,7 @@ fn rest_into(grid: &Grid, node: u32, moment: u16) -> Place
 
 /// A place with flow that leads into a node at a moment.
 fn place_into(grid: &Grid, node: u32, moment: u16) -> Place
-    requires node { node < grid.now.site.shape.nodes }
-    requires moment { moment ≤ grid.now.site.shape.horizon }
-    requires open { IsFalse (exit_at grid.now.site node) }
+    requires pair { IsOpenPair grid.now.site node moment }
     requires some { 0 < flow_into grid.now (at (Pair node moment)) }
     ensures place { IsPlace grid.now.site result }
     ensures leads { head_of grid.now.site result ≡ Pair node moment }
@@ -107,8 +103,7 @@ fn place_into(grid: &Grid, node: u32, moment: u16) -> Place
 
 /// A place with flow that leads out of a node at a moment: the hold where it has flow, so that those who leave last are taken off.
 fn place_out(grid: &Grid, node: u32, moment: u16) -> Place
-    requires node { node < grid.now.site.shape.nodes }
-    requires moment { moment ≤ grid.now.site.shape.horizon }
+    requires pair { IsOpenPair grid.now.site node moment }
     requires some { 0 < flow_out grid.now (at (Pair node moment)) }
     ensures place { IsPlace grid.now.site result }
     ensures leads { tail_of grid.now.site result ≡ Pair node moment }
@@ -134,7 +129,7 @@ fn walk_back(grid: &Grid, place: Place, path: &mut Path)
     requires place { IsPlace grid.now.site place }
     requires some { 0 < flow_at grid.now place }
     requires room { grid.now.site.shape.horizon + 2 ≤ path.old.room }
-    ensures walk { IsWalkBack grid.now place path.new.steps }
+    ensures walk { IsWalk grid.now place path.new.steps Source (head_of grid.now.site place) }
     ensures room { path.new.room ≡ path.old.room }
 {
     path.clear();
@@ -153,9 +148,11 @@ fn walk_back(grid: &Grid, place: Place, path: &mut Path)
 /// Adds to a path the steps from a place to an arrival, along flow.
 fn walk_on(grid: &Grid, place: Place, path: &mut Path)
     requires net { IsNet grid.now }
-    requires walk { IsWalkBack grid.now place path.old.steps }
+    requires place { IsPlace grid.now.site place }
+    requires some { 0 < flow_at grid.now place }
+    requires walk { IsWalk grid.now place path.old.steps Source (head_of grid.now.site place) }
     requires room { grid.now.site.shape.horizon + 2 ≤ path.old.room }
-    ensures walk { IsWholeWalk grid.now place path.new.steps }
+    ensures walk { (k : ℕ) × IsWalk grid.now place path.new.steps Source (Door k) }
     ensures room { path.new.room ≡ path.old.room }
 {
     let mut here = place;
@@ -174,7 +171,9 @@ pub fn find_path(grid: &Grid, place: Place, path: &mut Path)
     requires place { IsPlace grid.now.site place }
     requires some { 0 < flow_at grid.now place }
     requires room { grid.now.site.shape.horizon + 2 ≤ path.old.room }
-    ensures walk { IsWholeWalk grid.now place path.new.steps }
+    ensures arrives { (k : ℕ) × IsFlowPath grid.now.site path.new.steps k }
+    ensures through { Any (λ x. x.place ≡ place) path.new.steps }
+    ensures flows { All (λ x. 0 < flow_at grid.now x.place) path.new.steps }
     ensures room { path.new.room ≡ path.old.room }
 {
     walk_back(grid, place, path);

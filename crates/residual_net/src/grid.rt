@@ -1,11 +1,11 @@
 // The cells of a net, with no rule on its flow.
-ghost use Rattle.std.specs.Prelude.{◌≡◌, ◌∷◌, [], ◌≤◌, ◌<◌, ◌+◌, IsTrue, IfOk, length, replicate, vec_capacity};
-ghost use Rattle.residual_net.specs.Site.{IsSite, IsPlace, arrival_at, cell_of, exit_at, head_of, is_door, tail_of};
-ghost use Rattle.residual_net.specs.Site.End.{Door, Pair, Source};
-ghost use Rattle.residual_net.specs.Network.{IsBlank, IsGrid, flow_at, limit_at, no_cell, residual_room, saved_of, with_cell, with_saved};
+ghost use Rattle.std.specs.Prelude.{◌≡◌, ◌∷◌, [], ◌≤◌, ◌<◌, ◌+◌, IfOk, length, vec_capacity};
+ghost use Rattle.residual_net.specs.Site.{IsSite, IsPlace, all_cells, arrival_at, cell_of, exit_at, head_of, start_of};
+ghost use Rattle.residual_net.specs.Network.{IsGrid, flow_at, limit_at, residual_room, saved_of, with_cell, with_saved};
 ghost use Rattle.residual_net.specs.Route.{IsPushed};
-ghost use Rattle.residual_net.specs.Change.{IsLimitSet};
-ghost use Rattle.residual_net.specs.Start.{IsLimitGiven, IsUnused, saved_cells};
+ghost use Rattle.residual_net.specs.Change.{IsDoorAt, IsLimitSet};
+ghost use Rattle.residual_net.specs.Start.{emptied, saved_cells};
+ghost use Rattle.residual_net.specs.declared.place.Place.TheVariants.{Arc};
 
 use crate::place::{Cell, PathStep, Place};
 use std::alloc::{AllocError, Global};
@@ -37,14 +37,6 @@ impl Model for Grid {
     ghost invariant = { λ g. IsGrid (record { site = record { shape = g.shape; exits = g.exits.items; travels = g.travels.items }; cells = g.cells.items; saved = saved_cells g.is_saved g.cells.items g.saved.items }) × (length g.cells.items ≤ vec_capacity g.saved) };
 }
 
-/// Cells of no flow and no limit.
-fn blank_cells(alloc: Global, count: usize) -> Result<Vec<Cell>, AllocError>
-    ensures { IfOk result (λ r. r.items ≡ replicate count no_cell) }
-{
-    let blank = Cell { flow: 0, limit: 0 };
-    vec![in alloc; blank; count]
-}
-
 /// Writes what is saved, where it isn't written yet.
 fn write_saved(saved: &mut Vec<Cell>, cells: &[Cell], is_saved: bool)
     requires { length cells.now ≤ vec_capacity saved.old }
@@ -62,22 +54,19 @@ fn write_saved(saved: &mut Vec<Cell>, cells: &[Cell], is_saved: bool)
 }
 
 impl Grid {
-    /// Cells with no flow and no limit.
+    /// The cells of a network, of which nothing is saved yet.
     pub fn new(
         alloc: Global,
         shape: Shape,
         exits: Vec<bool>,
         travels: Vec<u16>,
+        cells: Vec<Cell>,
     ) -> Result<Grid, AllocError>
-        requires { IsSite (record { shape = shape; exits = exits.items; travels = travels.items }) }
-        ensures site { IfOk result (λ g. g.site ≡ record { shape = shape; exits = exits.items; travels = travels.items }) }
-        ensures blank { IfOk result IsBlank }
-        ensures unused { IfOk result IsUnused }
+        requires site { IsSite (record { shape = shape; exits = exits.items; travels = travels.items }) }
+        requires full { length cells.items ≡ all_cells (record { shape = shape; exits = exits.items; travels = travels.items }) }
+        ensures { IfOk result (λ g. g ≡ record { site = record { shape = shape; exits = exits.items; travels = travels.items }; cells = cells.items; saved = emptied cells.items }) }
     {
-        let supplies = shape.nodes() as usize * (shape.horizon() as usize + 1);
-        let count = shape.cells() as usize + supplies;
-        let cells = blank_cells(alloc, count)?;
-        let saved = Vec::with_capacity(alloc, count)?;
+        let saved = Vec::with_capacity(alloc, cells.len())?;
         Ok(Grid {
             shape,
             exits,
@@ -117,6 +106,15 @@ impl Grid {
         ensures { arrival_at self.now.site arc 0 ≡ result }
     {
         self.travels.as_slice()[arc as usize]
+    }
+
+    /// When people arrive who enter an arc at a moment.
+    pub fn arrives(&self, arc: u32, moment: u16) -> u16
+        requires { IsPlace self.now.site (Arc arc moment) }
+        ensures { result ≡ arrival_at self.now.site arc moment }
+    {
+        let _ = self.shape();
+        moment + self.travel(arc)
     }
 
     /// The number of the cell of a place.
@@ -176,17 +174,6 @@ impl Grid {
         let _ = &self.cells;
     }
 
-    /// Gives a place of a grid that nobody has used yet a limit.
-    pub fn give_limit(&mut self, place: Place, limit: u32)
-        requires place { IsPlace self.old.site place }
-        requires unused { IsUnused self.old }
-        ensures { IsLimitGiven self.old self.new place limit }
-    {
-        let at = self.place(place);
-        self.cells[at] = Cell { flow: 0, limit };
-        self.is_saved = false;
-    }
-
     /// Gives a place another limit.
     pub fn set_limit(&mut self, place: Place, limit: u32)
         requires { IsPlace self.old.site place }
@@ -222,15 +209,33 @@ impl Grid {
             .copy_from_slice(self.saved.as_slice());
     }
 
-    /// The moment of the arrival that a move into an exit leads to.
-    pub fn arrival(&self, place: Place) -> u16
-        requires place { IsPlace self.now.site place }
-        requires door { IsTrue (is_door (head_of self.now.site place)) }
-        ensures { head_of self.now.site place ≡ Door result }
+    /// The moment of the arrival that a place leads to, where it leads to one.
+    pub fn arrival(&self, place: Place) -> Option<u16>
+        requires { IsPlace self.now.site place }
+        ensures { IsDoorAt (head_of self.now.site place) result }
     {
         match place {
-            Place::Arc { arc, moment } => moment + self.travels[arc as usize],
-            Place::Hold { .. } | Place::Supply { .. } => 0,
+            Place::Arc { arc, moment } => {
+                let ends = self.shape().ends()[arc as usize];
+                if self.is_exit(ends.to) {
+                    Some(self.arrives(arc, moment))
+                } else {
+                    None
+                }
+            }
+            Place::Hold { .. } | Place::Supply { .. } => None,
+        }
+    }
+
+    /// The moment of the arrival that a step starts from, where it starts from one.
+    pub fn origin(&self, step: PathStep) -> Option<u16>
+        requires { IsPlace self.now.site step.place }
+        ensures { IsDoorAt (start_of self.now.site step) result }
+    {
+        if step.back {
+            self.arrival(step.place)
+        } else {
+            None
         }
     }
 }

@@ -1,11 +1,11 @@
 // A net: its flow keeps conservation.
-ghost use Rattle.std.specs.Prelude.{◌≡◌, ◌+◌, ◌<◌, ◌≤◌, IfOk, IsTrue, length, replicate};
+ghost use Rattle.std.specs.Prelude.{◌≡◌, ◌+◌, ◌<◌, ◌≤◌, IfOk, IfSome, IsTrue, length, replicate, slice_index};
 ghost use Rattle.evac_law.specs.Building.{IsValid};
 ghost use Rattle.residual_net.specs.Limits.{supply_limit};
 ghost use Rattle.residual_net.specs.Site.{IsPlace, arrival_at, exit_at, is_barred};
 ghost use Rattle.residual_net.specs.Network.{IsGrid, IsNet, IsStored, IsWithinLimits, arrived_by, excess_at, flow_at, limit_at, residual_room, saved_of, unsent_at, with_saved};
 ghost use Rattle.residual_net.specs.Route.{IsPushable, IsPushed, IsUnderway};
-ghost use Rattle.residual_net.specs.Change.{IsCancelled, IsLimitSet, IsLowering, supply_limits_with};
+ghost use Rattle.residual_net.specs.Change.{IsCancelled, IsFewerBy, IsLimitSet, IsLowering, supply_limits_with};
 ghost use Rattle.residual_net.specs.OfModel.{IsNetOf, last_move, plan_of};
 ghost use Rattle.residual_net.specs.declared.place.Place.{Place};
 ghost use Rattle.residual_net.specs.declared.place.Place.TheVariants.{Arc, Hold, Supply};
@@ -55,6 +55,29 @@ fn shift_all(grid: &mut Grid, path: &[PathStep], people: u32)
     }
 }
 
+/// Counts people no more at a moment, where one is told.
+fn lower(arrivals: &mut [u32], moment: Option<u16>, people: u32)
+    requires { IfSome moment (λ j. (j < length arrivals.old) × (people ≤ slice_index arrivals.old j)) }
+    ensures { IsFewerBy arrivals.new arrivals.old moment people }
+{
+    let Some(moment) = moment else {
+        return;
+    };
+    arrivals[moment as usize] -= people;
+}
+
+/// Counts people at a moment, where one is told.
+#[tactic(auto, unfolding(crate::specs::Limits::supply_limit))]
+fn raise(arrivals: &mut [u32], moment: Option<u16>, people: u32)
+    requires { IfSome moment (λ j. (j < length arrivals.old) × (slice_index arrivals.old j + people ≤ supply_limit)) }
+    ensures { IsFewerBy arrivals.old arrivals.new moment people }
+{
+    let Some(moment) = moment else {
+        return;
+    };
+    arrivals[moment as usize] += people;
+}
+
 /// Counts the people of a push at the moment at which the path arrives, and no more at the one where it begins.
 fn move_arrivals(arrivals: &mut [u32], grid: &Grid, path: &[PathStep], people: u32)
     requires some { 1 ≤ people }
@@ -63,12 +86,10 @@ fn move_arrivals(arrivals: &mut [u32], grid: &Grid, path: &[PathStep], people: u
 {
     let first = path[0];
     let last = path[path.len() - 1];
-    let to = grid.arrival(last.place) as usize;
-    if first.back {
-        let from = grid.arrival(first.place) as usize;
-        arrivals[from] -= people;
-    }
-    arrivals[to] += people;
+    let from = grid.origin(first);
+    let to = grid.arrival(last.place);
+    lower(arrivals, from, people);
+    raise(arrivals, to, people);
 }
 
 /// Counts the people who were taken off a path no more at the moment at which it arrives.
@@ -77,8 +98,8 @@ fn lower_arrivals(arrivals: &mut [u32], grid: &Grid, path: &[PathStep], people: 
     ensures { IsStored grid.now arrivals.new }
 {
     let last = path[path.len() - 1];
-    let at = grid.arrival(last.place) as usize;
-    arrivals[at] -= people;
+    let from = grid.arrival(last.place);
+    lower(arrivals, from, people);
 }
 
 /// A list of zeros.

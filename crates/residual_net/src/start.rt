@@ -1,14 +1,13 @@
 // How a net of a model begins: with no flow, and with the model's limits.
-ghost use Rattle.std.specs.Prelude.{◌≡◌, ℕ, ◌+◌, ◌<◌, ◌≤◌, ◌==◌, ◌&&◌, IfOk, IsTrue, length, map};
+ghost use Rattle.std.specs.Prelude.{◌≡◌, ℕ, ◌++◌, ◌<◌, IfOk, map};
 ghost use Rattle.evac_law.specs.Building.{IsValid};
 ghost use Rattle.evac_law.specs.Names.{is_exit};
 ghost use Rattle.residual_net.specs.Site.{IsPlace};
 ghost use Rattle.residual_net.specs.OfModel.{model_limit, site_of};
-ghost use Rattle.residual_net.specs.declared.place.Place.{Place};
-ghost use Rattle.residual_net.specs.Start.{IsUnused, SetsLimits, StartsAs, is_kind, row_of, place_of};
+ghost use Rattle.residual_net.specs.Start.{StartsAs, place_of, row_cells, rows_cells};
 
 use crate::grid::Grid;
-use crate::place::Place;
+use crate::place::{Cell, Place};
 use evac_law::Model;
 use std::alloc::{AllocError, Global};
 use time_expansion::{Ends, Shape};
@@ -102,32 +101,29 @@ pub fn place_of(kind: Kind, number: u32, moment: u16) -> Place
     }
 }
 
-/// Gives the places of a kind with a number the model's limits.
-fn limit_row(grid: &mut Grid, model: &Model, kind: Kind, number: u32)
+/// Adds the cells of the places of a kind with a number, with no flow and the model's limits.
+fn add_row(cells: &mut Vec<Cell>, model: &Model, kind: Kind, number: u32) -> Result<(), AllocError>
     requires valid { IsValid model.now }
-    requires site { grid.old.site ≡ site_of model.now }
-    requires unused { IsUnused grid.old }
-    requires number { IsPlace grid.old.site (place_of kind number 0) }
-    ensures { SetsLimits model.now grid.old grid.new (λ p. is_kind kind p && row_of p == number) }
+    requires number { IsPlace (site_of model.now) (place_of kind number 0) }
+    ensures { IfOk result (λ _. cells.new.items ≡ cells.old.items ++ row_cells model.now kind number) }
 {
     for moment in 0..model.horizon + 1 {
-        let place = place_of(kind, number, moment);
-        grid.give_limit(place, limit_of(model, place));
+        let limit = limit_of(model, place_of(kind, number, moment));
+        cells.push(Cell { flow: 0, limit })?;
     }
+    Ok(())
 }
 
-/// Gives the places of a kind the model's limits.
-fn limit_rows(grid: &mut Grid, model: &Model, kind: Kind, count: u32)
+/// Adds the cells of the places of a kind.
+fn add_rows(cells: &mut Vec<Cell>, model: &Model, kind: Kind, count: u32) -> Result<(), AllocError>
     requires valid { IsValid model.now }
-    requires site { grid.old.site ≡ site_of model.now }
-    requires unused { IsUnused grid.old }
-    requires numbers { (n : ℕ) → n < count → IsPlace grid.old.site (place_of kind n 0) }
-    requires all { (p : Place) → IsPlace grid.old.site p → IsTrue (is_kind kind p) → row_of p < count }
-    ensures { SetsLimits model.now grid.old grid.new (is_kind kind) }
+    requires numbers { (n : ℕ) → n < count → IsPlace (site_of model.now) (place_of kind n 0) }
+    ensures { IfOk result (λ _. cells.new.items ≡ cells.old.items ++ rows_cells model.now kind count) }
 {
     for number in 0..count {
-        limit_row(grid, model, kind, number);
+        add_row(cells, model, kind, number)?;
     }
+    Ok(())
 }
 
 /// The cells of a net with no flow and the limits of a model.
@@ -141,9 +137,11 @@ pub fn grid_of(alloc: Global, model: &Model) -> Result<Grid, AllocError>
     let shape = Shape::new(alloc, nodes, ends.as_slice(), model.horizon)?;
     let exits = exits_of(alloc, model)?;
     let travels = travels_of(alloc, model)?;
-    let mut grid = Grid::new(alloc, shape, exits, travels)?;
-    limit_rows(&mut grid, model, Kind::Arc, arcs);
-    limit_rows(&mut grid, model, Kind::Hold, nodes);
-    limit_rows(&mut grid, model, Kind::Supply, nodes);
+    let supplies = nodes as usize * (model.horizon as usize + 1);
+    let mut cells = Vec::with_capacity(alloc, shape.cells() as usize + supplies)?;
+    add_rows(&mut cells, model, Kind::Arc, arcs)?;
+    add_rows(&mut cells, model, Kind::Hold, nodes)?;
+    add_rows(&mut cells, model, Kind::Supply, nodes)?;
+    let grid = Grid::new(alloc, shape, exits, travels, cells)?;
     Ok(grid)
 }

@@ -1,5 +1,6 @@
-use Rattle.std.proofs.Common.{◌≡◌, ℕ, ◌<◌, get_or}
-use Rattle.time_expansion.specs.Expansion.{arcs_from}
+use Rattle.std.proofs.Common.{◌≡◌, ℕ, ◌<◌, get_or, length}
+use Rattle.std.specs.List.{All}
+use Rattle.time_expansion.specs.Expansion.{arcs_from, from_at}
 use Rattle.residual_net.specs.declared.place.Place.TheVariants.{Arc}
 use Rattle.residual_net.specs.Network.{flow_at}
 use Rattle.residual_net.proofs.cancel.place_out.Given as goal
@@ -7,5 +8,6 @@ use Rattle.residual_net.proofs.cancel.place_out.Given as goal
 abbrev pub invariant-loop-arc : goal.invariant-loop-arc
 invariant-loop-arc l = record {
   arcs : l.arcs ≡ arcs_from l.grid.site.shape l.node;
+  listed : All (λ a. (a < length l.grid.site.shape.ends) × (from_at l.grid.site.shape a ≡ l.node)) l.arcs;
   none : (i : ℕ) → i < l.arc-index → flow_at l.grid (Arc (get_or l.arcs i 0) l.moment) ≡ 0;
 }

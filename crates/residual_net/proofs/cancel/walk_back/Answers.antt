@@ -4,10 +4,11 @@ use Rattle.residual_net.specs.Route.{Trail}
 use Rattle.residual_net.proofs.Walks.{BackSoFar, back_more, behind_is}
 use Rattle.residual_net.proofs.cancel.walk_back.Goals as goal
 
-pub place_into-here-requires-clause-some : goal.place_into-here-requires-clause-some
-place_into-here-requires-clause-some c =
+pub place_into-here-requires : goal.place_into-here-requires
+place_into-here-requires c =
     let back = c.loop-node.invariant.back in
-    (behind_is c.args.grid.now c.requires.net c.loop-node.here back.place back.some c.in-Some.node c.in-Some.moment c.in-Some.ensures).some
+    let here = behind_is c.args.grid.now c.requires.net c.loop-node.here back.place back.some c.in-Some.node c.in-Some.moment c.in-Some.ensures in
+    record { pair = here.0; some = here.1 }
 
 pub loop-node-preserved : goal.loop-node-preserved
 loop-node-preserved c =

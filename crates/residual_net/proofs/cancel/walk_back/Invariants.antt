@@ -1,5 +1,7 @@
 use Rattle.std.proofs.Common.{◌≡◌}
-use Rattle.residual_net.proofs.Walks.{BackSoFar, left_back}
+use Rattle.residual_net.specs.Change.{rank}
+use Rattle.residual_net.specs.Site.{tail_of}
+use Rattle.residual_net.proofs.Walks.{BackSoFar}
 use Rattle.residual_net.proofs.cancel.walk_back.Given as goal
 
 abbrev pub invariant-loop-node : goal.invariant-loop-node
@@ -9,4 +11,4 @@ invariant-loop-node l = record {
 }
 
 abbrev pub decreases-loop-node : goal.decreases-loop-node
-decreases-loop-node l = left_back l.grid.site l.here
+decreases-loop-node l = rank (tail_of l.grid.site l.here)

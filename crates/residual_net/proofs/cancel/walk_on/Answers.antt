@@ -4,10 +4,11 @@ use Rattle.residual_net.specs.Route.{Trail}
 use Rattle.residual_net.proofs.Walks.{OnSoFar, on_more, ahead_is}
 use Rattle.residual_net.proofs.cancel.walk_on.Goals as goal
 
-pub place_out-here-requires-clause-some : goal.place_out-here-requires-clause-some
-place_out-here-requires-clause-some c =
+pub place_out-here-requires : goal.place_out-here-requires
+place_out-here-requires c =
     let on = c.loop-node.invariant.on in
-    (ahead_is c.args.grid.now c.requires.net c.loop-node.here on.place on.some c.in-Some.node c.in-Some.moment c.in-Some.ensures).some
+    let here = ahead_is c.args.grid.now c.requires.net c.loop-node.here on.place on.some c.in-Some.node c.in-Some.moment c.in-Some.ensures in
+    record { pair = here.0; some = here.1 }
 
 pub loop-node-preserved : goal.loop-node-preserved
 loop-node-preserved c =

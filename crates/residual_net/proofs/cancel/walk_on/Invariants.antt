@@ -1,5 +1,5 @@
-use Rattle.std.proofs.Common.{◌≡◌, ◌-◌}
-use Rattle.residual_net.specs.Change.{end_moment}
+use Rattle.std.proofs.Common.{◌≡◌, ◌+◌, ◌-◌}
+use Rattle.residual_net.specs.Change.{rank}
 use Rattle.residual_net.specs.Site.{head_of}
 use Rattle.residual_net.proofs.Walks.{OnSoFar}
 use Rattle.residual_net.proofs.cancel.walk_on.Given as goal
@@ -11,4 +11,4 @@ invariant-loop-node l = record {
 }
 
 abbrev pub decreases-loop-node : goal.decreases-loop-node
-decreases-loop-node l = l.grid.site.shape.horizon - end_moment (head_of l.grid.site l.here)
+decreases-loop-node l = l.grid.site.shape.horizon + 1 - rank (head_of l.grid.site l.here)

@@ -1,5 +1,5 @@
-use Rattle.std.proofs.Common.{◌∙◌, ap, get_or, set}
-use Rattle.residual_net.specs.Network.{Network, limit_at, no_cell}
+use Rattle.std.proofs.Common.{◌∙◌, ap, set}
+use Rattle.residual_net.specs.Network.{Network, limit_at}
 use Rattle.residual_net.specs.Site.{cell_of}
 use Rattle.residual_net.proofs.Saving.{other_cells, same_limit_saved}
 use Rattle.residual_net.proofs.grid.Grid.put.Goals as goal
