@@ -113,6 +113,7 @@ impl Grid {
         requires { IsPlace self.now.site (Arc arc moment) }
         ensures { result ≡ arrival_at self.now.site arc moment }
     {
+        // The network's sizes bound the sum.
         let _ = self.shape();
         moment + self.travel(arc)
     }

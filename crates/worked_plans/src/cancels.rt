@@ -22,6 +22,7 @@ fn close_the_way<L: Ledger>(rt: &impl Abort, net: &mut Net, path: &mut Path, bla
     let way = Place::Arc { arc: 2, moment: 0 };
     let mut steps = Steps::<L>::new(blank);
     net.save();
+    // What holds of every net bounds its supplies.
     let _ = net.shape();
     net.set_limit(way, 0);
     assert_eq!(rt; net.excess(way), 1);
