@@ -98,13 +98,6 @@ module _ (v : Network) (arrivals : List ℕ) (path : List PathStep) (x : ℕ) (d
   some : 0 < length path
   some = path_some w path x u.pushable
 
-  pub ends : (0 < length path) × IsPlace v.site first.place × IsPlace v.site last.place
-  ends = (
-    some,
-    subst (λ z. IsPlace z first.place) (sym u.pushed.site) (u.pushable.2.places 0 d some),
-    subst (λ z. IsPlace z last.place) (sym u.pushed.site) (u.pushable.2.places (length path - 1) d (omega (arith, some))),
-  )
-
   last_head : head_of w.site last.place ≡ Door u.pushable.1
   last_head = (into_door w.site last u.pushable.1 (last_stop w.site u.pushable.0 (Door u.pushable.1) path d u.pushable.2.leads some)).1
 

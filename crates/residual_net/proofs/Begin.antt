@@ -87,9 +87,6 @@ site_made m shape n ends exits travels e f g h i =
 step_test : (a n s t : ℕ) → (eqb a n && ltb s (t + 1)) ≡ ((eqb n a && eqb t s) || (eqb a n && ltb s t))
 step_test a n s t = grind (arith, nat_tests)
 
-pub row_test : (b : Bool) (a n : ℕ) → (b && ltb a (n + 1)) ≡ ((b && eqb a n) || (b && ltb a n))
-row_test b a n = grind (arith, nat_tests)
-
 abbrev pub row_so_far : Kind → ℕ → ℕ → Place → Bool
 row_so_far k n t q = (is_kind k q && eqb (row_of q) n) && ltb (moment_of q) t
 
@@ -103,22 +100,6 @@ row_step kinds.Hold n t (Supply a s) = refl
 row_step kinds.Supply n t (Arc a s) = refl
 row_step kinds.Supply n t (Hold a s) = refl
 row_step kinds.Supply n t (Supply a s) = step_test a n s t
-
-pub none_before : (b : Bool) (s : ℕ) → (b && ltb s 0) ≡ false
-none_before b s = grind (arith, nat_tests)
-
-pub all_before : (b : Bool) (s t : ℕ) → s < t → (b && ltb s t) ≡ b
-all_before b s t l = grind (arith, nat_tests)
-
-pub in_horizon : (s : Site) (q : Place) → IsPlace s q → moment_of q < s.shape.horizon + 1
-in_horizon s (Arc a t) i = omega (arith, i.1)
-in_horizon s (Hold a t) i = omega (arith, i.1)
-in_horizon s (Supply a t) i = omega (arith, i.1)
-
-pub place_moment : (s : Site) (k : Kind) (n t : ℕ) → IsPlace s (place_of k n 0) → t ≤ s.shape.horizon → IsPlace s (place_of k n t)
-place_moment s kinds.Arc n t i l = (i.0, l)
-place_moment s kinds.Hold n t i l = (i.0, l)
-place_moment s kinds.Supply n t i l = (i.0, l)
 
 -- ---- the cells of a model
 

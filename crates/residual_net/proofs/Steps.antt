@@ -2,7 +2,7 @@
 use Rattle.std.proofs.Common.{◌≡◌, ◌≢◌, ℕ, zero, suc, ◌+◌, ◌-◌, ◌<◌, ◌≤◌, Bool, true, false, cond, not, ◌&&◌, eqb, List, [], ◌∷◌, ◌++◌, length, take, get_or, refl, ap, sym, ◌∙◌, arith, subst, inl, inr, ◌⊎◌}
 use Rattle.std.specs.List.{All, AllPairs, sum_by}
 use Rattle.evac_law.proofs.SumLemmas.{sum_by-nothing, sum_by-same_all}
-use Rattle.std.proofs.lemmas.List.{length-set, get_or-take, get_or_default, length-take, take_more}
+use Rattle.std.proofs.lemmas.List.{get_or-take, get_or_default, length-take, take_more}
 use Rattle.std.proofs.lemmas.List.Sums.{sum_by-cons, sum_by-append}
 use Rattle.std.proofs.lemmas.List.Elements.{All-head, All-tail, All-weaker}
 use Rattle.std.proofs.lemmas.Bool.{cases_Bool}
@@ -37,9 +37,6 @@ pub limit-with_cell : (w : Network) (p q : Place) (c : Cell) → IsGrid w → Is
 unfolding limit_at
 limit-with_cell w p q c g i j =
     ap (λ (z : Cell). z.limit) (cell_written w.site w.cells p q c no_cell g.full i j) ∙ at_cell (λ z. z.limit) (same_place p q) c _
-
-pub grid-with_cell : (w : Network) (p : Place) (c : Cell) → IsGrid w → IsGrid (with_cell w p c)
-grid-with_cell w p c g = record { site = g.site; full = length-set w.cells (cell_of w.site p) c ∙ g.full; saved_full = g.saved_full }
 
 one_flow : (b back : Bool) (x flow was now : ℕ) → (b ≡ true → flow ≡ was) → (back ≡ false → now ≡ flow + x) → (back ≡ true → now + x ≡ flow)
     → cond b now was + cond (back && b) x 0 ≡ was + cond (not back && b) x 0

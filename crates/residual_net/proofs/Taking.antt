@@ -24,10 +24,6 @@ pub taken_nothing : (w : Network) (x : ℕ) → IsTaken w w [] x
 unfolding added
 taken_nothing w x = record { site = refl; saved = refl; limits = λ q i. refl; flows = λ q i. omega arith }
 
-pub take_step_place : (w u : Network) (path : List PathStep) (x i : ℕ) (d : PathStep) → IsTakeable w path x → IsTaken w u (take i path) x → i < length path
-    → IsPlace u.site (get_or path i d).place
-take_step_place w u path x i d p h l = subst (λ (s : Site). IsPlace s (get_or path i d).place) (sym h.site) (p.arrives.1.places i d l)
-
 pub take_room : (w u : Network) (path : List PathStep) (x i : ℕ) (d : PathStep) → IsTakeable w path x → IsTaken w u (take i path) x → i < length path
     → x ≤ flow_at u (get_or path i d).place
 take_room w u path x i d p h l =
@@ -121,9 +117,6 @@ module _ (v : Network) (arrivals : List ℕ) (path : List PathStep) (x : ℕ) (d
 
   place : IsPlace h.before.site last.place
   place = h.takeable.arrives.1.places (length path - 1) d (omega (arith, some))
-
-  pub end : (0 < length path) × IsPlace v.site last.place
-  end = (some, subst (λ z. IsPlace z last.place) (sym h.taken.site) place)
 
   last_head : head_of h.before.site last.place ≡ Door h.takeable.arrives.0
   last_head = (into_door h.before.site last h.takeable.arrives.0 (last_stop h.before.site Source (Door h.takeable.arrives.0) path d h.takeable.arrives.1.leads some)).1

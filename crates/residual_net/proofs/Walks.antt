@@ -1,7 +1,7 @@
 -- Walks along flow, back to a supply and on to an arrival.
-use Rattle.std.proofs.Common.{◌≡◌, ◌≢◌, ℕ, suc, ◌+◌, ◌-◌, ◌<◌, ◌≤◌, Bool, true, false, cond, ◌||◌, eqb, List, [], ◌∷◌, ◌++◌, length, length-append, reverse, refl, ap, sym, ◌∙◌, arith, inl, inr, subst}
+use Rattle.std.proofs.Common.{◌≡◌, ◌≢◌, ℕ, suc, ◌+◌, ◌<◌, ◌≤◌, Bool, true, false, cond, ◌||◌, eqb, List, [], ◌∷◌, ◌++◌, length-append, reverse, refl, ap, sym, ◌∙◌, arith, inl, inr, subst}
 use Rattle.std.specs.List.{All, AllPairs}
-use Rattle.std.proofs.lemmas.List.{get_or_append_left, length-reverse, reverse-append}
+use Rattle.std.proofs.lemmas.List.{get_or_append_left, reverse-append}
 use Rattle.std.proofs.lemmas.List.Elements.{All-head, All-tail, All-cons, All-nil, All-push, All-weaker}
 use Rattle.std.proofs.lemmas.List.Kept.{AllPairs-cons}
 use Rattle.std.proofs.lemmas.Bool.{cases_lt}
@@ -9,7 +9,7 @@ use Rattle.time_expansion.specs.Expansion.{from_at, to_at, no_ends}
 use Rattle.residual_net.specs.declared.place.Place.{Place}
 use Rattle.residual_net.specs.declared.place.Place.TheVariants.{Arc, Hold, Supply}
 use Rattle.residual_net.specs.declared.place.PathStep.{PathStep}
-use Rattle.residual_net.specs.Site.{Site, IsSite, IsPlace, End, arrival_at, at, exit_at, head_of, is_barred, is_door, start_of, stop_of, tail_of}
+use Rattle.residual_net.specs.Site.{Site, IsSite, IsPlace, End, arrival_at, at, exit_at, head_of, is_barred, start_of, stop_of, tail_of}
 use Rattle.residual_net.specs.Site.End.{Source, Pair, Door}
 use Rattle.residual_net.specs.Network.{Network, IsNet, flow_at, flow_into, flow_out}
 use Rattle.residual_net.specs.Route.{Leads}
@@ -109,9 +109,6 @@ pub record BackSoFar (w : Network) (p here : Place) (steps : List PathStep) : Ty
   pub place : IsPlace w.site here
   pub some : 0 < flow_at w here
 
-pub back_begin : (w : Network) → IsNet w → (p : Place) → IsPlace w.site p → 0 < flow_at w p → BackSoFar w p p ([] ++ step_on p ∷ [])
-back_begin w net p i some = record { walk = walk_one w net p i some; place = i; some = some }
-
 pub back_more : (w : Network) → IsNet w → (p here q : Place) (steps : List PathStep) (n t : ℕ) → BackSoFar w p here steps → tail_of w.site here ≡ Pair n t
     → IsPlace w.site q → head_of w.site q ≡ Pair n t → 0 < flow_at w q → BackSoFar w p q (steps ++ step_on q ∷ [])
 back_more w net p here q steps n t h e i f some =
@@ -122,19 +119,6 @@ back_more w net p here q steps n t h e i f some =
       place = i;
       some = some;
     }
-
-pub back_room : (w : Network) → IsNet w → (p here : Place) (steps : List PathStep) (n t : ℕ) → BackSoFar w p here steps → IsPlace w.site p → 0 < flow_at w p
-    → tail_of w.site here ≡ Pair n t → length steps ≤ w.site.shape.horizon
-back_room w net p here steps n t h i some e =
-    omega (arith, h.walk.short, length-reverse steps, ap rank e, in_time w net p i some)
-
-pub back_end : (w : Network) (p here : Place) (steps : List PathStep) → BackSoFar w p here steps → tail_of w.site here ≡ Source
-    → IsWalk w p (reverse steps) Source (head_of w.site p)
-back_end w p here steps h e = subst (λ z. IsWalk w p (reverse steps) z (head_of w.site p)) e h.walk
-
-pub back_falls : (w : Network) → IsNet w → (here q : Place) (n t : ℕ) → tail_of w.site here ≡ Pair n t → IsPlace w.site q → head_of w.site q ≡ Pair n t
-    → rank (tail_of w.site q) < rank (tail_of w.site here)
-back_falls w net here q n t e i f = omega (arith, rank_up w.site net.site q i, ap rank e, ap rank f)
 
 -- the steps so far, from the supply to where the walk stands
 pub record OnSoFar (w : Network) (p here : Place) (steps : List PathStep) : Type 0 where
@@ -149,23 +133,6 @@ on_more w net p here q steps n t h e i f some = record {
   place = i;
   some = some;
 }
-
-pub on_room : (w : Network) → IsNet w → (p here : Place) (steps : List PathStep) → OnSoFar w p here steps → length steps ≤ w.site.shape.horizon + 1
-on_room w net p here steps h = omega (arith, h.walk.short, in_time w net here h.place h.some)
-
-pub on_end : (w : Network) (p here : Place) (steps : List PathStep) → OnSoFar w p here steps → is_door (head_of w.site here) ≡ true
-    → (k : ℕ) × IsWalk w p steps Source (Door k)
-on_end w p here steps h e = by_end (head_of w.site here) e h.walk
-  where
-    by_end : (f : End) → is_door f ≡ true → IsWalk w p steps Source f → (k : ℕ) × IsWalk w p steps Source (Door k)
-    by_end Source d walk = absurd (cc)
-    by_end (Pair n t) d walk = absurd (cc)
-    by_end (Door k) d walk = (k, walk)
-
-pub on_falls : (w : Network) → IsNet w → (here q : Place) (n t : ℕ) → head_of w.site here ≡ Pair n t → IsPlace w.site q → tail_of w.site q ≡ Pair n t
-    → 0 < flow_at w q → w.site.shape.horizon + 1 - rank (head_of w.site q) < w.site.shape.horizon + 1 - rank (head_of w.site here)
-on_falls w net here q n t e i f some =
-    omega (arith, ap rank e, ap rank f, rank_up w.site net.site q i, in_time w net q i some)
 
 -- ---- no place twice
 
