@@ -81,14 +81,13 @@ fn supplies(cells: &[Cell], sizes: Sizes) -> &[Cell] {
     )
 }
 
-/// Whether anybody is sent.
-pub fn is_any_sent(cells: &[Cell], sizes: Sizes) -> bool {
+/// How many people are sent.
+pub fn count_sent(cells: &[Cell], sizes: Sizes) -> u32 {
+    let mut people = 0u32;
     for cell in supplies(cells, sizes) {
-        if cell.flow > 0 {
-            return true;
-        }
+        people = people.saturating_add(cell.flow);
     }
-    false
+    people
 }
 
 /// Whether people come in and all of them are sent.

@@ -3,6 +3,7 @@
 //! Nothing is taken off ahead: the excess of a cell is what the two flows differ by when it is looked at, so people who are sent
 //! along the walk, or otherwise, are accounted for by themselves. Excess only falls, so a way without any is never looked at again.
 
+use crate::lists::add;
 use crate::sizes::Sizes;
 use crate::ways::Way;
 use residual_net::{Cell, PathStep};
@@ -53,6 +54,15 @@ impl Hop {
 /// A hop of a list, or one of no pair past its end.
 pub fn hop_at(hops: &[Hop], at: usize) -> Hop {
     if at < hops.len() { hops[at] } else { Hop::NONE }
+}
+
+/// Puts a hop into a list, or adds it behind the last.
+pub fn put_hop(hops: &mut Vec<Hop>, at: usize, hop: Hop) {
+    if at < hops.len() {
+        hops.as_mut_slice()[at] = hop;
+    } else {
+        add(hops, hop);
+    }
 }
 
 /// How many more people are to go over a cell, forwards or backwards.

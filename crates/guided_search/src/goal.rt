@@ -5,7 +5,7 @@
 //! arrivals or from unsent people, and of ways round: so each way brings people straight to where they are to arrive.
 ghost use Rattle.std.specs.Prelude.{◌≡◌};
 
-use crate::change::{Hop, between, excess, hop_at, least_excess, lower};
+use crate::change::{Hop, between, excess, hop_at, least_excess, lower, put_hop};
 use crate::guide::Guide;
 use crate::lists::{FUEL, add, number, read, write};
 use crate::sizes::Sizes;
@@ -21,8 +21,9 @@ enum Ended {
     Lost,
 }
 
-/// The flow to come to, and how far a walk has come. The height of a pair is the number of hops up to it, and 0 where it isn't
-/// on the walk. The memory isn't touched before a goal is sought.
+/// The flow to come to, and how far a walk has come. The place of a pair is 0 until nobody at it may be sent, and then by 1 more
+/// than the number of the way into it that is to be tried next. Its height is the number of hops up to it, and 0 where it isn't on
+/// the walk. The memory isn't touched before a goal is sought, and that of the hops only as far as walks go.
 #[derive(Drop)]
 pub struct Goal {
     sizes: Sizes,
@@ -72,7 +73,7 @@ impl Goal {
         let _ = self.places.resize(pairs, 0);
         let _ = self.heights.resize(0, 0);
         let _ = self.heights.resize(pairs, 0);
-        let _ = self.hops.resize(pairs, Hop::NONE);
+        self.hops.clear();
         self.top = 0;
         guide.send_all(self.cells.as_mut_slice());
     }
@@ -93,11 +94,8 @@ impl Goal {
             let pair = way.pair.wrapping_add(self.moment);
             if moment < self.sizes.moments
                 && excess(self.cells.as_slice(), cells, cell, false) > 0
-                && !self.hops.is_empty()
             {
-                self.door = at;
-                self.top = 1;
-                self.hops.as_mut_slice()[0] = Hop {
+                let hop = Hop {
                     node: way.node,
                     moment,
                     row: way.row,
@@ -105,6 +103,9 @@ impl Goal {
                     cell,
                     back: false,
                 };
+                self.door = at;
+                self.top = 1;
+                put_hop(&mut self.hops, 0, hop);
                 write(self.heights.as_mut_slice(), pair as usize, 1);
                 return true;
             }
@@ -156,14 +157,16 @@ impl Goal {
         if pair >= self.places.len() {
             return Some(Ended::Lost);
         }
-        if let Some(found) = self.source(ways, cells, hop) {
-            return Some(Ended::Found(found));
+        let place = self.places.as_slice()[pair] as usize;
+        if place == 0 {
+            if let Some(found) = self.source(ways, cells, hop) {
+                return Some(Ended::Found(found));
+            }
         }
         let list = ways.into(hop.node);
-        let from = self.places.as_slice()[pair] as usize;
-        let number = self.wanted(list, cells, from, hop.moment);
+        let number = self.wanted(list, cells, place.saturating_sub(1), hop.moment);
         if number < list.len() {
-            self.places.as_mut_slice()[pair] = (number % 256) as u8;
+            self.places.as_mut_slice()[pair] = (number.wrapping_add(1) % 256) as u8;
             return self.go_on(cells, list[number], hop.moment);
         }
         let people = excess(self.cells.as_slice(), cells, hop.cell, hop.back);
@@ -229,10 +232,10 @@ impl Goal {
             self.unwind(cells, height, hop);
             return None;
         }
-        if self.top >= self.hops.len() {
+        if self.top >= self.hops.capacity() {
             return Some(Ended::Lost);
         }
-        self.hops.as_mut_slice()[self.top] = hop;
+        put_hop(&mut self.hops, self.top, hop);
         self.top = self.top.wrapping_add(1);
         write(self.heights.as_mut_slice(), pair, number(self.top));
         None

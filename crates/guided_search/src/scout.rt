@@ -1,7 +1,7 @@
 //! Who guesses at the next path: a walk by bounds where people are unsent, else one along what is to change.
 ghost use Rattle.std.specs.Prelude.{◌≡◌};
 
-use crate::cells::{is_all_sent, is_any_sent};
+use crate::cells::{count_sent, is_all_sent};
 use crate::goal::Goal;
 use crate::guide::Guide;
 use crate::lists::short;
@@ -13,7 +13,10 @@ use std::alloc::{AllocError, Global};
 const PATIENCE: u32 = 4;
 
 /// One of how many pairs may be mended in a net from which some people were taken, before a goal is sought.
-const FEW: usize = 4;
+const FEW: usize = 32;
+
+/// One of how many pairs may be mended besides, if the guide sends everybody. Whom it has sent is the part of it that it has earned.
+const SHARE: u64 = 2;
 
 /// Which of the two walks guesses.
 #[derive(Clone, Copy, PartialEq, Eq)]
@@ -23,7 +26,8 @@ enum Way {
 }
 
 /// The two walks, which of them guesses, the moment that comes next if the net stays as it is left, the one at which everybody is
-/// still sent if it does, at how many moments people were sent otherwise, and how many more pairs the guide may mend.
+/// still sent if it does, and at how many moments people were sent otherwise. Of the guide it knows how many people it has sent and
+/// how many pairs it has mended. In a net from which people were taken, `people` is how many there are, and else 0.
 #[derive(Drop)]
 pub struct Scout {
     guide: Guide,
@@ -32,7 +36,9 @@ pub struct Scout {
     next: u32,
     idle: u32,
     missed: u32,
-    left: usize,
+    people: u64,
+    guided: u64,
+    mended: usize,
 }
 
 impl Scout {
@@ -47,7 +53,9 @@ impl Scout {
             next: u32::MAX,
             idle: u32::MAX,
             missed: 0,
-            left: usize::MAX,
+            people: 0,
+            guided: 0,
+            mended: 0,
         })
     }
 
@@ -79,8 +87,8 @@ impl Scout {
                 self.goal.seek(&mut self.guide, cells);
             } else {
                 self.way = Way::Guide;
-                self.left = self.most_mended(cells);
                 self.guide.renew(cells, labels, k);
+                self.count_people(cells);
             }
         } else if self.missed >= PATIENCE && self.way == Way::Guide {
             self.way = Way::Goal;
@@ -101,21 +109,33 @@ impl Scout {
         }
     }
 
-    /// How many pairs the guide may mend from now on: few where people were taken from a net that is almost full, since it would
-    /// mend the same pairs again and again.
-    fn most_mended(&self, cells: &[Cell]) -> usize {
-        if is_any_sent(cells, self.guide.sizes()) {
-            self.guide.sizes().pairs() / FEW
-        } else {
-            usize::MAX
+    /// Counts the people of a net from which some were taken. The guide has sent nobody yet.
+    fn count_people(&mut self, cells: &[Cell]) {
+        let sent = count_sent(cells, self.guide.sizes()) as u64;
+        let unsent = self.guide.unsent() as u64;
+        self.people = if sent == 0 { 0 } else { sent + unsent };
+        self.guided = 0;
+        self.mended = 0;
+    }
+
+    /// How many more pairs the guide may mend. Where people were taken from a net that is almost full it would mend the same pairs
+    /// again and again, so these are few at first, and more for each person whom it sends.
+    fn left(&self) -> usize {
+        if self.people == 0 {
+            return usize::MAX;
         }
+        let pairs = self.guide.sizes().pairs();
+        let earned = (pairs as u64).saturating_mul(self.guided) / self.people / SHARE;
+        (pairs / FEW)
+            .saturating_add(earned as usize)
+            .saturating_sub(self.mended)
     }
 
     /// Walks on to people who can be sent. Whether there are any.
     pub fn find(&mut self, net: &Net) -> bool {
         match self.way {
             Way::Guide => self.find_by_guide(net.cells())
-                || self.left == 0 && self.turn(net.cells()),
+                || self.left() == 0 && self.turn(net.cells()),
             Way::Goal => self.goal.find(self.guide.ways(), net.cells()),
         }
     }
@@ -123,12 +143,12 @@ impl Scout {
     /// Walks on by the guide, until it has mended all that it may.
     fn find_by_guide(&mut self, cells: &[Cell]) -> bool {
         let before = self.guide.mended();
-        let most = before.saturating_add(self.left).min(self.guide.patience());
+        let most = before
+            .saturating_add(self.left())
+            .min(self.guide.patience());
         let found = self.guide.find(cells, most);
         let mended = self.guide.mended().saturating_sub(before);
-        if self.left < usize::MAX {
-            self.left = self.left.saturating_sub(mended);
-        }
+        self.mended = self.mended.saturating_add(mended);
         found
     }
 
@@ -161,7 +181,10 @@ impl Scout {
     /// People were sent along the guess.
     pub fn sent(&mut self, net: &Net, people: u32) {
         match self.way {
-            Way::Guide => self.guide.sent(net.cells(), people),
+            Way::Guide => {
+                self.guided = self.guided.saturating_add(people as u64);
+                self.guide.sent(net.cells(), people);
+            }
             Way::Goal => self.goal.sent(net.cells()),
         }
     }
