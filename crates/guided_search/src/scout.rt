@@ -13,7 +13,10 @@ use std::alloc::{AllocError, Global};
 const PATIENCE: u32 = 4;
 
 /// One of how many pairs may be mended in a net from which some people were taken, before a goal is sought.
-const FEW: usize = 32;
+const FEW: u64 = 32;
+
+/// For one of how many people a pair more may be mended, as a goal costs more the more people there are.
+const CROWD: u64 = 8;
 
 /// One of how many pairs may be mended besides, if the guide sends everybody. Whom it has sent is the part of it that it has earned.
 const SHARE: u64 = 2;
@@ -124,11 +127,10 @@ impl Scout {
         if self.people == 0 {
             return usize::MAX;
         }
-        let pairs = self.guide.sizes().pairs();
-        let earned = (pairs as u64).saturating_mul(self.guided) / self.people / SHARE;
-        (pairs / FEW)
-            .saturating_add(earned as usize)
-            .saturating_sub(self.mended)
+        let pairs = self.guide.sizes().pairs() as u64;
+        let first = (pairs / FEW).saturating_add(self.people / CROWD);
+        let earned = pairs.saturating_mul(self.guided) / self.people / SHARE;
+        (first.saturating_add(earned) as usize).saturating_sub(self.mended)
     }
 
     /// Walks on to people who can be sent. Whether there are any.
