@@ -8,6 +8,10 @@ mod buildings;
 #[cfg(test)]
 mod calls;
 #[cfg(test)]
+mod edits;
+#[cfg(test)]
 mod reports;
 #[cfg(test)]
 mod session;
+#[cfg(test)]
+mod shown;

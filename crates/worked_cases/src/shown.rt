@@ -1,0 +1,41 @@
+// What a session shows of itself.
+use edit_session::Session;
+use evac_law::Model;
+use residual_net::Net;
+
+// Whether two models are the same, row for row.
+fn are_same(one: &Model, other: &Model) -> bool {
+    one.seconds == other.seconds
+        && one.horizon == other.horizon
+        && one.nodes.as_slice() == other.nodes.as_slice()
+        && one.arcs.as_slice() == other.arcs.as_slice()
+}
+
+// The people of a net who are out by a moment up to its horizon.
+fn out_by(net: &Net, moment: u16) -> Option<u32> {
+    if moment <= net.horizon() {
+        Some(net.arrived(moment))
+    } else {
+        None
+    }
+}
+
+// Whether as many people of two nets are out by each moment up to the horizon.
+fn have_same_arrivals(one: &Net, other: &Net) -> bool {
+    for moment in 0..=one.horizon() {
+        if out_by(one, moment) != out_by(other, moment) {
+            return false;
+        }
+    }
+    one.horizon() == other.horizon()
+}
+
+// Whether as many people are out in two sessions by each moment up to the horizon.
+fn have_same_curve(one: &Session, other: &Session) -> bool {
+    have_same_arrivals(one.net(), other.net())
+}
+
+/// Whether a session is back at the model and the curve of another.
+pub(crate) fn is_back_at(session: &Session, first: &Session) -> bool {
+    are_same(session.model(), first.model()) && have_same_curve(session, first)
+}
