@@ -14,7 +14,7 @@ use Rattle.evac_law.specs.declared.name.NodeName.{NodeName}
 use Rattle.evac_law.specs.contracts.name.NodeNamePartialEq.TheImpl.{eq-value}
 use Rattle.model_text.specs.Taken.{same_name}
 use Rattle.model_text.proofs.ListFacts.{and-true, same-name-is}
-use Rattle.building_table.specs.Names.{NameLists, NamesDiffer, EndsDiffer, with_name, with_ends}
+use Rattle.building_table.specs.Names.{NameLists, NamesDiffer, EndsDiffer, names_with, ends_with}
 use Rattle.building_table.proofs.EqLemmas.{name-test, any-same, any-map}
 
 -- the ends of an arc
@@ -30,14 +30,14 @@ few-by true keys key = omega arith
 few-by false keys key = omega (arith, length-append keys (key ∷ []))
 
 -- there is at most one more
-pub few-names : (names : List NodeName) (name : NodeName) → length (with_name names name) ≤ length names + 1
+pub few-names : (names : List NodeName) (name : NodeName) → length (names_with names name) ≤ length names + 1
 few-names names name = few-by (list_any (λ n. same_name n name) names) names name
 
-pub few-ends : (ends : List (ℕ × ℕ)) (new : ℕ × ℕ) → length (with_ends ends new) ≤ length ends + 1
+pub few-ends : (ends : List (ℕ × ℕ)) (new : ℕ × ℕ) → length (ends_with ends new) ≤ length ends + 1
 few-ends ends new = few-by (list_any (λ (e : ℕ × ℕ). e.0 == new.0 && e.1 == new.1) ends) ends new
 
 -- a set into which a name is put
-pub insert-name : (names : List NodeName) (name : NodeName) → insert_key eq-value.it names name ≡ with_name names name
+pub insert-name : (names : List NodeName) (name : NodeName) → insert_key eq-value.it names name ≡ names_with names name
 insert-name names name =
     ap (λ t. cond t names (names ++ (name ∷ []))) (any-same (eq-value.it name) (λ n. same_name n name) names (name-test name))
 
@@ -57,12 +57,12 @@ push-key key test rows row keys same new =
 -- the name of one more node, and the ends of one more arc
 pub push-name : (rows : List NodeRow) (row : NodeRow) (names : List NodeName)
     → names ≡ map (λ n. n.name) rows → list_any (λ n. same_name n.name row.name) rows ≡ false
-    → with_name names row.name ≡ map (λ n. n.name) (rows ++ (row ∷ []))
+    → names_with names row.name ≡ map (λ n. n.name) (rows ++ (row ∷ []))
 push-name rows row names same new = push-key (λ (n : NodeRow). n.name) (λ n. same_name n row.name) rows row names same new
 
 pub push-ends : (rows : List ArcRow) (row : ArcRow) (ends : List (ℕ × ℕ))
     → ends ≡ map ends-of rows → list_any (λ a. a.from == row.from && a.to == row.to) rows ≡ false
-    → with_ends ends (ends-of row) ≡ map ends-of (rows ++ (row ∷ []))
+    → ends_with ends (ends-of row) ≡ map ends-of (rows ++ (row ∷ []))
 push-ends rows row ends same new = push-key ends-of (λ (e : ℕ × ℕ). e.0 == row.from && e.1 == row.to) rows row ends same new
 
 -- ---- rows in turn
@@ -85,7 +85,7 @@ test-false false h = refl
 -- the name of the next node
 pub add-name : (rows : List NodeRow) (i : ℕ) (names : List NodeName)
     → i < length rows → NamesDiffer rows → names ≡ map (λ n. n.name) (take i rows)
-    → with_name names (get_or rows i no_node).name ≡ map (λ n. n.name) (take (i + 1) rows)
+    → names_with names (get_or rows i no_node).name ≡ map (λ n. n.name) (take (i + 1) rows)
 add-name rows i names within differ same =
     let new = (get_or rows i no_node).name in
     add-next (λ (n : NodeRow). n.name) (λ n. same_name n new) rows i no_node names within (λ k h.
@@ -95,10 +95,10 @@ add-name rows i names within differ same =
 -- the ends of the next arc
 pub add-ends : (rows : List ArcRow) (i : ℕ) (d : ArcRow) (ends : List (ℕ × ℕ))
     → i < length rows → EndsDiffer rows → ends ≡ map ends-of (take i rows)
-    → with_ends ends (ends-of (get_or rows i d)) ≡ map ends-of (take (i + 1) rows)
+    → ends_with ends (ends-of (get_or rows i d)) ≡ map ends-of (take (i + 1) rows)
 add-ends rows i d ends within differ same =
     let new = ends-of (get_or rows i no_arc) in
-    ap (λ a. with_ends ends (ends-of a)) (get_or_default rows i d no_arc within)
+    ap (λ a. ends_with ends (ends-of a)) (get_or_default rows i d no_arc within)
     ∙ add-next ends-of (λ (e : ℕ × ℕ). e.0 == new.0 && e.1 == new.1) rows i no_arc ends within (λ k h.
     let old = ends-of (get_or rows k no_arc) in
     test-false (old.0 == new.0 && old.1 == new.1) (λ is.

@@ -5,3 +5,4 @@ pub mod IndexLemmas
 pub mod FinishLemmas
 pub mod HearLemmas
 pub mod ReadLemmas
+pub mod FitLemmas

@@ -92,7 +92,7 @@ ends-model a c l n texts taken rest p left means (Err (Named code number)) h =
     λ more. means more ∙ ap (λ o. after_step (step_unless o Ended) taken c.number more (λ x. reading_of x c.number more)) h.0 ∙ ap (Refused code) (sym h.1) in
     record { texts = texts; passes = p; answer = record { rest = rest; left_is = left; left = refused rest; pending = refused (pending_lines c) } }
 ends-model a c l n texts taken rest p left means (Err ReadFault) h = absurd h
-ends-model a c l n texts taken rest p left means (Err Memory) h = record { texts = texts; passes = p; answer = tt }
+ends-model a c l n texts taken rest p left means (Err Memory) h = absurd h
 
 -- the lines are refused, where such lines follow those that went by
 refuses : (code line : ℕ) {ending : Ending Refusal} {from to : ModelReader} {a c : Reader} {l n : Option (List ℕ)} (h : Listens HearsModel ending from to a c l n) (Behind : List Line → Type 0)

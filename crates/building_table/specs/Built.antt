@@ -56,11 +56,10 @@ build_code build.RepeatedArc = Some repeated_arc
 build_code build.TooMany = Some too_many
 build_code build.Memory = None
 
-abbrev pub end_code : EndFault → Option ℕ
-end_code ends.MissingSetting = Some missing_setting
-end_code ends.NoExit = Some no_exit
-end_code ends.TooLarge = Some too_large
-end_code ends.Memory = None
+abbrev pub end_code : EndFault → ℕ
+end_code ends.MissingSetting = missing_setting
+end_code ends.NoExit = no_exit
+end_code ends.TooLarge = too_large
 
 -- a building with the model and the names of a description
 pub record IsBuilding (b : Building) (d : Description) : Type 0 where

@@ -23,11 +23,11 @@ pub record NameLists : Type 0 where
   pub ends : List (ℕ × ℕ)
 
 -- with a name, or a pair of ends, behind the others where it is new
-abbrev pub with_name : List NodeName → NodeName → List NodeName
-with_name names name = if list_any (λ n. same_name n name) names then names else names ++ (name ∷ [])
+abbrev pub names_with : List NodeName → NodeName → List NodeName
+names_with names name = if list_any (λ n. same_name n name) names then names else names ++ (name ∷ [])
 
-abbrev pub with_ends : List (ℕ × ℕ) → ℕ × ℕ → List (ℕ × ℕ)
-with_ends ends new = if list_any (λ e. e.0 == new.0 && e.1 == new.1) ends then ends else ends ++ (new ∷ [])
+abbrev pub ends_with : List (ℕ × ℕ) → ℕ × ℕ → List (ℕ × ℕ)
+ends_with ends new = if list_any (λ e. e.0 == new.0 && e.1 == new.1) ends then ends else ends ++ (new ∷ [])
 
 -- the names of a model's nodes, and the ends of its arcs
 abbrev pub node_names : Model → List NodeName

@@ -89,7 +89,7 @@ abbrev pub Finishes : Result Building ModelFault → List Said → ℕ → Type 
 Finishes (Ok building) taken line = (end_fault taken ≡ None) × IsBuilding building (description_of taken)
 Finishes (Err (Named code number)) taken line = (end_fault taken ≡ Some code) × (number ≡ line)
 Finishes (Err ReadFault) taken line = ⊥
-Finishes (Err Memory) taken line = ⊤
+Finishes (Err Memory) taken line = ⊥
 
 -- the first fault of the lines that went by: with those that are left, and with those of the bytes that are pending
 pub record RefusesAt (first code line : ℕ) (r : Reader) (before after : Option (List Line)) (texts : List (List ℕ)) : Type 0 where

@@ -201,7 +201,7 @@ impl Builder {
         ensures seconds { IfOk result (λ s. self.now.seconds ≡ Some s.0) }
         ensures horizon { IfOk result (λ s. self.now.horizon ≡ Some s.1) }
         ensures right { OnOk result (first_code (end_checks self.now) ≡ None) }
-        ensures fault { IfErr result (λ fault. first_code (end_checks self.now) ≡ end_code fault) }
+        ensures fault { IfErr result (λ fault. first_code (end_checks self.now) ≡ Some (end_code fault)) }
     {
         let (Some(seconds), Some(horizon)) = (self.seconds, self.horizon) else {
             return Err(EndFault::MissingSetting);
@@ -384,10 +384,10 @@ impl Builder {
     }
 
     /// The building of the statements that were taken.
-    pub fn finish(self, _alloc: Global) -> Result<Building, EndFault>
+    pub fn finish(self) -> Result<Building, EndFault>
         ensures building { IfOk result (λ b. (taken : List Said) → AreTaken taken → self ≡ built_of taken → (end_fault taken ≡ None) × IsBuilding b (description_of taken)) }
         ensures valid { IfOk result (λ b. (taken : List Said) → AreTaken taken → self ≡ built_of taken → IsValid b.model) }
-        ensures fault { IfErr result (λ fault. (taken : List Said) → self ≡ built_of taken → end_fault taken ≡ end_code fault) }
+        ensures fault { IfErr result (λ fault. (taken : List Said) → self ≡ built_of taken → end_fault taken ≡ Some (end_code fault)) }
     {
         let settings = match self.settings() {
             Ok(settings) => settings,

@@ -38,8 +38,6 @@ pub enum EndFault {
     NoExit,
     #[error("there are too many cells")]
     TooLarge,
-    #[error("there is no memory")]
-    Memory,
 }
 
 /// Why lines give no building.
@@ -83,15 +81,14 @@ impl BuildFault {
 }
 
 impl EndFault {
-    /// The number by which a refusal names the fault; want of memory has none.
-    pub fn code(self) -> Option<u8>
+    /// The number by which a refusal names the fault.
+    pub fn code(self) -> u8
         ensures { result ≡ end_code self }
     {
         match self {
-            EndFault::MissingSetting => Some(18),
-            EndFault::NoExit => Some(19),
-            EndFault::TooLarge => Some(20),
-            EndFault::Memory => None,
+            EndFault::MissingSetting => 18,
+            EndFault::NoExit => 19,
+            EndFault::TooLarge => 20,
         }
     }
 }

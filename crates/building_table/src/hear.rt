@@ -90,16 +90,16 @@ pub(crate) fn hear_first(text: &[u8]) -> Result<bool, Refusal>
 }
 
 /// The building of a builder, or the fault of the model's end.
-pub(crate) fn finish(alloc: Global, builder: Builder, line: u32) -> Result<Building, ModelFault>
+pub(crate) fn finish(builder: Builder, line: u32) -> Result<Building, ModelFault>
     ensures finished { (taken : List Said) → AreTaken taken → builder ≡ built_of taken → Finishes result taken line }
     ensures no_read { result ≡ Err ModelFault.ReadFault → ⊥ }
     ensures valid { IfOk result (λ b. (taken : List Said) → AreTaken taken → builder ≡ built_of taken → IsValid b.model) }
 {
-    match builder.finish(alloc) {
+    match builder.finish() {
         Ok(building) => Ok(building),
-        Err(fault) => match fault.code() {
-            Some(code) => Err(ModelFault::Named { code, line }),
-            None => Err(ModelFault::Memory),
-        },
+        Err(fault) => Err(ModelFault::Named {
+            code: fault.code(),
+            line,
+        }),
     }
 }

@@ -1,7 +1,7 @@
 // The names of nodes and the ends of arcs, with their places.
 ghost use Rattle.std.specs.Prelude.{◌≡◌, ◌<◌, ◌≤◌, ◌==◌, ◌&&◌, [], length, map, position, OnErr, OnOk};
 ghost use Rattle.evac_law.specs.Limits.{arc_limit, node_limit};
-ghost use Rattle.building_table.specs.Names.{EndsDiffer, NamesDiffer, with_ends, with_name};
+ghost use Rattle.building_table.specs.Names.{EndsDiffer, NamesDiffer, ends_with, names_with};
 ghost use Rattle.model_text.specs.Taken.{same_name};
 
 use evac_law::{ArcRow, NodeName, NodeRow};
@@ -42,7 +42,7 @@ impl NameIndex {
     /// Puts a node's name behind the others, where it is new.
     pub(crate) fn insert_node(&mut self, name: NodeName) -> Result<(), AllocError>
         requires { length self.old.nodes < node_limit }
-        ensures made { OnOk result (self.new ≡ record self.old { nodes = with_name self.old.nodes name }) }
+        ensures made { OnOk result (self.new ≡ record self.old { nodes = names_with self.old.nodes name }) }
         ensures same { OnErr result (self.new ≡ self.old) }
     {
         self.nodes.insert(name)?;
@@ -52,7 +52,7 @@ impl NameIndex {
     /// Puts an arc's ends behind the others, where they are new.
     pub(crate) fn insert_ends(&mut self, from: u32, to: u32) -> Result<(), AllocError>
         requires { length self.old.ends < arc_limit }
-        ensures made { OnOk result (self.new ≡ record self.old { ends = with_ends self.old.ends (from, to) }) }
+        ensures made { OnOk result (self.new ≡ record self.old { ends = ends_with self.old.ends (from, to) }) }
         ensures same { OnErr result (self.new ≡ self.old) }
     {
         self.ends.insert((from, to))?;

@@ -59,7 +59,7 @@ fn conclude(
     ensures quiet { ending ≡ Ending.Fault LineFault.ReadFault → result ≡ Err ModelFault.ReadFault }
 {
     let code = match ending {
-        Ending::Finished => return finish(reader.alloc, reader.builder, number),
+        Ending::Finished => return finish(reader.builder, number),
         Ending::Failed(Refusal::Code(code)) => {
             return Err(ModelFault::Named { code, line: number });
         }

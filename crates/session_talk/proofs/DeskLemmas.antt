@@ -1,10 +1,10 @@
 -- What is on a desk is of one building, before an edit and after it.
-use Rattle.std.proofs.Common.{◌≡◌, ℕ, List, [], ◌∷◌, map, refl, sym, ap, subst, ◌∙◌, Result, Ok, Err}
+use Rattle.std.proofs.Common.{◌≡◌, ℕ, refl, sym, ap, subst, Result, Ok, Err}
 use Rattle.evac_law.specs.declared.edit.Edit.{Edit}
-use Rattle.evac_law.specs.declared.model.ArcRow.{ArcRow}
 use Rattle.evac_law.specs.declared.model.Model.{Model}
-use Rattle.evac_law.specs.Shapes.{HasSameShape, way_of_row}
-use Rattle.building_table.specs.Names.{NameTable, NamesFit, arc_ends}
+use Rattle.evac_law.specs.Shapes.{HasSameShape}
+use Rattle.building_table.specs.Names.{NameTable, NamesFit}
+use Rattle.building_table.proofs.FitLemmas.{names_kept}
 use Rattle.edit_session.specs.declared.faults.EditRefusal.{EditRefusal}
 use Rattle.edit_session.specs.declared.faults.EditRefusal.TheVariants.{Fault, NotCleared}
 use Rattle.edit_session.specs.declared.faults.UndoRefusal.{UndoRefusal}
@@ -21,20 +21,6 @@ use Rattle.session_talk.specs.Desks.{IsDesk}
 
 shape-back : (m m' : Model) → HasSameShape m m' → HasSameShape m' m
 shape-back m m' h = record { names = sym h.names; ways = sym h.ways; horizon = sym h.horizon; seconds = sym h.seconds }
-
-ends_of_way : ℕ × ℕ × ℕ → ℕ × ℕ
-ends_of_way w = (w.0, w.1)
-
-ends_by_way : (arcs : List ArcRow) → map (λ a. (a.from, a.to)) arcs ≡ map ends_of_way (map way_of_row arcs)
-unfolding ends_of_way
-ends_by_way [] = refl
-ends_by_way (a ∷ arcs) = ap (λ (l : List (ℕ × ℕ)). (a.from, a.to) ∷ l) (ends_by_way arcs)
-
-names_kept : (names : NameTable) (m m' : Model) → HasSameShape m m' → NamesFit names m → NamesFit names m'
-names_kept names m m' h fit = record {
-  nodes = fit.nodes ∙ sym h.names;
-  ends = fit.ends ∙ ends_by_way m.arcs ∙ sym (ap (map ends_of_way) h.ways) ∙ sym (ends_by_way m'.arcs);
-}
 
 -- ---- at the model that stands
 

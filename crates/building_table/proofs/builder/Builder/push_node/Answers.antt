@@ -2,7 +2,7 @@ use Rattle.std.proofs.Common.{◌≡◌, ◌∷◌, ◌++◌, [], false, map, ap
 use Rattle.std.proofs.lemmas.Grind.{common_steps}
 use Rattle.evac_law.specs.declared.model.NodeRow.{NodeRow}
 use Rattle.building_table.specs.Built.{Built}
-use Rattle.building_table.specs.Names.{NameLists, with_name}
+use Rattle.building_table.specs.Names.{NameLists, names_with}
 use Rattle.building_table.specs.Taking.{holds_node}
 use Rattle.building_table.proofs.IndexLemmas.{push-name}
 use Rattle.building_table.proofs.builder.Builder.push_node.Goals as goal
@@ -13,7 +13,7 @@ invariant_of-self-2 c =
     let index : NameLists = c.self.inside.index in
     let row : NodeRow = record { name = c.args.name; capacity = c.args.capacity; start = c.args.start; shut = false } in
     let pushed : c.push.new.self.items ≡ rows ++ (row ∷ []) = grind (arith, common_steps) in
-    let made : c.insert_node.new.self ≡ record index { nodes = with_name index.nodes row.name } = grind (arith, common_steps) in
+    let made : c.insert_node.new.self ≡ record index { nodes = names_with index.nodes row.name } = grind (arith, common_steps) in
     let new = ap (λ (b : Built). holds_node b c.args.name) c.self.view_is ∙ c.requires.new in
     record {
       listed_nodes = ap (λ (x : NameLists). x.nodes) made ∙ push-name rows row index.nodes c.self.invariant.listed_nodes new
