@@ -86,6 +86,16 @@ pub(crate) fn make(
     edit_within(session, edit)
 }
 
+/// Makes an edit, which comes to what is wanted.
+pub(crate) fn expect(
+    rt: &impl Abort,
+    session: &mut Session,
+    edit: Edit,
+    want: Result<Work, EditRefusal>,
+) {
+    assert!(rt; make(rt, session, edit) == want);
+}
+
 fn undo_counted<L: Ledger>(session: &mut Session, blank: Blank) -> Result<Work, UndoRefusal>
     requires name { blank.name ≡ L.name }
     requires parts { blank.parts ≡ L.parts }

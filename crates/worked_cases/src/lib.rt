@@ -10,6 +10,8 @@ mod calls;
 #[cfg(test)]
 mod edits;
 #[cfg(test)]
+mod refused;
+#[cfg(test)]
 mod reports;
 #[cfg(test)]
 mod session;

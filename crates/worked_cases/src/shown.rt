@@ -30,9 +30,22 @@ fn have_same_arrivals(one: &Net, other: &Net) -> bool {
     one.horizon() == other.horizon()
 }
 
-// Whether as many people are out in two sessions by each moment up to the horizon.
-fn have_same_curve(one: &Session, other: &Session) -> bool {
+/// Whether as many people are out in two sessions by each moment up to the horizon.
+pub(crate) fn have_same_curve(one: &Session, other: &Session) -> bool {
     have_same_arrivals(one.net(), other.net())
+}
+
+// Whether two nets have the same flow and limit at each place.
+fn have_same_cells(one: &Net, other: &Net) -> bool {
+    one.cells() == other.cells()
+}
+
+/// Whether two sessions stand alike: their models, their plans, the edits that they keep, and their work.
+pub(crate) fn stand_alike(one: &Session, other: &Session) -> bool {
+    are_same(one.model(), other.model())
+        && have_same_cells(one.net(), other.net())
+        && one.kept() == other.kept()
+        && one.work() == other.work()
 }
 
 /// Whether a session is back at the model and the curve of another.
