@@ -1,5 +1,5 @@
 -- How many bytes an answer block has.
-use Rattle.std.proofs.Common.{◌≡◌, ℕ, ◌+◌, ◌*◌, ◌<◌, ◌≤◌, ◌^◌, zero, suc, Bool, true, false, cond, nat_eq, List, [], ◌∷◌, ◌++◌, length, ap, ◌∙◌, arith, le_refl, length-append}
+use Rattle.std.proofs.Common.{◌≡◌, ℕ, ◌+◌, ◌*◌, ◌<◌, ◌≤◌, ◌^◌, zero, suc, Bool, true, false, ◌||◌, cond, nat_eq, List, [], ◌∷◌, ◌++◌, length, ap, ◌∙◌, arith, le_refl, length-append}
 use Rattle.std.specs.Prelude.{codes, decimal}
 use Rattle.std.specs.List.{flat_map}
 use Rattle.std.proofs.Math.Nat.{add-mul, mul_assoc, mul_comm}
@@ -7,7 +7,7 @@ use Rattle.std.proofs.lemmas.Fmt.{length-decimal-le}
 use Rattle.std.proofs.lemmas.Nat.{mul-le}
 use Rattle.evac_law.specs.declared.model.Model.{Model}
 use Rattle.evac_law.specs.declared.plan.Move.{Move}
-use Rattle.evac_law.specs.Building.{IsValid, head, is_exit_at, node_at, people, tail}
+use Rattle.evac_law.specs.Building.{IsValid, arc_at, head, is_exit_at, node_at, people, rate, tail}
 use Rattle.evac_law.specs.Certificates.{IsCertified}
 use Rattle.evac_law.specs.LabelTable.{LabelTable}
 use Rattle.evac_law.specs.Limits.{cell_limit, horizon_limit, people_limit, rate_limit}
@@ -17,14 +17,20 @@ use Rattle.evac_law.specs.Sums.{below}
 use Rattle.evac_law.proofs.NameLemmas.{name_short}
 use Rattle.evac_law.proofs.Optimal.{certified_is_feasible, out_le_people}
 use Rattle.evac_law.proofs.PartLemmas.{flat_map-none, flat_map-suc}
-use Rattle.evac_law.proofs.ValidLemmas.{head_in, name_is, tail_in}
-use Rattle.line_io.specs.Line.{input_limit}
+use Rattle.evac_law.proofs.ValidLemmas.{arc_is, head_in, name_is, tail_in}
 use Rattle.line_io.specs.Text.{fields, line_text}
 use Rattle.line_io.proofs.TextLemmas.{fields-cons}
 use Rattle.certificate_text.specs.Block.{number_field_limit}
 use Rattle.certificate_text.specs.BlockLaws.{block_limit}
 use Rattle.certificate_text.specs.BlockText.{answer_line, answer_text, begins_run, cleared_line, end_line, label_line, label_lines, label_part, moment_moves, move_line, move_lines, move_part, node_labels, out_line, out_lines, people_line, shown_label}
-use Rattle.certificate_text.proofs.BlockBack.{rate-most}
+
+rate-by : (b : Bool) (r : ℕ) → cond b 0 r ≤ r
+rate-by true r = omega arith
+rate-by false r = omega arith
+
+pub rate-most : (m : Model) (a t : ℕ) → IsValid m → a < length m.arcs → rate m a t ≤ rate_limit
+rate-most m a t valid h =
+    let fits = (arc_is m a valid h).rate_fits in let low = rate-by ((arc_at m a).shut || (node_at m (head m a)).shut) (arc_at m a).rate in omega (arith, fits, low)
 
 -- ---- lines
 

@@ -1,5 +1,5 @@
 -- The short block of a model is that of each other with the same names and so many people.
-use Rattle.std.proofs.Common.{◌≡◌, ℕ, ◌++◌, List, [], length, map, get_or, if◌then◌else◌, refl, sym, ap, ◌∙◌, ap₂}
+use Rattle.std.proofs.Common.{◌≡◌, ℕ, ◌++◌, List, [], length, get_or, if◌then◌else◌, refl, sym, ap, ◌∙◌, ap₂}
 use Rattle.std.specs.Prelude.{◌-◌, not, ◌&&◌, nat_le, nat_lt}
 use Rattle.std.specs.List.{flat_map}
 use Rattle.std.proofs.Math.ListN.{get_or-map}

@@ -1,5 +1,5 @@
 -- What holds of each block that is read for a model.
-use Rattle.std.specs.Prelude.{◌≡◌, ℕ, ◌+◌, ◌<◌, ◌≤◌, length, IsTrue, IsFalse}
+use Rattle.std.specs.Prelude.{◌≡◌, ℕ, ◌+◌, ◌*◌, ◌<◌, ◌≤◌, length, IsTrue, IsFalse}
 use Rattle.std.specs.List.{All}
 use Rattle.evac_law.specs.declared.model.Model.{Model}
 use Rattle.evac_law.specs.Building.{is_exit_at}
@@ -12,9 +12,10 @@ use Rattle.certificate_text.specs.declared.block.Block.{Block}
 unfoldable pub number_field_limit : ℕ
 number_field_limit = 999999999
 
--- the labels are for the model's nodes and moments; an exit has none, nor has a moment from c on, and every other label is at most c
+-- there is a label for each of the model's nodes and moments; that of an exit is unset, and of a moment from c on, and every other one is at most c
 pub record AreLabelsOf (m : Model) (c : ℕ) (l : LabelTable) : Type 0 where
   pub table : IsTableOf m l
+  pub full : length l.list ≡ l.nodes * (l.horizon + 1)
   pub exits_unset : (n t : ℕ) → n < length m.nodes → t ≤ m.horizon → IsTrue (is_exit_at m n) → label_at l n t ≡ unset
   pub late_unset : (n t : ℕ) → n < length m.nodes → t ≤ m.horizon → c ≤ t → label_at l n t ≡ unset
   pub fit : (n t : ℕ) → n < length m.nodes → IsFalse (is_exit_at m n) → t < c → label_at l n t ≤ c

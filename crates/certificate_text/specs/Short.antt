@@ -1,5 +1,5 @@
 -- For which models a short block that is written is theirs.
-use Rattle.std.specs.Prelude.{◌≡◌, ℕ, List, map}
+use Rattle.std.specs.Prelude.{◌≡◌, map}
 use Rattle.evac_law.specs.declared.model.Model.{Model}
 
 -- two models have the same horizon and the same names of nodes

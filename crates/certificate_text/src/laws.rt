@@ -1,5 +1,5 @@
 // The laws of blocks, each the contract of a function that does nothing.
-ghost use Rattle.certificate_text.specs.BlockLaws.{BlockIsSmall, BlockReadsBack, StatesOneBlock};
+ghost use Rattle.certificate_text.specs.BlockLaws.{BlockIsSmall, BlockReadsBack};
 
 /// The block of a certified plan that was written is read back, wherever it stands in an input: its numbers, the people out by each period,
 /// its labels as they are shown, which certify the plan, and its moves.
@@ -10,9 +10,4 @@ pub fn block_reads_back()
 /// The block of a certified plan has 15,000,000 bytes at most, so that a reader takes it behind a model of a quarter of an input.
 pub fn block_is_small()
     ensures { BlockIsSmall }
-{}
-
-/// Lines that state a block state no other one.
-pub fn lines_state_one_block()
-    ensures { StatesOneBlock }
 {}

@@ -1,5 +1,5 @@
 -- What an input with a block says, by its parts, and how a checked block ends a run.
-use Rattle.std.proofs.Common.{◌≡◌, ◌≤◌, arith, ℕ, List, Ok, Err, Some, None, refl, sym, ap, subst, ◌∙◌}
+use Rattle.std.proofs.Common.{◌≡◌, ◌≤◌, arith, ℕ, List, Ok, Err, Some, None, refl, sym, ap, subst}
 use Rattle.std.specs.declared.option.Option.{Option}
 use Rattle.line_io.specs.Line.{Line, lines_of}
 use Rattle.evac_law.specs.declared.model.Model.{Model}
@@ -10,20 +10,20 @@ use Rattle.building_table.specs.declared.building.Building.{Building}
 use Rattle.building_table.specs.declared.faults.ModelFault.{ModelFault}
 use Rattle.building_table.specs.declared.faults.ModelFault.TheVariants.{Named, ReadFault, Memory}
 use Rattle.certificate_text.specs.declared.block.Block.{Block}
-use Rattle.certificate_text.specs.declared.fault.BlockFault.{BlockFault}
-use Rattle.certificate_text.specs.declared.fault.BlockFault.TheVariants as block_faults
+use Rattle.block_reader.specs.declared.fault.BlockFault.{BlockFault}
+use Rattle.block_reader.specs.declared.fault.BlockFault.TheVariants as block_faults
 use Rattle.certificate_text.specs.Block.{IsBlockOf}
-use Rattle.certificate_text.specs.BlockGrammar as blocks
-use Rattle.certificate_text.specs.BlockGrammar.{IsStated, block_of}
-use Rattle.certificate_text.specs.BlockReads.{ReadsBlock}
+use Rattle.certificate_text.specs.BlockReadings as blocks
+use Rattle.certificate_text.specs.BlockReadings.{ReadsAs}
+use Rattle.block_reader.specs.BlockReads.{ReadsBlock}
 use Rattle.plan_checker.specs.declared.verdict.Verdict.{Verdict}
 use Rattle.plan_checker.specs.declared.verdict.Verdict.TheVariants.{Yes, PeopleWrong, RateBroken, HeldBroken, NotAllOut, OutWrong, CutWrong}
 use Rattle.plan_checker.specs.Verdicts.{IsRight, IsVerdict}
 use Rattle.plan_checker.proofs.LawLemmas.{one_verdict, yes_is_certified}
 use Rattle.evac_top.specs.Accounts.{Account}
 use Rattle.evac_top.specs.Answers.{Answers}
-use Rattle.evac_top.specs.Check.{Checks, IsChecked, IsVerdictOf, verdict_status, verdict_text}
-use Rattle.evac_top.specs.Inputs.{Claimed, claim_behind, claim_by, unless_fault}
+use Rattle.evac_top.specs.Check.{IsChecked, IsVerdictOf, verdict_status, verdict_text}
+use Rattle.evac_top.specs.Inputs.{Claimed, ClaimsBehind, unless_fault}
 use Rattle.evac_top.specs.Reads.{ClaimIs, ReadsTail, block_fault}
 use Rattle.evac_top.specs.declared.claim.Claim.{Claim}
 use Rattle.evac_top.specs.declared.words.Mode.TheVariants.{Check}
@@ -37,27 +37,27 @@ pub said-claim : (building : Building) (block : Block) (n1 n2 : ℕ) (bytes : Li
     → ClaimIs (Ok (record { building = building; block = block })) bytes
 said-claim building block n1 n2 bytes None c h g f = absurd h
 said-claim building block n1 n2 bytes (Some x) None h g f = absurd g
-said-claim building block n1 n2 bytes (Some x) (Some y) (d, e, is) (draft, stated, is_stated) none =
-    let claimed : Claimed = record { building = d; draft = draft } in
-    let here = subst (λ (m : Model). block_of m n1 x ≡ blocks.Stated draft n2 y) is.model stated in (
+said-claim building block n1 n2 bytes (Some x) (Some y) (d, e, is) stated none =
+    let claimed : Claimed = record { building = d; block = block } in
+    let here = subst (λ (m : Model). ReadsAs m n1 x (blocks.Stated block n2 y)) is.model stated in (
       claimed,
-      ap claim_behind e ∙ ap (claim_by d) here ∙ ap (λ f. unless_fault f claimed) none,
+      subst (λ r. ClaimsBehind r (Ok claimed)) (sym e) (blocks.Stated block n2 y, here, sym (ap (λ f. unless_fault f claimed) none)),
       is,
-      subst (λ (m : Model). IsStated m draft block) is.model is_stated,
+      refl,
     )
 
 -- the model is refused
 pub said-model-fault : (code line n1 : ℕ) (bytes : List ℕ) (b : Option (List Line)) → ReadsModel (Err (Named code line)) 0 n1 (Some (lines_of bytes)) b
     → ClaimIs (Err (Named code line)) bytes
 said-model-fault code line n1 bytes None h = absurd h
-said-model-fault code line n1 bytes (Some x) h = ap claim_behind h
+said-model-fault code line n1 bytes (Some x) h = subst (λ r. ClaimsBehind r (Err (code, line))) (sym h) refl
 
 -- the block is refused
 block-refused : (building : Building) (n1 code line : ℕ) (bytes : List ℕ) (x y : List Line) → ReadsModel (Ok building) 0 n1 (Some (lines_of bytes)) (Some x)
-    → block_of building.model n1 x ≡ blocks.Refused code line → ClaimIs (Err (Named code line)) bytes
+    → ReadsAs building.model n1 x (blocks.Refused code line) → ClaimIs (Err (Named code line)) bytes
 block-refused building n1 code line bytes x y (d, e, is) refused =
-    let here = subst (λ (m : Model). block_of m n1 x ≡ blocks.Refused code line) is.model refused in
-    ap claim_behind e ∙ ap (claim_by d) here
+    let here = subst (λ (m : Model). ReadsAs m n1 x (blocks.Refused code line)) is.model refused in
+    subst (λ r. ClaimsBehind r (Err (code, line))) (sym e) (blocks.Refused code line, here, refl)
 
 pub said-block-fault : (building : Building) (fault : BlockFault) (n1 n2 : ℕ) (bytes : List ℕ) (b c : Option (List Line))
     → ReadsModel (Ok building) 0 n1 (Some (lines_of bytes)) b → ReadsBlock building.model (Err fault) n1 n2 b c → ClaimIs (Err (block_fault fault)) bytes
@@ -83,10 +83,10 @@ said-tail-fault : (building : Building) (block : Block) (code line n1 n2 : ℕ) 
     → ClaimIs (Err (Named code line)) bytes
 said-tail-fault building block code line n1 n2 bytes None c h g f = absurd h
 said-tail-fault building block code line n1 n2 bytes (Some x) None h g f = absurd g
-said-tail-fault building block code line n1 n2 bytes (Some x) (Some y) (d, e, is) (draft, stated, is_stated) fault =
-    let claimed : Claimed = record { building = d; draft = draft } in
-    let here = subst (λ (m : Model). block_of m n1 x ≡ blocks.Stated draft n2 y) is.model stated in
-    ap claim_behind e ∙ ap (claim_by d) here ∙ ap (λ f. unless_fault f claimed) fault
+said-tail-fault building block code line n1 n2 bytes (Some x) (Some y) (d, e, is) stated fault =
+    let claimed : Claimed = record { building = d; block = block } in
+    let here = subst (λ (m : Model). ReadsAs m n1 x (blocks.Stated block n2 y)) is.model stated in
+    subst (λ r. ClaimsBehind r (Err (code, line))) (sym e) (blocks.Stated block n2 y, here, sym (ap (λ f. unless_fault f claimed) fault))
 
 -- what is said of the lines behind a block
 pub said-tail : (building : Building) (block : Block) (fault : ModelFault) (n1 n2 : ℕ) (bytes : List ℕ) (b c : Option (List Line))
@@ -149,10 +149,10 @@ verdict-of m b (CutWrong k) h = tt
 
 pub said-checked : (claim : Claim) (bytes : List ℕ) → ClaimIs (Ok claim) bytes → (x : Account) → x.taken ≡ bytes → IsChecked claim.building.model claim.block x
     → Answers (Some Check) bytes x
-said-checked claim bytes (c, e, is, stated) x all checked =
-    subst (λ (r : _). Checks bytes r x) (sym e) (all, (claim.block, stated, subst (λ (m : Model). IsChecked m claim.block x) is.model checked))
+said-checked claim bytes (c, e, is, same) x all checked =
+    (Ok c, e, (all, subst (λ (b : Block). IsChecked c.building.model b x) (sym same) (subst (λ (m : Model). IsChecked m claim.block x) is.model checked)))
 
 pub check-fault : (fault : ModelFault) (bytes : List ℕ) → ClaimIs (Err fault) bytes → FaultIs Check fault bytes
-check-fault (Named code line) bytes e = λ x is. subst (λ (r : _). Checks bytes r x) (sym e) is
+check-fault (Named code line) bytes e = λ x is. (Err (code, line), e, is)
 check-fault ReadFault bytes e = tt
 check-fault Memory bytes e = tt

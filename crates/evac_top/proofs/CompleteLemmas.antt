@@ -1,5 +1,5 @@
 -- A run in which neither count of faults rose answers its input.
-use Rattle.std.proofs.Common.{◌≡◌, ℕ, ◌≤◌, List, Result, Ok, Err, Some, None, subst, arith, inl, inr}
+use Rattle.std.proofs.Common.{◌≡◌, ℕ, ◌≤◌, List, Result, Ok, Err, Some, None, arith, inl, inr}
 use Rattle.std.specs.declared.option.Option.{Option}
 use Rattle.evac_law.specs.declared.model.Model.{Model}
 use Rattle.line_io.specs.Line.{lines_of}
@@ -7,15 +7,12 @@ use Rattle.model_text.specs.Readings.{Reading, Described, Refused, model_of}
 use Rattle.evac_top.specs.Accounts.{Account}
 use Rattle.evac_top.specs.Answers.{Answers}
 use Rattle.building_table.specs.Names.{NameTable, names_of}
-use Rattle.certificate_text.specs.declared.block.Block.{Block}
-use Rattle.certificate_text.specs.BlockGrammar.{IsStated}
-use Rattle.certificate_text.proofs.OneBlock.{states_one}
 use Rattle.drill_building.specs.Drill.{drill_model}
 use Rattle.plan_checker.specs.Verdicts.{IsRight}
 use Rattle.evac_top.specs.Check.{Checks, IsChecked, verdict_status}
 use Rattle.evac_top.specs.Complete.{AnswersAll, ChecksAll, PlansAll, RunsAnswer, SessionsAll, SolvesAll}
 use Rattle.evac_top.specs.Drill.{IsDrillSolved}
-use Rattle.evac_top.specs.Inputs.{Asked, Claimed, claim_of, input_of}
+use Rattle.evac_top.specs.Inputs.{Asked, Claimed, input_of}
 use Rattle.evac_top.specs.Session.{Sessions}
 use Rattle.evac_top.specs.Solve.{IsPlannedOrShort, Solves}
 use Rattle.evac_top.specs.Words.{reads}
@@ -42,19 +39,14 @@ drills-all n x (inl h) =
     (λ can. h.ends.over, λ cannot. absurd (cannot clearable), λ one. absurd (omega (arith, h.ends.over, one)))
 drills-all n x (inr h) = (λ can. absurd (h.barred can), λ cannot. h.refused, λ one. h)
 
--- the block of an input is the one that its lines state
-checks-block : (claimed : Claimed) (block other : Block) (x : Account) → let m = claimed.building.model in IsStated m claimed.draft block → IsStated m claimed.draft other
-    → IsChecked m block x → (IsRight m other → x.status ≡ 0) × (¬ IsRight m other → x.status ≡ 1)
-checks-block claimed block other x stated also h =
-    let m = claimed.building.model in
-    let same = states_one m claimed.draft block other stated also in
-    let here : IsChecked m other x = subst (λ (b : Block). IsChecked m b x) same h in
-    let ends : x.status ≡ verdict_status here.verdict = here.ends.over in
-    let few = status-few here.verdict in
-    (here.right, λ wrong. (let not_yes : x.status ≡ 0 → ⊥ = λ e. wrong (here.yes e) in omega (arith, ends, few, not_yes)))
+checks-block : (claimed : Claimed) (x : Account) → let m = claimed.building.model in IsChecked m claimed.block x → (IsRight m claimed.block → x.status ≡ 0) × (¬ IsRight m claimed.block → x.status ≡ 1)
+checks-block claimed x h =
+    let ends : x.status ≡ verdict_status h.verdict = h.ends.over in
+    let few = status-few h.verdict in
+    (h.right, λ wrong. (let not_yes : x.status ≡ 0 → ⊥ = λ e. wrong (h.yes e) in omega (arith, ends, few, not_yes)))
 
 checks-all : (input : List ℕ) (result : Result Claimed (ℕ × ℕ)) (x : Account) → Checks input result x → ChecksAll result x
-checks-all input (Ok claimed) x h = λ other also. checks-block claimed h.1.0 other x h.1.1 also h.1.2
+checks-all input (Ok claimed) x h = checks-block claimed x h.1
 checks-all input (Err fault) x h = h
 
 sessions-all : (r : Reading) (x : Account) → Sessions r x → SessionsAll r x
@@ -67,7 +59,7 @@ sessions-all (Refused code line) x h = h
 answers-all : (mode : Option Mode) (input : List ℕ) (x : Account) → Answers mode input x → AnswersAll mode input x
 answers-all None input x h = h.1.over
 answers-all (Some (Solve flags)) input x h = solves-all flags input (input_of (lines_of input)) x h
-answers-all (Some Check) input x h = checks-all input (claim_of (lines_of input)) x h
+answers-all (Some Check) input x (claim, is, h) = (claim, is, checks-all input claim x h)
 answers-all (Some Session) input x h = sessions-all (model_of (lines_of input)) x h.0
 answers-all (Some (Drill n)) input x h = drills-all n x h.1
 

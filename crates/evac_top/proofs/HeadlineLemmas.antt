@@ -1,5 +1,5 @@
 -- Every run of a session keeps the headline.
-use Rattle.std.proofs.Common.{◌≡◌, ◌≢◌, ℕ, ◌+◌, ◌≤◌, Bool, true, false, List, [], ◌∷◌, ◌++◌, length, Result, Ok, Err, Some, refl, sym, ap, subst, ◌∙◌, arith, append-nil, inl, inr, ◌⊎◌}
+use Rattle.std.proofs.Common.{◌≡◌, ℕ, ◌+◌, ◌≤◌, true, List, [], ◌∷◌, ◌++◌, length, Result, Ok, Err, refl, sym, ap, subst, ◌∙◌, arith, append-nil, inl, inr}
 use Rattle.evac_law.specs.declared.edit.Edit.{Edit}
 use Rattle.evac_law.specs.declared.edit.EditFault.{EditFault}
 use Rattle.evac_law.specs.declared.model.Model.{Model}
@@ -23,7 +23,6 @@ use Rattle.session_talk.specs.Talks.{EndsAt, RepliesTo, Reply, Spoken, TalkRun, 
 use Rattle.session_talk.proofs.Same.{cut_stays}
 use Rattle.evac_top.specs.Accounts.{Account}
 use Rattle.evac_top.specs.Headline.{IsBestBlock, KeepsAll, KeepsPromise, KeepsSession, SessionsKeepPromise}
-use Rattle.evac_top.specs.Runs.{Runs}
 use Rattle.evac_top.specs.Session.{Sessions, spoken}
 use Rattle.session_text.proofs.Solved.{feasible_of}
 use Rattle.evac_top.proofs.TellLemmas.{of-input}

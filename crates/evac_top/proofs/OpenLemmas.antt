@@ -12,7 +12,7 @@ use Rattle.model_text.specs.Codes.{missing_end}
 use Rattle.model_text.specs.Grammar.{Said}
 use Rattle.model_text.specs.Readings.{Described, Refused, Step, Passed, Took, Ended, Stopped, after_first_step, after_step, first_step, later_step, IsUndecided, opening_of, reading_of}
 use Rattle.model_text.specs.Taken.{Description, description_of}
-use Rattle.evac_top.specs.Inputs.{IsOpenClaim, IsOpenInput, NoneRefused, claim_behind, input_by, tail_fault, unless_fault}
+use Rattle.evac_top.specs.Inputs.{IsOpenClaim, IsOpenInput, NoneRefused, ClaimsBehind, input_by, tail_fault, unless_fault}
 use Rattle.evac_top.specs.Reads.{IsFresh, PassesTail}
 use Rattle.evac_top.proofs.TakeLemmas.{lines-count}
 
@@ -27,7 +27,7 @@ pub missing-input : (lines : List Line) → IsUndecided lines → IsOpenInput li
 missing-input lines e = subst (λ r. NoneRefused r (length lines)) (sym (ap input_by e)) refl
 
 pub missing-claim : (lines : List Line) → IsUndecided lines → IsOpenClaim lines
-missing-claim lines e = subst (λ r. NoneRefused r (length lines)) (sym (ap claim_behind e)) refl
+missing-claim lines e = (Err (missing_end, length lines + 1), subst (λ r. ClaimsBehind r (Err (missing_end, length lines + 1))) (sym e) refl, refl)
 
 -- ---- behind the model
 

@@ -1,14 +1,13 @@
 -- The block of a session with what is asked for behind it.
-use Rattle.std.proofs.Common.{IfSome, ◌≡◌, ℕ, ◌+◌, ◌≤◌, List, [], ◌++◌, Result, Ok, Err, IsErr, Some, None, is_some, refl, sym, subst, ◌∙◌, append-nil, arith, inl}
+use Rattle.std.proofs.Common.{IfSome, ◌≡◌, ℕ, List, [], ◌++◌, Result, Ok, Err, IsErr, Some, None, is_some, refl, sym, subst, append-nil}
 use Rattle.std.specs.declared.option.Option.{Option}
-use Rattle.evac_law.specs.declared.model.Model.{Model}
 use Rattle.building_table.specs.Names.{NameTable}
 use Rattle.edit_session.specs.Sessions.{SessionState}
 use Rattle.line_io.specs.Writer.{PutsText}
 use Rattle.line_io.proofs.TextLemmas.{front-more, text-failed, text-is, text-last}
 use Rattle.report_text.proofs.Parts.{text-err, text-ok}
 use Rattle.report_text.specs.Parts.{PutsOn}
-use Rattle.report_text.specs.ReportText.{SaysRoutes, routes_text, summary_text}
+use Rattle.report_text.specs.ReportText.{routes_text, summary_text}
 use Rattle.route_decompose.specs.Routes.{Covers, RouteView}
 use Rattle.session_text.specs.Spaces.{SpaceView}
 use Rattle.session_text.specs.StateTexts.{SaysReports, SaysRoutesOf, block_text, bottlenecks_of, clearing_of}

@@ -1,5 +1,5 @@
 -- What a run in the mode `session` did, by what reading its model and holding its session did.
-use Rattle.std.proofs.Common.{◌≡◌, ◌≢◌, ℕ, ◌+◌, ◌≤◌, Bool, true, false, List, [], ◌∷◌, ◌++◌, length, Result, Ok, Err, Some, None, refl, sym, ap, subst, ◌∙◌, arith, append-nil, append_assoc, inl, inr, ◌⊎◌}
+use Rattle.std.proofs.Common.{◌≡◌, ℕ, ◌+◌, true, false, List, [], ◌∷◌, ◌++◌, length, Result, Ok, Err, Some, None, refl, sym, ap, subst, ◌∙◌, arith, append-nil, append_assoc, inl, inr, ◌⊎◌}
 use Rattle.std.specs.declared.option.Option.{Option}
 use Rattle.std.specs.Io.KnownBytes.{Consumes, IsAtEnd}
 use Rattle.evac_law.specs.declared.model.Model.{Model}
@@ -17,22 +17,20 @@ use Rattle.building_table.specs.declared.building.Building.{Building}
 use Rattle.building_table.specs.declared.faults.ModelFault.{ModelFault}
 use Rattle.building_table.specs.declared.faults.ModelFault.TheVariants.{Named, ReadFault, Memory}
 use Rattle.model_text.specs.declared.command.Command.TheVariants.{Quit}
-use Rattle.model_text.specs.Codes.{missing_end}
 use Rattle.model_text.specs.Commands.{command_of}
 use Rattle.model_text.specs.Readings.{Described, IsUndecided, Reading, Refused, model_of, opening_of}
 use Rattle.model_text.specs.Taken.{Description}
-use Rattle.session_talk.specs.Held.{Around, EndsByQuit, HoldsSession, IsReadOut, OfLines, SessionFront, around}
+use Rattle.session_talk.specs.Held.{EndsByQuit, HoldsSession, IsReadOut, OfLines, SessionFront, around}
 use Rattle.session_talk.specs.Sessions.{SessionAnswers, session}
 use Rattle.session_talk.specs.Talks.{Spoken, TalkGoesOn}
-use Rattle.evac_top.specs.Accounts.{Account, IsRefusal, Outside, Told}
+use Rattle.evac_top.specs.Accounts.{Account, Outside, Told}
 use Rattle.evac_top.specs.Answers.{Answers, AnswersFront, AnswersSoFar, WritesNothing}
-use Rattle.evac_top.specs.Reads.{IsFresh, Takes}
+use Rattle.evac_top.specs.Reads.{IsFresh}
 use Rattle.evac_top.specs.Runs.{Runs}
 use Rattle.evac_top.specs.Session.{HasQuit, ReadsOn, Sessions, SessionsFront, SessionsSoFar, spoken}
 use Rattle.evac_top.specs.declared.words.Mode.TheVariants.{Session}
-use Rattle.evac_top.proofs.InputLemmas.{told-model}
-use Rattle.evac_top.proofs.OpenLemmas.{described-lines, model-missing, opening-further}
-use Rattle.evac_top.proofs.TakeLemmas.{few-taken, fresh-drained, takes, whole-lines}
+use Rattle.evac_top.proofs.OpenLemmas.{described-lines, opening-further}
+use Rattle.evac_top.proofs.TakeLemmas.{few-taken, whole-lines}
 use Rattle.evac_top.proofs.TellLemmas.{FaultIs, ReadsFirst}
 
 -- ---- a model that isn't read

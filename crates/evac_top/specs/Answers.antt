@@ -1,5 +1,5 @@
 -- What a run does, by its mode and its input. Each mode is one case of each definition.
-use Rattle.std.specs.Prelude.{◌≡◌, ℕ, List, [], length, Some, None}
+use Rattle.std.specs.Prelude.{◌≡◌, ℕ, List, [], length, Result, Some, None}
 use Rattle.std.specs.declared.option.Option.{Option}
 use Rattle.line_io.specs.Line.{Line, lines_of}
 use Rattle.model_text.specs.Readings.{model_of}
@@ -7,7 +7,7 @@ use Rattle.certificate_text.specs.BlockText.{refusal_line}
 use Rattle.evac_top.specs.Accounts.{Account, Ends, IsFront}
 use Rattle.evac_top.specs.Check.{Checks}
 use Rattle.evac_top.specs.Drill.{Drills}
-use Rattle.evac_top.specs.Inputs.{IsOpenClaim, IsOpenInput, claim_of, input_of}
+use Rattle.evac_top.specs.Inputs.{Claimed, IsClaimOf, IsOpenClaim, IsOpenInput, input_of}
 use Rattle.evac_top.specs.Session.{ReadsOn, Sessions, SessionsFront, SessionsSoFar}
 use Rattle.evac_top.specs.Solve.{Solves}
 use Rattle.evac_top.specs.declared.words.Mode.{Mode}
@@ -25,7 +25,7 @@ RefusesWords x = (x.taken ≡ []) × Ends x 2 words_text 0
 abbrev pub Answers : Option Mode → List ℕ → Account → Type 0
 Answers None input x = RefusesWords x
 Answers (Some (Solve flags)) input x = Solves flags input (input_of (lines_of input)) x
-Answers (Some Check) input x = Checks input (claim_of (lines_of input)) x
+Answers (Some Check) input x = (claim : Result Claimed (ℕ × ℕ)) × IsClaimOf (lines_of input) claim × Checks input claim x
 Answers (Some Session) input x = Sessions (model_of (lines_of input)) x × ReadsOn input x
 Answers (Some (Drill number)) input x = Drills number x
 

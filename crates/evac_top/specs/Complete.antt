@@ -5,15 +5,13 @@ use Rattle.evac_law.specs.declared.model.Model.{Model}
 use Rattle.evac_law.specs.Certificates.{IsClearable}
 use Rattle.line_io.specs.Causes.{Rose}
 use Rattle.line_io.specs.Line.{lines_of}
-use Rattle.certificate_text.specs.declared.block.Block.{Block}
-use Rattle.certificate_text.specs.BlockGrammar.{IsStated}
 use Rattle.drill_building.specs.Drill.{drill_model}
 use Rattle.model_text.specs.Readings.{Reading, Described, Refused, model_of}
 use Rattle.building_table.specs.Names.{names_of}
 use Rattle.plan_checker.specs.Verdicts.{IsRight}
 use Rattle.session_talk.specs.Sessions.{OpensShort, SessionRun}
 use Rattle.evac_top.specs.Accounts.{Account, IsRefusal, Outside}
-use Rattle.evac_top.specs.Inputs.{Asked, Claimed, claim_of, input_of}
+use Rattle.evac_top.specs.Inputs.{Asked, Claimed, IsClaimOf, input_of}
 use Rattle.evac_top.specs.Runs.{OfInput, Runs}
 use Rattle.evac_top.specs.Session.{spoken}
 use Rattle.evac_top.specs.Solve.{IsShort}
@@ -32,9 +30,7 @@ SolvesAll (Err fault) x = IsRefusal fault x
 
 -- a block is answered by yes exactly where it is right, and else by no; an input with a fault is refused by it
 abbrev pub ChecksAll : Result Claimed (ℕ × ℕ) → Account → Type 0
-ChecksAll (Ok claimed) x =
-    let m = claimed.building.model in
-    (block : Block) → IsStated m claimed.draft block → (IsRight m block → x.status ≡ 0) × (¬ IsRight m block → x.status ≡ 1)
+ChecksAll (Ok claimed) x = let m = claimed.building.model in (IsRight m claimed.block → x.status ≡ 0) × (¬ IsRight m claimed.block → x.status ≡ 1)
 ChecksAll (Err fault) x = IsRefusal fault x
 
 -- a building is opened and the lines behind it are answered up to the end, exactly where it can be cleared, and it is refused with its shortfall exactly
@@ -48,7 +44,7 @@ SessionsAll (Refused code line) x = IsRefusal (code, line) x
 abbrev pub AnswersAll : Option Mode → List ℕ → Account → Type 0
 AnswersAll None input x = x.status ≡ 2
 AnswersAll (Some (Solve flags)) input x = SolvesAll (input_of (lines_of input)) x
-AnswersAll (Some Check) input x = ChecksAll (claim_of (lines_of input)) x
+AnswersAll (Some Check) input x = (claim : Result Claimed (ℕ × ℕ)) × IsClaimOf (lines_of input) claim × ChecksAll claim x
 AnswersAll (Some Session) input x = SessionsAll (model_of (lines_of input)) x
 AnswersAll (Some (Drill number)) input x = PlansAll (drill_model number) 0 x
 

@@ -1,6 +1,5 @@
 -- The headline: what every run of a session keeps, in the law's words.
 use Rattle.std.specs.Prelude.{◌≡◌, ◌≢◌, ℕ, ◌≤◌, List, ◌++◌, Some, ◌⊎◌, ⊤}
-use Rattle.evac_law.specs.declared.model.Model.{Model}
 use Rattle.evac_law.specs.declared.plan.Move.{Move}
 use Rattle.evac_law.specs.Building.{people}
 use Rattle.evac_law.specs.Certificates.{IsClearable, stated_cut}

@@ -9,9 +9,9 @@ use Rattle.building_table.specs.Built.{IsBuilding}
 use Rattle.line_io.specs.Passes.{Passes}
 use Rattle.building_table.specs.declared.faults.ModelFault.{ModelFault}
 use Rattle.building_table.specs.declared.faults.ModelFault.TheVariants.{Named, ReadFault, Memory}
-use Rattle.certificate_text.specs.declared.fault.BlockFault.{BlockFault}
-use Rattle.certificate_text.specs.declared.fault.BlockFault.TheVariants as block_faults
-use Rattle.certificate_text.specs.BlockGrammar.{IsStated, bad_block}
+use Rattle.block_reader.specs.declared.fault.BlockFault.{BlockFault}
+use Rattle.block_reader.specs.declared.fault.BlockFault.TheVariants as block_faults
+use Rattle.certificate_text.specs.BlockReadings.{bad_block}
 use Rattle.evac_top.specs.declared.claim.Claim.{Claim}
 use Rattle.evac_top.specs.declared.read.Input.{Input}
 use Rattle.line_io.specs.declared.hearing.Ending.{Ending}
@@ -22,7 +22,7 @@ use Rattle.line_io.specs.declared.lines.LineFault.TheVariants as line_faults
 use Rattle.model_text.specs.declared.fault.TextFault.{TextFault}
 use Rattle.model_text.specs.Grammar.{Said}
 use Rattle.evac_top.specs.declared.read.TextFound.{TextFound}
-use Rattle.evac_top.specs.Inputs.{Asked, Claimed, claim_of, input_of, says_nothing, tail_fault, text_after_end}
+use Rattle.evac_top.specs.Inputs.{Asked, Claimed, IsClaimOf, input_of, says_nothing, tail_fault, text_after_end}
 
 -- the first fault behind a model's end, by the lines left before the call
 abbrev pub TailIs : Result (Unit {0}) ModelFault → ℕ → List Line → Type 0
@@ -83,9 +83,8 @@ block_fault block_faults.Memory = Memory
 
 -- what an input with a block says, by its bytes
 abbrev pub ClaimIs : Result Claim ModelFault → List ℕ → Type 0
-ClaimIs (Ok claim) bytes =
-    (c : Claimed) × (claim_of (lines_of bytes) ≡ Ok c) × IsBuilding claim.building c.building × IsStated c.building.model c.draft claim.block
-ClaimIs (Err (Named code line)) bytes = claim_of (lines_of bytes) ≡ Err (code, line)
+ClaimIs (Ok claim) bytes = (c : Claimed) × IsClaimOf (lines_of bytes) (Ok c) × IsBuilding claim.building c.building × (c.block ≡ claim.block)
+ClaimIs (Err (Named code line)) bytes = IsClaimOf (lines_of bytes) (Err (code, line))
 ClaimIs (Err ReadFault) bytes = ⊤
 ClaimIs (Err Memory) bytes = ⊤
 

@@ -1,5 +1,5 @@
 -- How a run goes on once it has read: what it tells the sink, and how that ends.
-use Rattle.std.specs.Prelude.{◌≡◌, ◌≢◌, ℕ, ◌≤◌, List, [], Result, Ok, Err}
+use Rattle.std.specs.Prelude.{◌≡◌, ◌≢◌, ℕ, ◌≤◌, List, [], Result}
 use Rattle.std.specs.Io.KnownBytes.{Appends}
 use Rattle.line_io.specs.Causes.{Rose}
 use Rattle.building_table.specs.declared.faults.ModelFault.{ModelFault}

@@ -8,8 +8,9 @@ ghost use Rattle.evac_top.specs.Accounts.{Told};
 ghost use Rattle.evac_top.specs.Reads.{ClaimIs, IsFresh, Takes, block_fault};
 
 use crate::read::{INPUT_TOO_LONG, LINE_TOO_LONG, read_tail};
+use block_reader::{BlockFault, read_block};
 use building_table::{Building, ModelFault, read_model};
-use certificate_text::{Block, BlockFault, read_block};
+use certificate_text::Block;
 use line_io::{Lines, Source};
 use std::alloc::Global;
 

@@ -1,6 +1,6 @@
 // Blocks for the smallest building, one for each verdict.
 use crate::buildings::{ONE_ROOM, building};
-use certificate_text::read_block;
+use block_reader::read_block;
 use line_io::{CleanSource, Lines};
 use plan_checker::{Verdict, check};
 use std::alloc::AllocError;

@@ -1,6 +1,7 @@
 // Blocks that are read, and blocks that are refused.
 use crate::buildings::building;
-use certificate_text::{Block, BlockFault, read_block, write_short};
+use block_reader::{BlockFault, read_block};
+use certificate_text::{Block, write_short};
 use evac_law::{Labels, Move};
 use line_io::{Lines, MemSink, MemSource, Out};
 use std::alloc::AllocError;

@@ -1,6 +1,6 @@
-use Rattle.std.proofs.Common.{ap, subst, ℕ, ◌∙◌, sym, ap₂}
+use Rattle.std.proofs.Common.{subst, ℕ}
 use Rattle.evac_law.specs.Stands.{IsOrdered}
-use Rattle.certificate_text.proofs.GivesBack.{reads_back}
+use Rattle.certificate_text.proofs.AnswerBack.{reads_back}
 use Rattle.certificate_text.proofs.answer.write_answer.Goals as goal
 
 pub returns-clause-back : goal.returns-clause-back

@@ -1,4 +1,4 @@
-use Rattle.certificate_text.proofs.GivesBack.{reads_back}
+use Rattle.certificate_text.proofs.AnswerBack.{reads_back}
 use Rattle.certificate_text.proofs.laws.block_reads_back.Goals as goal
 
 pub returns : goal.returns

@@ -1,4 +1,3 @@
-use Rattle.std.proofs.Common.{◌≡◌, ℕ}
 use Rattle.line_io.proofs.TextLemmas.{front-more, front-then, puts-then, text-failed, text-is, text-last}
 use Rattle.evac_law.specs.Certificates.{label_cut}
 use Rattle.certificate_text.specs.BlockText.{end_line, in_lines, most_line, people_line}

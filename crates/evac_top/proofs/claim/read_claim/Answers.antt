@@ -3,9 +3,11 @@ use Rattle.line_io.specs.Causes.{Count, Rose}
 use Rattle.line_io.specs.Reader.{lines_left}
 use Rattle.line_io.proofs.PassLemmas.{passes-then}
 use Rattle.building_table.specs.declared.faults.ModelFault.TheVariants.{ReadFault}
+use Rattle.building_table.specs.declared.faults.ModelFault.{ModelFault}
 use Rattle.evac_top.specs.Inputs.{IsOpenClaim}
+use Rattle.evac_top.specs.Reads.{ClaimIs}
 use Rattle.evac_top.proofs.BlockOpenLemmas.{open-behind-block, open-in-block}
-use Rattle.evac_top.proofs.ClaimLemmas.{failed-reading, said-claim, said-tail}
+use Rattle.evac_top.proofs.ClaimLemmas.{failed-reading, said-block-fault, said-claim, said-tail}
 use Rattle.evac_top.proofs.InputLemmas.{told-model}
 use Rattle.evac_top.proofs.OpenLemmas.{missing-claim, model-missing}
 use Rattle.evac_top.proofs.TakeLemmas.{fresh-drained, takes}
@@ -17,6 +19,18 @@ returns-in-Err-clause-takes g c =
     takes IsOpenClaim (Err c.in-Err.fault) c.args.lines.now c.read_model.new.lines _ _ read.bytes.texts c.requires read.bytes.passes tt
     (λ e. (let f : c.in-Err.fault ≡ ReadFault = cc in
     (read.unfinished (ap Err f), missing-claim _ (model-missing _ _ _ _ _ c.requires read.bytes (ap Err f)))))
+
+pub returns-in-Err-read_block-clause-input : goal.returns-in-Err-read_block-clause-input
+returns-in-Err-read_block-clause-input g c =
+    let left = g.S.Source.left in
+    let building = c.in-Ok.building in
+    let n1 = c.read_model.new.lines.number in
+    let n2 = c.read_block.new.lines.number in
+    let b = lines_left c.read_model.new.lines (left c.read_model.new.source) in
+    let d = lines_left c.read_block.new.lines (left c.read_block.new.source) in
+    told-model c.args.lines.now (left c.args.source.now) building n1 b _ c.requires c.in-Ok.ensures.reading (λ bytes h.
+    subst (λ (f : ModelFault). ClaimIs (Err f) bytes) (sym c.block_fault.ensures)
+    (said-block-fault building c.in-Err-read_block.fault n1 n2 bytes b d h c.in-Err-read_block.ensures.reading))
 
 pub returns-in-Err-read_block-clause-takes : goal.returns-in-Err-read_block-clause-takes
 returns-in-Err-read_block-clause-takes g c =

@@ -1,4 +1,4 @@
-use Rattle.std.proofs.Common.{◌≡◌, Result, arith, refl, subst}
+use Rattle.std.proofs.Common.{◌≡◌, arith, subst}
 use Rattle.drill_building.specs.Drill.{drill_model}
 use Rattle.edit_session.specs.Sessions.{BeginEnds}
 use Rattle.evac_law.specs.declared.model.Model.{Model}

@@ -1,4 +1,4 @@
-use Rattle.std.proofs.Common.{List, ℕ, ◌++◌}
+use Rattle.std.proofs.Common.{◌++◌}
 use Rattle.session_text.specs.StateTexts.{block_text}
 use Rattle.evac_top.proofs.PlanLemmas.{says-plan, three-put}
 use Rattle.evac_top.proofs.plan.send_plan.Goals as goal

@@ -1,4 +1,4 @@
-use Rattle.std.proofs.Common.{◌≡◌, Err, Ok, ap, refl}
+use Rattle.std.proofs.Common.{Err, ap, refl}
 use Rattle.building_table.specs.declared.faults.ModelFault.TheVariants.{ReadFault}
 use Rattle.model_text.specs.Readings.{IsUndecided}
 use Rattle.evac_top.specs.Reads.{IsFresh}

@@ -1,0 +1,451 @@
+-- What one line more makes of a draft, and what it says then.
+use Rattle.std.proofs.Common.{◌≡◌, ℕ, ◌+◌, ◌<◌, ◌≤◌, Bool, true, false, not, ◌&&◌, ◌||◌, cond, nat_eq, nat_le, nat_lt, List, [], ◌∷◌, ◌++◌, length, map, Some, None, refl, sym, subst, ap, ap₂, ◌∙◌, inl, inr, arith, append_assoc, append-nil, length-append}
+use Rattle.std.specs.declared.option.Option.{Option}
+use Rattle.std.specs.Bool.{IsFalse}
+use Rattle.std.specs.List.{All, AllPairs}
+use Rattle.std.specs.Option.{option_and_then}
+use Rattle.std.proofs.lemmas.Bool.{and_left, and_parts, and_right, cases_eq, cases_lt, eqb-true, leb-true, ltb-true, not-true, or_cases, ne_eqb}
+use Rattle.std.proofs.lemmas.List.{length-map, map-append}
+use Rattle.std.proofs.lemmas.List.Elements.{All-nil, All-push}
+use Rattle.std.proofs.lemmas.List.Quantifiers.{position-Some}
+use Rattle.evac_law.specs.declared.model.Model.{Model}
+use Rattle.evac_law.specs.declared.name.NodeName.{NodeName}
+use Rattle.evac_law.specs.declared.plan.Move.{Move}
+use Rattle.evac_law.specs.Building.{is_exit_at, no_node, node_at}
+use Rattle.evac_law.specs.Stands.{Before}
+use Rattle.building_table.specs.Names.{arc_ends, node_names}
+use Rattle.model_text.specs.Taken.{same_name}
+use Rattle.certificate_text.specs.declared.entry.Entry.{Entry}
+use Rattle.certificate_text.specs.declared.entry.Entry.TheVariants as entries
+use Rattle.block_reader.specs.declared.run.Run.{Run}
+use Rattle.block_reader.specs.declared.stage.Stage.{Stage}
+use Rattle.block_reader.specs.declared.stage.Stage.TheVariants as stages
+use Rattle.certificate_text.specs.Block.{number_field_limit}
+use Rattle.certificate_text.specs.BlockEntries.{entry_of_move, out_entries}
+use Rattle.certificate_text.specs.BlockReadings.{says_something}
+use Rattle.block_reader.specs.DraftFacts.{AreMoves, AreRuns, IsDraft, IsEntry, IsRun, draft_entries, head_entries, run_entry}
+use Rattle.block_reader.specs.Drafts.{Draft, arc_of, behind_run, follows_move, follows_run, is_cleared, is_curve, is_empty, is_full, is_index, is_lists, is_move, is_people, is_run, last_of, no_draft, node_of, only_exits, run_label, with_cleared, with_entry, with_index, with_move, with_out, with_people, with_run}
+use Rattle.certificate_text.specs.Entries.{is_end}
+use Rattle.block_reader.proofs.ExitLemmas.{exits-at}
+use Rattle.block_reader.proofs.LastLemmas.{before-all, last-none, last-push, push-sorted}
+use Rattle.certificate_text.proofs.ListParts.{enumerate-push}
+use Rattle.block_reader.proofs.OptionLemmas.{chosen, follows}
+use Rattle.certificate_text.proofs.OrderedMoves.{before-trans}
+use Rattle.block_reader.proofs.PlacesBack.{joined, named}
+use Rattle.block_reader.proofs.RunLabels.{label-before, label-other, label-own}
+use Rattle.block_reader.proofs.RunOrder.{IsFirst, follows-how, push-own}
+
+-- ---- parts of it
+
+no-runs : (m : Model) (c : ℕ) → AreRuns m c []
+no-runs m c = record { each = All-nil (IsRun m c); own = refl; covered = λ n t l e. absurd (omega (arith, l)) }
+
+no-moves : (m : Model) → AreMoves m []
+no-moves m = record {
+  ordered = record { sorted = λ i j d a b. absurd (omega (arith, b)); in_range = All-nil _; somebody = All-nil _ };
+  fit = All-nil (λ (v : Move). v.people ≤ number_field_limit);
+}
+
+pub none-draft : (m : Model) → IsDraft m no_draft
+none-draft m = record {
+  in_horizon = omega arith;
+  index_fits = omega arith;
+  people_fit = omega arith;
+  outs_fit = All-nil (λ n. n ≤ number_field_limit);
+  outs_few = omega arith;
+  no_outs = λ e. refl;
+  runs = no-runs m 0;
+  no_runs = λ e. refl;
+  moves = no-moves m;
+  no_moves = λ e. refl;
+}
+
+uncurved : (m : Model) (d : Draft) → is_curve d ≡ false → is_full m d ≡ false
+uncurved m d e = and_left (is_curve d) (nat_eq d.cleared 0 || only_exits m (behind_run (last_of d.runs)) (length m.nodes)) e
+
+-- a draft before its lists has none
+record IsBare (d : Draft) : Type 0 where
+  outs : d.outs ≡ []
+  runs : d.runs ≡ []
+  moves : d.moves ≡ []
+
+is-bare : (m : Model) (d : Draft) → IsDraft m d → is_lists d.stage ≡ false → IsBare d
+is-bare m d h e =
+    let flat : is_curve d ≡ false = and_left (is_lists d.stage) (nat_eq (length d.outs) (d.cleared + 1)) e in
+    record { outs = h.no_outs e; runs = h.no_runs flat; moves = h.no_moves (uncurved m d flat) }
+
+says : Model → List Entry → List ℕ → List Run → List Move → List Entry
+says m hs outs runs moves = hs ++ out_entries outs ++ map (run_entry m) runs ++ map (entry_of_move m) moves
+
+bare-says : (m : Model) (d : Draft) → IsBare d → draft_entries m d ≡ head_entries d.stage d.index d.people d.cleared
+unfolding says
+bare-says m d h =
+    let hs = head_entries d.stage d.index d.people d.cleared in
+    ap (λ o. says m hs o d.runs d.moves) h.outs ∙ ap (λ r. says m hs [] r d.moves) h.runs ∙ ap (λ v. says m hs [] [] v) h.moves
+    ∙ append-nil ((hs ++ []) ++ []) ∙ append-nil (hs ++ []) ∙ append-nil hs
+
+-- the next draft, which says one entry more
+pub record IsNext (m : Model) (d : Draft) (e : Entry) (new : Draft) : Type 0 where
+  pub draft : IsDraft m new
+  pub entries : draft_entries m new ≡ draft_entries m d ++ (e ∷ [])
+
+next-is : (m : Model) (d : Draft) (e : Entry) (a b : Draft) → a ≡ b → IsNext m d e a → IsNext m d e b
+next-is m d e a b q h = subst (IsNext m d e) q h
+
+-- ---- the first lines
+
+at-index : (s : Stage) (i p c : ℕ) → is_index s ≡ true → (is_lists s ≡ false) × (head_entries s i p c ≡ [])
+at-index stages.Index i p c h = (refl, refl)
+at-index stages.People i p c h = cc
+at-index stages.Cleared i p c h = cc
+at-index stages.Lists i p c h = cc
+
+at-people : (s : Stage) (i p c : ℕ) → is_people s ≡ true → (is_lists s ≡ false) × (head_entries s i p c ≡ entries.Index i ∷ [])
+at-people stages.Index i p c h = cc
+at-people stages.People i p c h = (refl, refl)
+at-people stages.Cleared i p c h = cc
+at-people stages.Lists i p c h = cc
+
+at-cleared : (s : Stage) (i p c : ℕ) → is_cleared s ≡ true → (is_lists s ≡ false) × (head_entries s i p c ≡ entries.Index i ∷ entries.People p ∷ [])
+at-cleared stages.Index i p c h = cc
+at-cleared stages.People i p c h = cc
+at-cleared stages.Cleared i p c h = (refl, refl)
+at-cleared stages.Lists i p c h = cc
+
+-- the next draft of one that has no list says the next of the first lines
+head-next : (m : Model) (d next : Draft) (e : Entry) (hs : List Entry) → IsBare d → head_entries d.stage d.index d.people d.cleared ≡ hs → IsBare next
+    → head_entries next.stage next.index next.people next.cleared ≡ hs ++ (e ∷ []) → draft_entries m next ≡ draft_entries m d ++ (e ∷ [])
+head-next m d next e hs bare is bare_next is_next = bare-says m next bare_next ∙ is_next ∙ ap (λ x. x ++ (e ∷ [])) (sym (bare-says m d bare ∙ is))
+
+index-next : (m : Model) (d : Draft) (i : ℕ) (new : Draft) → i ≤ number_field_limit → IsDraft m d → with_index d i ≡ Some new → IsNext m d (entries.Index i) new
+index-next m d i new l h e =
+    let next : Draft = record d { stage = stages.People; index = i } in
+    let c = chosen (is_index d.stage) next new e in
+    let at = at-index d.stage d.index d.people d.cleared c.test in
+    let bare = is-bare m d h at.0 in
+    next-is m d (entries.Index i) next new c.value (record {
+      draft = record {
+        in_horizon = h.in_horizon;
+        index_fits = l;
+        people_fit = h.people_fit;
+        outs_fit = h.outs_fit;
+        outs_few = h.outs_few;
+        no_outs = λ _. bare.outs;
+        runs = h.runs;
+        no_runs = λ _. bare.runs;
+        moves = h.moves;
+        no_moves = λ _. bare.moves;
+      };
+      entries = head-next m d next (entries.Index i) [] bare at.1 (record { outs = bare.outs; runs = bare.runs; moves = bare.moves }) refl;
+    })
+
+people-next : (m : Model) (d : Draft) (p : ℕ) (new : Draft) → p ≤ number_field_limit → IsDraft m d → with_people d p ≡ Some new → IsNext m d (entries.People p) new
+people-next m d p new l h e =
+    let next : Draft = record d { stage = stages.Cleared; people = p } in
+    let c = chosen (is_people d.stage) next new e in
+    let at = at-people d.stage d.index d.people d.cleared c.test in
+    let bare = is-bare m d h at.0 in
+    next-is m d (entries.People p) next new c.value (record {
+      draft = record {
+        in_horizon = h.in_horizon;
+        index_fits = h.index_fits;
+        people_fit = l;
+        outs_fit = h.outs_fit;
+        outs_few = h.outs_few;
+        no_outs = λ _. bare.outs;
+        runs = h.runs;
+        no_runs = λ _. bare.runs;
+        moves = h.moves;
+        no_moves = λ _. bare.moves;
+      };
+      entries = head-next m d next (entries.People p) (entries.Index d.index ∷ []) bare at.1 (record { outs = bare.outs; runs = bare.runs; moves = bare.moves }) refl;
+    })
+
+cleared-next : (m : Model) (d : Draft) (c : ℕ) (new : Draft) → IsDraft m d → with_cleared m d c ≡ Some new → IsNext m d (entries.Cleared c) new
+cleared-next m d c new h e =
+    let next : Draft = record d { stage = stages.Lists; cleared = c } in
+    let k = chosen (is_cleared d.stage && nat_le c m.horizon) next new e in
+    let p = and_parts (is_cleared d.stage) (nat_le c m.horizon) k.test in
+    let at = at-cleared d.stage d.index d.people d.cleared p.0 in
+    let bare = is-bare m d h at.0 in
+    next-is m d (entries.Cleared c) next new k.value (record {
+      draft = record {
+        in_horizon = leb-true c m.horizon p.1;
+        index_fits = h.index_fits;
+        people_fit = h.people_fit;
+        outs_fit = h.outs_fit;
+        outs_few = (let size = ap (λ (x : List ℕ). length x) bare.outs in omega (arith, size));
+        no_outs = λ _. bare.outs;
+        runs = subst (AreRuns m c) (sym bare.runs) (no-runs m c);
+        no_runs = λ _. bare.runs;
+        moves = h.moves;
+        no_moves = λ _. bare.moves;
+      };
+      entries = head-next m d next (entries.Cleared c) (entries.Index d.index ∷ entries.People d.people ∷ []) bare at.1 (record { outs = bare.outs; runs = bare.runs; moves = bare.moves }) refl;
+    })
+
+-- ---- the curve
+
+outs-push : (xs : List ℕ) (k n : ℕ) → k ≡ length xs → out_entries (xs ++ (n ∷ [])) ≡ out_entries xs ++ (entries.Out k n ∷ [])
+outs-push xs k n e =
+    ap (map (λ (o : ℕ × ℕ). entries.Out o.0 o.1)) (enumerate-push 0 xs n) ∙ map-append (λ (o : ℕ × ℕ). entries.Out o.0 o.1) _ ((0 + length xs, n) ∷ [])
+    ∙ ap (λ i. out_entries xs ++ (entries.Out i n ∷ [])) (let q : 0 + length xs ≡ k = omega (arith, e) in q)
+
+-- a draft that has neither runs nor moves
+curve-says : (m : Model) (d : Draft) → d.runs ≡ [] → d.moves ≡ [] → draft_entries m d ≡ head_entries d.stage d.index d.people d.cleared ++ out_entries d.outs
+unfolding says
+curve-says m d runs moves =
+    let hs = head_entries d.stage d.index d.people d.cleared in
+    ap (λ r. says m hs d.outs r d.moves) runs ∙ ap (λ v. says m hs d.outs [] v) moves ∙ append-nil ((hs ++ out_entries d.outs) ++ []) ∙ append-nil (hs ++ out_entries d.outs)
+
+unfinished : (d : Draft) → length d.outs ≤ d.cleared → is_curve d ≡ false
+unfinished d l = and_right (is_lists d.stage) (nat_eq (length d.outs) (d.cleared + 1)) (ne_eqb (length d.outs) (d.cleared + 1) (λ q. omega (arith, q, l)))
+
+out-next : (m : Model) (d : Draft) (k n : ℕ) (new : Draft) → n ≤ number_field_limit → IsDraft m d → with_out d k n ≡ Some new → IsNext m d (entries.Out k n) new
+out-next m d k n new l h e =
+    let next : Draft = record d { outs = d.outs ++ (n ∷ []) } in
+    let c = chosen (is_lists d.stage && (nat_eq k (length d.outs) && nat_le k d.cleared)) next new e in
+    let p = and_parts (is_lists d.stage) (nat_eq k (length d.outs) && nat_le k d.cleared) c.test in
+    let q = and_parts (nat_eq k (length d.outs)) (nat_le k d.cleared) p.1 in
+    let place : k ≡ length d.outs = eqb-true k (length d.outs) q.0 in
+    let flat : is_curve d ≡ false = unfinished d (let b = leb-true k d.cleared q.1 in omega (arith, b, place)) in
+    let runs : d.runs ≡ [] = h.no_runs flat in
+    let moves : d.moves ≡ [] = h.no_moves (uncurved m d flat) in
+    let hs = head_entries d.stage d.index d.people d.cleared in
+    next-is m d (entries.Out k n) next new c.value (record {
+      draft = record {
+        in_horizon = h.in_horizon;
+        index_fits = h.index_fits;
+        people_fit = h.people_fit;
+        outs_fit = All-push (λ x. x ≤ number_field_limit) d.outs n h.outs_fit l;
+        outs_few = (let b = leb-true k d.cleared q.1 in let size = length-append d.outs (n ∷ []) in omega (arith, b, place, size));
+        no_outs = λ no. (let z : true ≡ false = sym p.0 ∙ no in cc);
+        runs = h.runs;
+        no_runs = λ _. runs;
+        moves = h.moves;
+        no_moves = λ _. moves;
+      };
+      entries = curve-says m next runs moves ∙ ap (λ x. hs ++ x) (outs-push d.outs k n place) ∙ sym (append_assoc hs (out_entries d.outs) (entries.Out k n ∷ []))
+          ∙ ap (λ x. x ++ (entries.Out k n ∷ [])) (sym (curve-says m d runs moves));
+    })
+
+-- ---- runs
+
+Covers : Model → ℕ → List Run → Type 0
+Covers m c rs = (n t : ℕ) → n < behind_run (last_of rs) → IsFalse (is_exit_at m n) → run_label rs n t ≤ c
+
+-- the label of a node that isn't before a new run's
+push-own-node : (m : Model) (c : ℕ) (rs : List Run) (r : Run) (n t : ℕ) → IsFirst m (last_of rs) r.node r.moment → r.node ≡ n → r.label ≤ c → run_label (rs ++ (r ∷ [])) n t ≤ c
+push-own-node m c rs r n t h q fits = let x = label-own rs r n t q (omega (arith, h.moment)) in omega (arith, x, fits)
+
+push-covers : (m : Model) (c : ℕ) (rs : List Run) (r : Run) → follows_run m (last_of rs) r.node r.moment r.label ≡ true → r.label ≤ c → Covers m c rs → Covers m c (rs ++ (r ∷ []))
+unfolding Covers
+push-covers m c rs r f fits h = λ n t l e.
+    let before : n < r.node + 1 = (let q = ap behind_run (last-push rs r) in omega (arith, q, l)) in
+    elim (follows-how m (last_of rs) r.node r.moment r.label f) [
+      | inl first ↦ elim (cases_eq r.node n) [
+        | inl q ↦ push-own-node m c rs r n t first q fits
+        | inr ne ↦ let x = label-other rs r n t ne in elim (cases_lt n (behind_run (last_of rs))) [
+          | inl b ↦ let old = h n t b e in omega (arith, x, old)
+          | inr b ↦ absurd (let y = exits-at m (behind_run (last_of rs)) r.node n first.exits b (omega (arith, before, ne)) in let z : true ≡ false = sym y ∙ e in cc)
+        ]
+      ]
+      | inr further ↦
+          let inside : n < behind_run (last_of rs) = (let q = ap behind_run further.is in let k = further.node in omega (arith, q, k, before)) in
+          let old = h n t inside e in
+          elim (cases_eq r.node n) [
+            | inl q ↦ elim (cases_lt t r.moment) [
+              | inl a ↦ let x = label-before rs r n t a in omega (arith, x, old)
+              | inr a ↦ let x = label-own rs r n t q a in omega (arith, x, fits)
+            ]
+            | inr ne ↦ let x = label-other rs r n t ne in omega (arith, x, old)
+          ]
+    ]
+
+push-runs : (m : Model) (c : ℕ) (rs : List Run) (r : Run) → IsRun m c r → follows_run m (last_of rs) r.node r.moment r.label ≡ true → AreRuns m c rs → AreRuns m c (rs ++ (r ∷ []))
+unfolding Covers
+push-runs m c rs r is f h = record {
+  each = All-push (IsRun m c) rs r h.each is;
+  own = push-own m rs r c is.no_exit is.moment_in f h.own;
+  covered = push-covers m c rs r f is.label_fits h.covered;
+}
+
+node-within : (m : Model) (name : NodeName) (n : ℕ) → node_of m name ≡ Some n → n < length m.nodes
+node-within m name n e =
+    let p = position-Some (λ x. same_name x name) (node_names m) n no_node.name e in
+    let size : length (node_names m) ≡ length m.nodes = length-map m.nodes (λ x. x.name) in
+    omega (arith, p.0, size)
+
+empty-is : {X : Type 0} (xs : List X) → is_empty xs ≡ true → xs ≡ []
+empty-is [] h = refl
+empty-is (x ∷ xs) h = cc
+
+-- a draft that has no moves
+runs-say : (m : Model) (d : Draft) → d.moves ≡ [] → draft_entries m d ≡ (head_entries d.stage d.index d.people d.cleared ++ out_entries d.outs) ++ map (run_entry m) d.runs
+unfolding says
+runs-say m d moves =
+    let hs = head_entries d.stage d.index d.people d.cleared in
+    ap (λ v. says m hs d.outs d.runs v) moves ∙ append-nil ((hs ++ out_entries d.outs) ++ map (run_entry m) d.runs)
+
+-- a list with one more behind other entries
+map-push : {X : Type 0} (f : X → Entry) (hs : List Entry) (xs : List X) (x : X) → hs ++ map f (xs ++ (x ∷ [])) ≡ (hs ++ map f xs) ++ (f x ∷ [])
+map-push f hs xs x = ap (λ l. hs ++ l) (map-append f xs (x ∷ [])) ∙ sym (append_assoc hs (map f xs) (f x ∷ []))
+
+run-next : (m : Model) (d : Draft) (name : NodeName) (t v : ℕ) (new : Draft) → IsDraft m d → with_run m d name t v ≡ Some new → IsNext m d (entries.Label name t v) new
+run-next m d name t v new h e =
+    let next : ℕ → Draft = λ n. record d { runs = d.runs ++ (record { node = n; moment = t; label = v } ∷ []) } in
+    let f = follows (node_of m name) (λ n. cond (is_run m d n t v) (Some (next n)) None) new e in
+    let n = f.first in
+    let r : Run = record { node = n; moment = t; label = v } in
+    let k = chosen (is_run m d n t v) (next n) new f.then_value in
+    let p0 = and_parts (is_curve d) (is_empty d.moves && (not (is_exit_at m n) && (nat_lt t d.cleared && (nat_le v d.cleared && follows_run m (last_of d.runs) n t v)))) k.test in
+    let p1 = and_parts (is_empty d.moves) (not (is_exit_at m n) && (nat_lt t d.cleared && (nat_le v d.cleared && follows_run m (last_of d.runs) n t v))) p0.1 in
+    let p2 = and_parts (not (is_exit_at m n)) (nat_lt t d.cleared && (nat_le v d.cleared && follows_run m (last_of d.runs) n t v)) p1.1 in
+    let p3 = and_parts (nat_lt t d.cleared) (nat_le v d.cleared && follows_run m (last_of d.runs) n t v) p2.1 in
+    let p4 = and_parts (nat_le v d.cleared) (follows_run m (last_of d.runs) n t v) p3.1 in
+    let run : IsRun m d.cleared r = record {
+      node_in = node-within m name n f.given;
+      no_exit = not-true (is_exit_at m n) p2.0;
+      moment_in = ltb-true t d.cleared p3.0;
+      label_fits = leb-true v d.cleared p4.0;
+    } in
+    let moves : d.moves ≡ [] = empty-is d.moves p1.0 in
+    let hs = head_entries d.stage d.index d.people d.cleared ++ out_entries d.outs in
+    next-is m d (entries.Label name t v) (next n) new k.value (record {
+      draft = record {
+        in_horizon = h.in_horizon;
+        index_fits = h.index_fits;
+        people_fit = h.people_fit;
+        outs_fit = h.outs_fit;
+        outs_few = h.outs_few;
+        no_outs = h.no_outs;
+        runs = push-runs m d.cleared d.runs r run p4.1 h.runs;
+        no_runs = λ no. (let z : true ≡ false = sym p0.0 ∙ no in cc);
+        moves = h.moves;
+        no_moves = λ _. moves;
+      };
+      entries = runs-say m (next n) moves ∙ map-push (run_entry m) hs d.runs r ∙ ap₂ (λ x y. x ++ (entries.Label y t v ∷ [])) (sym (runs-say m d moves)) (named m name n f.given);
+    })
+
+-- ---- moves
+
+move-before : (q x : Move) → follows_move (Some q) x.moment x.arc ≡ true → Before q x
+move-before q x h =
+    elim (or_cases (nat_lt q.moment x.moment) (nat_eq q.moment x.moment && nat_lt q.arc x.arc) h) [
+      | inl a ↦ inl (ltb-true q.moment x.moment a)
+      | inr a ↦ let p = and_parts (nat_eq q.moment x.moment) (nat_lt q.arc x.arc) a in inr (eqb-true q.moment x.moment p.0, ltb-true q.arc x.arc p.1)
+    ]
+
+all-before : (p : List Move) (x : Move) (o : Option Move) → last_of p ≡ o → follows_move o x.moment x.arc ≡ true → AllPairs Before p → All (λ v. Before v x) p
+all-before p x None e h pairs = last-none (λ v. Before v x) p e
+all-before p x (Some q) e h pairs = before-all Before before-trans p q x pairs e (move-before q x h)
+
+arc-within : (m : Model) (i j a : ℕ) → arc_of m i j ≡ Some a → a < length m.arcs
+arc-within m i j a e =
+    let p = position-Some (λ x. nat_eq x.0 i && nat_eq x.1 j) (arc_ends m) a (0, 0) e in
+    let size : length (arc_ends m) ≡ length m.arcs = length-map m.arcs (λ x. (x.from, x.to)) in
+    omega (arith, p.0, size)
+
+-- moves stand only behind all the rest
+may-move : (m : Model) (d : Draft) → IsDraft m d → (not (is_empty d.moves) || is_full m d) ≡ true → is_full m d ≡ true
+may-move m d h test = full-by (is_full m d) refl
+  where
+    full-by : (b : Bool) → is_full m d ≡ b → is_full m d ≡ true
+    full-by true e = e
+    full-by false e = sym (ap (λ (v : List Move). not (is_empty v) || is_full m d) (h.no_moves e)) ∙ test
+
+push-moves : (m : Model) (moves : List Move) (x : Move) → x.arc < length m.arcs → x.moment ≤ m.horizon → 0 < x.people → x.people ≤ number_field_limit
+    → follows_move (last_of moves) x.moment x.arc ≡ true → AreMoves m moves → AreMoves m (moves ++ (x ∷ []))
+push-moves m moves x arc_in moment_in some few f h = record {
+  ordered = record {
+    sorted = push-sorted Before moves x h.ordered.sorted (all-before moves x (last_of moves) refl f h.ordered.sorted);
+    in_range = All-push (λ (v : Move). (v.arc < length m.arcs) × (v.moment ≤ m.horizon)) moves x h.ordered.in_range (arc_in, moment_in);
+    somebody = All-push (λ (v : Move). 0 < v.people) moves x h.ordered.somebody some;
+  };
+  fit = All-push (λ (v : Move). v.people ≤ number_field_limit) moves x h.fit few;
+}
+
+move-named : (m : Model) (start finish : NodeName) (i j : ℕ) (x : Move) → node_of m start ≡ Some i → node_of m finish ≡ Some j → arc_of m i j ≡ Some x.arc
+    → entry_of_move m x ≡ entries.Move x.moment start finish x.people
+move-named m start finish i j x is_start is_finish is_arc =
+    let ends = joined m i j x.arc is_arc in
+    ap₂ (λ a b. entries.Move x.moment a b x.people) (ap (λ k. (node_at m k).name) ends.0 ∙ named m start i is_start) (ap (λ k. (node_at m k).name) ends.1 ∙ named m finish j is_finish)
+
+move-push : (m : Model) (d : Draft) (start finish : NodeName) (i j t a n : ℕ) (new : Draft) → n ≤ number_field_limit → IsDraft m d → node_of m start ≡ Some i → node_of m finish ≡ Some j
+    → arc_of m i j ≡ Some a → cond (is_move m d t a n) (Some (record d { moves = d.moves ++ (record { moment = t; arc = a; people = n } ∷ []) })) None ≡ Some new
+    → IsNext m d (entries.Move t start finish n) new
+move-push m d start finish i j t a n new l h is_start is_finish is_arc e =
+    let x : Move = record { moment = t; arc = a; people = n } in
+    let next : Draft = record d { moves = d.moves ++ (x ∷ []) } in
+    let k = chosen (is_move m d t a n) next new e in
+    let p0 = and_parts (not (is_empty d.moves) || is_full m d) (nat_le t m.horizon && (nat_lt 0 n && follows_move (last_of d.moves) t a)) k.test in
+    let p1 = and_parts (nat_le t m.horizon) (nat_lt 0 n && follows_move (last_of d.moves) t a) p0.1 in
+    let p2 = and_parts (nat_lt 0 n) (follows_move (last_of d.moves) t a) p1.1 in
+    let full = may-move m d h p0.0 in
+    let hs = (head_entries d.stage d.index d.people d.cleared ++ out_entries d.outs) ++ map (run_entry m) d.runs in
+    next-is m d (entries.Move t start finish n) next new k.value (record {
+      draft = record {
+        in_horizon = h.in_horizon;
+        index_fits = h.index_fits;
+        people_fit = h.people_fit;
+        outs_fit = h.outs_fit;
+        outs_few = h.outs_few;
+        no_outs = h.no_outs;
+        runs = h.runs;
+        no_runs = h.no_runs;
+        moves = push-moves m d.moves x (arc-within m i j a is_arc) (leb-true t m.horizon p1.0) (ltb-true 0 n p2.0) l p2.1 h.moves;
+        no_moves = λ no. (let z : true ≡ false = sym full ∙ no in cc);
+      };
+      entries = map-push (entry_of_move m) hs d.moves x ∙ ap (λ y. draft_entries m d ++ (y ∷ [])) (move-named m start finish i j x is_start is_finish is_arc);
+    })
+
+move-next : (m : Model) (d : Draft) (t : ℕ) (start finish : NodeName) (n : ℕ) (new : Draft) → n ≤ number_field_limit → IsDraft m d → with_move m d t start finish n ≡ Some new
+    → IsNext m d (entries.Move t start finish n) new
+move-next m d t start finish n new l h e =
+    let put : ℕ → Option Draft = λ a. cond (is_move m d t a n) (Some (record d { moves = d.moves ++ (record { moment = t; arc = a; people = n } ∷ []) })) None in
+    let f = follows (node_of m start) (λ i. option_and_then (λ j. option_and_then put (arc_of m i j)) (node_of m finish)) new e in
+    let g = follows (node_of m finish) (λ j. option_and_then put (arc_of m f.first j)) new f.then_value in
+    let k = follows (arc_of m f.first g.first) put new g.then_value in
+    move-push m d start finish f.first g.first t k.first n new l h f.given g.given k.given k.then_value
+
+-- ---- one line more
+
+-- an entry that is said, and not the end
+pub record IsPart (e : Entry) : Type 0 where
+  pub is_said : says_something (Some e) ≡ true
+  pub no_end : is_end e ≡ false
+
+pub entry-next : (m : Model) (d : Draft) (e : Entry) (new : Draft) → IsPart e → IsEntry e → IsDraft m d → with_entry m d e ≡ Some new → IsNext m d e new
+unfolding with_entry
+entry-next m d entries.Blank new s l h e = let z = s.is_said in cc
+entry-next m d (entries.Index i) new s l h e = index-next m d i new l h e
+entry-next m d (entries.People p) new s l h e = people-next m d p new l h e
+entry-next m d (entries.Cleared c) new s l h e = cleared-next m d c new h e
+entry-next m d (entries.Out k n) new s l h e = out-next m d k n new l h e
+entry-next m d (entries.Label name t v) new s l h e = run-next m d name t v new h e
+entry-next m d (entries.Move t start finish n) new s l h e = move-next m d t start finish n new l h e
+entry-next m d entries.End new s l h e = let z = s.no_end in cc
+
+-- a blank line leaves a draft
+pub blank-stays : (m : Model) (d : Draft) (e : Entry) → says_something (Some e) ≡ false → with_entry m d e ≡ Some d
+unfolding with_entry
+blank-stays m d entries.Blank h = refl
+blank-stays m d (entries.Index i) h = cc
+blank-stays m d (entries.People p) h = cc
+blank-stays m d (entries.Cleared c) h = cc
+blank-stays m d (entries.Out k n) h = cc
+blank-stays m d (entries.Label name t v) h = cc
+blank-stays m d (entries.Move t start finish n) h = cc
+blank-stays m d entries.End h = cc
+
+-- the end leaves one that is full
+pub end-full : (m : Model) (d : Draft) (e : Entry) (new : Draft) → is_end e ≡ true → with_entry m d e ≡ Some new → (e ≡ entries.End) × (is_full m d ≡ true) × (new ≡ d)
+unfolding with_entry
+end-full m d entries.Blank new h e = cc
+end-full m d (entries.Index i) new h e = cc
+end-full m d (entries.People p) new h e = cc
+end-full m d (entries.Cleared c) new h e = cc
+end-full m d (entries.Out k n) new h e = cc
+end-full m d (entries.Label name t v) new h e = cc
+end-full m d (entries.Move t start finish n) new h e = cc
+end-full m d entries.End new h e = let c = chosen (is_full m d) d new e in (refl, c.test, sym c.value)

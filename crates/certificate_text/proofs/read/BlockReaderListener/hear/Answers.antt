@@ -1,9 +1,0 @@
-use Rattle.certificate_text.proofs.BlockReadLemmas.{ready-on}
-use Rattle.certificate_text.proofs.read.BlockReaderListener.hear.Goals as goal
-
-pub returns-clause-more : goal.returns-clause-more
-returns-clause-more c = λ is. record {
-  valid = c.requires.ready.valid;
-  names = c.requires.ready.names;
-  draft = ready-on c.hear.result _ _ _ _ c.requires.ready.draft c.hear.ensures is;
-}
