@@ -3,14 +3,12 @@
 //! Where people are sent already, a search from no flow tells how many can arrive by each moment, and by which ways. What its
 //! flow has more than the net's at some places and less at others is made of ways that bring people to a moment, from later
 //! arrivals or from unsent people, and of ways round: so each way brings people straight to where they are to arrive.
-ghost use Rattle.std.specs.Prelude.{◌≡◌};
-
 use crate::change::{Hop, between, excess, hop_at, least_excess, lower, put_hop};
 use crate::guide::Guide;
 use crate::lists::{FUEL, add, number, read, write};
 use crate::sizes::Sizes;
 use crate::ways::{Way, Ways, way_at};
-use residual_net::{Cell, Path};
+use residual_net::{Cell, Leg};
 use std::alloc::{AllocError, Global};
 
 /// How a walk ended: at people who may be sent by a last hop, back at its door, or for want of room.
@@ -285,20 +283,14 @@ impl Goal {
         self.most
     }
 
-    /// Fills a path with the guess.
-    pub fn lay(&self, path: &mut Path)
-        ensures { path.new.room ≡ path.old.room }
-    {
-        path.clear();
-        if path.spare() > 0 {
-            path.add(self.origin.step(self.sizes));
-        }
+    /// Fills a list with the legs of the guess.
+    pub fn lay(&self, legs: &mut Vec<Leg>) {
+        legs.clear();
+        add(legs, Leg::of(self.origin.step(self.sizes)));
         for above in 0..self.top {
             let at = self.top.wrapping_sub(above).wrapping_sub(1);
             let hop = hop_at(self.hops.as_slice(), at);
-            if path.spare() > 0 {
-                path.add(hop.step(self.sizes));
-            }
+            add(legs, Leg::of(hop.step(self.sizes)));
         }
     }
 

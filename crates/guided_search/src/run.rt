@@ -1,8 +1,9 @@
 //! A stretch of a walk: waits in one node, and the step that leads on from there.
 
 use crate::cells::stretch;
+use crate::lists::short;
 use crate::sizes::Sizes;
-use residual_net::Cell;
+use residual_net::{Cell, Leg, PathStep};
 
 /// The moments from `high` down to `low` in a node, one wait after another, and the step over the place of a row at a moment that
 /// leads on from `high`.
@@ -28,6 +29,18 @@ impl Run {
         cell: 0,
         back: false,
     };
+
+    /// Its waits and the step that leads on.
+    pub fn leg(&self, sizes: Sizes) -> Leg {
+        let place = sizes.place(self.row, self.moment);
+        let back = self.back;
+        Leg {
+            node: self.node,
+            from: short(self.low),
+            to: short(self.high),
+            step: PathStep { place, back },
+        }
+    }
 
     /// How many waits it has.
     pub fn count(&self) -> u32 {

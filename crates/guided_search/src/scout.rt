@@ -1,12 +1,10 @@
 //! Who guesses at the next path: a walk by bounds where people are unsent, else one along what is to change.
-ghost use Rattle.std.specs.Prelude.{◌≡◌};
-
 use crate::cells::{count_sent, is_all_sent};
 use crate::goal::Goal;
 use crate::guide::Guide;
 use crate::lists::short;
 use evac_law::{Labels, Model as Building};
-use residual_net::{Cell, Net, Path};
+use residual_net::{Cell, Leg, Net};
 use std::alloc::{AllocError, Global};
 
 /// At how many moments people may be sent otherwise before a goal is sought.
@@ -35,6 +33,7 @@ enum Way {
 pub struct Scout {
     guide: Guide,
     goal: Goal,
+    legs: Vec<Leg>,
     way: Way,
     next: u32,
     idle: u32,
@@ -49,9 +48,11 @@ impl Scout {
     pub fn new(alloc: Global, model: &Building) -> Result<Scout, AllocError> {
         let guide = Guide::new(alloc, model)?;
         let goal = Goal::new(alloc, guide.sizes())?;
+        let legs = Vec::with_capacity(alloc, guide.sizes().pairs().saturating_add(1))?;
         Ok(Scout {
             guide,
             goal,
+            legs,
             way: Way::Guide,
             next: u32::MAX,
             idle: u32::MAX,
@@ -170,14 +171,13 @@ impl Scout {
         }
     }
 
-    /// Fills a path with the guess.
-    pub fn lay(&self, path: &mut Path)
-        ensures { path.new.room ≡ path.old.room }
-    {
+    /// The legs of the guess.
+    pub fn lay(&mut self) -> &[Leg] {
         match self.way {
-            Way::Guide => self.guide.lay(path),
-            Way::Goal => self.goal.lay(path),
+            Way::Guide => self.guide.lay(&mut self.legs),
+            Way::Goal => self.goal.lay(&mut self.legs),
         }
+        self.legs.as_slice()
     }
 
     /// People were sent along the guess.

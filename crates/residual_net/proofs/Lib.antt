@@ -15,3 +15,4 @@ pub mod LastArrival
 pub mod Walks
 pub mod Taking
 pub mod Effects
+pub mod LegLemmas

@@ -11,6 +11,7 @@ pub mod Limits
 pub mod Site
 pub mod Network
 pub mod Route
+pub mod Legs
 pub mod Change
 pub mod Closed
 pub mod OfModel

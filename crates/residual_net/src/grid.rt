@@ -2,10 +2,12 @@
 ghost use Rattle.std.specs.Prelude.{◌≡◌, ◌∷◌, [], ◌≤◌, ◌<◌, ◌+◌, IfOk, length, vec_capacity};
 ghost use Rattle.residual_net.specs.Site.{IsSite, IsPlace, all_cells, arrival_at, cell_of, exit_at, head_of, start_of};
 ghost use Rattle.residual_net.specs.Network.{IsGrid, flow_at, limit_at, residual_room, saved_of, with_cell, with_saved};
+ghost use Rattle.time_expansion.specs.Expansion.{hold_cell};
+ghost use Rattle.residual_net.specs.Legs.{wait_at};
 ghost use Rattle.residual_net.specs.Route.{IsPushed};
 ghost use Rattle.residual_net.specs.Change.{IsDoorAt, IsLimitSet};
 ghost use Rattle.residual_net.specs.Start.{emptied, saved_cells};
-ghost use Rattle.residual_net.specs.declared.place.Place.TheVariants.{Arc};
+ghost use Rattle.residual_net.specs.declared.place.Place.TheVariants.{Arc, Hold};
 
 use crate::place::{Cell, PathStep, Place};
 use std::alloc::{AllocError, Global};
@@ -135,8 +137,20 @@ impl Grid {
         }
     }
 
+    /// The flow and the limit at a place, by the number of its cell.
+    #[tactic(auto, using(crate::proofs::Steps::cell_in), unfolding(crate::specs::Network::flow_at, crate::specs::Network::limit_at))]
+    fn get_at(&self, at: usize, place: Place) -> Cell
+        requires place { IsPlace self.now.site place }
+        requires cell { at ≡ cell_of self.now.site place }
+        ensures flow { result.flow ≡ flow_at self.now place }
+        ensures limit { result.limit ≡ limit_at self.now place }
+        ensures grid { IsGrid self.now }
+    {
+        let _ = self.shape();
+        self.cells[at]
+    }
+
     /// The flow and the limit at a place.
-    #[tactic(auto, unfolding(crate::specs::Network::flow_at, crate::specs::Network::limit_at))]
     pub fn get(&self, place: Place) -> Cell
         requires { IsPlace self.now.site place }
         ensures flow { result.flow ≡ flow_at self.now place }
@@ -144,17 +158,38 @@ impl Grid {
         ensures grid { IsGrid self.now }
     {
         let at = self.place(place);
-        self.cells[at]
+        self.get_at(at, place)
     }
 
-    /// Puts a cell with the same limit in the place of another.
-    fn put(&mut self, place: Place, cell: Cell)
+    /// Puts a cell with the same limit in the place of another, by the number of that one.
+    #[tactic(auto, using(crate::proofs::Steps::cell_in))]
+    fn put_at(&mut self, at: usize, place: Place, cell: Cell)
         requires place { IsPlace self.old.site place }
+        requires cell { at ≡ cell_of self.old.site place }
         requires limit { cell.limit ≡ limit_at self.old place }
         ensures { self.new ≡ with_cell self.old place cell }
     {
-        let at = self.place(place);
+        let _ = self.shape();
         self.cells[at] = cell;
+    }
+
+    /// Sends people over a step, by the number of its place's cell.
+    fn shift_at(&mut self, at: usize, step: PathStep, people: u32)
+        requires place { IsPlace self.old.site step.place }
+        requires cell { at ≡ cell_of self.old.site step.place }
+        requires room { people ≤ residual_room self.old step }
+        ensures pushed { IsPushed self.old self.new (step ∷ []) people }
+        ensures grid { IsGrid self.new }
+    {
+        let cell = self.get_at(at, step.place);
+        let flow = if step.back {
+            cell.flow - people
+        } else {
+            cell.flow + people
+        };
+        let limit = cell.limit;
+        self.put_at(at, step.place, Cell { flow, limit });
+        let _ = &self.cells;
     }
 
     /// Sends people over a step.
@@ -164,15 +199,21 @@ impl Grid {
         ensures pushed { IsPushed self.old self.new (step ∷ []) people }
         ensures grid { IsGrid self.new }
     {
-        let cell = self.get(step.place);
-        let flow = if step.back {
-            cell.flow - people
-        } else {
-            cell.flow + people
-        };
-        let limit = cell.limit;
-        self.put(step.place, Cell { flow, limit });
-        let _ = &self.cells;
+        let at = self.place(step.place);
+        self.shift_at(at, step, people);
+    }
+
+    /// Lets more people wait in a node at a moment, by where the waits in the node begin.
+    pub fn shift_wait(&mut self, first: u32, node: u32, moment: u16, people: u32)
+        requires place { IsPlace self.old.site (Hold node moment) }
+        requires first { first ≡ hold_cell self.old.site.shape node 0 }
+        requires room { people ≤ residual_room self.old (wait_at node moment) }
+        ensures pushed { IsPushed self.old self.new (wait_at node moment ∷ []) people }
+        ensures grid { IsGrid self.new }
+    {
+        let at = first as usize + moment as usize;
+        let place = Place::Hold { node, moment };
+        self.shift_at(at, PathStep { place, back: false }, people);
     }
 
     /// Gives a place another limit.

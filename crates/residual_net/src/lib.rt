@@ -9,6 +9,7 @@
 mod cancel;
 mod grid;
 mod laws;
+mod legs;
 mod limits;
 mod net;
 mod path;
@@ -21,6 +22,7 @@ pub use laws::{
     closed_is_cut, closed_survives_push, last_is_arrival, net_fits, net_is_feasible,
     push_moves_arrivals, sent_is_arrived, supplies_between,
 };
+pub use legs::Leg;
 pub use limits::SUPPLY_LIMIT;
 pub use net::Net;
 pub use path::Path;

@@ -1,10 +1,11 @@
 // A net: its flow keeps conservation.
-ghost use Rattle.std.specs.Prelude.{◌≡◌, ◌+◌, ◌<◌, ◌≤◌, IfOk, IfSome, IsTrue, length, replicate, slice_index};
+ghost use Rattle.std.specs.Prelude.{◌≡◌, ◌+◌, ◌-◌, ◌<◌, ◌≤◌, IfOk, IfSome, IsTrue, length, replicate, slice_index};
 ghost use Rattle.evac_law.specs.Building.{IsValid};
 ghost use Rattle.residual_net.specs.Limits.{supply_limit};
 ghost use Rattle.residual_net.specs.Site.{IsPlace, arrival_at, exit_at, is_barred};
 ghost use Rattle.residual_net.specs.Network.{IsGrid, IsNet, IsStored, IsWithinLimits, arrived_by, excess_at, flow_at, limit_at, residual_room, saved_of, unsent_at, with_saved};
-ghost use Rattle.residual_net.specs.Route.{IsPushable, IsPushed, IsUnderway};
+ghost use Rattle.residual_net.specs.Route.{IsPushable, IsPushed};
+ghost use Rattle.residual_net.specs.Legs.{IsShiftable, IsUnderwayBetween, steps_of_leg, steps_of_legs, waits_at};
 ghost use Rattle.residual_net.specs.Change.{IsCancelled, IsFewerBy, IsLimitSet, IsLowering, supply_limits_with};
 ghost use Rattle.residual_net.specs.OfModel.{IsNetOf, last_move, plan_of};
 ghost use Rattle.residual_net.specs.declared.place.Place.{Place};
@@ -12,6 +13,7 @@ ghost use Rattle.residual_net.specs.declared.place.Place.TheVariants.{Arc, Hold,
 
 use crate::cancel::{find_path, least, take_all};
 use crate::grid::Grid;
+use crate::legs::Leg;
 use crate::path::Path;
 use crate::place::{Cell, PathStep, Place};
 use crate::standing::last_some;
@@ -55,6 +57,45 @@ fn shift_all(grid: &mut Grid, path: &[PathStep], people: u32)
     }
 }
 
+/// Lets more people wait in a node, at each moment from one up to another.
+fn shift_waits(grid: &mut Grid, node: u32, from: u16, to: u16, people: u32)
+    requires grid { IsGrid grid.old }
+    requires shiftable { IsShiftable grid.old (waits_at node from (to - from)) people }
+    ensures pushed { IsPushed grid.old grid.new (waits_at node from (to - from)) people }
+    ensures grid { IsGrid grid.new }
+{
+    if from >= to {
+        return;
+    }
+    let first = grid.shape().hold_cell(node, 0);
+    for moment in from..to {
+        grid.shift_wait(first, node, moment, people);
+    }
+}
+
+/// Sends people over a leg.
+fn shift_leg(grid: &mut Grid, leg: Leg, people: u32)
+    requires grid { IsGrid grid.old }
+    requires shiftable { IsShiftable grid.old (steps_of_leg leg) people }
+    ensures pushed { IsPushed grid.old grid.new (steps_of_leg leg) people }
+    ensures grid { IsGrid grid.new }
+{
+    shift_waits(grid, leg.node, leg.from, leg.to, people);
+    grid.shift(leg.step, people);
+}
+
+/// Sends people over each leg in turn.
+fn shift_legs(grid: &mut Grid, legs: &[Leg], people: u32)
+    requires grid { IsGrid grid.old }
+    requires shiftable { IsShiftable grid.old (steps_of_legs legs.now) people }
+    ensures pushed { IsPushed grid.old grid.new (steps_of_legs legs.now) people }
+    ensures grid { IsGrid grid.new }
+{
+    for leg in legs {
+        shift_leg(grid, *leg, people);
+    }
+}
+
 /// Counts people no more at a moment, where one is told.
 fn lower(arrivals: &mut [u32], moment: Option<u16>, people: u32)
     requires { IfSome moment (λ j. (j < length arrivals.old) × (people ≤ slice_index arrivals.old j)) }
@@ -79,13 +120,11 @@ fn raise(arrivals: &mut [u32], moment: Option<u16>, people: u32)
 }
 
 /// Counts the people of a push at the moment at which the path arrives, and no more at the one where it begins.
-fn move_arrivals(arrivals: &mut [u32], grid: &Grid, path: &[PathStep], people: u32)
+fn move_arrivals(arrivals: &mut [u32], grid: &Grid, first: PathStep, last: PathStep, people: u32)
     requires some { 1 ≤ people }
-    requires underway { IsUnderway grid.now arrivals.old path.now people }
+    requires underway { IsUnderwayBetween grid.now arrivals.old first last people }
     ensures { IsStored grid.now arrivals.new }
 {
-    let first = path[0];
-    let last = path[path.len() - 1];
     let from = grid.origin(first);
     let to = grid.arrival(last.place);
     lower(arrivals, from, people);
@@ -267,7 +306,39 @@ impl Net {
     {
         let list = path.steps();
         shift_all(&mut self.grid, list, people);
-        move_arrivals(self.arrivals.as_mut_slice(), &self.grid, list, people);
+        let first = list[0];
+        let last = list[list.len() - 1];
+        move_arrivals(
+            self.arrivals.as_mut_slice(),
+            &self.grid,
+            first,
+            last,
+            people,
+        );
+        steps.tick();
+        let _ = &self.grid;
+    }
+
+    /// Sends people along a path by its legs, which is quicker than by its steps. Takes time in proportion to the path.
+    pub fn push_legs<L: Ledger>(&mut self, legs: &[Leg], people: u32, steps: &mut Steps<L>)
+        requires within { IsWithinLimits self.old }
+        requires some { 1 ≤ people }
+        requires path { IsPushable self.old (steps_of_legs legs.now) people }
+        ensures pushed { IsPushed self.old self.new (steps_of_legs legs.now) people }
+        ensures within { IsWithinLimits self.new }
+        ensures net { IsNet self.new }
+        ensures ticked { steps.new ≡ steps.old + 1 }
+    {
+        shift_legs(&mut self.grid, legs, people);
+        let first = legs[0].first();
+        let last = legs[legs.len() - 1].step;
+        move_arrivals(
+            self.arrivals.as_mut_slice(),
+            &self.grid,
+            first,
+            last,
+            people,
+        );
         steps.tick();
         let _ = &self.grid;
     }

@@ -1,13 +1,17 @@
 -- A guessed path, from its end to its beginning.
-use Rattle.std.proofs.Common.{◌≡◌, ℕ, ◌+◌, ◌-◌, ◌*◌, ◌<◌, ◌≤◌, true, false, ◌&&◌, eqb, List, [], ◌∷◌, length, get_or, drop, ap, sym, subst, ◌∙◌, ◌⊎◌, refl, arith, inl, inr, add-one, drop-cons}
+use Rattle.std.proofs.Common.{◌≡◌, ℕ, ◌+◌, ◌-◌, ◌*◌, ◌<◌, ◌≤◌, true, false, ◌&&◌, eqb, List, [], ◌∷◌, ◌++◌, length, get_or, drop, ap, sym, subst, ◌∙◌, ◌⊎◌, refl, arith, inl, inr}
 use Rattle.std.specs.List.{All}
+use Rattle.std.proofs.lemmas.List.{append_assoc}
 use Rattle.std.proofs.lemmas.Bool.{cases_Bool, or_cases}
 use Rattle.time_expansion.specs.Expansion.{hold_cell}
+use Rattle.residual_net.specs.declared.legs.Leg.{Leg}
 use Rattle.residual_net.specs.declared.place.PathStep.{PathStep}
+use Rattle.residual_net.specs.Legs.{steps_of_legs, wait_at, waits_at}
+use Rattle.residual_net.proofs.LegLemmas.{legs_from, waits_first, waits_none}
 use Rattle.residual_net.specs.declared.place.Place.TheVariants.{Hold}
 use Rattle.residual_net.specs.Network.{Network, IsNet, IsWithinLimits, residual_room}
-use Rattle.residual_net.specs.Route.{IsAugmentingPath, IsOrigin, IsPushed, Trail}
-use Rattle.residual_net.specs.Site.{Site, End, IsPlace, cell_of, start_of, stop_of}
+use Rattle.residual_net.specs.Route.{IsAugmentingPath, IsOrigin, IsPushed}
+use Rattle.residual_net.specs.Site.{Site, End, cell_of, start_of}
 use Rattle.residual_net.specs.Site.End.{Pair}
 use Rattle.residual_net.proofs.Places.{cell_below}
 use Rattle.terminal_augment.specs.declared.guess.Look.{Look}
@@ -17,7 +21,7 @@ use Rattle.terminal_augment.specs.declared.spot.Start.{Start}
 use Rattle.terminal_augment.specs.declared.spot.Start.TheVariants as starts
 use Rattle.terminal_augment.specs.Frames.{IsChain, IsFound, IsFrame, end_of, spots, steps_of, top_end}
 use Rattle.terminal_augment.specs.declared.work.Work.{Work}
-use Rattle.terminal_augment.specs.Guesses.{CarriesPeople, IsLookedAt, IsMarkedOn, IsStep, IsTail, IsWait, frame_of, frames_of, spot_of}
+use Rattle.terminal_augment.specs.Guesses.{CarriesPeople, IsMarkedOn, IsStep, IsTail, frame_of, frames_of, spot_of}
 use Rattle.terminal_augment.specs.Marking.{MarkTable, IsMarks, is_marked, with_stamp}
 use Rattle.terminal_augment.specs.Searching.{IsWork}
 use Rattle.terminal_augment.specs.Settled.{IsPushedOn}
@@ -108,37 +112,38 @@ all_carried w k m e r people next y path whole tail step origin few room same = 
     here : IsAugmentingPath w (y ∷ path) next (start_of w.site y) k
     here = augments w k (frames_of w.site path) y next (y ∷ path) found tail.chain (ap (λ (z : List PathStep). y ∷ z) (sym (steps_of_frames w.site path))) rooms
 
--- the steps from a number on, where that is one less
-pub one_more : (path : List PathStep) (left : ℕ) (blank : PathStep) → 0 < left → left ≤ length path
-    → drop (left - 1) path ≡ get_or path (left - 1) blank ∷ drop left path
-one_more path left blank some fits =
-    let lt : left - 1 < length path = omega (arith, some, fits) in
+abbrev waits_of : Leg → List PathStep
+waits_of g = waits_at g.node g.from (g.to - g.from)
+
+-- the legs from a number on, where that is one less
+pub legs_back : (gs : List Leg) (left : ℕ) (blank : Leg) → 0 < left → left ≤ length gs
+    → steps_of_legs (drop (left - 1) gs) ≡ waits_of (get_or gs (left - 1) blank) ++ (get_or gs (left - 1) blank).step ∷ steps_of_legs (drop left gs)
+legs_back gs left blank some fits =
+    let g = get_or gs (left - 1) blank in
+    let lt : left - 1 < length gs = omega (arith, some, fits) in
     let next : (left - 1) + 1 ≡ left = omega (arith, some) in
-    drop-cons path (left - 1) blank lt ∙ ap (λ (i : ℕ). get_or path (left - 1) blank ∷ drop i path) (sym (add-one (left - 1)) ∙ next)
+    legs_from gs (left - 1) blank lt ∙ append_assoc (waits_of g) (g.step ∷ []) (steps_of_legs (drop ((left - 1) + 1) gs))
+    ∙ ap (λ i. waits_of g ++ g.step ∷ steps_of_legs (drop i gs)) next
+
+-- the path of legs of which the first has no wait
+pub legs_whole : (gs : List Leg) (left : ℕ) (blank : Leg) → 0 < left → left ≤ length gs → left - 1 ≡ 0
+    → (get_or gs (left - 1) blank).to ≤ (get_or gs (left - 1) blank).from
+    → steps_of_legs gs ≡ (get_or gs (left - 1) blank).step ∷ steps_of_legs (drop left gs)
+legs_whole gs left blank some fits first none =
+    let g = get_or gs (left - 1) blank in
+    ap (λ i. steps_of_legs (drop i gs)) (sym first) ∙ legs_back gs left blank some fits
+    ∙ ap (λ z. z ++ g.step ∷ steps_of_legs (drop left gs)) (waits_none g.node g.from g.to none)
 
 -- ---- a wait
 
-wait_inside : (s : Site) (q p : Spot) → q ≡ record { node = p.node; moment = p.moment + 1 } → IsInside s q.node q.moment → IsInside s p.node (p.moment + 1)
-wait_inside s q p same inside = subst (λ (z : Spot). IsInside s z.node z.moment) same inside
-
-pub wait_begins : (s : Site) (y : PathStep) (q p : Spot) → IsWait y q p → IsInside s q.node q.moment → IsInside s p.node p.moment
-wait_begins s y q p wait inside =
-    let next = wait_inside s q p wait.end inside in
-    record { node = next.node; moment = omega (arith, next.moment); open_node = next.open_node }
-
-pub wait_place : (s : Site) (y : PathStep) (q p : Spot) → IsWait y q p → IsInside s q.node q.moment → IsPlace s y.place
-wait_place s y q p wait inside =
-    let next = wait_inside s q p wait.end inside in
-    subst (λ (z : PathStep). IsPlace s z.place) (sym wait.step) (next.node, omega (arith, next.moment))
-
-wait_step : (w : Network) (y : PathStep) (q p : Spot) → IsWait y q p → IsInside w.site q.node q.moment → 0 < residual_room w y
-    → IsStep w y (starts.At p) (starts.At q)
-wait_step w y q p wait inside room = record {
-  place = wait_place w.site y q p wait inside;
+wait_step : (w : Network) (q p : Spot) → q.node ≡ p.node → q.moment ≡ p.moment + 1 → IsInside w.site q.node q.moment
+    → 0 < residual_room w (wait_at p.node p.moment) → IsStep w (wait_at p.node p.moment) (starts.At p) (starts.At q)
+wait_step w q p node moment inside room = record {
+  place = (omega (arith, inside.node, node), omega (arith, inside.moment, moment));
   room = room;
-  start = ap (λ (z : PathStep). start_of w.site z) wait.step;
-  inside = wait_begins w.site y q p wait inside;
-  stop = ap (λ (z : PathStep). stop_of w.site z) wait.step ∙ ap (λ (z : Spot). end_of (starts.At z)) (sym wait.end);
+  start = refl;
+  inside = record { node = omega (arith, inside.node, node); moment = omega (arith, inside.moment, moment); open_node = rw node at inside.open_node };
+  stop = ap (λ n. Pair n (p.moment + 1)) (sym node) ∙ ap (λ t. Pair q.node t) (sym moment);
 }
 
 -- the cell of a wait, by where the waits in its node begin
@@ -149,35 +154,41 @@ wait_cell w n t first net node moment here =
     let same : first + t ≡ (length w.site.shape.ends + n) * (w.site.shape.horizon + 1) + t = omega (arith, here) in
     (omega (arith, same, cell_below w.site (Hold n t) (node, moment), net.full), same)
 
--- a look that goes back over one more wait
-pub looked_more : (w : Network) (k : ℕ) (m v : MarkTable) (x z : Look) (path : List PathStep) (blank : PathStep) → IsMarks m → m.nodes ≡ w.site.shape.nodes
-    → m.horizon ≡ w.site.shape.horizon → IsLookedAt w k m x path → 0 < x.left → x.left ≤ length path → IsInside w.site x.spot.node x.spot.moment
-    → IsWait (get_or path (x.left - 1) blank) x.spot z.spot → z.left ≡ x.left - 1 → is_marked m z.spot.node z.spot.moment ≡ false
-    → v ≡ with_stamp m z.spot.node z.spot.moment m.stamp → 1 ≤ z.people → z.people ≤ x.people → z.people ≤ residual_room w (get_or path (x.left - 1) blank)
-    → IsLookedAt w k v z path
-looked_more w k m v x z path blank marks nodes horizon old some fits inside wait left off same one few room =
-    let y = get_or path (x.left - 1) blank in
-    let step = wait_step w y x.spot z.spot wait inside (omega (arith, one, room)) in
-    let now = tail_more w k m v (starts.At x.spot) (starts.At z.spot) z.spot x.people z.people y (drop x.left path) marks nodes horizon old step refl off same one few room in
-    let steps : drop z.left path ≡ y ∷ drop x.left path = ap (λ (i : ℕ). drop i path) left ∙ one_more path x.left blank some fits in
-    subst (λ (s : List PathStep). IsTail w k v (starts.At z.spot) z.people s) (sym steps) now
+-- a look that goes back over one more wait of a leg
+pub looked_more : (w : Network) (m v u : MarkTable) (n to : ℕ) (start x : Look) (p : Spot) (next : ℕ) → IsMarks v → v.nodes ≡ w.site.shape.nodes
+    → v.horizon ≡ w.site.shape.horizon → x.spot.node ≡ n → p.node ≡ n → x.spot.moment ≡ p.moment + 1 → x.spot.moment ≤ to
+    → IsInside w.site x.spot.node x.spot.moment
+    → ((k : ℕ) (path : List PathStep) → IsTail w k m (starts.At start.spot) start.people path
+    → IsTail w k v (starts.At x.spot) x.people (waits_at n x.spot.moment (to - x.spot.moment) ++ path))
+    → is_marked v p.node p.moment ≡ false → u ≡ with_stamp v p.node p.moment v.stamp → (0 < x.people → 1 ≤ next) → next ≤ x.people
+    → next ≤ residual_room w (wait_at p.node p.moment)
+    → (k : ℕ) (path : List PathStep) → IsTail w k m (starts.At start.spot) start.people path
+    → IsTail w k u (starts.At p) next (waits_at n p.moment (to - p.moment) ++ path)
+looked_more w m v u n to start x p next marks nodes horizon node here moment last inside old off same one few room k path tail =
+    let so_far = waits_at n x.spot.moment (to - x.spot.moment) ++ path in
+    let was = old k path tail in
+    let some = one (omega (arith, was.some)) in
+    let step = wait_step w x.spot p (node ∙ sym here) moment inside (omega (arith, some, room)) in
+    let now = tail_more w k v u (starts.At x.spot) (starts.At p) p x.people next (wait_at p.node p.moment) so_far marks nodes horizon was step refl off same some few room in
+    let first : waits_at n p.moment (to - p.moment) ≡ wait_at p.node p.moment ∷ waits_at n x.spot.moment (to - x.spot.moment) =
+    waits_first n p.moment to (omega (arith, moment, last))
+    ∙ ap (λ t. wait_at n p.moment ∷ waits_at n t (to - t)) (sym moment)
+    ∙ ap (λ i. wait_at i p.moment ∷ waits_at n x.spot.moment (to - x.spot.moment)) (sym here) in
+    subst (λ (z : List PathStep). IsTail w k u (starts.At p) next (z ++ path)) (sym first) now
 
 -- a push along a path that was looked at
-pub carried_pushed : (w v : Network) (k people : ℕ) (path trail : List PathStep) → IsNet v → IsWithinLimits v → 1 ≤ people → CarriesPeople w k path people
-    → path ≡ trail → IsPushed w v trail people → IsPushedOn w v k 1
-carried_pushed w v k people path trail net within one carried same pushed =
-    let here = subst (λ (z : List PathStep). IsAugmentingPath w z people carried.0 k) same carried.1 in
-    pushed_on w v trail people carried.0 k net within one here pushed
+pub carried_pushed : (w v : Network) (k people : ℕ) (path : List PathStep) → IsNet v → IsWithinLimits v → 1 ≤ people → CarriesPeople w k path people
+    → IsPushed w v path people → IsPushedOn w v k 1
+carried_pushed w v k people path net within one carried pushed = pushed_on w v path people carried.0 k net within one carried.1 pushed
 
 -- the scratch after a path was looked at
-pub guessed_work : (n h : ℕ) (x : Work) (m v : MarkTable) (t : Trail) → IsWork n h x → IsMarks m → m.nodes ≡ x.marks.nodes → m.horizon ≡ x.marks.horizon
-    → length m.list ≡ length x.marks.list → IsMarkedOn m v → t.room ≡ x.path.room
-    → IsWork n h (record { marks = v; frames = x.frames; seen = x.seen; path = t })
-guessed_work n h x m v t work marks nodes horizon size on room = record {
+pub guessed_work : (n h : ℕ) (x : Work) (m v : MarkTable) → IsWork n h x → IsMarks m → m.nodes ≡ x.marks.nodes → m.horizon ≡ x.marks.horizon
+    → length m.list ≡ length x.marks.list → IsMarkedOn m v → IsWork n h (record { marks = v; frames = x.frames; seen = x.seen; path = x.path })
+guessed_work n h x m v work marks nodes horizon size on = record {
   marks = on.marks marks;
   nodes = on.nodes ∙ nodes ∙ work.nodes;
   horizon = on.horizon ∙ horizon ∙ work.horizon;
   frames = omega (arith, on.size, size, work.frames);
   seen = omega (arith, on.size, size, work.seen);
-  path = omega (arith, room, work.path);
+  path = work.path;
 }

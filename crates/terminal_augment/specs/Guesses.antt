@@ -1,8 +1,9 @@
--- A guessed path, looked at step by step from its end.
-use Rattle.std.specs.Prelude.{◌≡◌, ℕ, false, ◌+◌, ◌<◌, ◌≤◌, List, drop, map, length, IsTrue}
+-- A guessed path, looked at from its end.
+use Rattle.std.specs.Prelude.{◌≡◌, ℕ, ◌-◌, ◌<◌, ◌≤◌, List, ◌++◌, map, length, Option, Some, None, IsTrue}
 use Rattle.std.specs.List.{All}
+use Rattle.residual_net.specs.declared.legs.Leg.{Leg}
 use Rattle.residual_net.specs.declared.place.PathStep.{PathStep}
-use Rattle.residual_net.specs.declared.place.Place.TheVariants.{Hold}
+use Rattle.residual_net.specs.Legs.{waits_at}
 use Rattle.residual_net.specs.Network.{Network, residual_room}
 use Rattle.residual_net.specs.Route.{IsAugmentingPath}
 use Rattle.residual_net.specs.Site.{Site, End, IsPlace, start_of, stop_of}
@@ -37,11 +38,6 @@ pub record IsStep (w : Network) (y : PathStep) (r e : Start) : Type 0 where
   pub inside : IsStart w.site r
   pub stop : stop_of w.site y ≡ end_of e
 
--- the step is the wait to a pair from another
-pub record IsWait (y : PathStep) (q p : Spot) : Type 0 where
-  pub step : y ≡ record { place = Hold p.node p.moment; back = false }
-  pub end : q ≡ record { node = p.node; moment = p.moment + 1 }
-
 -- the steps lead from an end to an arrival at moment k over marked pairs, and each has room for some people
 pub record IsTail (w : Network) (k : ℕ) (m : MarkTable) (e : Start) (people : ℕ) (path : List PathStep) : Type 0 where
   pub chain : IsChain w.site k (frames_of w.site path)
@@ -51,14 +47,16 @@ pub record IsTail (w : Network) (k : ℕ) (m : MarkTable) (e : Start) (people : 
   pub room : All (λ y. people ≤ residual_room w y) path
   pub marked : (n t : ℕ) → IsTrue (has (spots (frames_of w.site path)) n t) → IsTrue (is_marked m n t)
 
--- a look at a path has come to a pair over its last steps
-abbrev pub IsLookedAt : Network → ℕ → MarkTable → Look → List PathStep → Type 0
-IsLookedAt w k m x path = IsTail w k m (starts.At x.spot) x.people (drop x.left path)
+-- a look at a path has come to a pair of the network, over the waits of a leg before what it had come over
+pub record IsLookedBack (w : Network) (m v : MarkTable) (g : Leg) (x y : Look) : Type 0 where
+  pub inside : IsInside w.site y.spot.node y.spot.moment
+  pub tail : (k : ℕ) (path : List PathStep) → IsTail w k m (starts.At x.spot) x.people path
+      → IsTail w k v (starts.At y.spot) y.people (waits_at g.node g.from (g.to - g.from) ++ path)
 
--- a look has come to a pair of the network, with so many steps left at most
-pub record IsLookWithin (s : Site) (most : ℕ) (x : Look) : Type 0 where
-  pub inside : IsInside s x.spot.node x.spot.moment
-  pub left : x.left ≤ most
+-- the waits of a leg were looked at, if they may be taken
+abbrev pub IsLookedOver : Network → MarkTable → MarkTable → Leg → Look → Option Look → Type 0
+IsLookedOver w m v g x None = Unit {0}
+IsLookedOver w m v g x (Some y) = IsLookedBack w m v g x y
 
 -- the path brings that many people to moment k
 abbrev pub CarriesPeople : Network → ℕ → List PathStep → ℕ → Type 0

@@ -1,11 +1,12 @@
-// A guess at a path, looked at step by step before people are sent along it.
+// A guess at a path, looked at leg by leg and step by step before people are sent along it.
 ghost use Rattle.std.specs.Prelude.{◌≡◌, ℕ, ◌+◌, ◌<◌, false, ◌≤◌, IsTrue, MatchOption, length};
 ghost use Rattle.time_expansion.specs.Expansion.{hold_cell};
 ghost use Rattle.residual_net.specs.declared.place.Place.TheVariants.{Hold};
+ghost use Rattle.residual_net.specs.Legs.{steps_of_legs};
 ghost use Rattle.residual_net.specs.Network.{IsNet, IsWithinLimits, residual_room};
 ghost use Rattle.residual_net.specs.Site.{IsPlace, cell_of, head_of, stop_of, tail_of};
 ghost use Rattle.terminal_augment.specs.Frames.{IsStart, end_of};
-ghost use Rattle.terminal_augment.specs.Guesses.{CarriesPeople, IsLookWithin, IsLookedAt, IsMarkedOn, IsMarksOf, IsStep, IsWait};
+ghost use Rattle.terminal_augment.specs.Guesses.{CarriesPeople, IsLookedOver, IsMarkedOn, IsMarksOf, IsStep};
 ghost use Rattle.terminal_augment.specs.Searching.{IsWork};
 ghost use Rattle.terminal_augment.specs.Settled.{IsCountedOn};
 ghost use Rattle.terminal_augment.specs.Spots.{IsInside};
@@ -16,7 +17,7 @@ use crate::ways::start;
 use crate::work::Work;
 use evac_law::{Labels, Steps};
 use guided_search::Scout;
-use residual_net::{Net, PathStep, Place};
+use residual_net::{Leg, Net, PathStep, Place};
 use std::sync::ledger::Ledger;
 
 /// The most guesses at one arrival moment.
@@ -94,22 +95,6 @@ fn stops_at(net: &Net, step: PathStep, end: Start) -> bool
     }
 }
 
-/// The pair from which a step is the wait that stops at a pair.
-fn waits(step: PathStep, spot: Spot) -> Option<Spot>
-    ensures { MatchOption result (Unit {0}) (IsWait step spot) }
-{
-    match step.place {
-        Place::Hold { node, moment } => {
-            if !step.back && node == spot.node && moment as u32 + 1 == spot.moment as u32 {
-                Some(Spot { node, moment })
-            } else {
-                None
-            }
-        }
-        Place::Arc { .. } | Place::Supply { .. } => None,
-    }
-}
-
 /// The cell of the wait from a pair, by where the waits in its node begin.
 fn wait_cell(net: &Net, first: u32, spot: Spot) -> usize
     requires node { spot.node < net.now.site.shape.nodes }
@@ -136,45 +121,46 @@ fn wait_room(net: &Net, first: u32, spot: Spot) -> u32
     cell.limit.saturating_sub(cell.flow)
 }
 
-/// How far a look at a path has come: to a pair, with the people who may be sent on from there, and some steps left.
+/// How far a look at a path has come: to a pair, with the people who may be sent on from there.
 #[derive(Clone, Copy)]
 struct Look {
     spot: Spot,
     people: u32,
-    left: usize,
 }
 
-/// Looks back over waits one after another, as long as they have room and no pair comes twice.
-fn over_waits(net: &Net, marks: &mut Marks, path: &[PathStep], from: Look) -> Look
+/// Looks back over the waits of a leg, where they lead to the pair that was come to, have room, and no pair comes twice.
+fn over_waits(net: &Net, marks: &mut Marks, leg: Leg, from: Look) -> Option<Look>
     requires within { IsWithinLimits net.now }
     requires marks { IsMarksOf net.now.site marks.old }
-    requires from { IsLookWithin net.now.site (length path.now) from }
-    ensures look { IsLookWithin net.now.site from.left result }
-    ensures tail { (k : ℕ) → IsLookedAt net.now k marks.old from path.now → IsLookedAt net.now k marks.new result path.now }
+    requires inside { IsInside net.now.site from.spot.node from.spot.moment }
+    ensures looked { IsLookedOver net.now marks.old marks.new leg from result }
     ensures marks { IsMarkedOn marks.old marks.new }
 {
+    if leg.to <= leg.from {
+        return Some(from);
+    }
+    if leg.node != from.spot.node || leg.to != from.spot.moment {
+        return None;
+    }
     let node = from.spot.node;
     let first_wait = net.shape().hold_cell(node, 0);
     let first_mark = marks.first(node);
     let mut look = from;
-    while look.left > 0 {
-        let step = path[look.left - 1];
-        let Some(spot) = waits(step, look.spot) else {
-            return look;
-        };
+    while leg.from < look.spot.moment {
+        let moment = look.spot.moment - 1;
+        let spot = Spot { node, moment };
         let room = wait_room(net, first_wait, spot);
         if room == 0 {
-            return look;
+            return None;
         }
         if marks.is_marked_at(first_mark, spot) {
-            return look;
+            return None;
         }
         marks.mark_at(first_mark, spot);
         let people = look.people.min(room);
-        let left = look.left - 1;
-        look = Look { spot, people, left };
+        look = Look { spot, people };
     }
-    look
+    Some(look)
 }
 
 /// Where a step begins, if it is one of the net's, has room and stops at an end.
@@ -195,12 +181,19 @@ fn begins(net: &Net, step: PathStep, end: Start) -> Option<Start>
     Some(start(net, step))
 }
 
-/// The most people who may be sent along a path to an arrival at a moment, or 0 where it leads there from no source, twice to one
-/// pair, or over a step with no room.
-fn carried(net: &Net, marks: &mut Marks, path: &[PathStep], most: u32, k: u16) -> u32
+/// Whether a leg is the first one, and no wait comes before its step.
+fn is_first(leg: Leg, before: usize) -> bool
+    ensures { IsTrue result → (before ≡ 0) × (leg.to ≤ leg.from) }
+{
+    before == 0 && leg.to <= leg.from
+}
+
+/// The most people who may be sent along the path of some legs to an arrival at a moment, or 0 where it leads there from no source,
+/// twice to one pair, or over a step with no room.
+fn carried(net: &Net, marks: &mut Marks, legs: &[Leg], most: u32, k: u16) -> u32
     requires within { IsWithinLimits net.now }
     requires marks { IsMarksOf net.now.site marks.old }
-    ensures path { 0 < result → CarriesPeople net.now k path.now result }
+    ensures path { 0 < result → CarriesPeople net.now k (steps_of_legs legs.now) result }
     ensures marks { IsMarkedOn marks.old marks.new }
 {
     let mut end = Start::Door(k);
@@ -208,30 +201,35 @@ fn carried(net: &Net, marks: &mut Marks, path: &[PathStep], most: u32, k: u16) -
         return 0;
     }
     let mut people = most;
-    let mut left = path.len();
+    let mut left = legs.len();
     while left > 0 {
         left -= 1;
-        let step = path[left];
-        let Some(before) = begins(net, step, end) else {
+        let leg = legs[left];
+        let Some(before) = begins(net, leg.step, end) else {
             return 0;
         };
-        people = people.min(net.room(step));
+        people = people.min(net.room(leg.step));
         match before {
             Start::At(spot) => {
                 if marks.is_marked(spot) {
                     return 0;
                 }
                 marks.mark(spot);
-                let look = over_waits(net, marks, path, Look { spot, people, left });
+                let Some(look) = over_waits(net, marks, leg, Look { spot, people }) else {
+                    return 0;
+                };
                 end = Start::At(look.spot);
                 people = look.people;
-                left = look.left;
             }
             Start::Source => {
-                return if left == 0 { people } else { 0 };
+                return if is_first(leg, left) { people } else { 0 };
             }
             Start::Door(moment) => {
-                return if left == 0 && k < moment { people } else { 0 };
+                return if is_first(leg, left) && k < moment {
+                    people
+                } else {
+                    0
+                };
             }
         }
     }
@@ -260,13 +258,14 @@ pub fn send_guessed<L: Ledger>(
         if !scout.find(net) {
             return pushes;
         }
-        scout.lay(&mut work.path);
+        let most = scout.most();
+        let legs = scout.lay();
         work.marks.clear();
-        let people = carried(net, &mut work.marks, work.path.steps(), scout.most(), k);
+        let people = carried(net, &mut work.marks, legs, most, k);
         if people == 0 {
             return pushes;
         }
-        net.push(&work.path, people, steps);
+        net.push_legs(legs, people, steps);
         scout.sent(net, people);
         pushes += 1;
     }

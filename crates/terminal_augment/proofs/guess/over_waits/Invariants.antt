@@ -1,14 +1,21 @@
-use Rattle.std.proofs.Common.{◌≡◌, ℕ}
-use Rattle.terminal_augment.specs.Guesses.{IsLookWithin, IsLookedAt, IsMarkedOn}
+use Rattle.std.proofs.Common.{◌≡◌, ℕ, ◌-◌, ◌≤◌, ◌++◌, List}
+use Rattle.residual_net.specs.declared.place.PathStep.{PathStep}
+use Rattle.residual_net.specs.Legs.{waits_at}
+use Rattle.terminal_augment.specs.declared.spot.Start.TheVariants as starts
+use Rattle.terminal_augment.specs.Guesses.{IsMarkedOn, IsTail}
+use Rattle.terminal_augment.specs.Spots.{IsInside}
 use Rattle.terminal_augment.proofs.guess.over_waits.Given as goal
 
 abbrev pub invariant-loop-look : goal.invariant-loop-look
 invariant-loop-look l = record {
-  node : l.look.spot.node ≡ l.fn.from.spot.node;
-  look : IsLookWithin l.net.site l.fn.from.left l.look;
-  tail : (k : ℕ) → IsLookedAt l.net k l.fn.marks l.fn.from l.path → IsLookedAt l.net k l.marks l.look l.path;
+  node : l.look.spot.node ≡ l.leg.node;
+  least : l.leg.from ≤ l.look.spot.moment;
+  most : l.look.spot.moment ≤ l.leg.to;
+  inside : IsInside l.net.site l.look.spot.node l.look.spot.moment;
+  tail : (k : ℕ) (path : List PathStep) → IsTail l.net k l.fn.marks (starts.At l.fn.from.spot) l.fn.from.people path
+      → IsTail l.net k l.marks (starts.At l.look.spot) l.look.people (waits_at l.leg.node l.look.spot.moment (l.leg.to - l.look.spot.moment) ++ path);
   marks : IsMarkedOn l.fn.marks l.marks;
 }
 
 abbrev pub decreases-loop-look : goal.decreases-loop-look
-decreases-loop-look l = l.look.left
+decreases-loop-look l = l.look.spot.moment

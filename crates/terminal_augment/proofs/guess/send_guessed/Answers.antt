@@ -1,4 +1,5 @@
 use Rattle.std.proofs.Common.{◌+◌, ◌<◌, subst, sym, refl, arith}
+use Rattle.residual_net.specs.Legs.{steps_of_legs}
 use Rattle.residual_net.specs.Limits.{supply_limit}
 use Rattle.residual_net.specs.Site.{Site}
 use Rattle.terminal_augment.specs.Searching.{IsWork}
@@ -17,14 +18,15 @@ pub loop-preserved : goal.loop-preserved
 loop-preserved g c =
     let old = c.loop.invariant in
     let some : 0 < c.carried-people.result = omega (arith, c.if-people-eq0.false) in
-    let pushed = carried_pushed c.loop.net c.push.new.self c.args.k c.carried-people.result c.steps.result.now c.lay.new.path.steps c.push.ensures.net
-    c.push.ensures.within some (c.carried-people.ensures.path some) c.steps.ensures c.push.ensures.pushed in
-    let work = guessed_work c.loop.net.site.shape.nodes c.loop.net.site.shape.horizon c.loop.work c.clear.new.self c.carried-people.new.marks c.lay.new.path
-    old.work c.clear.ensures.marks c.clear.ensures.nodes c.clear.ensures.horizon c.clear.ensures.size c.carried-people.ensures.marks c.lay.ensures in
-    let next : IsCountedOn c.loop.net c.push.new.self c.args.k 1 c.loop.steps c.push.new.steps = record { pushed = pushed; ticked = c.push.ensures.ticked } in
+    let path = steps_of_legs c.lay-legs.result.now in
+    let pushed = carried_pushed c.loop.net c.push_legs.new.self c.args.k c.carried-people.result path c.push_legs.ensures.net c.push_legs.ensures.within some
+    (c.carried-people.ensures.path some) c.push_legs.ensures.pushed in
+    let work = guessed_work c.loop.net.site.shape.nodes c.loop.net.site.shape.horizon c.loop.work c.clear.new.self c.carried-people.new.marks old.work
+    c.clear.ensures.marks c.clear.ensures.nodes c.clear.ensures.horizon c.clear.ensures.size c.carried-people.ensures.marks in
+    let next : IsCountedOn c.loop.net c.push_legs.new.self c.args.k 1 c.loop.steps c.push_legs.new.steps = record { pushed = pushed; ticked = c.push_legs.ensures.ticked } in
     record {
       work = subst (λ (s : Site). IsWork s.shape.nodes s.shape.horizon
-          (record { marks = c.carried-people.new.marks; frames = c.loop.work.frames; seen = c.loop.work.seen; path = c.lay.new.path }))
-          (sym c.push.ensures.pushed.site) work;
-      counted = counted_more c.args.net.now c.loop.net c.push.new.self c.args.k c.loop.pushes 1 (c.loop.pushes + 1) _ _ _ old.counted next refl;
+          (record { marks = c.carried-people.new.marks; frames = c.loop.work.frames; seen = c.loop.work.seen; path = c.loop.work.path }))
+          (sym c.push_legs.ensures.pushed.site) work;
+      counted = counted_more c.args.net.now c.loop.net c.push_legs.new.self c.args.k c.loop.pushes 1 (c.loop.pushes + 1) _ _ _ old.counted next refl;
     }

@@ -1,0 +1,159 @@
+-- Pushes over the legs of a path.
+use Rattle.std.proofs.Common.{◌≡◌, ◌≢◌, ℕ, zero, suc, ◌+◌, ◌-◌, ◌<◌, ◌≤◌, List, [], ◌∷◌, ◌++◌, length, drop, get_or, ap, sym, ◌∙◌, arith, subst, drop-cons, add-one}
+use Rattle.std.specs.List.{All}
+use Rattle.std.proofs.lemmas.List.{append_assoc, append-nil, get_or-append-add, get_or_append_left, get_or_default, length-append}
+use Rattle.residual_net.specs.declared.legs.Leg.{Leg}
+use Rattle.residual_net.specs.declared.place.Place.TheVariants.{Hold}
+use Rattle.residual_net.specs.declared.place.PathStep.{PathStep}
+use Rattle.residual_net.specs.Legs.{IsShiftable, IsUnderwayBetween, steps_of_leg, steps_of_legs, wait_at, waits_at}
+use Rattle.residual_net.specs.Network.{Network, flow_at, residual_room}
+use Rattle.residual_net.specs.Route.{IsPushable, IsPushed}
+use Rattle.residual_net.specs.Site.{Site, IsPlace, cell_of}
+use Rattle.residual_net.proofs.Steps.{added_none, path_some, taken_none}
+use Rattle.time_expansion.specs.Expansion.{hold_cell}
+
+-- ---- waits
+
+-- the cell of a wait, by where the waits in its node begin
+pub wait_cell : (s : Site) (n t first : ℕ) → first ≡ hold_cell s.shape n 0 → first + t ≡ cell_of s (Hold n t)
+unfolding cell_of hold_cell
+wait_cell s n t first here = omega (arith, here)
+
+pub waits_none : (n t u : ℕ) → u ≤ t → waits_at n t (u - t) ≡ []
+waits_none n t u l = let none : u - t ≡ 0 = omega (arith, l) in ap (waits_at n t) none
+
+-- the waits up to a moment begin with the first of them
+pub waits_first : (n t u : ℕ) → t < u → waits_at n t (u - t) ≡ wait_at n t ∷ waits_at n (t + 1) (u - (t + 1))
+waits_first n t u l = let some : u - t ≡ suc (u - (t + 1)) = omega (arith, l) in ap (waits_at n t) some
+
+-- one more wait comes last
+pub waits_more : (n t c : ℕ) → waits_at n t (suc c) ≡ waits_at n t c ++ wait_at n (t + c) ∷ []
+waits_more n t zero = let same : t ≡ t + 0 = omega arith in ap (λ m. wait_at n m ∷ []) same
+waits_more n t (suc c) =
+    let same : (t + 1) + c ≡ t + suc c = omega arith in
+    ap (λ z. wait_at n t ∷ z) (waits_more n (t + 1) c) ∙ ap (λ m. wait_at n t ∷ (waits_at n (t + 1) c ++ wait_at n m ∷ [])) same
+
+pub waits_last : (n t m : ℕ) → t ≤ m → waits_at n t ((m + 1) - t) ≡ waits_at n t (m - t) ++ wait_at n m ∷ []
+waits_last n t m l =
+    let next : (m + 1) - t ≡ suc (m - t) = omega (arith, l) in
+    let here : t + (m - t) ≡ m = omega (arith, l) in
+    ap (waits_at n t) next ∙ waits_more n t (m - t) ∙ ap (λ z. waits_at n t (m - t) ++ wait_at n z ∷ []) here
+
+-- ---- steps that people may be sent over
+
+-- the steps before the last ones
+pub shiftable_before : (w : Network) (p q : List PathStep) (x : ℕ) → IsShiftable w (p ++ q) x → IsShiftable w p x
+shiftable_before w p q x a = record {
+  places = λ i d l. subst (λ (y : PathStep). IsPlace w.site y.place) (get_or_append_left p q d i l) (a.places i d (longer i l));
+  room = λ i d l. subst (λ (y : PathStep). x ≤ residual_room w y) (get_or_append_left p q d i l) (a.room i d (longer i l));
+  apart = λ i j d l h.
+      let here = get_or_append_left p q d i (omega (arith, l, h)) in
+      let there = get_or_append_left p q d j h in
+      subst (λ (y : PathStep). y.place ≢ (get_or p j d).place) here
+      (subst (λ (z : PathStep). (get_or (p ++ q) i d).place ≢ z.place) there (a.apart i j d l (longer j h)));
+}
+  where
+    longer : (i : ℕ) → i < length p → i < length (p ++ q)
+    longer i l = omega (arith, l, length-append p q)
+
+-- the steps behind those over which people were sent
+pub shiftable_after : (w v : Network) (p q : List PathStep) (x : ℕ) → IsShiftable w (p ++ q) x → IsPushed w v p x → IsShiftable v q x
+shiftable_after w v p q x a pushed = record {
+  places = λ i d l. subst (λ (s : Site). IsPlace s (get_or q i d).place) (sym pushed.site) (place i d l);
+  room = λ i d l.
+      let r = get_or q i d in
+      let away = apart_from i d l in
+      let same : flow_at v r.place ≡ flow_at w r.place =
+      omega (arith, pushed.flows r.place (place i d l), added_none p x r.place away, taken_none p x r.place away) in
+      let limit = pushed.limits r.place (place i d l) in
+      rw (same, limit) (subst (λ (y : PathStep). x ≤ residual_room w y) (behind i d) (a.room (length p + i) d (within i l)));
+  apart = λ i j d l h.
+      let both = a.apart (length p + i) (length p + j) d (omega (arith, l)) (within j h) in
+      subst (λ (y : PathStep). y.place ≢ (get_or q j d).place) (behind i d)
+      (subst (λ (z : PathStep). (get_or (p ++ q) (length p + i) d).place ≢ z.place) (behind j d) both);
+}
+  where
+    behind : (i : ℕ) (d : PathStep) → get_or (p ++ q) (length p + i) d ≡ get_or q i d
+    behind i d = get_or-append-add p q i d
+
+    within : (i : ℕ) → i < length q → length p + i < length (p ++ q)
+    within i l = omega (arith, l, length-append p q)
+
+    place : (i : ℕ) (d : PathStep) → i < length q → IsPlace w.site (get_or q i d).place
+    place i d l = subst (λ (y : PathStep). IsPlace w.site y.place) (behind i d) (a.places (length p + i) d (within i l))
+
+    behind_any : (i : ℕ) (d e : PathStep) → i < length q → get_or (p ++ q) (length p + i) e ≡ get_or q i d
+    behind_any i d e l = behind i e ∙ get_or_default q i e d l
+
+    apart_from : (i : ℕ) (d : PathStep) → i < length q → All (λ y. y.place ≢ (get_or q i d).place) p
+    apart_from i d l j e h =
+        let both = a.apart j (length p + i) e (omega (arith, h)) (within i l) in
+        subst (λ (z : PathStep). (get_or p j e).place ≢ z.place) (behind_any i d e l)
+        (subst (λ (y : PathStep). y.place ≢ (get_or (p ++ q) (length p + i) e).place) (get_or_append_left p q e j h) both)
+
+pub shiftable_place : (w : Network) (r : PathStep) (q : List PathStep) (x : ℕ) → IsShiftable w (r ∷ q) x → IsPlace w.site r.place
+shiftable_place w r q x a = a.places 0 r (omega arith)
+
+pub shiftable_room : (w : Network) (r : PathStep) (q : List PathStep) (x : ℕ) → IsShiftable w (r ∷ q) x → x ≤ residual_room w r
+shiftable_room w r q x a = a.room 0 r (omega arith)
+
+pub shiftable_path : (w : Network) (path : List PathStep) (x : ℕ) → IsPushable w path x → IsShiftable w path x
+shiftable_path w path x p = record { places = p.2.places; room = p.2.room; apart = p.2.apart }
+
+-- ---- a push underway
+
+-- the first and the last step are over places of the network
+pub between_places : (v : Network) (arrivals : List ℕ) (first last : PathStep) (x : ℕ) → IsUnderwayBetween v arrivals first last x
+    → IsPlace v.site first.place × IsPlace v.site last.place
+between_places v arrivals first last x u = (placed 0 first (u.first_step first) (omega (arith, some)), placed (length u.path - 1) last (u.last_step last) (omega (arith, some)))
+  where
+    some : 0 < length u.path
+    some = path_some u.underway.before u.path x u.underway.pushable
+
+    placed : (i : ℕ) (r : PathStep) → get_or u.path i r ≡ r → i < length u.path → IsPlace v.site r.place
+    placed i r same l =
+        subst (λ (s : Site). IsPlace s r.place) (sym u.underway.pushed.site)
+        (subst (λ (y : PathStep). IsPlace u.underway.before.site y.place) same (u.underway.pushable.2.places i r l))
+
+-- ---- legs
+
+pub legs_more : (gs : List Leg) (g : Leg) → steps_of_legs (gs ++ g ∷ []) ≡ steps_of_legs gs ++ steps_of_leg g
+legs_more [] g = append-nil (steps_of_leg g)
+legs_more (h ∷ gs) g = ap (λ z. steps_of_leg h ++ z) (legs_more gs g) ∙ sym (append_assoc (steps_of_leg h) (steps_of_legs gs) (steps_of_leg g))
+
+-- the legs from one on
+pub legs_from : (gs : List Leg) (i : ℕ) (d : Leg) → i < length gs → steps_of_legs (drop i gs) ≡ steps_of_leg (get_or gs i d) ++ steps_of_legs (drop (i + 1) gs)
+legs_from gs i d l =
+    ap steps_of_legs (drop-cons gs i d l) ∙ ap (λ j. steps_of_leg (get_or gs i d) ++ steps_of_legs (drop j gs)) (sym (add-one i))
+
+leg_some : (g : Leg) → 0 < length (steps_of_leg g)
+leg_some g = omega (arith, length-append (waits_at g.node g.from (g.to - g.from)) (g.step ∷ []))
+
+pub legs_some : (w : Network) (gs : List Leg) (x : ℕ) → IsPushable w (steps_of_legs gs) x → 0 < length gs
+legs_some w [] x p = absurd (omega (arith, path_some w [] x p))
+legs_some w (g ∷ gs) x p = omega arith
+
+-- the first step of legs is that of the first leg
+pub legs_first : (gs : List Leg) (b : Leg) (d : PathStep) → 0 < length gs → get_or (steps_of_legs gs) 0 d ≡ get_or (steps_of_leg (get_or gs 0 b)) 0 d
+legs_first [] b d l = absurd (omega (arith, l))
+legs_first (g ∷ gs) b d l = get_or_append_left (steps_of_leg g) (steps_of_legs gs) d 0 (leg_some g)
+
+-- the last step of a leg is its step
+leg_last : (g : Leg) (d : PathStep) → get_or (steps_of_leg g) (length (steps_of_leg g) - 1) d ≡ g.step
+leg_last g d =
+    let waits = waits_at g.node g.from (g.to - g.from) in
+    let at : length (steps_of_leg g) - 1 ≡ length waits + 0 = omega (arith, length-append waits (g.step ∷ [])) in
+    ap (λ i. get_or (steps_of_leg g) i d) at ∙ get_or-append-add waits (g.step ∷ []) 0 d
+
+-- the last step of legs is that of the last leg
+pub legs_last : (gs : List Leg) (b : Leg) (d : PathStep) → 0 < length gs
+    → get_or (steps_of_legs gs) (length (steps_of_legs gs) - 1) d ≡ (get_or gs (length gs - 1) b).step
+legs_last [] b d l = absurd (omega (arith, l))
+legs_last (g ∷ []) b d l = ap (λ z. get_or z (length z - 1) d) (append-nil (steps_of_leg g)) ∙ leg_last g d
+legs_last (g ∷ h ∷ gs) b d l =
+    let rest = steps_of_legs (h ∷ gs) in
+    let some : 0 < length rest = omega (arith, length-append (steps_of_leg h) (steps_of_legs gs), leg_some h) in
+    let up : length (g ∷ h ∷ gs) - 1 ≡ suc (length (h ∷ gs) - 1) = omega arith in
+    let at : length (steps_of_leg g ++ rest) - 1 ≡ length (steps_of_leg g) + (length rest - 1) = omega (arith, some, length-append (steps_of_leg g) rest) in
+    ap (λ i. get_or (steps_of_leg g ++ rest) i d) at ∙ get_or-append-add (steps_of_leg g) rest (length rest - 1) d
+    ∙ legs_last (h ∷ gs) b d (omega arith) ∙ sym (ap (λ i. (get_or (g ∷ h ∷ gs) i b).step) up)

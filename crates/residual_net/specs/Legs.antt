@@ -1,0 +1,40 @@
+-- Paths by their legs: waits in a node, and then a step.
+use Rattle.std.specs.Prelude.{◌≡◌, ◌≢◌, ℕ, zero, suc, ◌+◌, ◌-◌, ◌≤◌, false, List, [], ◌∷◌, ◌++◌, slice_index_or, length}
+use Rattle.std.specs.List.{All, AllPairs}
+use Rattle.residual_net.specs.declared.legs.Leg.{Leg}
+use Rattle.residual_net.specs.declared.place.PathStep.{PathStep}
+use Rattle.residual_net.specs.declared.place.Place.TheVariants.{Hold}
+use Rattle.residual_net.specs.Network.{Network, residual_room}
+use Rattle.residual_net.specs.Route.{IsUnderway}
+use Rattle.residual_net.specs.Site.{IsPlace}
+
+-- the wait in a node from a moment to the next
+abbrev pub wait_at : ℕ → ℕ → PathStep
+wait_at n t = record { place = Hold n t; back = false }
+
+-- so many waits in a node one after another, from a moment on
+abbrev pub waits_at : ℕ → ℕ → ℕ → List PathStep
+waits_at n t zero = []
+waits_at n t (suc c) = wait_at n t ∷ waits_at n (t + 1) c
+
+-- the steps of a leg
+abbrev pub steps_of_leg : Leg → List PathStep
+steps_of_leg g = waits_at g.node g.from (g.to - g.from) ++ g.step ∷ []
+
+-- the steps of legs, one leg after another
+abbrev pub steps_of_legs : List Leg → List PathStep
+steps_of_legs [] = []
+steps_of_legs (g ∷ gs) = steps_of_leg g ++ steps_of_legs gs
+
+-- some people may be sent over steps, one after another in any order
+pub record IsShiftable (w : Network) (path : List PathStep) (people : ℕ) : Type 0 where
+  pub places : All (λ x. IsPlace w.site x.place) path
+  pub room : All (λ x. people ≤ residual_room w x) path
+  pub apart : AllPairs (λ x y. x.place ≢ y.place) path
+
+-- people are on their way over a path with this first and this last step
+pub record IsUnderwayBetween (v : Network) (arrivals : List ℕ) (first last : PathStep) (people : ℕ) : Type 0 where
+  pub path : List PathStep
+  pub underway : IsUnderway v arrivals path people
+  pub first_step : (d : PathStep) → slice_index_or path 0 d ≡ first
+  pub last_step : (d : PathStep) → slice_index_or path (length path - 1) d ≡ last
