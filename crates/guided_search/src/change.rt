@@ -3,10 +3,10 @@
 //! Nothing is taken off ahead: the excess of a cell is what the two flows differ by when it is looked at, so people who are sent
 //! along the walk, or otherwise, are accounted for by themselves. Excess only falls, so a way without any is never looked at again.
 
-use crate::lists::add;
+use crate::lists::{add, short};
 use crate::sizes::Sizes;
 use crate::ways::Way;
-use residual_net::{Cell, PathStep};
+use residual_net::{Cell, Leg, PathStep};
 
 /// A pair, and the step over the place of a row at a moment that leads on from it.
 #[derive(Clone, Copy)]
@@ -40,6 +40,21 @@ impl Hop {
             begun: if way.back { moment } else { then },
             cell: way.cell.wrapping_add(moment),
             back: way.back,
+        }
+    }
+
+    /// Whether it is a wait forwards.
+    pub fn waits(&self, sizes: Sizes) -> bool {
+        self.row == sizes.waits(self.node) && !self.back
+    }
+
+    /// The waits since a moment, and the step that leads on.
+    pub fn leg(&self, sizes: Sizes, since: u32) -> Leg {
+        Leg {
+            node: self.node,
+            from: short(since),
+            to: short(self.moment),
+            step: self.step(sizes),
         }
     }
 

@@ -287,10 +287,18 @@ impl Goal {
     pub fn lay(&self, legs: &mut Vec<Leg>) {
         legs.clear();
         add(legs, Leg::of(self.origin.step(self.sizes)));
+        let mut since = 0;
+        let mut begins = true;
         for above in 0..self.top {
             let at = self.top.wrapping_sub(above).wrapping_sub(1);
             let hop = hop_at(self.hops.as_slice(), at);
-            add(legs, Leg::of(hop.step(self.sizes)));
+            if begins {
+                since = hop.moment;
+            }
+            begins = !hop.waits(self.sizes);
+            if begins {
+                add(legs, hop.leg(self.sizes, since));
+            }
         }
     }
 
