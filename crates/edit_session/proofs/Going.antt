@@ -22,7 +22,7 @@ use Rattle.edit_session.specs.declared.scratch.Scratch.{Scratch}
 use Rattle.edit_session.specs.declared.work.Work.{Work}
 use Rattle.edit_session.specs.Kept.{IsSession, LeadBack, state_of, view_of}
 use Rattle.edit_session.specs.Mended.{IsCarried, IsRefused, IsRepairable, IsScratchOf, IsStanding}
-use Rattle.edit_session.specs.Sessions.{EditEnds, IsEdited, SessionState, UndoEnds, kept_limit}
+use Rattle.edit_session.specs.Sessions.{EditEnds, IsEdited, UndoEnds, kept_limit}
 use Rattle.edit_session.specs.Thrift.{IsCounted, IsSpent}
 use Rattle.edit_session.proofs.Ring.{back_more, back_take, edited_is}
 use Rattle.edit_session.proofs.Standing.{barred_by, clearable_by, edited_by, standing_saved, undone_by}

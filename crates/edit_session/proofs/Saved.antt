@@ -1,5 +1,5 @@
 -- A net with its flow and limits saved is the same net.
-use Rattle.std.proofs.Common.{◌≡◌, ℕ, ◌+◌, refl}
+use Rattle.std.proofs.Common.{◌≡◌, ℕ, ◌+◌, ◌≤◌, refl}
 use Rattle.evac_law.specs.declared.edit.Edit.{Edit}
 use Rattle.evac_law.specs.declared.model.Model.{Model}
 use Rattle.evac_law.specs.LabelTable.{LabelTable}
@@ -8,6 +8,7 @@ use Rattle.residual_net.specs.Network.{Network, IsAllSent, IsWithinLimits, arriv
 use Rattle.residual_net.specs.OfModel.{IsNetOf, plan_of}
 use Rattle.residual_net.specs.Labelled.{IsClosedBelow}
 use Rattle.flow_repair.specs.Refit.{IsEditOfNet}
+use Rattle.flow_repair.specs.Repairs.{IsReshapable}
 use Rattle.edit_session.specs.Mended.{IsRepairable, last_arrival_of}
 
 pub of_saved : (m : Model) (w : Network) → IsNetOf m w → IsNetOf m (with_saved w)
@@ -24,11 +25,11 @@ edit_saved m e w l h = record {
   of = of_saved h.before w h.standing.of;
 }
 
-pub within_saved : (w : Network) → IsWithinLimits w → IsWithinLimits (with_saved w)
+within_saved : (w : Network) → IsWithinLimits w → IsWithinLimits (with_saved w)
 unfolding flow_at limit_at
 within_saved w h = h
 
-pub sent_saved : (w : Network) → IsAllSent w → IsAllSent (with_saved w)
+sent_saved : (w : Network) → IsAllSent w → IsAllSent (with_saved w)
 unfolding flow_at limit_at
 sent_saved w h = h
 
@@ -40,9 +41,21 @@ pub arrived_saved : (w : Network) (k : ℕ) → arrived_by (with_saved w) k ≡ 
 unfolding flow_into flow_at
 arrived_saved w k = refl
 
-pub closed_saved : (w : Network) (l : LabelTable) → IsClosedBelow w l (last_arrival_of w + 1) → IsClosedBelow (with_saved w) l (last_arrival_of (with_saved w) + 1)
+closed_saved : (w : Network) (l : LabelTable) → IsClosedBelow w l (last_arrival_of w + 1) → IsClosedBelow (with_saved w) l (last_arrival_of (with_saved w) + 1)
 unfolding flow_at limit_at
 closed_saved w l h = h
+
+-- a saved net may be reshaped
+pub reshapable_saved : (m : Model) (e : Edit) (w : Network) (l : LabelTable) (path_room : ℕ) → IsRepairable m e w l → w.site.shape.horizon + 2 ≤ path_room
+    → IsReshapable m e (with_saved w) l path_room
+reshapable_saved m e w l path_room h room = record {
+  edited = edit_saved m e w l h;
+  within = within_saved w h.standing.within;
+  sent = sent_saved w h.standing.sent;
+  labels = h.standing.labels;
+  closed = closed_saved w l h.standing.closed;
+  room = room;
+}
 
 pub flow_saved : (w : Network) (p : Place) → flow_at (with_saved w) p ≡ flow_at w p
 unfolding flow_at

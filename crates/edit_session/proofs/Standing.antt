@@ -14,11 +14,10 @@ use Rattle.residual_net.specs.Labelled.{IsLabelsOf}
 use Rattle.residual_net.specs.Network.{Network, flow_at, flow_into, flow_out, limit_at, supply_limits, with_saved}
 use Rattle.residual_net.specs.declared.place.Place.TheVariants.{Hold}
 use Rattle.residual_net.specs.OfModel.{plan_of, stand_of}
-use Rattle.residual_net.specs.Site.{Site, arc_count}
 use Rattle.edit_session.specs.declared.work.Work.{Work}
 use Rattle.edit_session.specs.Kept.{former_of, state_of}
 use Rattle.edit_session.specs.Mended.{IsCarried, IsRefused, IsStanding, last_arrival_of}
-use Rattle.edit_session.specs.Sessions.{Begins, GoesOn, IsBarred, IsEdited, IsNetOfState, IsNotCleared, IsSolved, IsUndone, SessionState, kept_limit, stand_of_state}
+use Rattle.edit_session.specs.Sessions.{Begins, IsBarred, IsEdited, IsNetOfState, IsNotCleared, IsSolved, IsUndone, kept_limit, stand_of_state}
 use Rattle.edit_session.specs.Thrift.{IsSpent}
 use Rattle.lex_flow.specs.Settling.{arrivals_below}
 use Rattle.edit_session.proofs.Ring.{former_more}

@@ -3,3 +3,4 @@ pub use Rattle.residual_net.specs.Start
 pub mod Opened
 pub mod Refit
 pub mod Touched
+pub mod Repairs

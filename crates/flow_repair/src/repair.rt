@@ -1,15 +1,9 @@
 // A net brought under the limits of an edited model.
-ghost use Rattle.std.specs.Prelude.{◌≡◌, ℕ, ◌+◌, ◌≤◌};
-ghost use Rattle.evac_law.specs.declared.model.Model.{Model};
-ghost use Rattle.evac_law.specs.Building.{IsValid};
+ghost use Rattle.std.specs.Prelude.{◌≡◌};
 ghost use Rattle.evac_law.specs.Edits.{IsEditOf};
-ghost use Rattle.evac_law.specs.Plans.{violation};
-ghost use Rattle.residual_net.specs.declared.place.Place.{Place};
-ghost use Rattle.residual_net.specs.Network.{IsAllSent, IsWithinLimits, arrived_by, flow_at};
-ghost use Rattle.residual_net.specs.OfModel.{IsNetOf, last_move, plan_of};
-ghost use Rattle.residual_net.specs.Site.{IsPlace};
-ghost use Rattle.flow_repair.specs.Opened.{IsClosedBelow, IsLabelsOf, IsLeastOpened};
-ghost use Rattle.flow_repair.specs.Refit.{IsEditOfNet, IsFittable, IsRefitted, IsStepPerPerson};
+ghost use Rattle.residual_net.specs.Network.{IsWithinLimits};
+ghost use Rattle.flow_repair.specs.Refit.{IsFittable, IsRefitted, IsStepPerPerson};
+ghost use Rattle.flow_repair.specs.Repairs.{IsReshapable, IsReshaped, IsStandingBelow, IsSteppedFor, IsTakenOff};
 ghost use Rattle.flow_repair.specs.Touched.{touches};
 
 use crate::reshaped::Reshaped;
@@ -81,24 +75,11 @@ pub fn reshape<L: Ledger>(
     path: &mut Path,
     steps: &mut Steps<L>,
 ) -> Reshaped
-    requires edited { IsEditOfNet model.now edit net.old }
-    requires within { IsWithinLimits net.old }
-    requires sent { IsAllSent net.old }
-    requires labels { IsLabelsOf net.old.site labels.now }
-    requires closed { IsClosedBelow net.old labels.now (last_move net.old.site (plan_of net.old) + 1) }
-    requires room { net.old.site.shape.horizon + 2 ≤ path.old.room }
-    ensures site { net.new.site ≡ net.old.site }
-    ensures of { IsNetOf model.now net.new }
-    ensures within { IsWithinLimits net.new }
-    ensures saved { net.new.saved ≡ net.old.saved }
-    ensures few { (m : Model) → IsValid m → IsNetOf m net.old → result.cancelled ≤ violation m (plan_of net.old) model.now }
-    ensures flows { (p : Place) → IsPlace net.old.site p → flow_at net.new p ≤ flow_at net.old p }
-    ensures arrivals { (k : ℕ) → arrived_by net.old k ≤ arrived_by net.new k + result.cancelled }
-    ensures idle { result.cancelled ≡ 0 → (p : Place) → IsPlace net.old.site p → flow_at net.new p ≡ flow_at net.old p }
-    ensures least { IsLeastOpened labels.now net.old net.new (last_move net.old.site (plan_of net.old) + 1) result.least_label }
-    ensures closed { IsClosedBelow net.new labels.now result.least_label }
-    ensures counted { steps.old ≤ steps.new }
-    ensures ticked { steps.new ≤ steps.old + result.cancelled }
+    requires { IsReshapable model.now edit net.old labels.now path.old.room }
+    ensures net { IsReshaped model.now net.old net.new }
+    ensures taken { IsTakenOff model.now net.old net.new result.cancelled }
+    ensures labels { IsStandingBelow labels.now net.old net.new result.least_label }
+    ensures steps { IsSteppedFor result.cancelled steps.old steps.new }
     ensures room { path.new.room ≡ path.old.room }
 {
     let _ = net.shape();

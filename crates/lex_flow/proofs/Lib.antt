@@ -1,2 +1,3 @@
 pub mod UnsetLemmas
+pub mod SentLemmas
 pub mod SettleLemmas

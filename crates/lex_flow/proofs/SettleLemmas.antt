@@ -1,5 +1,5 @@
 -- Moment after moment settled, and what it comes to.
-use Rattle.std.proofs.Common.{◌≡◌, ◌≢◌, ℕ, zero, suc, ◌+◌, ◌-◌, ◌*◌, ◌<◌, ◌≤◌, true, false, List, [], ◌∷◌, ap, sym, subst, ◌∙◌, refl, arith, inl, inr, add-one}
+use Rattle.std.proofs.Common.{◌≡◌, ◌≢◌, ℕ, zero, suc, ◌+◌, ◌-◌, ◌*◌, ◌<◌, ◌≤◌, true, false, List, [], ◌∷◌, ap, sym, subst, ◌∙◌, refl, arith, inl, inr, ◌⊎◌, add-one}
 use Rattle.std.specs.List.{All}
 use Rattle.std.proofs.lemmas.Bool.{cases_lt, cases_eq}
 use Rattle.evac_law.specs.declared.model.Model.{Model}
@@ -13,7 +13,7 @@ use Rattle.evac_law.proofs.Optimal.{label_cut_is_cut}
 use Rattle.evac_law.proofs.SumLemmas as sums
 use Rattle.residual_net.specs.Closed.{IsClosed}
 use Rattle.residual_net.specs.Limits.{supply_limit}
-use Rattle.residual_net.specs.Network.{Network, IsAllSent, IsNet, IsWithinLimits, arrived_by}
+use Rattle.residual_net.specs.Network.{Network, IsAllSent, IsNet, IsWithinLimits, arrived_by, supply_limits}
 use Rattle.residual_net.specs.NetLaws.{labelled}
 use Rattle.residual_net.specs.OfModel.{IsNetOf, last_move, plan_of}
 use Rattle.residual_net.specs.Site.{Site, IsPlace}
@@ -26,9 +26,10 @@ use Rattle.terminal_augment.proofs.SendLemmas.{few_by, horizon_small}
 use Rattle.terminal_augment.specs.Settled.{IsClosedBelow, IsLabelled, IsLabelsOf, IsSentOn, KeepsLimits}
 use Rattle.lex_flow.specs.declared.outcome.Outcome.{Outcome}
 use Rattle.lex_flow.specs.declared.outcome.Outcome.TheVariants.{Cleared, Short}
-use Rattle.lex_flow.specs.Outcomes.{IsAnswer, IsBounded, IsOutcome, last_settled, pushes_of}
-use Rattle.lex_flow.specs.Settling.{IsKeptBelow, IsOver, IsSettledThrough, IsSettledTo, IsUnset, arrivals_below}
-use Rattle.lex_flow.proofs.UnsetLemmas.{early_same, unset_late}
+use Rattle.lex_flow.specs.Outcomes.{AreLabelsSettled, IsAnswer, IsNetSettled, IsOutcome, last_settled, pushes_of}
+use Rattle.lex_flow.specs.Settling.{IsOver, IsRelabelled, IsSettledThrough, IsSettledTo, IsUnset, arrivals_below}
+use Rattle.lex_flow.proofs.SentLemmas.{arrived_sent, few_arrive, sent_arrive, supplies_kept}
+use Rattle.lex_flow.proofs.UnsetLemmas.{early_same, unset_keeps, unset_late, unset_there}
 
 -- ---- sums of arrivals
 
@@ -46,6 +47,14 @@ below_same w v (suc k) h =
     let v_more = below_more v k in
     let w_more = below_more w k in
     let rest = below_same w v k (λ i l. h i (omega (arith, l))) in
+    rw (sym (add-one k)) (omega (arith, v_more, w_more, rest, h k (omega arith)))
+
+pub below_le : (w v : Network) (k : ℕ) → ((i : ℕ) → i < k → arrived_by v i ≤ arrived_by w i) → arrivals_below v k ≤ arrivals_below w k
+below_le w v zero h = omega (arith, below_none v, below_none w)
+below_le w v (suc k) h =
+    let v_more = below_more v k in
+    let w_more = below_more w k in
+    let rest = below_le w v k (λ i l. h i (omega (arith, l))) in
     rw (sym (add-one k)) (omega (arith, v_more, w_more, rest, h k (omega arith)))
 
 pub below_few : (w : Network) (k : ℕ) → IsNet w → arrivals_below w k ≤ k * supply_limit
@@ -68,24 +77,30 @@ pub within_people : (m : Model) (w : Network) (k : ℕ) → IsValid m → IsNet 
 within_people m w k valid net of within l = omega (arith, arrived_within m w valid net of within (λ _ _. false) k l, empty_cut_is m k, entered_le m k)
 
 -- somebody who arrives at a moment or later, or is unsent, stays so
-still_needed : (m : Model) (w v : Network) (k : ℕ) → IsValid m → IsNet w → IsNetOf m w → IsWithinLimits w → IsNet v → IsNetOf m v → IsWithinLimits v
-    → ((i : ℕ) → i < k → arrived_by v i ≡ arrived_by w i) → IsOver v k → k ≤ m.horizon + 1 → IsOver w k
-still_needed m w v zero valid net of within net_v of_v within_v earlier over late = absurd (omega (arith, over.before))
-still_needed m w v (suc k) valid net of within net_v of_v within_v earlier over late =
-    let horizon_w = horizon_is m w of in
-    let horizon_v = horizon_is m v of_v in
-    let all_v = all_sent_arrive m v net_v of_v within_v over.sent in
+still_needed : (w v : Network) (k : ℕ) → KeepsLimits w v → IsNet w → IsWithinLimits w → IsNet v → IsWithinLimits v
+    → ((i : ℕ) → i < k → arrived_by v i ≡ arrived_by w i) → IsOver v k → k ≤ w.site.shape.horizon + 1 → IsOver w k
+still_needed w v zero kept net within net_v within_v earlier over late = absurd (omega (arith, over.before))
+still_needed w v (suc k) kept net within net_v within_v earlier over late =
     let by_last = arrived_by_last v net_v k (omega (arith, over.before)) in
+    let all_v = sent_arrive v net_v within_v over.sent in
     let by_k = earlier k (omega arith) in
-    let people_v : arrived_by v k ≡ people m = by_last ∙ ap (arrived_by v) horizon_v ∙ all_v in
-    let rises = arrived_rises w k m.horizon (omega (arith, late)) in
-    let most = within_people m w m.horizon valid net of within (omega arith) in
-    let people_w : arrived_by w m.horizon ≡ people m = omega (arith, people_v, by_k, rises, most) in
-    let same : arrived_by w k ≡ arrived_by w w.site.shape.horizon = omega (arith, people_v, by_k, people_w, ap (arrived_by w) horizon_w) in
+    let rises = arrived_rises w k w.site.shape.horizon (omega (arith, late)) in
+    let most = few_arrive w net within in
+    let everybody : arrived_by w w.site.shape.horizon ≡ supply_limits w = omega (arith, by_last, all_v, supplies_kept w v kept, by_k, rises, most) in
+    let same : arrived_by w k ≡ arrived_by w w.site.shape.horizon = omega (arith, by_last, all_v, supplies_kept w v kept, by_k, everybody) in
     record {
-      sent = arrived_all_sent m w net of within people_w;
+      sent = arrived_sent w net within everybody;
       before = omega (arith, last_by_arrived w net k same);
     }
+
+-- where everybody arrives before a moment, no later net has more arrivals
+over_most : (w v : Network) (from i : ℕ) → KeepsLimits w v → IsNet w → IsWithinLimits w → IsNet v → IsWithinLimits v → IsOver w from → from ≤ i
+    → i ≤ w.site.shape.horizon → arrived_by v i ≤ arrived_by w i
+over_most w v from i kept net within net_v within_v over late in_time =
+    let same_horizon = ap (λ (s : Site). s.shape.horizon) kept.site in
+    let rises = arrived_rises v i v.site.shape.horizon (omega (arith, in_time, same_horizon)) in
+    let by_last = arrived_by_last w net i (omega (arith, over.before, late)) in
+    omega (arith, rises, few_arrive v net_v within_v, supplies_kept w v kept, sent_arrive w net within over.sent, by_last)
 
 -- ---- moment after moment
 
@@ -102,11 +117,11 @@ settled_begins w l m from net within of unset_all early closed = record {
   bounded = omega arith;
   idle = λ _. refl;
   none = λ _. refl;
-  labels = record { nodes = refl; horizon = refl; kept = λ n t i j less. refl };
+  labels = record { nodes = refl; horizon = refl; kept = λ n t i j less. refl; others = λ n t i j late. inr (unset_late l m from unset_all n t i j late) };
   closed = λ i q. closed_same w (labelled l i) (labelled m i) i net (λ n t a. same i n t q (omega (arith, a.node, of.nodes)) (omega (arith, a.moment, of.horizon)))
       (closed i q);
   unset = unset_late l m from unset_all;
-  needed = λ b i valid of q e over. omega (arith, q, e);
+  needed = λ i q e over. omega (arith, q, e);
 }
   where
     same : (i n t : ℕ) → i < from → n < l.nodes → t ≤ l.horizon → labelled m i n t ≡ labelled l i n t
@@ -131,20 +146,32 @@ settled_more w v u l m z from k p r h not_over in_time limits within net sent la
   labels = record {
     nodes = labels.nodes ∙ h.labels.nodes;
     horizon = labels.horizon ∙ h.labels.horizon;
-    kept = λ n t i j less.
-        let old = h.labels.kept n t i j less in
-        labels.kept n t (omega (arith, i, h.labels.nodes)) (omega (arith, j, h.labels.horizon)) (omega (arith, old, less, h.since)) ∙ old;
+    kept = λ n t i j less. stays n t i j (omega (arith, h.labels.kept n t i j less, less, h.since)) ∙ h.labels.kept n t i j less;
+    others = λ n t i j late. elim (h.labels.others n t i j late) [
+      | inl before ↦ let same = stays n t i j before.1 in inl (omega (arith, same, before.0), omega (arith, same, before.1))
+      | inr none ↦ elim (labels.others n t (node n i) (moment t j) (omega (arith, none, in_time, horizon_small v h.net))) [
+        | inl now ↦ inl (omega (arith, now, h.since), omega (arith, now))
+        | inr still ↦ inr still
+      ]
+    ];
   };
   closed = closed;
   unset = λ n t i j late. by n t (omega (arith, i, labels.nodes)) (omega (arith, j, labels.horizon)) late;
-  needed = λ b i valid of q e over.
+  needed = λ i q e over.
       let same : i ≡ k = omega (arith, e) in
       let at_k : IsOver u k = subst (λ y. IsOver u y) same over in
-      let of_v = net_of_kept b w v h.limits of in
-      let of_u = net_of_kept b v u limits of_v in
-      not_over (still_needed b v u k valid h.net of_v h.within net of_u within sent.earlier at_k (omega (arith, in_time, horizon_is b v of_v)));
+      not_over (still_needed v u k limits h.net h.within net within sent.earlier at_k (omega (arith, in_time)));
 }
   where
+    node : (n : ℕ) → n < l.nodes → n < m.nodes
+    node n i = omega (arith, i, h.labels.nodes)
+
+    moment : (t : ℕ) → t ≤ l.horizon → t ≤ m.horizon
+    moment t j = omega (arith, j, h.labels.horizon)
+
+    stays : (n t : ℕ) → n < l.nodes → t ≤ l.horizon → label_at m n t < k → label_at z n t ≡ label_at m n t
+    stays n t i j less = labels.kept n t (node n i) (moment t j) less
+
     by : (n t : ℕ) → n < m.nodes → t ≤ m.horizon → k + 1 ≤ label_at z n t → label_at z n t ≡ unset
     by n t i j late = elim (cases_lt (label_at m n t) k) [
       | inl less ↦ absurd (omega (arith, late, less, labels.kept n t i j less))
@@ -191,14 +218,32 @@ shortfall m w l valid net of within unsent closed =
       below_people = omega (arith, within_people m w m.horizon valid net of within (omega arith), fewer);
     }
 
-pub kept_then : (l m z : LabelTable) (from : ℕ) → IsKeptBelow l m from → IsKeptBelow m z from → IsKeptBelow l z from
-kept_then l m z from p q = record {
+-- labels that are unset from a moment on, and then settled
+pub relabelled_then : (l m z : LabelTable) (from k : ℕ) → from < unset → IsUnset l m from (λ _ _. true) → IsRelabelled m z from k → IsRelabelled l z from k
+relabelled_then l m z from k few p q = record {
   nodes = q.nodes ∙ p.nodes;
   horizon = q.horizon ∙ p.horizon;
   kept = λ n t i j less.
-      let old = p.kept n t i j less in
-      q.kept n t (omega (arith, i, p.nodes)) (omega (arith, j, p.horizon)) (omega (arith, old, less)) ∙ old;
+      let old = unset_keeps l m from n t p i j less in
+      q.kept n t (node n i) (moment t j) (omega (arith, old, less)) ∙ old;
+  others = λ n t i j late. q.others n t (node n i) (moment t j) (omega (arith, unset_there l m from n t p i j late, few));
 }
+  where
+    node : (n : ℕ) → n < l.nodes → n < m.nodes
+    node n i = omega (arith, i, p.nodes)
+
+    moment : (t : ℕ) → t ≤ l.horizon → t ≤ m.horizon
+    moment t j = omega (arith, j, p.horizon)
+
+-- up to a later moment the labels are still the moments' that were settled
+relabelled_to : (l m : LabelTable) (from k j : ℕ) → (k ≡ from) ⊎ (k ≡ j) → IsRelabelled l m from k → IsRelabelled l m from j
+relabelled_to l m from k j (inl none) h = record {
+  nodes = h.nodes;
+  horizon = h.horizon;
+  kept = h.kept;
+  others = λ n t i q late. elim (h.others n t i q late) [ inl before ↦ absurd (omega (arith, before.0, before.1, none)) | inr free ↦ inr free ];
+}
+relabelled_to l m from k j (inr same) h = subst (λ x. IsRelabelled l m from x) same h
 
 module _ (w v : Network) (l m : LabelTable) (from k p : ℕ) (h : IsSettledThrough w v l m from k p) where
   done : IsSettledTo w v l m from k p
@@ -208,7 +253,7 @@ module _ (w v : Network) (l m : LabelTable) (from k p : ℕ) (h : IsSettledThrou
   last_before : last_move v.site (plan_of v) < k
   last_before = elim (cases_lt v.site.shape.horizon k) [ inl late ↦ omega (arith, last_fits v done.net, late) | inr early ↦ (h.over early).before ]
 
-  pub closed_to : (o : Outcome) → IsOutcome v o → IsClosedBelow v m (last_settled v.site.shape.horizon o + 1)
+  closed_to : (o : Outcome) → IsOutcome v o → IsClosedBelow v m (last_settled v.site.shape.horizon o + 1)
   closed_to (Cleared moment pushes) outcome i q = done.closed i (omega (arith, q, outcome.1, last_before))
   closed_to (Short most pushes) outcome i q = elim (cases_lt v.site.shape.horizon k) [
     | inl end ↦ done.closed i (omega (arith, q, end))
@@ -234,21 +279,56 @@ module _ (w v : Network) (l m : LabelTable) (from k p : ℕ) (h : IsSettledThrou
       let most_is : most ≡ arrived_by v b.horizon = outcome.1 ∙ ap (arrived_by v) horizon in
       (sym most_is, subst (λ x. IsShortfall b (label_cut b m b.horizon) x) (sym most_is) short)
 
-  pub bounded_is : (b : Model) (o : Outcome) → IsOutcome v o → pushes_of o ≡ p → IsValid b → IsNetOf b w → IsBounded w v o
-  bounded_is b (Short most pushes) outcome same valid of = elim (cases_lt v.site.shape.horizon k) [
-    | inl end ↦
-        let is : k ≡ v.site.shape.horizon + 1 = omega (arith, end, h.next) in
-        subst (λ c. pushes + arrivals_below w c ≤ arrivals_below v c) is (omega (arith, same, done.bounded))
+  -- no moment was settled, or the next one comes after the last
+  next_is : (o : Outcome) → IsOutcome v o → (k ≡ from) ⊎ (k ≡ last_settled v.site.shape.horizon o + 1)
+  next_is (Short most pushes) outcome = elim (cases_lt v.site.shape.horizon k) [
+    | inl end ↦ inr (omega (arith, end, h.next))
     | inr early ↦ absurd (outcome.0 (h.over early).sent)
   ]
-  bounded_is b (Cleared moment pushes) outcome same valid of = elim (cases_eq k from) [
-    | inl none ↦ omega (arith, same, done.none none, ap (λ (z : Network). arrivals_below z (moment + 1)) (done.idle (done.none none)))
+  next_is (Cleared moment pushes) outcome = elim (cases_eq k from) [
+    | inl none ↦ inl none
     | inr some ↦
-        let not_sooner = done.needed b (k - 1) valid of (omega (arith, some, done.since)) (omega (arith, some, done.since)) in
+        let not_sooner = done.needed (k - 1) (omega (arith, some, done.since)) (omega (arith, some, done.since)) in
         let last_at : k - 1 ≤ last_move v.site (plan_of v) = elim (cases_lt (last_move v.site (plan_of v)) (k - 1)) [
           | inl less ↦ absurd (not_sooner (record { sent = outcome.0; before = less }))
           | inr late ↦ late
         ] in
-        let is : k ≡ moment + 1 = omega (arith, outcome.1, last_before, last_at, some, done.since) in
-        subst (λ c. pushes + arrivals_below w c ≤ arrivals_below v c) is (omega (arith, same, done.bounded))
+        inr (omega (arith, outcome.1, last_before, last_at, some, done.since))
   ]
+
+  labels_to : (o : Outcome) → IsOutcome v o → IsRelabelled l m from (last_settled v.site.shape.horizon o + 1)
+  labels_to o outcome = relabelled_to l m from k (last_settled v.site.shape.horizon o + 1) (next_is o outcome) done.labels
+
+  bounded_to : (o : Outcome) (c : ℕ) → pushes_of o ≡ p → (k ≡ from) ⊎ (k ≡ c) → pushes_of o + arrivals_below w c ≤ arrivals_below v c
+  bounded_to o c same (inl none) = omega (arith, same, done.none none, ap (λ (z : Network). arrivals_below z c) (done.idle (done.none none)))
+  bounded_to o c same (inr is) = subst (λ c. pushes_of o + arrivals_below w c ≤ arrivals_below v c) is (omega (arith, same, done.bounded))
+
+  rests : IsNet w → IsWithinLimits w → IsOver w from → v ≡ w
+  rests net within over = done.idle (omega (arith, done.bounded, below_le w v k most))
+    where
+      same_horizon : v.site.shape.horizon ≡ w.site.shape.horizon
+      same_horizon = ap (λ (s : Site). s.shape.horizon) done.limits.site
+
+      most : (i : ℕ) → i < k → arrived_by v i ≤ arrived_by w i
+      most i q = elim (cases_lt i from) [
+        | inl before ↦ omega (arith, done.earlier i before)
+        | inr late ↦ over_most w v from i done.limits net within done.net done.within over late (omega (arith, q, h.next, same_horizon))
+      ]
+
+  pub net_is : (o : Outcome) → IsOutcome v o → pushes_of o ≡ p → IsNet w → IsWithinLimits w → IsNetSettled w v from o
+  net_is o outcome same net within = record {
+    limits = done.limits;
+    within = done.within;
+    earlier = done.earlier;
+    later = done.later;
+    idle = λ e. done.idle (sym same ∙ e);
+    bounded = bounded_to o (last_settled v.site.shape.horizon o + 1) same (next_is o outcome);
+    rests = rests net within;
+  }
+
+  -- where the labels were those of another table before they were unset
+  pub labels_are : (a : LabelTable) (o : Outcome) → IsOutcome v o → from < unset → IsUnset a l from (λ _ _. true) → AreLabelsSettled v a m from o
+  labels_are a o outcome few unset_all = record {
+    labels = relabelled_then a l m from (last_settled v.site.shape.horizon o + 1) few unset_all (labels_to o outcome);
+    closed = closed_to o outcome;
+  }

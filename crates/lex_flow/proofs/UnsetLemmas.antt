@@ -5,7 +5,7 @@ use Rattle.std.proofs.lemmas.List.{length-set}
 use Rattle.evac_law.specs.LabelTable.{LabelTable, label_at, label_place, unset, with_label}
 use Rattle.terminal_augment.proofs.LabelLemmas.{label_set}
 use Rattle.terminal_augment.specs.Settled.{IsUnsetFrom}
-use Rattle.lex_flow.specs.Settling.{IsKeptBelow, IsUnset}
+use Rattle.lex_flow.specs.Settling.{IsUnset}
 
 -- ---- one label
 
@@ -27,6 +27,9 @@ kept_early from d e h less = grind (arith, nat_tests)
 
 unset_where_late : (from d e : ℕ) → e ≡ cond (leb from d) unset d → from ≤ e → e ≡ unset
 unset_where_late from d e h late = grind (arith, nat_tests)
+
+unset_as_late : (from d e : ℕ) → e ≡ cond (leb from d) unset d → from ≤ d → e ≡ unset
+unset_as_late from d e h late = grind (arith, nat_tests)
 
 -- at moments before all that are unset a label counts as it did
 pub early_same : (from i d e : ℕ) → e ≡ cond (leb from d) unset d → i < from → from < unset → leb e i ≡ leb d i
@@ -88,12 +91,13 @@ rows_more n u = grind (arith, nat_tests)
 
 -- ---- what it comes to
 
-pub unset_keeps : (l m : LabelTable) (from : ℕ) → IsUnset l m from (λ _ _. true) → IsKeptBelow l m from
-unset_keeps l m from h = record {
-  nodes = h.nodes;
-  horizon = h.horizon;
-  kept = λ n t i j less. kept_early from (label_at l n t) (label_at m n t) (h.labels n t i j) less;
-}
+pub unset_keeps : (l m : LabelTable) (from n t : ℕ) → IsUnset l m from (λ _ _. true) → n < l.nodes → t ≤ l.horizon → label_at l n t < from
+    → label_at m n t ≡ label_at l n t
+unset_keeps l m from n t h i j less = kept_early from (label_at l n t) (label_at m n t) (h.labels n t i j) less
+
+pub unset_there : (l m : LabelTable) (from n t : ℕ) → IsUnset l m from (λ _ _. true) → n < l.nodes → t ≤ l.horizon → from ≤ label_at l n t
+    → label_at m n t ≡ unset
+unset_there l m from n t h i j late = unset_as_late from (label_at l n t) (label_at m n t) (h.labels n t i j) late
 
 pub unset_late : (l m : LabelTable) (from : ℕ) → IsUnset l m from (λ _ _. true) → IsUnsetFrom m from
 unset_late l m from h n t i j late =

@@ -1,19 +1,19 @@
 -- What holds while moment after moment is settled.
-use Rattle.std.specs.Prelude.{◌≡◌, ℕ, ◌+◌, ◌*◌, ◌<◌, ◌≤◌, Bool, ◌&&◌, if◌then◌else◌, length, nat_le}
+use Rattle.std.specs.Prelude.{◌≡◌, ℕ, ◌+◌, ◌*◌, ◌<◌, ◌≤◌, ◌⊎◌, Bool, ◌&&◌, if◌then◌else◌, length, nat_le}
 use Rattle.std.specs.List.{sum_by}
-use Rattle.evac_law.specs.declared.model.Model.{Model}
-use Rattle.evac_law.specs.Building.{IsValid}
 use Rattle.evac_law.specs.LabelTable.{LabelTable, label_at, unset}
 use Rattle.evac_law.specs.Sums.{below}
 use Rattle.residual_net.specs.Network.{Network, IsAllSent, IsNet, IsWithinLimits, arrived_by, unsent_at}
-use Rattle.residual_net.specs.OfModel.{IsNetOf, last_move, plan_of}
+use Rattle.residual_net.specs.OfModel.{last_move, plan_of}
 use Rattle.terminal_augment.specs.Settled.{IsClosedBelow, IsLabelsOf, IsSearchOf, IsUnsetFrom, KeepsLimits, SearchSize}
 
--- labels below a moment stay as they are
-pub record IsKeptBelow (l m : LabelTable) (from : ℕ) : Type 0 where
+-- labels below a moment stay as they are, and each other one becomes unset, or a moment from there on and before the next to be settled
+pub record IsRelabelled (l m : LabelTable) (from next : ℕ) : Type 0 where
   pub nodes : m.nodes ≡ l.nodes
   pub horizon : m.horizon ≡ l.horizon
   pub kept : (n t : ℕ) → n < l.nodes → t ≤ l.horizon → label_at l n t < from → label_at m n t ≡ label_at l n t
+  pub others : (n t : ℕ) → n < l.nodes → t ≤ l.horizon → from ≤ label_at l n t
+      → ((from ≤ label_at m n t) × (label_at m n t < next)) ⊎ (label_at m n t ≡ unset)
 
 -- of the labels at the pairs that pass a test those that aren't below a moment are unset, and nothing else changes
 pub record IsUnset (l m : LabelTable) (from : ℕ) (b : ℕ → ℕ → Bool) : Type 0 where
@@ -47,16 +47,25 @@ pub record IsSettledTo (w v : Network) (l m : LabelTable) (from k pushes : ℕ) 
   pub bounded : pushes + arrivals_below w k ≤ arrivals_below v k
   pub idle : pushes ≡ 0 → v ≡ w
   pub none : k ≡ from → pushes ≡ 0
-  pub labels : IsKeptBelow l m from
+  pub labels : IsRelabelled l m from k
   pub closed : IsClosedBelow v m k
   pub unset : IsUnsetFrom m k
-  pub needed : (b : Model) (i : ℕ) → IsValid b → IsNetOf b w → from ≤ i → i + 1 ≡ k → IsOver v i → ⊥
+  pub needed : (i : ℕ) → from ≤ i → i + 1 ≡ k → IsOver v i → ⊥
 
 -- the labels and the search are the network's, and a moment is one of it or the next one after
 pub record IsReadyFrom (w : Network) (l : LabelTable) (x : SearchSize) (k : ℕ) : Type 0 where
   pub labels : IsLabelsOf w.site l
   pub search : IsSearchOf w.site x
   pub from : k ≤ w.site.shape.horizon + 1
+
+-- what settling asks: labels and a search of the network, a moment of it or the next one after, flow within its limits, and sets below the
+-- moment that are closed
+pub record IsSettleable (w : Network) (l : LabelTable) (x : SearchSize) (k : ℕ) : Type 0 where
+  pub labels : IsLabelsOf w.site l
+  pub search : IsSearchOf w.site x
+  pub from : k ≤ w.site.shape.horizon + 1
+  pub within : IsWithinLimits w
+  pub closed : IsClosedBelow w l k
 
 -- the moments are settled until everybody arrives before the next one, or to the horizon
 pub record IsSettledThrough (w v : Network) (l m : LabelTable) (from k pushes : ℕ) : Type 0 where

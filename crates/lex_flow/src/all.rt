@@ -1,13 +1,12 @@
 // All arrival moments, settled one after another.
-ghost use Rattle.std.specs.Prelude.{◌≡◌, ℕ, ◌+◌, ◌<◌, ◌≤◌, ◌*◌, ◌==◌, ◌↔◌, IsTrue, if◌then◌else◌, length, nat_le, true};
+ghost use Rattle.std.specs.Prelude.{◌≡◌, ◌+◌, ◌<◌, ◌≤◌, ◌*◌, ◌==◌, ◌↔◌, IsTrue, if◌then◌else◌, length, nat_le, true};
 ghost use Rattle.evac_law.specs.declared.model.Model.{Model};
 ghost use Rattle.evac_law.specs.Building.{IsValid};
 ghost use Rattle.evac_law.specs.LabelTable.{label_at, unset, with_label};
-ghost use Rattle.residual_net.specs.Network.{IsAllSent, IsWithinLimits, arrived_by};
+ghost use Rattle.residual_net.specs.Network.{IsAllSent, IsWithinLimits};
 ghost use Rattle.residual_net.specs.OfModel.{IsNetOf};
-ghost use Rattle.terminal_augment.specs.Settled.{IsClosedBelow, IsLabelsOf, IsSearchOf, KeepsLimits};
-ghost use Rattle.lex_flow.specs.Outcomes.{IsAnswer, IsBounded, IsOutcome, last_settled, pushes_of};
-ghost use Rattle.lex_flow.specs.Settling.{IsKeptBelow, IsMomentSent, IsOver, IsReadyFrom, IsSettledThrough, IsSettledTo, IsUnset};
+ghost use Rattle.lex_flow.specs.Outcomes.{AreLabelsSettled, IsAnswer, IsNetSettled, IsOutcome, pushes_of};
+ghost use Rattle.lex_flow.specs.Settling.{IsMomentSent, IsOver, IsReadyFrom, IsSettleable, IsSettledThrough, IsSettledTo, IsUnset};
 
 use crate::outcome::Outcome;
 use evac_law::{Labels, Steps};
@@ -139,20 +138,10 @@ pub fn settle_all<L: Ledger>(
     from: u16,
     steps: &mut Steps<L>,
 ) -> Outcome
-    requires labels { IsLabelsOf net.old.site labels.old }
-    requires search { IsSearchOf net.old.site search.old }
-    requires from { from ≤ net.old.site.shape.horizon + 1 }
-    requires within { IsWithinLimits net.old }
-    requires closed { IsClosedBelow net.old labels.old from }
-    ensures limits { KeepsLimits net.old net.new }
-    ensures within { IsWithinLimits net.new }
-    ensures earlier { (i : ℕ) → i < from → arrived_by net.new i ≡ arrived_by net.old i }
-    ensures later { (i : ℕ) → arrived_by net.old i ≤ arrived_by net.new i }
-    ensures idle { pushes_of result ≡ 0 → net.new ≡ net.old }
-    ensures labels { IsKeptBelow labels.old labels.new from }
-    ensures closed { IsClosedBelow net.new labels.new (last_settled net.new.site.shape.horizon result + 1) }
+    requires { IsSettleable net.old labels.old search.old from }
+    ensures net { IsNetSettled net.old net.new from result }
+    ensures labels { AreLabelsSettled net.new labels.old labels.new from result }
     ensures answer { (m : Model) → IsValid m → IsNetOf m net.old → IsAnswer m net.new labels.new result }
-    ensures bounded { (m : Model) → IsValid m → IsNetOf m net.old → IsBounded net.old net.new result }
     ensures search { search.new ≡ search.old }
     ensures ticked { steps.new ≡ steps.old + pushes_of result }
 {

@@ -12,6 +12,8 @@ mod edits;
 #[cfg(test)]
 mod refused;
 #[cfg(test)]
+mod repairs;
+#[cfg(test)]
 mod reports;
 #[cfg(test)]
 mod session;

@@ -6,7 +6,7 @@ use Rattle.residual_net.specs.Site.{Site, IsPlace}
 use Rattle.residual_net.proofs.Effects.{arrived_all_sent}
 use Rattle.residual_net.proofs.Kept.{same_saved}
 use Rattle.residual_net.proofs.LastArrival.{last_fits}
-use Rattle.terminal_augment.specs.Settled.{IsClosedBelow}
+use Rattle.terminal_augment.specs.Settled.{IsClosedBelow, IsSearchOf}
 use Rattle.lex_flow.specs.declared.outcome.Outcome.{Outcome}
 use Rattle.lex_flow.specs.declared.outcome.Outcome.TheVariants.{Cleared, Short}
 use Rattle.lex_flow.specs.Outcomes.{IsAnswer, IsBounded, IsCleared, last_settled, pushes_of}
@@ -15,33 +15,35 @@ use Rattle.lex_flow.proofs.SettleLemmas.{net_of_kept}
 use Rattle.flow_repair.proofs.Whole.{valid_now}
 use Rattle.edit_session.specs.declared.work.Work.{Work}
 use Rattle.edit_session.specs.Mended.{last_arrival_of}
-use Rattle.edit_session.proofs.Saved.{arrived_saved, closed_saved, edit_saved, flow_saved, of_saved, plan_saved, sent_saved, within_saved}
+use Rattle.edit_session.proofs.Saved.{arrived_saved, edit_saved, flow_saved, of_saved, plan_saved, reshapable_saved}
 use Rattle.edit_session.proofs.Thrifty.{spent, thrifty}
 use Rattle.edit_session.proofs.mend.repair_net.Goals as goal
 
-pub reshape-taken-requires-clause-edited : goal.reshape-taken-requires-clause-edited
-reshape-taken-requires-clause-edited g c =
-    rw c.save.ensures (edit_saved c.args.model.now c.args.edit c.args.net.now c.args.labels.now c.requires.repairable)
+pub reshape-taken-requires : goal.reshape-taken-requires
+reshape-taken-requires g c =
+    rw (c.save.ensures, c.copy_from.ensures) (reshapable_saved c.args.model.now c.args.edit c.args.net.now c.args.labels.now c.args.scratch.now.path.room
+    c.requires.repairable c.requires.scratch.room)
 
-pub reshape-taken-requires-clause-within : goal.reshape-taken-requires-clause-within
-reshape-taken-requires-clause-within g c = rw c.save.ensures (within_saved c.args.net.now c.requires.repairable.standing.within)
-
-pub reshape-taken-requires-clause-sent : goal.reshape-taken-requires-clause-sent
-reshape-taken-requires-clause-sent g c = rw c.save.ensures (sent_saved c.args.net.now c.requires.repairable.standing.sent)
-
-pub reshape-taken-requires-clause-closed : goal.reshape-taken-requires-clause-closed
-reshape-taken-requires-clause-closed g c =
-    rw (c.save.ensures, c.copy_from.ensures) (closed_saved c.args.net.now c.args.labels.now c.requires.repairable.standing.closed)
-
-pub settle_all-requires-clause-from : goal.settle_all-requires-clause-from
-settle_all-requires-clause-from g c =
+pub settle_all-requires : goal.settle_all-requires
+settle_all-requires g c =
     let w = c.args.net.now in
     let s = c.save.new.self in
-    let site : c.reshape-taken.new.net.site ≡ s.site = c.reshape-taken.ensures.site in
+    let taken = c.reshape-taken.ensures in
     let same : s.site ≡ w.site = ap (λ (z : Network). z.site) c.save.ensures in
+    let site : c.reshape-taken.new.net.site ≡ w.site = taken.net.site ∙ same in
     let plan : plan_of s ≡ plan_of w = ap plan_of c.save.ensures ∙ plan_saved w in
     let last : last_move s.site (plan_of s) ≡ last_move w.site (plan_of w) = ap₂ last_move same plan in
-    omega (arith, c.reshape-taken.ensures.least.most, last, last_fits w c.shape.ensures.net, ap (λ (z : Site). z.shape.horizon) (site ∙ same))
+    let labels = c.requires.repairable.standing.labels in
+    record {
+      labels = record {
+        nodes = ap (λ z. z.nodes) c.copy_from.ensures ∙ labels.nodes ∙ ap (λ (z : Site). z.shape.nodes) (sym site);
+        horizon = ap (λ z. z.horizon) c.copy_from.ensures ∙ labels.horizon ∙ ap (λ (z : Site). z.shape.horizon) (sym site);
+      };
+      search = subst (λ (z : Site). IsSearchOf z c.args.scratch.now.search) (sym site) c.requires.scratch.search;
+      from = omega (arith, taken.labels.least.most, last, last_fits w c.shape.ensures.net, ap (λ (z : Site). z.shape.horizon) site);
+      within = taken.net.within;
+      closed = taken.labels.closed;
+    }
 
 pub returns-in-Cleared-clause-mended : goal.returns-in-Cleared-clause-mended
 returns-in-Cleared-clause-mended g c =
@@ -56,14 +58,14 @@ returns-in-Cleared-clause-mended g c =
     let done = c.settle_all.ensures in
     let taken = c.reshape-taken.ensures in
     let valid = valid_now m c.args.edit s (rw c.save.ensures (edit_saved m c.args.edit w c.args.labels.now c.requires.repairable)) in
-    let of_u = net_of_kept m v u done.limits taken.of in
-    let answer : IsAnswer m u l (Cleared moment pushes) = subst (λ (o : Outcome). IsAnswer m u l o) c.in-Cleared.is (done.answer m valid taken.of) in
-    let bounded : IsBounded v u (Cleared moment pushes) = subst (λ (o : Outcome). IsBounded v u o) c.in-Cleared.is (done.bounded m valid taken.of) in
+    let of_u = net_of_kept m v u done.net.limits taken.net.of in
+    let answer : IsAnswer m u l (Cleared moment pushes) = subst (λ (o : Outcome). IsAnswer m u l o) c.in-Cleared.is (done.answer m valid taken.net.of) in
+    let bounded : IsBounded v u (Cleared moment pushes) = subst (λ (o : Outcome). IsBounded v u o) c.in-Cleared.is (done.net.bounded) in
     let closed : IsClosedBelow u l (moment + 1) =
-    subst (λ (o : Outcome). IsClosedBelow u l (last_settled u.site.shape.horizon o + 1)) c.in-Cleared.is done.closed in
-    let idle : pushes ≡ 0 → u ≡ v = λ e. done.idle (ap pushes_of c.in-Cleared.is ∙ e) in
+    subst (λ (o : Outcome). IsClosedBelow u l (last_settled u.site.shape.horizon o + 1)) c.in-Cleared.is done.labels.closed in
+    let idle : pushes ≡ 0 → u ≡ v = λ e. done.net.idle (ap pushes_of c.in-Cleared.is ∙ e) in
     let same : s.site ≡ w.site = ap (λ (z : Network). z.site) c.save.ensures in
-    let site : u.site ≡ w.site = done.limits.site ∙ taken.site ∙ same in
+    let site : u.site ≡ w.site = done.net.limits.site ∙ taken.net.site ∙ same in
     let last : moment ≡ last_arrival_of u = answer.last in
     rw c.copy_from-in-Cleared.ensures (record {
       site = site;
@@ -71,12 +73,12 @@ returns-in-Cleared-clause-mended g c =
         valid = valid;
         net = c.shape-in-Cleared.ensures.net;
         of = of_u;
-        within = done.within;
-        sent = arrived_all_sent m u c.shape-in-Cleared.ensures.net of_u done.within answer.arrived;
+        within = done.net.within;
+        sent = arrived_all_sent m u c.shape-in-Cleared.ensures.net of_u done.net.within answer.arrived;
         cleared = subst (λ (k : ℕ). IsCleared m u l k) last answer;
         labels = record {
-          nodes = done.labels.nodes ∙ ap (λ z. z.nodes) c.copy_from.ensures ∙ c.requires.repairable.standing.labels.nodes ∙ ap (λ (z : Site). z.shape.nodes) (sym site);
-          horizon = done.labels.horizon
+          nodes = done.labels.labels.nodes ∙ ap (λ z. z.nodes) c.copy_from.ensures ∙ c.requires.repairable.standing.labels.nodes ∙ ap (λ (z : Site). z.shape.nodes) (sym site);
+          horizon = done.labels.labels.horizon
               ∙ ap (λ z. z.horizon) c.copy_from.ensures
               ∙ c.requires.repairable.standing.labels.horizon
               ∙ ap (λ (z : Site). z.shape.horizon) (sym site);
@@ -86,10 +88,10 @@ returns-in-Cleared-clause-mended g c =
       thrifty = λ b valid_b of_b.
           let of_s : IsNetOf b s = rw c.save.ensures (of_saved b w of_b) in
           let work : Work = record { cancelled = c.reshape-taken.result.cancelled; pushes = pushes } in
-          thrifty b m w v u (last_arrival_of u) work valid_b valid c.shape.ensures.net c.shape-in-Cleared.ensures.net of_b of_u (taken.site ∙ same)
-          (subst (λ z. c.reshape-taken.result.cancelled ≤ violation b z m) (ap plan_of c.save.ensures ∙ plan_saved w) (taken.few b valid_b of_s))
-          (λ k. omega (arith, taken.arrivals k, ap (λ (z : Network). arrived_by z k) c.save.ensures, arrived_saved w k))
-          (λ e p i. taken.idle e p (subst (λ (z : Site). IsPlace z p) (sym same) i) ∙ ap (λ (z : Network). flow_at z p) c.save.ensures ∙ flow_saved w p)
+          thrifty b m w v u (last_arrival_of u) work valid_b valid c.shape.ensures.net c.shape-in-Cleared.ensures.net of_b of_u (taken.net.site ∙ same)
+          (subst (λ z. c.reshape-taken.result.cancelled ≤ violation b z m) (ap plan_of c.save.ensures ∙ plan_saved w) (taken.taken.few b valid_b of_s))
+          (λ k. omega (arith, taken.taken.arrivals k, ap (λ (z : Network). arrived_by z k) c.save.ensures, arrived_saved w k))
+          (λ e p i. taken.taken.idle e p (subst (λ (z : Site). IsPlace z p) (sym same) i) ∙ ap (λ (z : Network). flow_at z p) c.save.ensures ∙ flow_saved w p)
           (subst (λ (k : ℕ). pushes + arrivals_below v (k + 1) ≤ arrivals_below u (k + 1)) last bounded) idle;
     })
 
@@ -103,20 +105,20 @@ returns-in-Short-clause-mended g c =
     let l = c.settle_all.new.labels in
     let valid = valid_now m c.args.edit s (rw c.save.ensures (edit_saved m c.args.edit w c.args.labels.now c.requires.repairable)) in
     let answer : IsAnswer m u l (Short c.in-Short.most c.in-Short.pushes) =
-    subst (λ (o : Outcome). IsAnswer m u l o) c.in-Short.is (c.settle_all.ensures.answer m valid c.reshape-taken.ensures.of) in
+    subst (λ (o : Outcome). IsAnswer m u l o) c.in-Short.is (c.settle_all.ensures.answer m valid c.reshape-taken.ensures.net.of) in
     let same : s.site ≡ w.site = ap (λ (z : Network). z.site) c.save.ensures in
-    let of_w = sym (c.reshape-taken.ensures.site ∙ same) ∙ c.reshape-taken.ensures.of.site in
+    let of_w = sym (c.reshape-taken.ensures.net.site ∙ same) ∙ c.reshape-taken.ensures.net.of.site in
     record {
       net = c.restore.ensures
-          ∙ same_saved s u (c.settle_all.ensures.limits.site ∙ c.reshape-taken.ensures.site) (c.settle_all.ensures.limits.saved ∙ c.reshape-taken.ensures.saved)
+          ∙ same_saved s u (c.settle_all.ensures.net.limits.site ∙ c.reshape-taken.ensures.net.site) (c.settle_all.ensures.net.limits.saved ∙ c.reshape-taken.ensures.net.saved)
           ∙ ap saved_of c.save.ensures;
       labels = refl;
       table = record {
-        nodes = c.settle_all.ensures.labels.nodes
+        nodes = c.settle_all.ensures.labels.labels.nodes
             ∙ ap (λ z. z.nodes) c.copy_from.ensures
             ∙ c.requires.repairable.standing.labels.nodes
             ∙ ap (λ (z : Site). z.shape.nodes) of_w;
-        horizon = c.settle_all.ensures.labels.horizon
+        horizon = c.settle_all.ensures.labels.labels.horizon
             ∙ ap (λ z. z.horizon) c.copy_from.ensures
             ∙ c.requires.repairable.standing.labels.horizon
             ∙ ap (λ (z : Site). z.shape.horizon) of_w;
@@ -137,22 +139,22 @@ returns-in-Short-clause-counted g c =
     let taken = c.reshape-taken.ensures in
     let done = c.settle_all.ensures in
     let valid = valid_now m c.args.edit s (rw c.save.ensures (edit_saved m c.args.edit w c.args.labels.now c.requires.repairable)) in
-    let answer : IsAnswer m u l (Short most pushes) = subst (λ (o : Outcome). IsAnswer m u l o) c.in-Short.is (done.answer m valid taken.of) in
-    let bounded : IsBounded v u (Short most pushes) = subst (λ (o : Outcome). IsBounded v u o) c.in-Short.is (done.bounded m valid taken.of) in
+    let answer : IsAnswer m u l (Short most pushes) = subst (λ (o : Outcome). IsAnswer m u l o) c.in-Short.is (done.answer m valid taken.net.of) in
+    let bounded : IsBounded v u (Short most pushes) = subst (λ (o : Outcome). IsBounded v u o) c.in-Short.is (done.net.bounded) in
     let count : pushes_of c.settle_all.result ≡ pushes = ap pushes_of c.in-Short.is in
-    let rise : c.args.steps.now ≤ c.settle_all.new.steps = omega (arith, taken.counted, done.ticked) in
-    let fewer : c.settle_all.new.steps - c.args.steps.now ≤ c.reshape-taken.result.cancelled + pushes = omega (arith, taken.ticked, done.ticked, count) in (
+    let rise : c.args.steps.now ≤ c.settle_all.new.steps = omega (arith, taken.steps.counted, done.ticked) in
+    let fewer : c.settle_all.new.steps - c.args.steps.now ≤ c.reshape-taken.result.cancelled + pushes = omega (arith, taken.steps.ticked, done.ticked, count) in (
       rise,
       λ b valid_b of_b.
           let of_s : IsNetOf b s = rw c.save.ensures (of_saved b w of_b) in
           let same : u.site.shape.horizon ≡ b.horizon =
-          ap (λ (z : Site). z.shape.horizon) (done.limits.site ∙ taken.site ∙ of_s.site) in
-          let other : m.horizon ≡ b.horizon = ap (λ (z : Site). z.shape.horizon) (sym taken.of.site ∙ taken.site ∙ of_s.site) in
+          ap (λ (z : Site). z.shape.horizon) (done.net.limits.site ∙ taken.net.site ∙ of_s.site) in
+          let other : m.horizon ≡ b.horizon = ap (λ (z : Site). z.shape.horizon) (sym taken.net.of.site ∙ taken.net.site ∙ of_s.site) in
           let all : arrived_by u b.horizon ≡ most = ap (arrived_by u) (sym other) ∙ answer.0 in
           let bound : pushes + arrivals_below v (b.horizon + 1) ≤ arrivals_below u (b.horizon + 1) =
           subst (λ h. pushes + arrivals_below v (h + 1) ≤ arrivals_below u (h + 1)) same bounded in
           spent b m w v u c.reshape-taken.result.cancelled pushes most (c.settle_all.new.steps - c.args.steps.now) valid_b c.shape.ensures.net of_b
-          (subst (λ z. c.reshape-taken.result.cancelled ≤ violation b z m) (ap plan_of c.save.ensures ∙ plan_saved w) (taken.few b valid_b of_s))
-          (λ k. omega (arith, taken.arrivals k, ap (λ (z : Network). arrived_by z k) c.save.ensures, arrived_saved w k))
+          (subst (λ z. c.reshape-taken.result.cancelled ≤ violation b z m) (ap plan_of c.save.ensures ∙ plan_saved w) (taken.taken.few b valid_b of_s))
+          (λ k. omega (arith, taken.taken.arrivals k, ap (λ (z : Network). arrived_by z k) c.save.ensures, arrived_saved w k))
           bound all fewer,
     )

@@ -19,23 +19,38 @@ fit_edit-requires-clause-fittable g c = record {
   cancellable = record { labels = c.requires.labels; room = c.requires.room; few = omega (arith, c.shape.ensures.net.few_sent) };
 }
 
-pub returns-clause-of : goal.returns-clause-of
-returns-clause-of g c =
-    now_of c.args.model.now c.args.labels.now c.args.edit c.args.net.now c.fit_edit.new.net
-    (record { cancelled = 0; least_label = c.last_arrival-first.result + 1 }) c.fit_edit.result c.requires.edited c.fit_edit.ensures.refitted
+pub returns-clause-net : goal.returns-clause-net
+returns-clause-net g c = record {
+  site = c.fit_edit.ensures.refitted.site;
+  of = now_of c.args.model.now c.args.labels.now c.args.edit c.args.net.now c.fit_edit.new.net
+      (record { cancelled = 0; least_label = c.last_arrival-first.result + 1 }) c.fit_edit.result c.requires.edited c.fit_edit.ensures.refitted;
+  within = c.fit_edit.ensures.within;
+  saved = c.fit_edit.ensures.refitted.saved;
+}
 
-pub returns-clause-few : goal.returns-clause-few
-returns-clause-few g c m valid of =
-    let w = c.args.net.now in
-    let n = c.args.model.now in
-    let between = between_now n c.args.edit w c.requires.edited in
-    let over = few_over m n w valid c.shape.ensures.net of c.requires.within c.requires.sent between.of_model in
-    omega (arith, c.fit_edit.ensures.refitted.bounded, over)
+pub returns-clause-taken : goal.returns-clause-taken
+returns-clause-taken g c =
+    let done = c.fit_edit.ensures.refitted in
+    record {
+      few = λ m valid of.
+          let w = c.args.net.now in
+          let n = c.args.model.now in
+          let between = between_now n c.args.edit w c.requires.edited in
+          let over = few_over m n w valid c.shape.ensures.net of c.requires.within c.requires.sent between.of_model in
+          omega (arith, done.bounded, over);
+      flows = done.flows;
+      arrivals = λ k. omega (arith, done.arrivals k);
+      idle = done.idle;
+    }
 
-pub returns-clause-closed : goal.returns-clause-closed
-returns-clause-closed g c =
+pub returns-clause-labels : goal.returns-clause-labels
+returns-clause-labels g c =
     let w = c.args.net.now in
     let done = c.fit_edit.ensures.refitted in
     let first : c.last_arrival-first.result + 1 ≡ last_move w.site (plan_of w) + 1 = ap (λ z. z + 1) c.last_arrival-first.ensures in
     let least = subst (λ z. IsLeastOpened c.args.labels.now w c.fit_edit.new.net z c.fit_edit.result.least_label) first done.least in
-    closed_stays c.args.labels.now w c.fit_edit.new.net (last_move w.site (plan_of w) + 1) c.fit_edit.result.least_label done.site done.flows least c.requires.closed
+    record {
+      least = least;
+      closed = closed_stays c.args.labels.now w c.fit_edit.new.net (last_move w.site (plan_of w) + 1) c.fit_edit.result.least_label done.site done.flows least
+          c.requires.closed;
+    }

@@ -1,12 +1,8 @@
-use Rattle.std.proofs.Common.{◌≡◌, ℕ, ◌+◌, ◌-◌, List, ◌∷◌, take, ap, subst, sym, refl, arith, ◌∙◌}
-use Rattle.evac_law.specs.declared.edit.Edit.{Edit}
-use Rattle.evac_law.specs.declared.model.Model.{Model}
+use Rattle.std.proofs.Common.{◌≡◌, ◌-◌, ◌∷◌, take, ap, subst, sym, refl, arith}
 use Rattle.evac_law.specs.Edits.{IsEditOf}
-use Rattle.evac_law.specs.LabelTable.{LabelTable}
-use Rattle.edit_session.specs.declared.work.Work.{Work}
 use Rattle.edit_session.specs.declared.faults.EditRefusal.TheVariants.{NotCleared}
-use Rattle.edit_session.specs.Kept.{IsSession, view_of}
-use Rattle.edit_session.specs.Sessions.{EditEnds, SessionState, SessionView}
+use Rattle.edit_session.specs.Kept.{view_of}
+use Rattle.edit_session.specs.Sessions.{EditEnds, SessionView}
 use Rattle.std.proofs.Common.{Ok, Err}
 use Rattle.edit_session.proofs.Going.{ends_barred, ends_edited, made, session_barred, session_edited}
 use Rattle.edit_session.proofs.session.Session.edit.Goals as goal

@@ -1,4 +1,4 @@
-use Rattle.std.proofs.Common.{◌≡◌, length, ap, sym, ◌∙◌}
+use Rattle.std.proofs.Common.{length, ap, sym, ◌∙◌}
 use Rattle.edit_session.specs.Sessions.{SessionView}
 use Rattle.edit_session.proofs.Ring.{former_length}
 use Rattle.edit_session.proofs.session.Session.kept.Goals as goal

@@ -1,4 +1,4 @@
-use Rattle.std.proofs.Common.{◌≡◌, ℕ, ◌+◌, ◌-◌, List, ◌∷◌, drop, ap, subst, sym, refl, arith, ◌∙◌, Ok}
+use Rattle.std.proofs.Common.{◌≡◌, ◌-◌, List, drop, ap, subst, sym, arith, ◌∙◌, Ok}
 use Rattle.evac_law.specs.declared.edit.Edit.{Edit}
 use Rattle.evac_law.specs.declared.model.Model.{Model}
 use Rattle.evac_law.specs.Edits.{edited, inverse_of}

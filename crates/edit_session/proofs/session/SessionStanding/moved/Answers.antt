@@ -1,4 +1,4 @@
-use Rattle.std.proofs.Common.{◌≡◌, ◌<◌, ◌≤◌, length, ap, arith, subst, sym, ◌∙◌}
+use Rattle.std.proofs.Common.{◌<◌, ◌≤◌, length, ap, arith, subst, sym, ◌∙◌}
 use Rattle.evac_law.specs.Plans.{moved}
 use Rattle.evac_law.proofs.MoveLemmas.{moved-moves_of}
 use Rattle.residual_net.specs.declared.place.Place.TheVariants.{Arc}
