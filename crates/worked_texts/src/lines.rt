@@ -1,55 +1,91 @@
 // Lines that are found in a source, and text that is put into a sink.
+ghost use Rattle.std.specs.Prelude.{◌<◌};
+
 use line_io::{
     CleanSink, CleanSource, Found, LineFault, Lines, MemSink, MemSource, Out, Source, StdSink,
     StdSource, TextLine, WriteFault,
 };
 use std::alloc::{AllocError, Global};
 use std::io::{Error, ErrorKind, Read, Write};
+use std::process::Abort;
 use std::test::Fail;
 
-// The lines of a source, each with a bar behind it, then a dot at the end or the code of a fault; an r for each read fault.
+// A bar behind a line, a dot at the end, an r for a read fault, and else the code of a fault.
+fn mark(found: Result<Found, LineFault>) -> u8 {
+    match found {
+        Ok(Found::Text) => b'|',
+        Ok(Found::End) => b'.',
+        Err(LineFault::ReadFault) => b'r',
+        Err(LineFault::LineTooLong) => b'2',
+        Err(LineFault::InputTooLong) => b'3',
+    }
+}
+
+// Puts the next line of a source and its mark behind a text, and answers the mark.
+fn spell_line<S: Source>(
+    lines: &mut Lines,
+    source: &mut S,
+    text: &mut Vec<u8>,
+) -> Result<u8, AllocError> {
+    let mark = mark(lines.next(source));
+    if mark == b'|' {
+        text.extend_from_slice(lines.text())?;
+    }
+    text.push(mark)?;
+    Ok(mark)
+}
+
+// The lines of a source with their marks, up to its end or its first fault that is no read fault.
 fn spelled<S: Source>(alloc: Global, source: &mut S) -> Result<Vec<u8>, AllocError> {
     let mut lines = Lines::new(alloc)?;
     let mut text = Vec::new(alloc);
     for _ in 0..100u32 {
-        let last = match lines.next(source) {
-            Ok(Found::Text) => {
-                text.extend_from_slice(lines.text())?;
-                b'|'
-            }
-            Ok(Found::End) => b'.',
-            Err(LineFault::ReadFault) => b'r',
-            Err(LineFault::LineTooLong) => b'2',
-            Err(LineFault::InputTooLong) => b'3',
-        };
-        text.push(last)?;
-        if last != b'|' && last != b'r' {
-            return Ok(text);
+        let mark = spell_line(&mut lines, source, &mut text)?;
+        if mark != b'|' && mark != b'r' {
+            break;
         }
     }
     Ok(text)
 }
 
+const LINES: &[(&[u8], &[u8])] = &[
+    (b"", b"."),
+    (b"one", b"one|."),
+    (b"one\n", b"one|."),
+    (b"one\r\ntwo\n\nlast", b"one|two||last|."),
+    (b"\r\r\na\rb\n\r", b"\r|a\rb||."),
+    (b"\n\n", b"||."),
+];
+
+// A text is spelled so, where some calls of its source fail.
+fn check_spelled(
+    rt: &(impl Abort + AllocGlobal),
+    input: &[u8],
+    piece: usize,
+    failing: &[u32],
+    want: &[u8],
+) -> Result<(), AllocError>
+    requires { 0 < piece }
+{
+    let mut source = MemSource::new(rt.alloc(), input, piece, failing)?;
+    let text = spelled(rt.alloc(), &mut source)?;
+    assert_eq!(rt; text.as_slice(), want, "{piece}");
+    Ok(())
+}
+
 #[test]
 fn finds_lines(rt: HostRuntime) -> Result<(), Fail> {
-    let cases: [(&[u8], &[u8]); 6] = [
-        (b"", b"."),
-        (b"one", b"one|."),
-        (b"one\n", b"one|."),
-        (b"one\r\ntwo\n\nlast", b"one|two||last|."),
-        (b"\r\r\na\rb\n\r", b"\r|a\rb||."),
-        (b"\n\n", b"||."),
-    ];
-    for piece in [1, 7, 4096] {
-        for (input, want) in cases {
-            let mut source = MemSource::new(rt.alloc(), input, piece, &[])?;
-            assert_eq!(rt;
-                spelled(rt.alloc(), &mut source)?.as_slice(),
-                want,
-                "{piece}"
-            );
-        }
+    for (input, want) in LINES {
+        check_spelled(&rt, input, 1, &[], want)?;
+        check_spelled(&rt, input, 7, &[], want)?;
+        check_spelled(&rt, input, 4096, &[], want)?;
     }
+    Ok(())
+}
+
+#[test]
+fn goes_on_after_read_faults(rt: HostRuntime) -> Result<(), Fail> {
+    check_spelled(&rt, b"one\ntwo\n", 3, &[2, 5], b"rone|two|r.")?;
     Ok(())
 }
 
@@ -72,44 +108,44 @@ fn bounds_lines(rt: HostRuntime) -> Result<(), Fail> {
     Ok(())
 }
 
-#[test]
-fn goes_on_after_read_faults(rt: HostRuntime) -> Result<(), Fail> {
-    let mut source = MemSource::new(rt.alloc(), b"one\ntwo\n", 3, &[2, 5])?;
-    assert_eq!(rt;
-        spelled(rt.alloc(), &mut source)?.as_slice(),
-        b"rone|two|r.".as_slice()
-    );
-    Ok(())
+// Writes into a sink whose second call fails, and which then is full.
+fn put_past_faults(rt: &impl Abort, out: &mut Out, sink: &mut MemSink) -> Result<(), WriteFault> {
+    out.put(sink, b"hello ")?;
+    assert!(rt; out.flush(sink).is_err());
+    assert_eq!(rt; sink.bytes(), b"h".as_slice());
+    out.number(sink, 60)?;
+    out.flush(sink)?;
+    assert_eq!(rt; sink.bytes(), b"hello 60".as_slice());
+    out.put(sink, b"!")?;
+    assert!(rt; out.flush(sink).is_err());
+    out.flush(&mut CleanSink::new())
 }
 
 #[test]
 fn goes_on_after_write_faults(rt: HostRuntime) -> Result<(), Fail> {
     let mut sink = MemSink::new(rt.alloc(), 8, 1, &[2])?;
     let mut out = Out::new(rt.alloc())?;
-    out.put(&mut sink, b"hello ")?;
-    assert_eq!(rt; out.flush(&mut sink), Err(WriteFault));
-    assert_eq!(rt; sink.bytes(), b"h".as_slice());
-    out.number(&mut sink, 60)?;
-    out.flush(&mut sink)?;
-    assert_eq!(rt; sink.bytes(), b"hello 60".as_slice());
-    out.put(&mut sink, b"!")?;
-    assert_eq!(rt; out.flush(&mut sink), Err(WriteFault));
-    out.flush(&mut CleanSink::new())?;
+    put_past_faults(&rt, &mut out, &mut sink)?;
     Ok(())
+}
+
+// Puts a line of each kind of field, and a line of one word.
+fn put_lines(rt: &impl Abort, out: &mut Out, sink: &mut MemSink) -> Result<(), WriteFault> {
+    let mut line = TextLine::new(b"move");
+    line.number(u64::MAX);
+    line.field(b"WP");
+    line.extend(b"1.0");
+    assert_eq!(rt; line.bytes(), b"move 18446744073709551615 WP1.0".as_slice());
+    line.put(out, sink)?;
+    TextLine::new(b"end").put(out, sink)?;
+    out.flush(sink)
 }
 
 #[test]
 fn puts_lines(rt: HostRuntime) -> Result<(), Fail> {
     let mut sink = MemSink::new(rt.alloc(), 100, 7, &[])?;
     let mut out = Out::new(rt.alloc())?;
-    let mut line = TextLine::new(b"move");
-    line.number(u64::MAX);
-    line.field(b"WP");
-    line.extend(b"1.0");
-    assert_eq!(rt; line.bytes(), b"move 18446744073709551615 WP1.0".as_slice());
-    line.put(&mut out, &mut sink)?;
-    TextLine::new(b"end").put(&mut out, &mut sink)?;
-    out.flush(&mut sink)?;
+    put_lines(&rt, &mut out, &mut sink)?;
     assert_eq!(rt;
         sink.bytes(),
         b"move 18446744073709551615 WP1.0\nend\n".as_slice()
@@ -141,10 +177,8 @@ impl Read for Interrupted {
 #[test]
 fn reads_by_std(rt: HostRuntime) -> Result<(), Fail> {
     let mut source = StdSource::new(Interrupted { calls: 0 });
-    assert_eq!(rt;
-        spelled(rt.alloc(), &mut source)?.as_slice(),
-        b"rone|tw|.".as_slice()
-    );
+    let text = spelled(rt.alloc(), &mut source)?;
+    assert_eq!(rt; text.as_slice(), b"rone|tw|.".as_slice());
     Ok(())
 }
 
@@ -173,6 +207,18 @@ impl Write for Halting {
     }
 }
 
+// Writes a text to a writer that halts twice.
+fn put_past_halts(
+    rt: &impl Abort,
+    out: &mut Out,
+    sink: &mut StdSink<&mut Halting>,
+) -> Result<(), WriteFault> {
+    out.put(sink, b"some text")?;
+    assert!(rt; out.flush(sink).is_err());
+    assert!(rt; out.flush(sink).is_err());
+    out.flush(sink)
+}
+
 #[test]
 fn writes_by_std(rt: HostRuntime) -> Result<(), Fail> {
     let mut writer = Halting {
@@ -180,11 +226,7 @@ fn writes_by_std(rt: HostRuntime) -> Result<(), Fail> {
         calls: 0,
     };
     let mut out = Out::new(rt.alloc())?;
-    let mut sink = StdSink::new(&mut writer);
-    out.put(&mut sink, b"some text")?;
-    assert_eq!(rt; out.flush(&mut sink), Err(WriteFault));
-    assert_eq!(rt; out.flush(&mut sink), Err(WriteFault));
-    out.flush(&mut sink)?;
+    put_past_halts(&rt, &mut out, &mut StdSink::new(&mut writer))?;
     assert_eq!(rt; writer.bytes.as_slice(), b"some text".as_slice());
     Ok(())
 }

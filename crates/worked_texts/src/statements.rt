@@ -19,202 +19,230 @@ fn command_code(line: &str) -> u8 {
     }
 }
 
+const LINES: &[(&str, u8)] = &[
+    ("evacplan 1", 0),
+    ("evacplan", 5),
+    ("evacplan 1 1", 5),
+    ("evacplan one", 6),
+    ("", 0),
+    ("  \t ", 0),
+    ("# period x", 0),
+    ("#", 0),
+    ("title", 5),
+    ("title \t ", 5),
+    ("title x", 0),
+    ("Period 5", 4),
+    ("periods 5", 4),
+    ("period", 5),
+    ("period 5 5", 5),
+    ("period 0", 7),
+    ("period 600", 0),
+    ("period 601", 7),
+    ("period 000000005", 0),
+    ("period 0000000005", 6),
+    ("period 5\r", 6),
+    ("horizon 0", 0),
+    ("horizon 601", 7),
+    ("horizon -1", 6),
+    ("floor 0 Ground", 0),
+    ("floor 0", 5),
+    ("floor x", 5),
+    ("floor x Ground", 6),
+    ("floor 1000 Roof", 7),
+    ("node", 5),
+    ("node WP1.1 80 60", 0),
+    ("node WP1.1 80", 5),
+    ("node WP1.1 80 60 1", 5),
+    ("node WP01.1", 8),
+    ("node DS1.1", 0),
+    ("node DS1.1 80 60", 5),
+    ("node WP1.1 100001 60", 7),
+    ("node WP1.1 x 100001", 6),
+    ("arc WP1.1 LO1.1 1 10", 0),
+    ("arc WP1.1 LO1.1 0 10", 7),
+    ("arc WP1.1 LO1.1 601 x", 7),
+    ("arc WP1.1 LO1.1 600 10001", 7),
+    ("arc WP1 LO1.1 x 10", 8),
+    ("arc WP1 LO1.1 x", 5),
+    ("\tend ", 0),
+    ("end 1", 5),
+];
+
 #[test]
 fn lines_have_their_first_fault(rt: HostRuntime) {
-    for (line, code) in [
-        ("evacplan 1", 0),
-        ("evacplan", 5),
-        ("evacplan 1 1", 5),
-        ("evacplan one", 6),
-        ("", 0),
-        ("  \t ", 0),
-        ("# period x", 0),
-        ("#", 0),
-        ("title", 5),
-        ("title \t ", 5),
-        ("title x", 0),
-        ("Period 5", 4),
-        ("periods 5", 4),
-        ("period", 5),
-        ("period 5 5", 5),
-        ("period 0", 7),
-        ("period 600", 0),
-        ("period 601", 7),
-        ("period 000000005", 0),
-        ("period 0000000005", 6),
-        ("period 5\r", 6),
-        ("horizon 0", 0),
-        ("horizon 601", 7),
-        ("horizon -1", 6),
-        ("floor 0 Ground", 0),
-        ("floor 0", 5),
-        ("floor x", 5),
-        ("floor x Ground", 6),
-        ("floor 1000 Roof", 7),
-        ("node", 5),
-        ("node WP1.1 80 60", 0),
-        ("node WP1.1 80", 5),
-        ("node WP1.1 80 60 1", 5),
-        ("node WP01.1", 8),
-        ("node DS1.1", 0),
-        ("node DS1.1 80 60", 5),
-        ("node WP1.1 100001 60", 7),
-        ("node WP1.1 x 100001", 6),
-        ("arc WP1.1 LO1.1 1 10", 0),
-        ("arc WP1.1 LO1.1 0 10", 7),
-        ("arc WP1.1 LO1.1 601 x", 7),
-        ("arc WP1.1 LO1.1 600 10001", 7),
-        ("arc WP1 LO1.1 x 10", 8),
-        ("arc WP1 LO1.1 x", 5),
-        ("\tend ", 0),
-        ("end 1", 5),
-    ] {
-        assert_eq!(rt; line_code(line), code, "at {line}");
+    for (line, code) in LINES {
+        assert_eq!(rt; line_code(line), *code, "at {line}");
     }
 }
+
+const LOBBY: NodeName = NodeName {
+    kind: Kind::Lobby,
+    number: 12,
+    floor: 0,
+};
+
+const SAID: &[(&str, Statement<'static>)] = &[
+    (
+        " title  Three \t storey office \t",
+        Statement::Title {
+            text: b"Three \t storey office",
+        },
+    ),
+    (
+        "floor 007 Second#floor  ",
+        Statement::Floor {
+            floor: 7,
+            text: b"Second#floor",
+        },
+    ),
+    (
+        "node\tLO12.0\t40 0",
+        Statement::Node {
+            name: LOBBY,
+            capacity: 40,
+            start: 0,
+        },
+    ),
+    (
+        "arc LO12.0 LO12.0 3 4",
+        Statement::Arc {
+            from: LOBBY,
+            to: LOBBY,
+            travel: 3,
+            rate: 4,
+        },
+    ),
+    ("evacplan 2", Statement::Header { version: 2 }),
+];
 
 #[test]
 fn lines_say_their_values(rt: HostRuntime) {
-    let name = NodeName {
-        kind: Kind::Lobby,
-        number: 12,
-        floor: 0,
-    };
-    assert_eq!(rt;
-        read_line(b" title  Three \t storey office \t"),
-        Ok(Statement::Title {
-            text: b"Three \t storey office"
-        })
-    );
-    assert_eq!(rt;
-        read_line(b"floor 007 Second#floor  "),
-        Ok(Statement::Floor {
-            floor: 7,
-            text: b"Second#floor"
-        })
-    );
-    assert_eq!(rt;
-        read_line(b"node\tLO12.0\t40 0"),
-        Ok(Statement::Node {
-            name,
-            capacity: 40,
-            start: 0
-        })
-    );
-    assert_eq!(rt;
-        read_line(b"arc LO12.0 LO12.0 3 4"),
-        Ok(Statement::Arc {
-            from: name,
-            to: name,
-            travel: 3,
-            rate: 4
-        })
-    );
-    assert_eq!(rt;
-        read_line(b"evacplan 2"),
-        Ok(Statement::Header { version: 2 })
-    );
+    for (line, statement) in SAID {
+        assert_eq!(rt; read_line(line.as_bytes()), Ok(*statement), "at {line}");
+    }
+}
+
+const NUMBERS: &[(&str, Option<u32>)] = &[
+    ("0", Some(0)),
+    ("007", Some(7)),
+    ("999999999", Some(999_999_999)),
+    ("0000000001", None),
+    ("", None),
+    ("1a", None),
+    ("+1", None),
+];
+
+const NAMES: &[(&str, bool)] = &[
+    ("WP1.0", true),
+    ("HA9999.999", true),
+    ("SW10000.1", false),
+    ("LO1.1000", false),
+    ("DS0.1", false),
+    ("DS1.01", false),
+    ("DS01.1", false),
+    ("DS1.", false),
+    ("DS.1", false),
+    ("DS1", false),
+    ("ds1.1", false),
+    ("XX1.1", false),
+    ("WP1.1.1", false),
+    ("W", false),
+];
+
+#[test]
+fn numbers_are_fields(rt: HostRuntime) {
+    for (field, number) in NUMBERS {
+        assert_eq!(rt; read_number(field.as_bytes()), *number, "at {field}");
+    }
 }
 
 #[test]
-fn numbers_and_names_are_fields(rt: HostRuntime) {
-    for (field, number) in [
-        ("0", Some(0)),
-        ("007", Some(7)),
-        ("999999999", Some(999_999_999)),
-        ("0000000001", None),
-        ("", None),
-        ("1a", None),
-        ("+1", None),
-    ] {
-        assert_eq!(rt; read_number(field.as_bytes()), number, "at {field}");
+fn names_are_fields(rt: HostRuntime) {
+    for (field, known) in NAMES {
+        assert_eq!(rt; read_name(field.as_bytes()).is_some(), *known, "at {field}");
     }
-    for (field, known) in [
-        ("WP1.0", true),
-        ("HA9999.999", true),
-        ("SW10000.1", false),
-        ("LO1.1000", false),
-        ("DS0.1", false),
-        ("DS1.01", false),
-        ("DS01.1", false),
-        ("DS1.", false),
-        ("DS.1", false),
-        ("DS1", false),
-        ("ds1.1", false),
-        ("XX1.1", false),
-        ("WP1.1.1", false),
-        ("W", false),
-    ] {
-        assert_eq!(rt; read_name(field.as_bytes()).is_some(), known, "at {field}");
-    }
-    let mut fields = Fields::new(b"\t a bc ");
-    assert_eq!(rt; fields.next(), Some(b"a".as_slice()));
-    assert_eq!(rt; fields.next(), Some(b"bc".as_slice()));
-    assert_eq!(rt; fields.next(), None);
-    assert_eq!(rt; fields.next(), None);
 }
+
+#[test]
+fn fields_stand_between_blanks(rt: HostRuntime) {
+    let mut fields = Fields::new(b"\t a bc ");
+    for want in [Some(b"a".as_slice()), Some(b"bc".as_slice()), None, None] {
+        assert_eq!(rt; fields.next(), want);
+    }
+}
+
+const COMMANDS: &[(&str, u8)] = &[
+    ("", 0),
+    ("# quit", 0),
+    ("shut WP1.1 HA1.1", 0),
+    ("reopen WP1.1", 5),
+    ("shutexit DS1.0", 0),
+    ("openexit DS1.00", 8),
+    ("rate WP1.1 HA1.1 999999999", 0),
+    ("rate WP1.1 HA1.1 1000000000", 6),
+    ("room WP1.1 x", 6),
+    ("shift WP1 HA1 x", 8),
+    ("enter WP1.1 5", 0),
+    ("leave WP1.1 5 5", 5),
+    ("undo", 0),
+    ("undo 1", 5),
+    ("cut 7", 0),
+    ("cut", 5),
+    ("routes", 0),
+    ("clearing", 0),
+    ("bottlenecks", 0),
+    ("summary", 0),
+    ("work", 0),
+    ("quit", 0),
+    ("quit now", 5),
+    ("exit", 31),
+    ("Undo 1", 31),
+];
 
 #[test]
 fn commands_have_their_first_fault(rt: HostRuntime) {
-    for (line, code) in [
-        ("", 0),
-        ("# quit", 0),
-        ("shut WP1.1 HA1.1", 0),
-        ("reopen WP1.1", 5),
-        ("shutexit DS1.0", 0),
-        ("openexit DS1.00", 8),
-        ("rate WP1.1 HA1.1 999999999", 0),
-        ("rate WP1.1 HA1.1 1000000000", 6),
-        ("room WP1.1 x", 6),
-        ("shift WP1 HA1 x", 8),
-        ("enter WP1.1 5", 0),
-        ("leave WP1.1 5 5", 5),
-        ("undo", 0),
-        ("undo 1", 5),
-        ("cut 7", 0),
-        ("cut", 5),
-        ("routes", 0),
-        ("clearing", 0),
-        ("bottlenecks", 0),
-        ("summary", 0),
-        ("work", 0),
-        ("quit", 0),
-        ("quit now", 5),
-        ("exit", 31),
-        ("Undo 1", 31),
-    ] {
-        assert_eq!(rt; command_code(line), code, "at {line}");
+    for (line, code) in COMMANDS {
+        assert_eq!(rt; command_code(line), *code, "at {line}");
     }
-    let from = NodeName {
-        kind: Kind::Work,
-        number: 1,
-        floor: 2,
-    };
-    let to = NodeName {
-        kind: Kind::Hall,
-        number: 3,
-        floor: 4,
-    };
-    assert_eq!(rt;
-        read_command(b"shift WP1.2 HA3.4 005"),
-        Ok(Command::Shift {
-            from,
-            to,
-            people: 5
-        })
-    );
-    assert_eq!(rt;
-        read_command(b"room HA3.4 6"),
-        Ok(Command::Room {
-            node: to,
-            capacity: 6
-        })
-    );
-    assert_eq!(rt; read_command(b"cut 7"), Ok(Command::Cut { period: 7 }));
-    assert_eq!(rt;
-        read_command(b"openexit HA3.4"),
-        Ok(Command::OpenExit { node: to })
-    );
+}
+
+const WORK: NodeName = NodeName {
+    kind: Kind::Work,
+    number: 1,
+    floor: 2,
+};
+
+const HALL: NodeName = NodeName {
+    kind: Kind::Hall,
+    number: 3,
+    floor: 4,
+};
+
+const MEANT: &[(&str, Command)] = &[
+    (
+        "shift WP1.2 HA3.4 005",
+        Command::Shift {
+            from: WORK,
+            to: HALL,
+            people: 5,
+        },
+    ),
+    (
+        "room HA3.4 6",
+        Command::Room {
+            node: HALL,
+            capacity: 6,
+        },
+    ),
+    ("cut 7", Command::Cut { period: 7 }),
+    ("openexit HA3.4", Command::OpenExit { node: HALL }),
+];
+
+#[test]
+fn commands_say_their_values(rt: HostRuntime) {
+    for (line, command) in MEANT {
+        assert_eq!(rt; read_command(line.as_bytes()), Ok(*command), "at {line}");
+    }
 }
 
 #[test]
