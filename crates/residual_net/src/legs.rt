@@ -1,5 +1,5 @@
 // Paths by their legs.
-ghost use Rattle.std.specs.Prelude.{◌≡◌, slice_index_or};
+ghost use Rattle.std.specs.Prelude.{◌≡◌, [], ◌∷◌, slice_index_or};
 ghost use Rattle.residual_net.specs.declared.place.PathStep.{PathStep};
 
 use crate::place::{PathStep, Place};
@@ -17,7 +17,9 @@ impl Leg {
     ghost use Rattle.residual_net.specs.Legs.{steps_of_leg};
 
     /// A step with no wait before it.
-    pub fn of(step: PathStep) -> Leg {
+    pub fn of(step: PathStep) -> Leg
+        ensures { steps_of_leg result ≡ step ∷ [] }
+    {
         Leg {
             node: 0,
             from: 0,
