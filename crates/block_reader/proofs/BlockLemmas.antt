@@ -50,7 +50,6 @@ fit-label m d n t h full l e b =
 labels-of : (m : Model) (d : Draft) (l : LabelTable) → IsDraft m d → is_full m d ≡ true → AreRunLabels m d.cleared d.runs l → AreLabelsOf m d.cleared l
 labels-of m d l h full is = record {
   table = is.table;
-  full = is.full;
   exits_unset = λ n t a b e. elim (cases_lt t d.cleared) [
     | inl k ↦ is.early n t a k ∙ exit-label m d.cleared d.runs n t h.runs.each e
     | inr k ↦ is.late n t a k b

@@ -26,7 +26,7 @@ use Rattle.block_reader.specs.declared.read.BlockReader.{BlockReader}
 use Rattle.certificate_text.specs.declared.block.Block.{Block}
 use Rattle.block_reader.specs.declared.fault.BlockFault.{BlockFault}
 use Rattle.block_reader.specs.declared.fault.BlockFault.TheVariants as faults
-use Rattle.certificate_text.specs.Block.{IsBlockOf}
+use Rattle.certificate_text.specs.Block.{HasAllLabels, IsBlockOf}
 use Rattle.certificate_text.specs.BlockReadings.{BlockReading, EndsBlock, ReadsAs, Refused, Refuses, Says, Stated, bad_block, says_something}
 use Rattle.block_reader.specs.BlockReads.{IsFault, IsBlockReading, ReadsBlock, ReadsBlockLines}
 use Rattle.block_reader.specs.DraftFacts.{IsDraft}
@@ -86,7 +86,7 @@ pub record RefusesBlock (m : Model) (first : ℕ) (fault : BlockFault) (r : Read
 
 -- the answer of a call, for the lines that went by and those that are left
 abbrev pub AnswersBlock : Model → ℕ → Result Block BlockFault → Reader → Option (List Line) → Option (List Line) → List (List ℕ) → Type 0
-AnswersBlock m first (Ok block) r before after texts = IsBlockOf m block × ((rest : List Line) → ReadsAs m first (text_lines texts ++ rest) (Stated block r.number rest))
+AnswersBlock m first (Ok block) r before after texts = IsBlockOf m block × HasAllLabels block × ((rest : List Line) → ReadsAs m first (text_lines texts ++ rest) (Stated block r.number rest))
 AnswersBlock m first (Err faults.ReadFault) r before after texts = ReadsAs m first (text_lines texts) (Refused bad_block (r.number + 1))
 AnswersBlock m first (Err faults.Memory) r before after texts = ⊤
 AnswersBlock m first (Err fault) r before after texts = RefusesBlock m first fault r before after texts
@@ -128,7 +128,7 @@ answer-by m endings.Finished from to a c l n h valid w (Ok block) done = stated 
     stated (text, last, (same, (e, says, ends, took))) =
         let whole : Says m (h.texts ++ (text ∷ [])) block [] =
         heard-whole m h.at.builder to.builder h.texts text e block w.so_far says ends (subst (λ (x : Model). with_entry x h.at.builder e ≡ Some to.builder) w.of_model took) done in
-        (whole.is_block, λ rest. reads-last m h valid w text last rest (Stated block c.number rest) (refl, (text, refl, whole)))
+        (whole.is_block, whole.all_labels, λ rest. reads-last m h valid w text last rest (Stated block c.number rest) (refl, (text, refl, whole)))
 answer-by m endings.Finished from to a c l n h valid w (Err fault) done =
     subst (λ (f : BlockFault). AnswersBlock m a.number (Err f) c (lines_left a l) (lines_left c n) (h.texts ++ h.last)) (sym done) tt
 answer-by m (endings.Failed Bad) from to a c l n h valid w result done =
@@ -208,7 +208,7 @@ reading-by : (m : Model) (first : ℕ) (c : Reader) (x y : Option (List Line)) (
     → AnswersBlock m first result c x y texts → ReadsBlock m result first c.number x y
 reading-by m first c None y texts result f h = tt
 reading-by m first c (Some xs) None texts result f h = absurd f
-reading-by m first c (Some xs) (Some ys) texts (Ok block) f h = subst (λ (x : List Line). ReadsAs m first x (Stated block c.number ys)) (sym f) (h.1 ys)
+reading-by m first c (Some xs) (Some ys) texts (Ok block) f h = subst (λ (x : List Line). ReadsAs m first x (Stated block c.number ys)) (sym f) (h.2 ys)
 reading-by m first c (Some xs) (Some ys) texts (Err (faults.Bad line)) f h = reading-fault m first c (faults.Bad line) xs ys texts f h
 reading-by m first c (Some xs) (Some ys) texts (Err (faults.LineTooLong line)) f h = reading-fault m first c (faults.LineTooLong line) xs ys texts f h
 reading-by m first c (Some xs) (Some ys) texts (Err (faults.InputTooLong line)) f h = reading-fault m first c (faults.InputTooLong line) xs ys texts f h
@@ -245,7 +245,7 @@ lines-by m a c l n texts p (Ok block) h = record {
   passes = p;
   undecided = λ e. cc;
   refused = λ g code line e is. cc;
-  stated = subst (λ (x : List Line). ReadsAs m a.number x (Stated block c.number [])) (append-nil (text_lines texts)) (h.1 []);
+  stated = subst (λ (x : List Line). ReadsAs m a.number x (Stated block c.number [])) (append-nil (text_lines texts)) (h.2 []);
 }
 lines-by m a c l n texts p (Err (faults.Bad line)) h = lines-fault m (faults.Bad line) a c l n texts p (λ e. cc) h
 lines-by m a c l n texts p (Err (faults.LineTooLong line)) h = lines-fault m (faults.LineTooLong line) a c l n texts p (λ e. cc) h
@@ -271,3 +271,7 @@ reads-lines m a c l n result r = lines-by m a c l n r.texts r.passes result r.an
 pub reads-fits : (m : Model) (a c : Reader) (l n : Option (List ℕ)) (result : Result Block BlockFault) → ReadsBlockBy m result a c l n → IfOk result (λ block. IsBlockOf m block)
 reads-fits m a c l n (Ok block) r = r.answer.0
 reads-fits m a c l n (Err f) r = tt
+
+pub reads-labels : (m : Model) (a c : Reader) (l n : Option (List ℕ)) (result : Result Block BlockFault) → ReadsBlockBy m result a c l n → IfOk result (λ block. HasAllLabels block)
+reads-labels m a c l n (Ok block) r = r.answer.1
+reads-labels m a c l n (Err f) r = tt

@@ -17,7 +17,7 @@ use Rattle.certificate_text.specs.declared.block.Block.{Block}
 use Rattle.certificate_text.specs.declared.entry.Entry.TheVariants as entries
 use Rattle.block_reader.specs.declared.run.Run.{Run}
 use Rattle.block_reader.specs.declared.stage.Stage.TheVariants as stages
-use Rattle.certificate_text.specs.Block.{IsBlockOf}
+use Rattle.certificate_text.specs.Block.{HasAllLabels, IsBlockOf}
 use Rattle.certificate_text.specs.BlockEntries.{entries_of, label_entries, label_entry_at, entry_of_move, node_entries, out_entries}
 use Rattle.certificate_text.specs.BlockText.{begins_run}
 use Rattle.block_reader.specs.DraftFacts.{all_runs, node_runs, run_parts}
@@ -212,15 +212,15 @@ block-walk m b valid of =
     (end-walk m d (block-full m b of))
 
 -- and that is the block
-pub block-stated : (m : Model) (b : Block) → IsBlockOf m b → IsStated m (block_draft m b) b
-block-stated m b of = record {
+pub block-stated : (m : Model) (b : Block) → IsBlockOf m b → HasAllLabels b → IsStated m (block_draft m b) b
+block-stated m b of all = record {
   index = refl;
   people = refl;
   cleared = refl;
   outs = refl;
   labels = record {
     table = of.labels.table;
-    full = of.labels.full;
+    full = all.full;
     early = λ n t h k. early-by n t h k (is_exit_at m n) refl;
     late = λ n t h k l. of.labels.late_unset n t h l k;
   };

@@ -92,6 +92,7 @@ heard-begins m d texts valid h =
       left = rest_of c.left;
       says = record {
         is_block = stated-fits m c.last b c.at.draft c.full stated;
+        all_labels = record { full = stated.labels.full };
         entries = ap as_said whole ∙ as_said-append h.es (first_of c.left ∷ rest_of c.left) ∙ ap (λ x. x ++ as_said (first_of c.left ∷ rest_of c.left)) (sym h.heard);
       };
     }
@@ -105,6 +106,7 @@ heard-whole m d new texts text e b h is ends took stated =
     let last : said_by (text ∷ []) ≡ as_said (entries.End ∷ []) = said_by-entry text entries.End (is ∙ ap (λ x. Some x) f.0) refl in
     record {
       is_block = stated-fits m d b h.at.draft f.1 of_draft;
+      all_labels = record { full = of_draft.labels.full };
       entries = ap as_said (full-says m d h.es b h.at f.1 of_draft) ∙ as_said-append h.es (entries.End ∷ []) ∙ ap (λ x. x ++ as_said (entries.End ∷ [])) (sym h.heard)
           ∙ ap (λ x. said_by texts ++ x) (sym last) ∙ sym (said_by-append texts (text ∷ [])) ∙ sym (append-nil (said_by (texts ++ (text ∷ []))));
     }

@@ -9,7 +9,7 @@ use Rattle.line_io.specs.Line.{Line, text_lines}
 use Rattle.certificate_text.specs.declared.block.Block.{Block}
 use Rattle.certificate_text.specs.declared.entry.Entry.{Entry}
 use Rattle.certificate_text.specs.declared.entry.Entry.TheVariants as entries
-use Rattle.certificate_text.specs.Block.{IsBlockOf}
+use Rattle.certificate_text.specs.Block.{HasAllLabels, IsBlockOf}
 use Rattle.certificate_text.specs.BlockEntries.{entries_of, label_entries, entry_of_move, out_entries}
 use Rattle.certificate_text.specs.BlockReadings.{Begins, BlockReading, EndsBlock, ReadsAs, Refused, Refuses, Says, Stated, as_said, said_by}
 use Rattle.certificate_text.proofs.EntryTexts.{body}
@@ -25,10 +25,10 @@ use Rattle.block_reader.proofs.Walks.{walk}
 
 -- ---- blocks by their entries
 
-pub one-block : (m : Model) (b other : Block) → IsValid m → IsBlockOf m b → IsBlockOf m other → entries_of m b ≡ entries_of m other → b ≡ other
-one-block m b other valid of of_other e =
+pub one-block : (m : Model) (b other : Block) → IsValid m → IsBlockOf m b → HasAllLabels b → IsBlockOf m other → HasAllLabels other → entries_of m b ≡ entries_of m other → b ≡ other
+one-block m b other valid of all of_other all_other e =
     let same : block_draft m b ≡ block_draft m other = some-same (block_draft m b) (block_draft m other) (sym (block-walk m b valid of) ∙ ap (walk m no_draft) e ∙ block-walk m other valid of_other) in
-    states_one m (block_draft m b) b other (block-stated m b of) (subst (λ (d : Draft). IsStated m d other) (sym same) (block-stated m other of_other))
+    states_one m (block_draft m b) b other (block-stated m b of all) (subst (λ (d : Draft). IsStated m d other) (sym same) (block-stated m other of_other all_other))
 
 -- ---- the end is the last entry
 
@@ -103,7 +103,7 @@ front-says m xs more text b next left h =
     h.entries ∙ ap (λ z. said_by z ++ as_said (next ∷ left)) (sym (append_assoc xs (text ∷ []) more)) ∙ ap (λ z. z ++ as_said (next ∷ left)) (said_by-append (xs ++ (text ∷ [])) more)
     ∙ append_assoc (said_by (xs ++ (text ∷ []))) (said_by more) (as_said (next ∷ left)) in
     let end = as_said-end (entries_of m b) (said_by (xs ++ (text ∷ []))) (said_by more ++ as_said (next ∷ left)) whole in
-    (end.0, record { is_block = h.is_block; entries = whole ∙ ap (λ z. said_by (xs ++ (text ∷ [])) ++ z) end.1 }, sym end.1)
+    (end.0, record { is_block = h.is_block; all_labels = h.all_labels; entries = whole ∙ ap (λ z. said_by (xs ++ (text ∷ [])) ++ z) end.1 }, sym end.1)
 
 ended-by : (m : Model) (xs more : List (List ℕ)) (text : List ℕ) (lines rest : List Line) (number : ℕ) (r : BlockReading) (b : Block) (next : Entry) (left : List Entry)
     → EndsBlock m xs lines number r → lines ≡ Ok text ∷ rest → Says m (xs ++ (text ∷ more)) b (next ∷ left) → ⊥
@@ -138,7 +138,7 @@ one-end m xs lines number (Stated b last rest) (Stated c at behind) valid h g =
     let same : rest ≡ behind = cc in
     let says = h.1.2 in
     let also = subst (λ (t : List ℕ). Says m (xs ++ (t ∷ [])) c []) (sym text) g.1.2 in
-    let block = one-block m b c valid says.is_block also.is_block (as_said-same (entries_of m b) (entries_of m c) (says.entries ∙ sym also.entries)) in
+    let block = one-block m b c valid says.is_block says.all_labels also.is_block also.all_labels (as_said-same (entries_of m b) (entries_of m c) (says.entries ∙ sym also.entries)) in
     ap₂ (λ x k. Stated x k rest) block (h.0 ∙ sym g.0) ∙ ap (Stated c at) same
 one-end m xs lines number (Stated b last rest) (Refused code line) valid h g = absurd (stated-or m xs lines number b last rest code h g.1)
 one-end m xs lines number (Refused code line) (Stated b last rest) valid h g = absurd (stated-or m xs lines number b last rest code g h.1)

@@ -9,7 +9,7 @@ use Rattle.evac_law.specs.LabelTable.{LabelTable}
 use Rattle.evac_law.specs.Stands.{IsOrdered}
 use Rattle.line_io.specs.Line.{Line, input_limit, lines_after, pieces}
 use Rattle.certificate_text.specs.declared.block.Block.{Block}
-use Rattle.certificate_text.specs.Block.{IsBlockOf, number_field_limit}
+use Rattle.certificate_text.specs.Block.{HasAllLabels, IsBlockOf, number_field_limit}
 use Rattle.certificate_text.specs.BlockEntries.{entries_of}
 use Rattle.certificate_text.specs.BlockLaws.{IsAnswerBlock, block_limit}
 use Rattle.certificate_text.specs.BlockReadings.{BlockReading, ReadsAs}
@@ -30,9 +30,9 @@ GivesBack m result before after =
     (index : ℕ) (p : List Move) (l : LabelTable) (c given : ℕ) (behind : List Line) → index ≤ number_field_limit → IsCertified m p l c → IsOrdered (length m.arcs) m.horizon p
     → given + block_limit ≤ input_limit → before ≡ Some (lines_after given (pieces (answer_text index m p l c)) ++ behind) → IsBack index m p l c result after behind
 
--- no two blocks of a model have the same entries
+-- no two blocks of a model that have all their labels have the same entries
 abbrev pub EntriesTellBlock : Type 0
-EntriesTellBlock = (m : Model) (b other : Block) → IsValid m → IsBlockOf m b → IsBlockOf m other → entries_of m b ≡ entries_of m other → b ≡ other
+EntriesTellBlock = (m : Model) (b other : Block) → IsValid m → IsBlockOf m b → HasAllLabels b → IsBlockOf m other → HasAllLabels other → entries_of m b ≡ entries_of m other → b ≡ other
 
 -- lines are read in one way
 abbrev pub ReadsOneWay : Type 0

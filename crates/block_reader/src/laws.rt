@@ -1,7 +1,7 @@
 // The laws of reading, each the contract of a function that does nothing.
 ghost use Rattle.block_reader.specs.ReaderLaws.{EntriesTellBlock, ReadsOneWay};
 
-/// What a block says tells which it is: no two blocks of a model have the same entries.
+/// What a block says tells which it is: no two blocks of a model that have all their labels have the same entries.
 pub fn entries_tell_the_block()
     ensures { EntriesTellBlock }
 {}

@@ -6,7 +6,7 @@ ghost use Rattle.line_io.specs.Causes.{Rose};
 ghost use Rattle.line_io.specs.Line.{input_limit};
 ghost use Rattle.line_io.specs.Reader.{Drained, is_settled, lines_left};
 ghost use Rattle.building_table.specs.Names.{NamesFit};
-ghost use Rattle.certificate_text.specs.Block.{IsBlockOf};
+ghost use Rattle.certificate_text.specs.Block.{HasAllLabels, IsBlockOf};
 ghost use Rattle.block_reader.specs.ReaderLaws.{GivesBack};
 ghost use Rattle.block_reader.specs.BlockReads.{ReadsBlock, ReadsBlockLines};
 ghost use Rattle.block_reader.specs.DraftFacts.{IsDraft};
@@ -110,6 +110,7 @@ pub fn read_block<S: Source>(
     // what the lines left before the call state
     ensures reading { ReadsBlock model.now result lines.old.number lines.new.number (lines_left lines.old (S.left source.old)) (lines_left lines.new (S.left source.new)) }
     ensures block { IfOk result (λ block. IsBlockOf model.now block) }
+    ensures labels { IfOk result (λ block. HasAllLabels block) }
     ensures back { GivesBack model.now result (lines_left lines.old (S.left source.old)) (lines_left lines.new (S.left source.new)) }
 
     // which lines went by, with their bytes

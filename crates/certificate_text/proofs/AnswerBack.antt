@@ -26,7 +26,7 @@ use Rattle.line_io.proofs.PassLemmas.{text_lines-append}
 use Rattle.certificate_text.specs.declared.block.Block.{Block}
 use Rattle.certificate_text.specs.declared.entry.Entry.{Entry}
 use Rattle.certificate_text.specs.declared.entry.Entry.TheVariants as entries
-use Rattle.certificate_text.specs.Block.{AreLabelsOf, IsBlockOf, number_field_limit}
+use Rattle.certificate_text.specs.Block.{AreLabelsOf, HasAllLabels, IsBlockOf, number_field_limit}
 use Rattle.certificate_text.specs.BlockEntries.{entries_of, label_entries, label_entry_at, entry_of_move, node_entries, out_entries}
 use Rattle.certificate_text.specs.BlockLaws.{IsAnswerBlock, ReadsBack, block_limit}
 use Rattle.certificate_text.specs.BlockReadings.{ReadsAs, Stated, as_said, said_by}
@@ -62,9 +62,9 @@ text-lines m b given valid of room =
     ∙ ap text_lines (map-append entry_text (body m b) (entries.End ∷ [])) ∙ text_lines-append (map entry_text (body m b)) (entry_text entries.End ∷ [])
 
 -- the text of a block states it, wherever it stands in an input
-block-reads : (m : Model) (b : Block) (given before : ℕ) (rest : List Line) → IsValid m → IsBlockOf m b → given + length (block_text m b) ≤ input_limit
+block-reads : (m : Model) (b : Block) (given before : ℕ) (rest : List Line) → IsValid m → IsBlockOf m b → HasAllLabels b → given + length (block_text m b) ≤ input_limit
     → ReadsAs m before (lines_after given (pieces (block_text m b)) ++ rest) (Stated b (before + length (entries_of m b)) rest)
-block-reads m b given before rest valid of room =
+block-reads m b given before rest valid of all room =
     let texts = map entry_text (body m b) in
     let whole : said_by (texts ++ (entry_text entries.End ∷ [])) ≡ as_said (entries_of m b) =
     ap said_by (sym (map-append entry_text (body m b) (entries.End ∷ []))) ∙ texts-say (entries_of m b) (entries-written m b valid of) in
@@ -79,11 +79,11 @@ block-reads m b given before rest valid of room =
         block = b;
         next = entries.End;
         left = [];
-        says = record { is_block = of; entries = as_said-append (body m b) (entries.End ∷ []) ∙ ap (λ x. x ++ as_said (entries.End ∷ [])) (sym front) };
+        says = record { is_block = of; all_labels = all; entries = as_said-append (body m b) (entries.End ∷ []) ∙ ap (λ x. x ++ as_said (entries.End ∷ [])) (sym front) };
       };
       ends = (
         (let size = length-append (body m b) (entries.End ∷ []) in let count : length texts ≡ length (body m b) = length-map (body m b) entry_text in omega (arith, size, count)),
-        (entry_text entries.End, refl, record { is_block = of; entries = sym whole ∙ sym (append-nil (said_by (texts ++ (entry_text entries.End ∷ [])))) }),
+        (entry_text entries.End, refl, record { is_block = of; all_labels = all; entries = sym whole ∙ sym (append-nil (said_by (texts ++ (entry_text entries.End ∷ [])))) }),
       );
     }
 
@@ -117,7 +117,6 @@ labels-shown m l c n t inside a e k = table-at m (answer_cell m l c) n t a (omeg
 labels-are : (m : Model) (l : LabelTable) (c : ℕ) → c ≤ m.horizon → AreLabelsOf m c (answer_labels m l c)
 labels-are m l c inside = record {
   table = is-table m (answer_cell m l c);
-  full = table-full m (answer_cell m l c);
   exits_unset = λ n t a k e. table-at m (answer_cell m l c) n t a k ∙ cell-exit m l c n t e;
   late_unset = λ n t a k h. table-at m (answer_cell m l c) n t a k ∙ cell-late m l c n t h;
   fit = λ n t a e k. let q = labels-shown m l c n t inside a e k in omega (arith, q);
@@ -271,7 +270,7 @@ sized-back index m p l c few valid cert ordered size =
       count = length (entries_of m b);
       reads = λ given before rest room.
           subst (λ (x : List ℕ). ReadsAs m before (lines_after given (pieces x) ++ rest) (Stated b (before + length (entries_of m b)) rest)) spelled
-          (block-reads m b given before rest valid of (omega (arith, size, room, same)));
+          (block-reads m b given before rest valid of (record { full = table-full m (answer_cell m l c) }) (omega (arith, size, room, same)));
       answer = answer-answers index m p l c valid cert;
     }
 

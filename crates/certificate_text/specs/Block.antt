@@ -12,10 +12,9 @@ use Rattle.certificate_text.specs.declared.block.Block.{Block}
 unfoldable pub number_field_limit : ℕ
 number_field_limit = 999999999
 
--- there is a label for each of the model's nodes and moments; that of an exit is unset, and of a moment from c on, and every other one is at most c
+-- the labels are for the model's nodes and moments; an exit has none, nor has a moment from c on, and every other label is at most c
 pub record AreLabelsOf (m : Model) (c : ℕ) (l : LabelTable) : Type 0 where
   pub table : IsTableOf m l
-  pub full : length l.list ≡ l.nodes * (l.horizon + 1)
   pub exits_unset : (n t : ℕ) → n < length m.nodes → t ≤ m.horizon → IsTrue (is_exit_at m n) → label_at l n t ≡ unset
   pub late_unset : (n t : ℕ) → n < length m.nodes → t ≤ m.horizon → c ≤ t → label_at l n t ≡ unset
   pub fit : (n t : ℕ) → n < length m.nodes → IsFalse (is_exit_at m n) → t < c → label_at l n t ≤ c
@@ -30,3 +29,7 @@ pub record IsBlockOf (m : Model) (b : Block) : Type 0 where
   pub labels : AreLabelsOf m b.cleared b.labels
   pub ordered : IsOrdered (length m.arcs) m.horizon b.moves
   pub moves_fit : All (λ v. v.people ≤ number_field_limit) b.moves
+
+-- its list of labels has one for each of their nodes and moments, and no more
+pub record HasAllLabels (b : Block) : Type 0 where
+  pub full : length b.labels.list ≡ b.labels.nodes * (b.labels.horizon + 1)

@@ -7,7 +7,7 @@ use Rattle.line_io.specs.Line.{Line, text_lines}
 use Rattle.certificate_text.specs.declared.block.Block.{Block}
 use Rattle.certificate_text.specs.declared.entry.Entry.{Entry}
 use Rattle.certificate_text.specs.declared.entry.Entry.TheVariants.{Blank}
-use Rattle.certificate_text.specs.Block.{IsBlockOf}
+use Rattle.certificate_text.specs.Block.{HasAllLabels, IsBlockOf}
 use Rattle.certificate_text.specs.BlockEntries.{entries_of}
 use Rattle.certificate_text.specs.Entries.{entry_of}
 
@@ -28,9 +28,10 @@ said_by texts = filter says_something (map entry_of texts)
 abbrev pub as_said : List Entry → List (Option Entry)
 as_said entries = map (λ entry. Some entry) entries
 
--- lines say the entries of a block of the model's, up to those that are left
+-- lines say the entries of a block of the model's that has all its labels, up to those that are left
 pub record Says (m : Model) (texts : List (List ℕ)) (b : Block) (left : List Entry) : Type 0 where
   pub is_block : IsBlockOf m b
+  pub all_labels : HasAllLabels b
   pub entries : as_said (entries_of m b) ≡ said_by texts ++ as_said left
 
 -- lines begin a block of the model's, and some of its entries are left

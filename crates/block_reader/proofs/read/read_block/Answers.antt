@@ -1,6 +1,6 @@
 use Rattle.std.proofs.Common.{refl}
 use Rattle.line_io.proofs.HearingLemmas.{caused-rose, caused-same, rests-open}
-use Rattle.block_reader.proofs.BlockReadLemmas.{closed-so, reads-all, reads-block, reads-fits, reads-lines}
+use Rattle.block_reader.proofs.BlockReadLemmas.{closed-so, reads-all, reads-block, reads-fits, reads-labels, reads-lines}
 use Rattle.block_reader.proofs.GivesBack.{gives-back}
 use Rattle.block_reader.proofs.read.read_block.Goals as goal
 
@@ -12,6 +12,9 @@ returns-clause-reading g c = reads-block c.args.model.now _ _ _ _ _ (reads-all c
 
 pub returns-clause-block : goal.returns-clause-block
 returns-clause-block g c = reads-fits c.args.model.now _ _ _ _ _ (reads-all c.args.model.now c.listen-ending.result _ _ _ _ _ _ c.listen-ending.ensures.listens c.requires.valid (refl, c.new.ensures) _ _ c.conclude.ensures.answer c.number.ensures.number)
+
+pub returns-clause-labels : goal.returns-clause-labels
+returns-clause-labels g c = reads-labels c.args.model.now _ _ _ _ _ (reads-all c.args.model.now c.listen-ending.result _ _ _ _ _ _ c.listen-ending.ensures.listens c.requires.valid (refl, c.new.ensures) _ _ c.conclude.ensures.answer c.number.ensures.number)
 
 pub returns-clause-bytes : goal.returns-clause-bytes
 returns-clause-bytes g c = reads-lines c.args.model.now _ _ _ _ _ (reads-all c.args.model.now c.listen-ending.result _ _ _ _ _ _ c.listen-ending.ensures.listens c.requires.valid (refl, c.new.ensures) _ _ c.conclude.ensures.answer c.number.ensures.number)
