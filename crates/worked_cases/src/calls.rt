@@ -3,7 +3,7 @@ ghost use Rattle.std.specs.Prelude.{◌≡◌, IsTrue};
 ghost use Rattle.evac_law.specs.Building.{IsValid};
 ghost use Rattle.evac_law.specs.Edits.{IsEditOf};
 
-use crate::buildings::building;
+use crate::buildings::model_of;
 use edit_session::{EditRefusal, Session, UndoRefusal, Work};
 use evac_law::{Edit, Model, Steps};
 use std::alloc::{AllocError, Global};
@@ -32,8 +32,8 @@ fn opened(alloc: Global, model: Model) -> Option<Session>
 
 /// A session on the building of a text, which can be cleared.
 pub(crate) fn open_on(rt: &impl Abort, alloc: Global, text: &str) -> Result<Session, AllocError> {
-    let building = building(rt, alloc, text)?;
-    match opened(alloc, building.model) {
+    let model = model_of(rt, alloc, text)?;
+    match opened(alloc, model) {
         Some(session) => Ok(session),
         None => panic!(rt; "a building has a plan"),
     }

@@ -45,6 +45,7 @@ fn there_and_back(
     let mut session = office(rt, alloc)?;
     make_and_undo(rt, &mut session, edits, cleared);
     assert!(rt; is_back_at(&session, first));
+    drop(session);
     Ok(())
 }
 
@@ -99,5 +100,7 @@ fn each_kind(rt: &impl Abort, alloc: Global, first: &Session) -> Result<(), Allo
 #[test]
 fn each_kind_of_edit_is_undone(rt: HostRuntime) -> Result<(), AllocError> {
     let first = office(&rt, rt.alloc())?;
-    each_kind(&rt, rt.alloc(), &first)
+    let made = each_kind(&rt, rt.alloc(), &first);
+    drop(first);
+    made
 }

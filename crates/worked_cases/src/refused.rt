@@ -2,7 +2,7 @@
 ghost use Rattle.std.specs.Prelude.{IfOk};
 ghost use Rattle.evac_law.specs.Building.{IsValid};
 
-use crate::buildings::{OFFICE, TWO_EXITS, TWO_ROOMS, building};
+use crate::buildings::{OFFICE, TWO_EXITS, TWO_ROOMS, model_of};
 use crate::calls::{expect, is_edit_of, make, open_on};
 use crate::shown::stand_alike;
 use cut_witness::cut_value;
@@ -14,7 +14,7 @@ use std::process::Abort;
 const SHUT: Edit = Edit::Shut { arc: 1 };
 
 /// An edit for each fault, in the building of two rooms whose wide way is shut.
-const FAULTS: [(Edit, EditFault); 9] = [
+const FAULTS: &[(Edit, EditFault)] = &[
     (
         Edit::Rate {
             arc: 0,
@@ -96,14 +96,17 @@ fn refuse_all(
 // Makes an edit for each fault in a session whose wide way is shut, as in another.
 fn refuse_faults(rt: &impl Abort, alloc: Global, like: &Session) -> Result<(), AllocError> {
     let mut session = open_after(rt, alloc, TWO_ROOMS, SHUT)?;
-    refuse_all(rt, &mut session, like, &FAULTS);
+    refuse_all(rt, &mut session, like, FAULTS);
+    drop(session);
     Ok(())
 }
 
 #[test]
 fn each_fault_leaves_a_session_as_it_was(rt: HostRuntime) -> Result<(), AllocError> {
     let like = open_after(&rt, rt.alloc(), TWO_ROOMS, SHUT)?;
-    refuse_faults(&rt, rt.alloc(), &like)
+    let refused = refuse_faults(&rt, rt.alloc(), &like);
+    drop(like);
+    refused
 }
 
 // Makes an edit of a model.
@@ -125,7 +128,7 @@ fn changed(
 ) -> Result<Model, AllocError>
     ensures { IfOk result (λ model. IsValid model) }
 {
-    let mut model = building(rt, alloc, text)?.model;
+    let mut model = model_of(rt, alloc, text)?;
     change(rt, &mut model, first);
     change(rt, &mut model, second);
     Ok(model)
@@ -166,14 +169,30 @@ fn refuse_second(
         most: case.most,
     };
     refuse(rt, &mut session, like, case.refused, refusal);
-    Ok(worth(rt, model, session.refused_cut()))
+    let worth = worth(rt, model, session.refused_cut());
+    drop(session);
+    Ok(worth)
+}
+
+// Tries both edits beside a session that makes the first alone, and answers what the cut of the refusal is worth in a building.
+fn worth_in(
+    rt: &impl Abort,
+    alloc: Global,
+    case: &Shortfall,
+    model: &Model,
+) -> Result<u64, AllocError>
+    requires { IsValid model.now }
+{
+    let like = open_after(rt, alloc, case.text, case.made)?;
+    let worth = refuse_second(rt, alloc, case, model, &like);
+    drop(like);
+    worth
 }
 
 // Tries both edits, and answers what the cut of the refusal is worth where both are made.
 fn worth_of_refusal(rt: &impl Abort, alloc: Global, case: &Shortfall) -> Result<u64, AllocError> {
     let model = changed(rt, alloc, case.text, case.made, case.refused)?;
-    let like = open_after(rt, alloc, case.text, case.made)?;
-    refuse_second(rt, alloc, case, &model, &like)
+    worth_in(rt, alloc, case, &model)
 }
 
 #[test]

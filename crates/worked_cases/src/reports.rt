@@ -1,7 +1,7 @@
 // Reports on the plans of whole buildings.
 ghost use Rattle.std.specs.Prelude.{◌<◌, IfOk, length};
 
-use crate::buildings::{OFFICE, TRAPPED, TWO_EXITS, building};
+use crate::buildings::{OFFICE, TRAPPED, TWO_EXITS, model_of};
 use crate::calls::open_on;
 use bottleneck_report::Bottlenecks;
 use clearing_report::Clearing;
@@ -72,11 +72,18 @@ fn figures_of(clearing: &Clearing, floors: &FloorIndex) -> Figures
     }
 }
 
+// The numbers of the report on a session's plan.
+fn report_on(rt: &impl Abort, alloc: Global, session: &Session) -> Result<Figures, AllocError> {
+    let floors = FloorIndex::new(alloc, session.model(), &[1])?;
+    let clearing = cleared(rt, alloc, session)?;
+    Ok(figures_of(&clearing, &floors))
+}
+
 fn report(rt: &impl Abort, alloc: Global, text: &str) -> Result<Figures, AllocError> {
     let session = open_on(rt, alloc, text)?;
-    let floors = FloorIndex::new(alloc, session.model(), &[1])?;
-    let clearing = cleared(rt, alloc, &session)?;
-    Ok(figures_of(&clearing, &floors))
+    let report = report_on(rt, alloc, &session);
+    drop(session);
+    report
 }
 
 #[test]
@@ -101,9 +108,9 @@ fn the_office_has_its_figures(rt: HostRuntime) -> Result<(), AllocError> {
 
 // The least time for a building whose people meet nobody.
 fn walk(rt: &impl Abort, alloc: Global, text: &str) -> Result<Option<u32>, AllocError> {
-    let building = building(rt, alloc, text)?;
-    let mut clearing = Clearing::new(alloc, &building.model)?;
-    Ok(clearing.walk_bound(&building.model))
+    let model = model_of(rt, alloc, text)?;
+    let mut clearing = Clearing::new(alloc, &model)?;
+    Ok(clearing.walk_bound(&model))
 }
 
 #[test]
@@ -113,9 +120,12 @@ fn without_a_door_there_is_no_walk(rt: HostRuntime) -> Result<(), AllocError> {
     Ok(())
 }
 
-// For how many periods the two arcs and the room of a building hold people up.
-fn held_up(rt: &impl Abort, alloc: Global, text: &str) -> Result<(u32, u32, u32), AllocError> {
-    let session = open_on(rt, alloc, text)?;
+// For how many periods the two arcs and the room of a session's building hold people up.
+fn held_up_in(
+    rt: &impl Abort,
+    alloc: Global,
+    session: &Session,
+) -> Result<(u32, u32, u32), AllocError> {
     let model = session.model();
     assert!(rt; 0 < model.nodes.len() && 1 < model.arcs.len());
     let mut bottlenecks = Bottlenecks::new(alloc, model)?;
@@ -127,6 +137,14 @@ fn held_up(rt: &impl Abort, alloc: Global, text: &str) -> Result<(u32, u32, u32)
     ))
 }
 
+// For how many periods the two arcs and the room of a building hold people up.
+fn held_up(rt: &impl Abort, alloc: Global, text: &str) -> Result<(u32, u32, u32), AllocError> {
+    let session = open_on(rt, alloc, text)?;
+    let periods = held_up_in(rt, alloc, &session);
+    drop(session);
+    periods
+}
+
 #[test]
 fn the_narrow_way_holds_people_up(rt: HostRuntime) -> Result<(), AllocError> {
     assert_eq!(rt; held_up(&rt, rt.alloc(), TWO_EXITS)?, (2, 0, 0));
@@ -136,7 +154,9 @@ fn the_narrow_way_holds_people_up(rt: HostRuntime) -> Result<(), AllocError> {
 // The people of all routes of a building.
 fn all_routed(rt: &impl Abort, alloc: Global, text: &str) -> Result<u32, AllocError> {
     let session = open_on(rt, alloc, text)?;
-    routed(rt, alloc, &session, &[])
+    let people = routed(rt, alloc, &session, &[]);
+    drop(session);
+    people
 }
 
 #[test]
@@ -146,12 +166,19 @@ fn routes_take_everybody(rt: HostRuntime) -> Result<(), AllocError> {
     Ok(())
 }
 
+// The steps of the plan for two exits, and the people who make each.
+fn check_steps(rt: &impl Abort, alloc: Global, session: &Session) -> Result<(), AllocError> {
+    for (moment, arc, people) in [(0, 0, 1), (1, 0, 1), (2, 0, 1), (0, 1, 5)] {
+        let step = [RouteStep { moment, arc }];
+        assert_eq!(rt; routed(rt, alloc, session, &step)?, people);
+    }
+    Ok(())
+}
+
 #[test]
 fn routes_make_up_the_plan(rt: HostRuntime) -> Result<(), AllocError> {
     let session = open_on(&rt, rt.alloc(), TWO_EXITS)?;
-    for (moment, arc, people) in [(0, 0, 1), (1, 0, 1), (2, 0, 1), (0, 1, 5)] {
-        let step = [RouteStep { moment, arc }];
-        assert_eq!(rt; routed(&rt, rt.alloc(), &session, &step)?, people);
-    }
-    Ok(())
+    let steps = check_steps(&rt, rt.alloc(), &session);
+    drop(session);
+    steps
 }

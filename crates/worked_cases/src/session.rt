@@ -35,6 +35,7 @@ fn the_last_64_edits_are_kept(rt: HostRuntime) -> Result<(), AllocError> {
     shut_in_turn(&rt, &mut session);
     undo_all(&rt, &mut session);
     assert_eq!(rt; session.cleared(), 8);
+    drop(session);
     Ok(())
 }
 
@@ -52,6 +53,7 @@ fn shut_and_open(rt: &impl Abort, session: &mut Session) {
 fn an_exit_is_shut_and_opened_again(rt: HostRuntime) -> Result<(), AllocError> {
     let mut session = open_on(&rt, rt.alloc(), TWO_ROOMS)?;
     shut_and_open(&rt, &mut session);
+    drop(session);
     Ok(())
 }
 
@@ -72,13 +74,16 @@ fn shut_unreached(rt: &impl Abort, session: &mut Session, first: &Session) {
 fn shut_beside(rt: &impl Abort, alloc: Global, first: &Session) -> Result<(), AllocError> {
     let mut session = open_on(rt, alloc, THREE_EXITS)?;
     shut_unreached(rt, &mut session, first);
+    drop(session);
     Ok(())
 }
 
 #[test]
 fn an_exit_that_nobody_reaches_is_shut_without_work(rt: HostRuntime) -> Result<(), AllocError> {
     let first = open_on(&rt, rt.alloc(), THREE_EXITS)?;
-    shut_beside(&rt, rt.alloc(), &first)
+    let shut = shut_beside(&rt, rt.alloc(), &first);
+    drop(first);
+    shut
 }
 
 // Lets one person more in, once there is room.
@@ -103,6 +108,7 @@ fn enter_one(rt: &impl Abort, session: &mut Session) {
 fn one_person_more_is_pushed_once(rt: HostRuntime) -> Result<(), AllocError> {
     let mut session = open_on(&rt, rt.alloc(), TWO_EXITS)?;
     enter_one(&rt, &mut session);
+    drop(session);
     Ok(())
 }
 
@@ -120,11 +126,14 @@ fn undo_past_refused(rt: &impl Abort, session: &mut Session, first: &Session) {
 fn undo_beside(rt: &impl Abort, alloc: Global, first: &Session) -> Result<(), AllocError> {
     let mut session = open_on(rt, alloc, TWO_EXITS)?;
     undo_past_refused(rt, &mut session, first);
+    drop(session);
     Ok(())
 }
 
 #[test]
 fn an_undo_passes_over_a_refused_edit(rt: HostRuntime) -> Result<(), AllocError> {
     let first = open_on(&rt, rt.alloc(), TWO_EXITS)?;
-    undo_beside(&rt, rt.alloc(), &first)
+    let undone = undo_beside(&rt, rt.alloc(), &first);
+    drop(first);
+    undone
 }
