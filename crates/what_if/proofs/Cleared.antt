@@ -22,10 +22,13 @@ use Rattle.building_table.specs.Built.{IsBuilding}
 use Rattle.building_table.specs.EditNames.{edit_named}
 use Rattle.building_table.specs.Names.{NameTable, NamesFit, names_of}
 use Rattle.building_table.proofs.FitLemmas.{names_kept}
+use Rattle.edit_session.specs.declared.faults.BeginFault.{BeginFault}
+use Rattle.edit_session.specs.declared.faults.BeginFault.TheVariants as begins
 use Rattle.edit_session.specs.declared.faults.EditRefusal.{EditRefusal}
 use Rattle.edit_session.specs.declared.faults.EditRefusal.TheVariants as refusals
+use Rattle.edit_session.specs.declared.faults.Short.{Short}
 use Rattle.edit_session.specs.declared.work.Work.{Work}
-use Rattle.edit_session.specs.Sessions.{EditEnds, IsSolved, SessionState, SessionView}
+use Rattle.edit_session.specs.Sessions.{BeginEnds, EditEnds, IsSolved, SessionState, SessionView}
 use Rattle.what_if.specs.declared.answer.Answer.{Answer}
 use Rattle.what_if.specs.declared.answer.Answer.TheVariants.{Cleared, NotCleared}
 use Rattle.what_if.specs.declared.answer.WhatIfFault.{WhatIfFault}
@@ -95,10 +98,22 @@ names-after names v v' e (Ok work) steps fit ends =
 names-after names v v' e (Err (refusals.Fault fault)) steps fit ends = subst (λ (x : SessionView). NamesFit names x.state.model) (sym ends.1) fit
 names-after names v v' e (Err (refusals.NotCleared all most)) steps fit ends = subst (λ (x : SessionState). NamesFit names x.model) (sym ends.1) fit
 
--- ---- what is answered of a text
+-- ---- what a session begins with
 
-pub of-model : (m m' : Model) (names : NameTable) (exit : NodeName) (result : Result Answer WhatIfFault) → m ≡ m' → AnswersOn m names exit result → AnswersOn m' names exit result
-of-model m m' names exit result same h = subst (λ (x : Model). AnswersOn x names exit result) same h
+pub begun-fit : (names : NameTable) (m : Model) (v : SessionView) (steps : ℕ) → NamesFit names m → BeginEnds m (Ok v) steps → NamesFit names v.state.model
+begun-fit names m v steps fit ends = subst (NamesFit names) (sym ends.0.begun) fit
+
+pub begun : (m : Model) (names : NameTable) (exit : NodeName) (v : SessionView) (steps : ℕ) (result : Result Answer WhatIfFault) → BeginEnds m (Ok v) steps
+    → AnswersOn v.state.model names exit result → AnswersOn m names exit result
+begun m names exit v steps result ends h = subst (λ (x : Model). AnswersOn x names exit result) ends.0.begun h
+
+pub not-begun : (m : Model) (names : NameTable) (exit : NodeName) (fault : BeginFault) (s : Short) (steps : ℕ) → fault ≡ begins.NotCleared s
+    → BeginEnds m (Err fault) steps → AnswersOn m names exit (Err (faults.NeverCleared s.most))
+not-begun m names exit fault s steps is ends =
+    let short = subst (λ (x : BeginFault). BeginEnds m (Err x) steps) is ends in
+    (s.labels, short.2)
+
+-- ---- what is answered of a text
 
 by-text : (text : List ℕ) (exit : NodeName) (d : Description) (last : ℕ) (rest : List Line) (result : Result Answer WhatIfFault)
     → model_of (lines_of text) ≡ Described d last rest → AnswersOn d.model (names_of d) exit result → AnswersWhatIf text exit result
@@ -114,10 +129,3 @@ pub of-building : (text : List ℕ) (exit : NodeName) (b : Building) (result : R
 of-building text exit b result (d, last, rest, described, is) h =
     let at = subst (λ (x : Model). AnswersOn x b.names exit result) is.model h in
     by-text text exit d last rest result described (subst (λ (x : NameTable). AnswersOn d.model x exit result) is.names at)
-
-pub of-fault : (text : List ℕ) (exit : NodeName) (fault : WhatIfFault) → Describes text (Err fault) → AnswersWhatIf text exit (Err fault)
-of-fault text exit (faults.Text code line) h = h
-of-fault text exit faults.Memory h = tt
-of-fault text exit (faults.NeverCleared most) h = absurd h
-of-fault text exit (faults.Name fault) h = absurd h
-of-fault text exit (faults.Edit fault) h = absurd h

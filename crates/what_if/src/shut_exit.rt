@@ -8,7 +8,7 @@ use crate::answer::{Answer, WhatIfFault};
 use crate::own_block::check_plan;
 use building_table::{Building, ModelFault, Names, edit_of, read_model};
 use edit_session::{BeginFault, EditRefusal, Session};
-use evac_law::{NodeName, Standing, Steps};
+use evac_law::{Model, NodeName, Standing, Steps};
 use line_io::{CleanSource, Lines};
 use model_text::Command;
 use plan_checker::Verdict;
@@ -87,17 +87,17 @@ fn shut_checked<L: Ledger>(
 // Plans a building, and answers what comes of shutting an exit.
 fn answer<L: Ledger>(
     alloc: Global,
-    building: Building,
+    model: Model,
+    names: &Names,
     exit: NodeName,
     steps: &mut Steps<L>,
 ) -> Result<Answer, WhatIfFault>
-    requires valid { IsValid building.model }
-    requires names { NamesFit building.names building.model }
-    ensures { AnswersOn building.model building.names exit result }
+    requires valid { IsValid model }
+    requires names { NamesFit names.now model }
+    ensures { AnswersOn model names.now exit result }
 {
-    let Building { model, names } = building;
     match Session::begin(alloc, model, steps) {
-        Ok(mut session) => shut_checked(alloc, &mut session, &names, exit, steps),
+        Ok(mut session) => shut_checked(alloc, &mut session, names, exit, steps),
         Err(BeginFault::NotCleared(short)) => Err(WhatIfFault::NeverCleared { most: short.most }),
         Err(BeginFault::Memory) => Err(WhatIfFault::Memory),
     }
@@ -106,25 +106,26 @@ fn answer<L: Ledger>(
 // Answers with a counter of steps that nobody reads.
 fn answer_uncounted<L: Ledger>(
     alloc: Global,
-    building: Building,
+    model: Model,
+    names: &Names,
     exit: NodeName,
     blank: Blank,
 ) -> Result<Answer, WhatIfFault>
-    requires valid { IsValid building.model }
-    requires names { NamesFit building.names building.model }
+    requires valid { IsValid model }
+    requires names { NamesFit names.now model }
     requires name { blank.name ≡ L.name }
     requires parts { blank.parts ≡ L.parts }
     requires one { blank.parts ≡ 1 }
-    ensures { AnswersOn building.model building.names exit result }
+    ensures { AnswersOn model names.now exit result }
 {
     let mut steps = Steps::<L>::new(blank);
-    answer(alloc, building, exit, &mut steps)
+    answer(alloc, model, names, exit, &mut steps)
 }
 
 /// Reads a building from text up to its `end`, and answers when the last are out, and when with the exit of this name shut.
 pub fn what_if(alloc: Global, text: &[u8], exit: NodeName) -> Result<Answer, WhatIfFault>
     ensures { AnswersWhatIf text.now exit result }
 {
-    let building = building_of(alloc, text)?;
-    answer_uncounted::<Brand>(alloc, building, exit, Blank::new(1))
+    let Building { model, names } = building_of(alloc, text)?;
+    answer_uncounted::<Brand>(alloc, model, &names, exit, Blank::new(1))
 }
