@@ -1,8 +1,9 @@
 -- A run in which neither count of faults rose answers its input.
-use Rattle.std.proofs.Common.{◌≡◌, ℕ, ◌≤◌, List, Result, Ok, Err, Some, None, arith, inl, inr}
+use Rattle.std.proofs.Common.{◌≡◌, ℕ, ◌+◌, ◌≤◌, List, [], ◌∷◌, ◌++◌, length, Result, Ok, Err, Some, None, refl, sym, ap, ◌∙◌, arith, inl, inr}
 use Rattle.std.specs.declared.option.Option.{Option}
 use Rattle.evac_law.specs.declared.model.Model.{Model}
-use Rattle.line_io.specs.Line.{lines_of}
+use Rattle.evac_law.specs.Building.{IsValid}
+use Rattle.line_io.specs.Line.{Line, lines_of, text_lines}
 use Rattle.model_text.specs.Readings.{Reading, Described, Refused, model_of}
 use Rattle.evac_top.specs.Accounts.{Account}
 use Rattle.evac_top.specs.Answers.{Answers}
@@ -10,15 +11,20 @@ use Rattle.building_table.specs.Names.{NameTable, names_of}
 use Rattle.drill_building.specs.Drill.{drill_model}
 use Rattle.plan_checker.specs.Verdicts.{IsRight}
 use Rattle.evac_top.specs.Check.{Checks, IsChecked, verdict_status}
-use Rattle.evac_top.specs.Complete.{AnswersAll, ChecksAll, PlansAll, RunsAnswer, SessionsAll, SolvesAll}
+use Rattle.evac_top.specs.Complete.{AnswersAll, ChecksAll, ChecksLines, PlansAll, RunsAnswer, SessionsAll, SolvesAll}
 use Rattle.evac_top.specs.Drill.{IsDrillSolved}
-use Rattle.evac_top.specs.Inputs.{Asked, Claimed, input_of}
-use Rattle.evac_top.specs.Session.{Sessions}
+use Rattle.evac_top.specs.Inputs.{Asked, Claimed, ClaimsBehind, IsClaimOf, claim_by, input_of}
+use Rattle.evac_top.specs.Session.{Sessions, spoken}
 use Rattle.evac_top.specs.Solve.{IsPlannedOrShort, Solves}
 use Rattle.evac_top.specs.Words.{reads}
 use Rattle.evac_top.specs.declared.words.Flags.{Flags}
 use Rattle.evac_top.specs.declared.words.Mode.{Mode}
 use Rattle.evac_top.specs.declared.words.Mode.TheVariants.{Solve, Check, Session, Drill}
+use Rattle.model_text.specs.Taken.{Description}
+use Rattle.session_talk.specs.Sessions.{State, session}
+use Rattle.session_talk.specs.Talks.{EndsAt, Reply, Spoken, Talk}
+use Rattle.model_text.proofs.ReadingLemmas.{opening-valid}
+use Rattle.block_reader.proofs.OneReading.{one-reading}
 use Rattle.evac_top.proofs.ClaimLemmas.{status-few}
 use Rattle.evac_top.proofs.SolveLemmas.{opening-clears}
 use Rattle.evac_top.proofs.TellLemmas.{of-input}
@@ -49,17 +55,41 @@ checks-all : (input : List ℕ) (result : Result Claimed (ℕ × ℕ)) (x : Acco
 checks-all input (Ok claimed) x h = checks-block claimed x h.1
 checks-all input (Err fault) x h = h
 
+-- lines are read in one way
+one-claim : (r : Reading) → ((d : Description) (last : ℕ) (rest : List Line) → r ≡ Described d last rest → IsValid d.model) → (one other : Result Claimed (ℕ × ℕ)) → ClaimsBehind r one
+    → ClaimsBehind r other → other ≡ one
+one-claim (Described d last rest) valid one other h g = g.2 ∙ ap (claim_by d) (one-reading d.model last rest g.0 h.0 (valid d last rest refl) g.1 h.1) ∙ sym h.2
+one-claim (Refused code line) valid one other h g = g ∙ sym h
+
+one-claim-of : (lines : List Line) (one other : Result Claimed (ℕ × ℕ)) → IsClaimOf lines one → IsClaimOf lines other → other ≡ one
+one-claim-of lines one other h g = one-claim (model_of lines) (λ d last rest e. opening-valid lines 0 d last rest e) one other h g
+
+-- no fault stands among lines that have none
+never-fault : (texts answered : List (List ℕ)) (code : ℕ) (rest : List Line) → text_lines texts ≡ text_lines answered ++ (Err code ∷ rest) → ⊥
+never-fault [] [] code rest e = cc
+never-fault [] (a ∷ more) code rest e = cc
+never-fault (t ∷ texts) [] code rest e = cc
+never-fault (t ∷ texts) (a ∷ more) code rest e = let tail : text_lines texts ≡ text_lines more ++ (Err code ∷ rest) = cc in never-fault texts more code rest tail
+
+-- so a session over them is done
+ends-done : (talk : Talk State) (before : ℕ) (rest : List Line) (r : Reply State) (x : Spoken) (texts answered : List (List ℕ)) → text_lines texts ≡ text_lines answered ++ rest
+    → EndsAt talk before rest r x → x.status ≡ 0
+ends-done talk before [] r x texts answered e h = ap (λ (s : Spoken). s.status) h
+ends-done talk before (Ok line ∷ rest) r x texts answered e h = ap (λ (s : Spoken). s.status) h.1
+ends-done talk before (Err code ∷ rest) r x texts answered e h = absurd (never-fault texts answered code rest e)
+
 sessions-all : (r : Reading) (x : Account) → Sessions r x → SessionsAll r x
 sessions-all (Described d last rest) x (inl run) =
     let opening = run.goes.opening.after.standing in
-    (λ can. run, λ cannot. absurd (cannot (opening-clears d.model opening run.goes.opens.begins)))
-sessions-all (Described d last rest) x (inr short) = (λ can. absurd (short.short.barred can), λ cannot. short)
+    (λ can. run, λ cannot. absurd (cannot (opening-clears d.model opening run.goes.opens.begins)),
+    λ can texts whole. ends-done (session (names_of d) d.model) (last + length run.answered) run.rest run.replies (spoken x) texts run.answered (sym whole ∙ run.parts) run.ends)
+sessions-all (Described d last rest) x (inr short) = (λ can. absurd (short.short.barred can), λ cannot. short, λ can texts whole. absurd (short.short.barred can))
 sessions-all (Refused code line) x h = h
 
 answers-all : (mode : Option Mode) (input : List ℕ) (x : Account) → Answers mode input x → AnswersAll mode input x
 answers-all None input x h = h.1.over
 answers-all (Some (Solve flags)) input x h = solves-all flags input (input_of (lines_of input)) x h
-answers-all (Some Check) input x (claim, is, h) = (claim, is, checks-all input claim x h)
+answers-all (Some Check) input x (claim, is, h) = record { claim = claim; of_lines = is; alone = λ other g. one-claim-of (lines_of input) claim other is g; answered = checks-all input claim x h }
 answers-all (Some Session) input x h = sessions-all (model_of (lines_of input)) x h.0
 answers-all (Some (Drill n)) input x h = drills-all n x h.1
 

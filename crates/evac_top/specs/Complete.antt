@@ -4,7 +4,7 @@ use Rattle.std.specs.declared.option.Option.{Option}
 use Rattle.evac_law.specs.declared.model.Model.{Model}
 use Rattle.evac_law.specs.Certificates.{IsClearable}
 use Rattle.line_io.specs.Causes.{Rose}
-use Rattle.line_io.specs.Line.{lines_of}
+use Rattle.line_io.specs.Line.{Line, lines_of, text_lines}
 use Rattle.drill_building.specs.Drill.{drill_model}
 use Rattle.model_text.specs.Readings.{Reading, Described, Refused, model_of}
 use Rattle.building_table.specs.Names.{names_of}
@@ -33,18 +33,26 @@ abbrev pub ChecksAll : Result Claimed (ℕ × ℕ) → Account → Type 0
 ChecksAll (Ok claimed) x = let m = claimed.building.model in (IsRight m claimed.block → x.status ≡ 0) × (¬ IsRight m claimed.block → x.status ≡ 1)
 ChecksAll (Err fault) x = IsRefusal fault x
 
+-- lines are read as a building with a block behind it, or as a first fault, in one way alone, and that is answered
+pub record ChecksLines (lines : List Line) (x : Account) : Type 0 where
+  pub claim : Result Claimed (ℕ × ℕ)
+  pub of_lines : IsClaimOf lines claim
+  pub alone : (other : Result Claimed (ℕ × ℕ)) → IsClaimOf lines other → other ≡ claim
+  pub answered : ChecksAll claim x
+
 -- a building is opened and the lines behind it are answered up to the end, exactly where it can be cleared, and it is refused with its shortfall exactly
--- where it can't; a model with a fault is refused by it
+-- where it can't; the session is done where no line has a fault of its own; a model with a fault is refused by it
 abbrev pub SessionsAll : Reading → Account → Type 0
 SessionsAll (Described d last rest) x =
     (IsClearable d.model → SessionRun (names_of d) d.model last rest (spoken x)) × (¬ IsClearable d.model → OpensShort d.model last (spoken x))
+    × (IsClearable d.model → (texts : List (List ℕ)) → rest ≡ text_lines texts → x.status ≡ 0)
 SessionsAll (Refused code line) x = IsRefusal (code, line) x
 
 -- an input is answered, by the mode that the words ask for; other words are refused
 abbrev pub AnswersAll : Option Mode → List ℕ → Account → Type 0
 AnswersAll None input x = x.status ≡ 2
 AnswersAll (Some (Solve flags)) input x = SolvesAll (input_of (lines_of input)) x
-AnswersAll (Some Check) input x = (claim : Result Claimed (ℕ × ℕ)) × IsClaimOf (lines_of input) claim × ChecksAll claim x
+AnswersAll (Some Check) input x = ChecksLines (lines_of input) x
 AnswersAll (Some Session) input x = SessionsAll (model_of (lines_of input)) x
 AnswersAll (Some (Drill number)) input x = PlansAll (drill_model number) 0 x
 

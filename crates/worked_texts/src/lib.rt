@@ -12,6 +12,8 @@ mod drills;
 #[cfg(test)]
 mod floors;
 #[cfg(test)]
+mod limits;
+#[cfg(test)]
 mod lines;
 #[cfg(test)]
 mod models;

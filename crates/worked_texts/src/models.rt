@@ -13,7 +13,7 @@ use std::test::Fail;
 const START: &str = "evacplan 1\nperiod 5\nhorizon 4\nfloor 1 Ground\n";
 
 // The code and the line of the first fault of a model in two parts; 0 and 0 where it has none.
-fn fault(alloc: Global, start: &str, more: &str) -> Result<(u8, u32), AllocError> {
+pub(crate) fn fault(alloc: Global, start: &str, more: &str) -> Result<(u8, u32), AllocError> {
     let text = format!(in alloc; "{start}{more}")?;
     let mut source = MemSource::new(alloc, text.as_str().as_bytes(), 7, &[])?;
     let mut lines = Lines::new(alloc)?;
