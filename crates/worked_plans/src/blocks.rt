@@ -1,9 +1,13 @@
 // Blocks for the smallest building, one for each verdict.
+ghost use Rattle.building_table.specs.Names.{NamesFit};
+ghost use Rattle.evac_law.specs.Building.{IsValid};
+
 use crate::buildings::{ONE_ROOM, building};
 use block_reader::read_block;
+use building_table::Building;
 use line_io::{CleanSource, Lines};
 use plan_checker::{Verdict, check};
-use std::alloc::AllocError;
+use std::alloc::{AllocError, Global};
 use std::process::Abort;
 use std::test::Fail;
 
@@ -12,19 +16,16 @@ const CURVE: &str = "cleared 2\nout 0 0\nout 1 2\nout 2 3\n";
 
 const MOVES: &str = "move 0 WP1.1 DS1.1 2\nmove 1 WP1.1 DS1.1 1\n";
 
-// The verdict on a block: its people, its curve, one label for the room, and its moves.
-fn verdict(
-    rt: &(impl Abort + AllocGlobal),
-    people: u32,
-    curve: &str,
-    label: u16,
-    moves: &str,
-) -> Result<Verdict, AllocError> {
-    let alloc = rt.alloc();
-    let building = building(rt, alloc, ONE_ROOM)?;
-    let text = format!(in alloc;
-        "answer 0\npeople {people}\n{curve}label WP1.1 0 {label}\n{moves}end\n"
-    )?;
+// The verdict on the block of a text, which has no fault.
+fn verdict_on(
+    rt: &impl Abort,
+    alloc: Global,
+    building: &Building,
+    text: &str,
+) -> Result<Verdict, AllocError>
+    requires valid { IsValid building.now.model }
+    requires names { NamesFit building.now.names building.now.model }
+{
     let mut source = CleanSource::new(alloc, text.as_bytes())?;
     let mut lines = Lines::new(alloc)?;
     match read_block(
@@ -39,45 +40,80 @@ fn verdict(
     }
 }
 
+// The verdict on the block of a text, in one room.
+fn verdict_in_room(rt: &impl Abort, alloc: Global, text: &str) -> Result<Verdict, AllocError> {
+    let building = building(rt, alloc, ONE_ROOM)?;
+    let verdict = verdict_on(rt, alloc, &building, text);
+    drop(building);
+    verdict
+}
+
+// The verdict on a block: its people, its curve, one label for the room, and its moves.
+fn verdict(
+    rt: &(impl Abort + AllocGlobal),
+    people: u32,
+    curve: &str,
+    label: u16,
+    moves: &str,
+) -> Result<Verdict, AllocError> {
+    let text = format!(in rt.alloc();
+        "answer 0\npeople {people}\n{curve}label WP1.1 0 {label}\n{moves}end\n"
+    )?;
+    verdict_in_room(rt, rt.alloc(), text.as_str())
+}
+
+const SLOWER: &str = "cleared 2\nout 0 0\nout 1 1\nout 2 3\n";
+
+// The people, the curve and the label of a block, and the verdict.
+const STATED: &[(u32, &str, u16, Verdict)] = &[
+    (3, CURVE, 2, Verdict::Yes),
+    (4, CURVE, 2, Verdict::PeopleWrong),
+    (3, SLOWER, 2, Verdict::OutWrong { period: 1 }),
+    (3, CURVE, 1, Verdict::CutWrong { period: 1 }),
+];
+
 #[test]
 fn blocks_that_are_right_or_state_too_much(rt: HostRuntime) -> Result<(), Fail> {
-    let slower = "cleared 2\nout 0 0\nout 1 1\nout 2 3\n";
-    for (people, curve, label, want) in [
-        (3, CURVE, 2, Verdict::Yes),
-        (4, CURVE, 2, Verdict::PeopleWrong),
-        (3, slower, 2, Verdict::OutWrong { period: 1 }),
-        (3, CURVE, 1, Verdict::CutWrong { period: 1 }),
-    ] {
-        assert_eq!(rt; verdict(&rt, people, curve, label, MOVES)?, want);
+    for (people, curve, label, want) in STATED {
+        assert_eq!(rt; verdict(&rt, *people, curve, *label, MOVES)?, *want);
     }
     Ok(())
 }
 
+const OVER_RATE: &str = "move 0 WP1.1 DS1.1 2\nmove 1 WP1.1 DS1.1 3\n";
+
+const MORE_THAN_THERE: &str = "move 0 WP1.1 DS1.1 2\nmove 1 WP1.1 DS1.1 2\n";
+
+// One person stays inside.
+const ONE_INSIDE: &str = "move 0 WP1.1 DS1.1 2\n";
+
+const SHORTER: &str = "cleared 1\nout 0 0\nout 1 2\n";
+
+// All are out one period before the last.
+const LONGER: &str = "cleared 3\nout 0 0\nout 1 2\nout 2 3\nout 3 3\n";
+
+// The curve, the label and the moves of a block, and the verdict.
+const WRONG_PLANS: &[(&str, u16, &str, Verdict)] = &[
+    (
+        CURVE,
+        2,
+        OVER_RATE,
+        Verdict::RateBroken { moment: 1, arc: 0 },
+    ),
+    (
+        CURVE,
+        2,
+        MORE_THAN_THERE,
+        Verdict::HeldBroken { moment: 1, node: 0 },
+    ),
+    (SHORTER, 1, ONE_INSIDE, Verdict::NotAllOut),
+    (LONGER, 2, MOVES, Verdict::NotAllOut),
+];
+
 #[test]
 fn blocks_of_plans_that_are_wrong(rt: HostRuntime) -> Result<(), Fail> {
-    let over_rate = "move 0 WP1.1 DS1.1 2\nmove 1 WP1.1 DS1.1 3\n";
-    let more_than_there = "move 0 WP1.1 DS1.1 2\nmove 1 WP1.1 DS1.1 2\n";
-    // one person stays inside; another block has all out one period before
-    let one_inside = "move 0 WP1.1 DS1.1 2\n";
-    let shorter = "cleared 1\nout 0 0\nout 1 2\n";
-    let longer = "cleared 3\nout 0 0\nout 1 2\nout 2 3\nout 3 3\n";
-    for (curve, label, moves, want) in [
-        (
-            CURVE,
-            2,
-            over_rate,
-            Verdict::RateBroken { moment: 1, arc: 0 },
-        ),
-        (
-            CURVE,
-            2,
-            more_than_there,
-            Verdict::HeldBroken { moment: 1, node: 0 },
-        ),
-        (shorter, 1, one_inside, Verdict::NotAllOut),
-        (longer, 2, MOVES, Verdict::NotAllOut),
-    ] {
-        assert_eq!(rt; verdict(&rt, 3, curve, label, moves)?, want);
+    for (curve, label, moves, want) in WRONG_PLANS {
+        assert_eq!(rt; verdict(&rt, 3, curve, *label, moves)?, *want);
     }
     Ok(())
 }

@@ -37,11 +37,19 @@ fn close_the_way<L: Ledger>(rt: &impl Abort, net: &mut Net, path: &mut Path, bla
     assert_eq!(rt; arrived(rt, net, 2), 2);
 }
 
-#[test]
-fn cancels_and_restores(rt: HostRuntime) -> Result<(), AllocError> {
-    let mut net = settled_text(&rt, rt.alloc(), TWO_ROOMS, 3)?.net;
+// Closes the way in a net of two rooms, over a path of its own.
+fn close_in(rt: &(impl Abort + AllocGlobal), net: &mut Net) -> Result<(), AllocError> {
     let mut path = Path::new(rt.alloc(), 22)?;
     assert!(rt; net.shape().ends().len() > 2 && net.horizon() <= 20);
-    close_the_way::<Brand>(&rt, &mut net, &mut path, Blank::new(1));
+    close_the_way::<Brand>(rt, net, &mut path, Blank::new(1));
+    drop(path);
     Ok(())
+}
+
+#[test]
+fn cancels_and_restores(rt: HostRuntime) -> Result<(), AllocError> {
+    let mut settled = settled_text(&rt, rt.alloc(), TWO_ROOMS, 3)?;
+    let closed = close_in(&rt, &mut settled.net);
+    drop(settled);
+    closed
 }

@@ -2,7 +2,7 @@
 ghost use Rattle.evac_law.specs.Building.{IsValid};
 ghost use Rattle.evac_law.specs.Certificates.{IsTableOf};
 
-use crate::buildings::{OFFICE, THROUGH_HALL, TWO_EXITS, building};
+use crate::buildings::{OFFICE, THROUGH_HALL, TWO_EXITS, model_of};
 use crate::labels::{LabelRun, labels_of, run};
 use cut_witness::{CutValues, crossing, cut_value};
 use evac_law::{CutItem, Labels, Model};
@@ -39,6 +39,33 @@ fn expect_values(rt: &impl Abort, model: &Model, labels: &Labels, wanted: &[u64]
     }
 }
 
+// The cuts of the labels of runs have the wanted values, by both ways to sum them.
+fn check_labels(
+    rt: &(impl Abort + AllocGlobal),
+    model: &Model,
+    runs: &[LabelRun],
+    wanted: &[u64],
+) -> Result<(), Fail>
+    requires { IsValid model.now }
+{
+    let labels = labels_of(rt.alloc(), model, runs)?;
+    expect_values(rt, model, &labels, wanted);
+    agree(rt, model, &labels)
+}
+
+// The same in the building of a text.
+fn check_cuts(
+    rt: &(impl Abort + AllocGlobal),
+    text: &str,
+    runs: &[LabelRun],
+    wanted: &[u64],
+) -> Result<(), Fail> {
+    let model = model_of(rt, rt.alloc(), text)?;
+    let checked = check_labels(rt, &model, runs, wanted);
+    drop(model);
+    checked
+}
+
 // The items of the cut of a period.
 fn items_of(
     rt: &(impl Abort + AllocGlobal),
@@ -58,57 +85,80 @@ fn items_of(
     Ok(items)
 }
 
+// The cut of a period has these items.
+fn expect_items(
+    rt: &(impl Abort + AllocGlobal),
+    model: &Model,
+    labels: &Labels,
+    k: u16,
+    wanted: &[CutItem],
+) -> Result<(), Fail>
+    requires valid { IsValid model.now }
+    requires table { IsTableOf model.now labels.now }
+{
+    let items = items_of(rt, model, labels, k)?;
+    assert_eq!(rt; items.as_slice(), wanted);
+    Ok(())
+}
+
+// The cut of the labels of a run at a period has these items, in the building of a text.
+fn check_items(
+    rt: &(impl Abort + AllocGlobal),
+    text: &str,
+    run: LabelRun,
+    k: u16,
+    wanted: &[CutItem],
+) -> Result<(), Fail> {
+    let model = model_of(rt, rt.alloc(), text)?;
+    let labels = labels_of(rt.alloc(), &model, &[run])?;
+    let checked = expect_items(rt, &model, &labels, k, wanted);
+    drop(labels);
+    drop(model);
+    checked
+}
+
 #[test]
 fn near_and_narrow_against_far_and_wide(rt: HostRuntime) -> Result<(), Fail> {
-    let model = building(&rt, rt.alloc(), TWO_EXITS)?.model;
-    let labels = labels_of(rt.alloc(), &model, &[run(0, 0, 3, 3)])?;
-    expect_values(&rt, &model, &labels, &[0, 1, 2, 8, 9, 10, 16]);
-    agree(&rt, &model, &labels)?;
+    let waits = run(0, 0, 3, 3);
+    check_cuts(&rt, TWO_EXITS, &[waits], &[0, 1, 2, 8, 9, 10, 16])?;
     let everybody = [CutItem::Entry { node: 0, people: 8 }];
-    let items = items_of(&rt, &model, &labels, 3)?;
-    assert_eq!(rt; items.as_slice(), everybody.as_slice());
-    Ok(())
+    check_items(&rt, TWO_EXITS, waits, 3, &everybody)
 }
 
 #[test]
 fn a_hall_where_nobody_may_stay(rt: HostRuntime) -> Result<(), Fail> {
-    let model = building(&rt, rt.alloc(), THROUGH_HALL)?.model;
     let runs = [run(0, 0, 5, 5), run(1, 0, 1, 1), run(1, 1, 5, 5)];
-    let labels = labels_of(rt.alloc(), &model, &runs)?;
-    expect_values(&rt, &model, &labels, &[0, 0, 1, 2, 3, 4]);
-    agree(&rt, &model, &labels)
+    check_cuts(&rt, THROUGH_HALL, &runs, &[0, 0, 1, 2, 3, 4])
 }
+
+const HALL_ITEMS: &[CutItem] = &[
+    CutItem::Hold {
+        node: 1,
+        moment: 0,
+        capacity: 0,
+    },
+    CutItem::Arc {
+        arc: 0,
+        moment: 0,
+        rate: 3,
+    },
+    CutItem::Arc {
+        arc: 1,
+        moment: 0,
+        rate: 1,
+    },
+];
 
 #[test]
 fn items_of_a_cut(rt: HostRuntime) -> Result<(), Fail> {
-    let model = building(&rt, rt.alloc(), THROUGH_HALL)?.model;
     // the hall is in the cut of period 1 at moment 0 alone
-    let labels = labels_of(rt.alloc(), &model, &[run(1, 1, 2, 1)])?;
-    let wanted = [
-        CutItem::Hold {
-            node: 1,
-            moment: 0,
-            capacity: 0,
-        },
-        CutItem::Arc {
-            arc: 0,
-            moment: 0,
-            rate: 3,
-        },
-        CutItem::Arc {
-            arc: 1,
-            moment: 0,
-            rate: 1,
-        },
-    ];
-    let items = items_of(&rt, &model, &labels, 1)?;
-    assert_eq!(rt; items.as_slice(), wanted.as_slice());
-    expect_values(&rt, &model, &labels, &[0, 4]);
-    agree(&rt, &model, &labels)
+    let crossed = run(1, 1, 2, 1);
+    check_items(&rt, THROUGH_HALL, crossed, 1, HALL_ITEMS)?;
+    check_cuts(&rt, THROUGH_HALL, &[crossed], &[0, 4])
 }
 
 // The labels of a plan for the office: a node, the first moment with the label, and the label.
-const OFFICE_LABELS: [[u16; 3]; 47] = [
+const OFFICE_LABELS: &[[u16; 3]] = &[
     [0, 0, 13],
     [0, 12, 14],
     [0, 13, 15],
@@ -158,9 +208,15 @@ const OFFICE_LABELS: [[u16; 3]; 47] = [
     [13, 0, 28],
 ];
 
+// The people who are out of the office by each period before the last.
+const OFFICE_OUTS: &[u64] = &[
+    0, 0, 8, 16, 24, 32, 44, 56, 68, 80, 92, 104, 116, 124, 132, 140, 148, 156, 164, 172, 180, 188,
+    196, 204, 212, 220, 228, 236,
+];
+
 fn office_runs(alloc: Global) -> Result<Vec<LabelRun>, AllocError> {
     let mut runs = Vec::new(alloc);
-    for row in &OFFICE_LABELS {
+    for row in OFFICE_LABELS {
         runs.push(run(u32::from(row[0]), row[1], 28, row[2]))?;
     }
     Ok(runs)
@@ -168,13 +224,6 @@ fn office_runs(alloc: Global) -> Result<Vec<LabelRun>, AllocError> {
 
 #[test]
 fn the_plan_of_an_office(rt: HostRuntime) -> Result<(), Fail> {
-    let model = building(&rt, rt.alloc(), OFFICE)?.model;
     let runs = office_runs(rt.alloc())?;
-    let labels = labels_of(rt.alloc(), &model, runs.as_slice())?;
-    let outs = [
-        0, 0, 8, 16, 24, 32, 44, 56, 68, 80, 92, 104, 116, 124, 132, 140, 148, 156, 164, 172, 180,
-        188, 196, 204, 212, 220, 228, 236,
-    ];
-    expect_values(&rt, &model, &labels, &outs);
-    agree(&rt, &model, &labels)
+    check_cuts(&rt, OFFICE, runs.as_slice(), OFFICE_OUTS)
 }

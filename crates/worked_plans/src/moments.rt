@@ -4,7 +4,7 @@ ghost use Rattle.evac_law.specs.Building.{IsValid};
 ghost use Rattle.residual_net.specs.Network.{IsWithinLimits};
 ghost use Rattle.terminal_augment.specs.Settled.{IsLabelsOf, IsSearchOf, IsUnsetFrom};
 
-use crate::buildings::{ONE_ROOM, TWO_ROOMS, building};
+use crate::buildings::{ONE_ROOM, TWO_ROOMS, model_of};
 use crate::nets::{Settled, arrived, label, moved};
 use evac_law::{Labels, Model, Steps};
 use residual_net::Net;
@@ -50,6 +50,7 @@ fn settle_counted<L: Ledger>(
     let mut search = Search::new(alloc, model)?;
     let mut steps = Steps::<L>::new(blank);
     settle_below(&mut net, &mut labels, &mut search, end, &mut steps);
+    drop(search);
     Ok(Settled { net, labels })
 }
 
@@ -67,20 +68,23 @@ pub(crate) fn settled_text(
     text: &str,
     end: u16,
 ) -> Result<Settled, AllocError> {
-    let model = building(rt, alloc, text)?.model;
+    let model = model_of(rt, alloc, text)?;
     assert!(rt; end <= model.horizon);
-    settled_below(alloc, &model, end)
+    let settled = settled_below(alloc, &model, end);
+    drop(model);
+    settled
 }
 
 #[test]
 fn settles_a_room_and_an_exit(rt: HostRuntime) -> Result<(), AllocError> {
-    let Settled { net, labels } = settled_text(&rt, rt.alloc(), ONE_ROOM, 3)?;
+    let settled = settled_text(&rt, rt.alloc(), ONE_ROOM, 3)?;
     for (k, want) in [(0, 0), (1, 2), (2, 3)] {
-        assert_eq!(rt; arrived(&rt, &net, k), want);
+        assert_eq!(rt; arrived(&rt, &settled.net, k), want);
     }
     for (moment, want) in [(0, 2), (1, 2), (2, Labels::UNSET), (20, Labels::UNSET)] {
-        assert_eq!(rt; label(&rt, &labels, 0, moment), want);
+        assert_eq!(rt; label(&rt, &settled.labels, 0, moment), want);
     }
+    drop(settled);
     Ok(())
 }
 
@@ -90,6 +94,7 @@ fn labels_nothing_while_people_are_left(rt: HostRuntime) -> Result<(), AllocErro
     for moment in [0, 1, 2, 20] {
         assert_eq!(rt; label(&rt, &settled.labels, 0, moment), Labels::UNSET);
     }
+    drop(settled);
     Ok(())
 }
 
@@ -101,5 +106,6 @@ fn turns_the_first_person_round(rt: HostRuntime) -> Result<(), AllocError> {
     for (arc, moment, want) in [(0, 0, 0), (1, 0, 1), (2, 0, 1), (3, 1, 1)] {
         assert_eq!(rt; moved(&rt, &settled.net, arc, moment), want);
     }
+    drop(settled);
     Ok(())
 }

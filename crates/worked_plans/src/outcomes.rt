@@ -2,7 +2,7 @@
 ghost use Rattle.std.specs.Prelude.{◌≡◌};
 ghost use Rattle.evac_law.specs.Building.{IsValid};
 
-use crate::buildings::{THROUGH_HALL, TOO_SHORT, building};
+use crate::buildings::{THROUGH_HALL, TOO_SHORT, model_of};
 use crate::nets::{Settled, arrived, label};
 use evac_law::{Labels, Model, Steps};
 use lex_flow::{Outcome, settle_all};
@@ -28,6 +28,7 @@ fn settle_counted<L: Ledger>(
     let mut search = Search::new(alloc, model)?;
     let mut steps = Steps::<L>::new(blank);
     let outcome = settle_all(&mut net, &mut labels, &mut search, 0, &mut steps);
+    drop(search);
     Ok((Settled { net, labels }, outcome))
 }
 
@@ -37,29 +38,40 @@ fn settled(alloc: Global, model: &Model) -> Result<(Settled, Outcome), AllocErro
     settle_counted::<Brand>(alloc, model, Blank::new(1))
 }
 
+// The building of a text, settled whole.
+fn settled_whole(
+    rt: &(impl Abort + AllocGlobal),
+    text: &str,
+) -> Result<(Settled, Outcome), AllocError> {
+    let model = model_of(rt, rt.alloc(), text)?;
+    let settled = settled(rt.alloc(), &model);
+    drop(model);
+    settled
+}
+
 #[test]
 fn clears_a_hall_where_nobody_may_stay(rt: HostRuntime) -> Result<(), AllocError> {
-    let model = building(&rt, rt.alloc(), THROUGH_HALL)?.model;
-    let (Settled { net, labels }, outcome) = settled(rt.alloc(), &model)?;
+    let (settled, outcome) = settled_whole(&rt, THROUGH_HALL)?;
     let cleared = Outcome::Cleared {
         moment: 5,
         pushes: 4,
     };
     assert_eq!(rt; outcome, cleared);
     for (k, want) in [(0, 0), (1, 0), (2, 1), (3, 2), (4, 3), (5, 4)] {
-        assert_eq!(rt; arrived(&rt, &net, k), want);
+        assert_eq!(rt; arrived(&rt, &settled.net, k), want);
     }
     for (node, moment, want) in [(1, 0, 1), (1, 1, Labels::UNSET), (0, 0, Labels::UNSET)] {
-        assert_eq!(rt; label(&rt, &labels, node, moment), want);
+        assert_eq!(rt; label(&rt, &settled.labels, node, moment), want);
     }
+    drop(settled);
     Ok(())
 }
 
 #[test]
 fn shows_that_a_horizon_is_too_short(rt: HostRuntime) -> Result<(), AllocError> {
-    let model = building(&rt, rt.alloc(), TOO_SHORT)?.model;
-    let (settled, outcome) = settled(rt.alloc(), &model)?;
+    let (settled, outcome) = settled_whole(&rt, TOO_SHORT)?;
     assert_eq!(rt; outcome, Outcome::Short { most: 2, pushes: 1 });
     assert_eq!(rt; label(&rt, &settled.labels, 0, 0), Labels::UNSET);
+    drop(settled);
     Ok(())
 }
