@@ -2,7 +2,7 @@
 ghost use Rattle.std.specs.Prelude.{◌≡◌, ◌≤◌};
 ghost use Rattle.evac_law.specs.Building.{IsValid};
 ghost use Rattle.residual_net.specs.Network.{IsWithinLimits};
-ghost use Rattle.terminal_augment.specs.Settled.{IsLabelsOf, IsSearchOf, IsUnsetFrom};
+ghost use Rattle.terminal_augment.specs.Settled.{IsLabelsOf, IsSearchOf, IsSettledBelow, IsUnsetFrom};
 
 use crate::buildings::{ONE_ROOM, TWO_ROOMS, model_of};
 use crate::nets::{Settled, arrived, label, moved};
@@ -14,8 +14,8 @@ use std::process::Abort;
 use std::sync::ledger::{Blank, Ledger};
 use terminal_augment::{Search, settle};
 
-// Settles the moments below a number.
-fn settle_below<L: Ledger>(
+/// Settles the moments below a number.
+pub(crate) fn settle_below<L: Ledger>(
     net: &mut Net,
     labels: &mut Labels,
     search: &mut Search,
@@ -27,6 +27,8 @@ fn settle_below<L: Ledger>(
     requires within { IsWithinLimits net.old }
     requires unset { IsUnsetFrom labels.old 0 }
     requires end { end ≤ net.old.site.shape.horizon }
+    ensures settled { IsSettledBelow net.new labels.new end }
+    ensures search { IsSearchOf net.new.site search.new }
 {
     for k in 0..end {
         settle(net, labels, search, k, steps);
@@ -105,6 +107,17 @@ fn turns_the_first_person_round(rt: HostRuntime) -> Result<(), AllocError> {
     assert_eq!(rt; arrived(&rt, &settled.net, 2), 2);
     for (arc, moment, want) in [(0, 0, 0), (1, 0, 1), (2, 0, 1), (3, 1, 1)] {
         assert_eq!(rt; moved(&rt, &settled.net, arc, moment), want);
+    }
+    drop(settled);
+    Ok(())
+}
+
+#[test]
+fn labels_the_moments_before_the_last_arrival(rt: HostRuntime) -> Result<(), AllocError> {
+    let settled = settled_text(&rt, rt.alloc(), ONE_ROOM, 3)?;
+    for moment in 0..21u16 {
+        let want = if moment < 2 { 2 } else { Labels::UNSET };
+        assert_eq!(rt; label(&rt, &settled.labels, 0, moment), want, "at {moment}");
     }
     drop(settled);
     Ok(())

@@ -1,21 +1,19 @@
-use Rattle.std.proofs.Common.{ap, sym, subst, ◌∙◌, arith}
+use Rattle.std.proofs.Common.{subst, sym, arith}
 use Rattle.evac_law.specs.LabelTable.{LabelTable}
-use Rattle.residual_net.specs.Site.{Site}
-use Rattle.terminal_augment.specs.Settled.{IsSearchOf}
+use Rattle.terminal_augment.specs.Settled.{IsUnsetFrom}
+use Rattle.worked_plans.proofs.Unset.{new_unset}
 use Rattle.worked_plans.proofs.outcomes.settle_counted.Goals as goal
+
+pub settle_below-requires-clause-unset : goal.settle_below-requires-clause-unset
+settle_below-requires-clause-unset g c = subst (λ (l : LabelTable). IsUnsetFrom l 0) (sym c.in_ok-labels.ensures) (new_unset _ _)
 
 pub settle_all-outcome-requires : goal.settle_all-outcome-requires
 settle_all-outcome-requires g c =
-    let net = c.in_ok-net.ensures in
-    let labels = c.in_ok-labels.ensures in
-    let site = sym net.of.site in
+    let settled = c.settle_below.ensures.settled in
     record {
-      labels = record {
-        nodes = ap (λ (l : LabelTable). l.nodes) labels ∙ c.node_count.ensures.count ∙ ap (λ (s : Site). s.shape.nodes) site;
-        horizon = ap (λ (l : LabelTable). l.horizon) labels ∙ ap (λ (s : Site). s.shape.horizon) site;
-      };
-      search = subst (λ (s : Site). IsSearchOf s c.in_ok-search.search) site c.in_ok-search.ensures;
-      from = omega arith;
-      within = λ p i. omega (arith, net.empty p i);
-      closed = λ i q. absurd (omega (arith, q));
+      labels = settled.labels;
+      search = c.settle_below.ensures.search;
+      from = omega (arith, settled.moment);
+      within = settled.within;
+      closed = settled.closed;
     }
