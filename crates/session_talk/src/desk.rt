@@ -12,6 +12,7 @@ ghost use Rattle.building_table.specs.Names.{NamesFit};
 ghost use Rattle.certificate_text.specs.BlockText.{shortfall_text};
 ghost use Rattle.edit_session.specs.Sessions.{EditEnds, IsSolved, UndoEnds};
 ghost use Rattle.session_text.specs.StateTexts.{SaysRoutesOf, SaysSummary, block_text, bottlenecks_of, clearing_of, cut_of, work_of};
+ghost use Rattle.session_text.specs.Spaces.{IsSpace};
 ghost use Rattle.session_talk.specs.Desks.{DeskBegins};
 
 use building_table::{Building, NameFault, Names, edit_of};
@@ -24,7 +25,7 @@ use session_text::{
     ReportSpace, write_barred, write_block, write_bottlenecks, write_clearing, write_cut,
     write_routes, write_summary, write_work,
 };
-use std::alloc::Global;
+use std::alloc::{AllocError, Global};
 use std::marker::Model;
 use std::sync::ledger::Ledger;
 
@@ -49,6 +50,17 @@ impl Model for Desk {
     ghost invariant = { λ d. IsDesk d.names d.session d.routes d.space };
 }
 
+// What routes and reports on a building's plans are made in.
+fn tables(alloc: Global, building: &Building) -> Result<(Routes, ReportSpace), AllocError>
+    requires { IsValid building.now.model }
+    ensures routes { IfOk result (λ made. made.0.model ≡ building.now.model) }
+    ensures space { IfOk result (λ made. IsSpace building.now.model building.now.names made.1) }
+{
+    let routes = Routes::new(alloc, &building.model)?;
+    let space = ReportSpace::new(alloc, &building.model, &building.names)?;
+    Ok((routes, space))
+}
+
 impl Desk {
     /// A desk for a building, with the best plan of its model. All memory that a session needs is taken here.
     pub(crate) fn open<L: Ledger>(
@@ -60,13 +72,11 @@ impl Desk {
         requires names { NamesFit building.names building.model }
         ensures { (n : ℕ) × (steps.new ≡ steps.old + n) × DeskBegins building.names building.model result n }
     {
-        let Building { model, names } = building;
-        let (Ok(routes), Ok(space)) = (
-            Routes::new(alloc, &model),
-            ReportSpace::new(alloc, &model, &names),
-        ) else {
+        let Ok((routes, space)) = tables(alloc, &building) else {
+            drop(building);
             return Err(BeginFault::Memory);
         };
+        let Building { model, names } = building;
         match Session::begin(alloc, model, steps) {
             Ok(session) => Ok(Desk {
                 names,
@@ -75,7 +85,10 @@ impl Desk {
                 routes,
                 space,
             }),
-            Err(fault) => Err(fault),
+            Err(fault) => {
+                drop((names, routes, space));
+                Err(fault)
+            }
         }
     }
 

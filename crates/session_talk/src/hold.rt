@@ -121,9 +121,13 @@ fn go_on<S: Source, K: Sink, L: Ledger>(
     match send_opening(&desk, out, sink) {
         Ok(()) => {
             let ending = converse(lines, source, out, sink, &mut desk, steps);
+            drop(desk);
             conclude(out, sink, ending, lines.number())
         }
-        Err(_) => SINK_FAILED,
+        Err(_) => {
+            drop(desk);
+            SINK_FAILED
+        }
     }
 }
 
@@ -151,7 +155,9 @@ pub fn hold_session<S: Source, K: Sink, L: Ledger>(
     match Desk::open(alloc, building, steps) {
         Ok(desk) => go_on(lines, source, out, sink, desk, steps),
         Err(BeginFault::NotCleared(short)) => {
-            status_after(send_short(out, sink, &short, line), REFUSED)
+            let sent = send_short(out, sink, &short, line);
+            drop(short);
+            status_after(sent, REFUSED)
         }
         Err(BeginFault::Memory) => NO_MEMORY,
     }

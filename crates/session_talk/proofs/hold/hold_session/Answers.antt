@@ -6,8 +6,8 @@ use Rattle.session_talk.proofs.hold.hold_session.Goals as goal
 pub returns-in-Err-NotCleared-clause-held : goal.returns-in-Err-NotCleared-clause-held
 returns-in-Err-NotCleared-clause-held g c =
     let b = c.in-Err-NotCleared.ensures in
-    short_held c.send_short.result c.args.building.names c.args.building.model c.in-Err-NotCleared.field-0 c.in-Err-NotCleared.short c.status_after.result c.number-line.result b.0 _ _ _ _ _ _ _ _ _ _ _ c.in-Err-NotCleared.field-0-is b.2 c.number-line.ensures.number b.1
-    c.requires.fresh c.status_after.ensures c.send_short.ensures
+    short_held c.send_short-sent.result c.args.building.names c.args.building.model c.in-Err-NotCleared.field-0 c.in-Err-NotCleared.short c.status_after.result c.number-line.result b.0 _ _ _ _ _ _ _ _ _ _ _ c.in-Err-NotCleared.field-0-is b.2 c.number-line.ensures.number b.1
+    c.requires.fresh c.status_after.ensures c.send_short-sent.ensures
 
 pub returns-in-Err-NotCleared-clause-asks : goal.returns-in-Err-NotCleared-clause-asks
 returns-in-Err-NotCleared-clause-asks g c = asks-none g.S.Source.takes _ _
