@@ -1,3 +1,2 @@
 pub mod UnsetLemmas
-pub mod SentLemmas
 pub mod SettleLemmas

@@ -1,5 +1,5 @@
 -- Moment after moment settled, and what it comes to.
-use Rattle.std.proofs.Common.{◌≡◌, ◌≢◌, ℕ, zero, suc, ◌+◌, ◌-◌, ◌*◌, ◌<◌, ◌≤◌, true, false, List, [], ◌∷◌, ap, sym, subst, ◌∙◌, refl, arith, inl, inr, ◌⊎◌, add-one}
+use Rattle.std.proofs.Common.{◌≡◌, ◌≢◌, ℕ, zero, suc, ◌+◌, ◌-◌, ◌*◌, ◌<◌, ◌≤◌, true, false, List, [], ◌∷◌, ap, sym, subst, ◌∙◌, cond, refl, arith, inl, inr, ◌⊎◌, add-one}
 use Rattle.std.specs.List.{All}
 use Rattle.std.proofs.lemmas.Bool.{cases_lt, cases_eq}
 use Rattle.evac_law.specs.declared.model.Model.{Model}
@@ -13,14 +13,16 @@ use Rattle.evac_law.proofs.Optimal.{label_cut_is_cut}
 use Rattle.evac_law.proofs.SumLemmas as sums
 use Rattle.residual_net.specs.Closed.{IsClosed}
 use Rattle.residual_net.specs.Limits.{supply_limit}
-use Rattle.residual_net.specs.Network.{Network, IsAllSent, IsNet, IsWithinLimits, arrived_by, supply_limits}
+use Rattle.residual_net.specs.Network.{Network, IsAllSent, IsNet, IsWithinLimits, arrived_by, limit_at, supply_limits}
 use Rattle.residual_net.specs.NetLaws.{labelled}
 use Rattle.residual_net.specs.OfModel.{IsNetOf, last_move, plan_of}
-use Rattle.residual_net.specs.Site.{Site, IsPlace}
+use Rattle.residual_net.specs.Site.{Site, IsPlace, is_source, tail_of}
 use Rattle.residual_net.proofs.Effects.{all_sent_arrive, arrived_all_sent}
 use Rattle.residual_net.proofs.Fit.{feasible, fits}
 use Rattle.residual_net.proofs.LastArrival.{arrived_by_last, arrived_rises, last_by_arrived, last_fits}
 use Rattle.residual_net.proofs.Law.{arrived_is_out, arrived_within, closed_is_cut}
+use Rattle.residual_net.proofs.Places.{sum_places-same}
+use Rattle.residual_net.proofs.SentLemmas.{arrived_sent, few_arrive, sent_arrive}
 use Rattle.terminal_augment.proofs.ClosedLemmas.{closed_same}
 use Rattle.terminal_augment.proofs.SendLemmas.{few_by, horizon_small}
 use Rattle.terminal_augment.specs.Settled.{IsClosedBelow, IsLabelled, IsLabelsOf, IsSentOn, KeepsLimits}
@@ -28,8 +30,14 @@ use Rattle.lex_flow.specs.declared.outcome.Outcome.{Outcome}
 use Rattle.lex_flow.specs.declared.outcome.Outcome.TheVariants.{Cleared, Short}
 use Rattle.lex_flow.specs.Outcomes.{AreLabelsSettled, IsAnswer, IsNetSettled, IsOutcome, last_settled, pushes_of}
 use Rattle.lex_flow.specs.Settling.{IsOver, IsRelabelled, IsSettledThrough, IsSettledTo, IsUnset, arrivals_below}
-use Rattle.lex_flow.proofs.SentLemmas.{arrived_sent, few_arrive, sent_arrive, supplies_kept}
 use Rattle.lex_flow.proofs.UnsetLemmas.{early_same, unset_keeps, unset_late, unset_there}
+
+-- limits that stay make the same supplies
+supplies_kept : (w v : Network) → KeepsLimits w v → supply_limits v ≡ supply_limits w
+unfolding supply_limits
+supplies_kept w v kept =
+    ap (λ s. sum_places s (λ q. cond (is_source (tail_of s q)) (limit_at v q) 0)) kept.site
+    ∙ sum_places-same w.site _ _ (λ q i. ap (λ z. cond (is_source (tail_of w.site q)) z 0) (kept.limits q i))
 
 -- ---- sums of arrivals
 

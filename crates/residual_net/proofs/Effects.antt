@@ -62,7 +62,7 @@ all_sent_arrive m w net of within all =
     at_place (Supply n t) i = omega (arith, within (Supply n t) i, all n t i)
 
 -- an unsent person is missing from the sum
-one_missing : (w : Network) → IsWithinLimits w → (n t : ℕ) → IsPlace w.site (Supply n t) → flow_at w (Supply n t) < limit_at w (Supply n t)
+pub one_missing : (w : Network) → IsWithinLimits w → (n t : ℕ) → IsPlace w.site (Supply n t) → flow_at w (Supply n t) < limit_at w (Supply n t)
     → flow_out w is_source + 1 ≤ supply_limits w
 unfolding flow_out supply_limits
 one_missing w within n t i less =

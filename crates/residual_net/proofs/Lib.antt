@@ -16,3 +16,4 @@ pub mod Walks
 pub mod Taking
 pub mod Effects
 pub mod LegLemmas
+pub mod SentLemmas

@@ -234,7 +234,7 @@ same_supplies w v path x a =
     ap (λ s. sum_places s (λ p. cond (is_source (tail_of s p)) (limit_at v p) 0)) a.site
     ∙ sum_places-same w.site _ _ (λ p i. ap (λ z. cond (is_source (tail_of w.site p)) z 0) (a.limits p i))
 
-sent_fits : (w : Network) → IsWithinLimits w → flow_out w is_source ≤ supply_limits w
+pub sent_fits : (w : Network) → IsWithinLimits w → flow_out w is_source ≤ supply_limits w
 unfolding flow_out supply_limits
 sent_fits w h = sum_places-le w.site _ _ (λ p i. cond_le (is_source (tail_of w.site p)) (flow_at w p) (limit_at w p) (h p i))
 
