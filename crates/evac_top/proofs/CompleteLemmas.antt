@@ -80,9 +80,11 @@ ends-done talk before (Err code ∷ rest) r x texts answered e h = absurd (never
 
 sessions-all : (r : Reading) (x : Account) → Sessions r x → SessionsAll r x
 sessions-all (Described d last rest) x (inl run) =
-    let opening = run.goes.opening.after.standing in
-    (λ can. run, λ cannot. absurd (cannot (opening-clears d.model opening run.goes.opens.begins)),
-    λ can texts whole. ends-done (session (names_of d) d.model) (last + length run.answered) run.rest run.replies (spoken x) texts run.answered (sym whole ∙ run.parts) run.ends)
+    let opening = run.goes.opening.after.standing in (
+      λ can. run,
+      λ cannot. absurd (cannot (opening-clears d.model opening run.goes.opens.begins)),
+      λ can texts whole. ends-done (session (names_of d) d.model) (last + length run.answered) run.rest run.replies (spoken x) texts run.answered (sym whole ∙ run.parts) run.ends,
+    )
 sessions-all (Described d last rest) x (inr short) = (λ can. absurd (short.short.barred can), λ cannot. short, λ can texts whole. absurd (short.short.barred can))
 sessions-all (Refused code line) x h = h
 

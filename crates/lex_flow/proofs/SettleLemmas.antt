@@ -16,7 +16,7 @@ use Rattle.residual_net.specs.Limits.{supply_limit}
 use Rattle.residual_net.specs.Network.{Network, IsAllSent, IsNet, IsWithinLimits, arrived_by, limit_at, supply_limits}
 use Rattle.residual_net.specs.NetLaws.{labelled}
 use Rattle.residual_net.specs.OfModel.{IsNetOf, last_move, plan_of}
-use Rattle.residual_net.specs.Site.{Site, IsPlace, is_source, tail_of}
+use Rattle.residual_net.specs.Site.{Site, IsPlace, is_source, sum_places, tail_of}
 use Rattle.residual_net.proofs.Effects.{all_sent_arrive, arrived_all_sent}
 use Rattle.residual_net.proofs.Fit.{feasible, fits}
 use Rattle.residual_net.proofs.LastArrival.{arrived_by_last, arrived_rises, last_by_arrived, last_fits}

@@ -1,8 +1,8 @@
 //! An example of a caller: what it costs to shut an exit.
 //!
 //! `what_if` reads a building from text, plans it, shuts an exit by its name, and answers when the last are out before and after.
-//! `check_plan` writes the block of a plan into memory, reads it back and asks the checker, which says yes. Nothing stands on this crate:
-//! it shows how a program calls the libraries, and what a caller can promise in the words of their definitions.
+//! `check_plan` writes the block of a plan into memory, reads it back and asks the checker, which says yes. Only tests call them:
+//! they show how a program calls the libraries, and what a caller can promise in the words of their definitions.
 #![tactic(auto)]
 
 mod answer;

@@ -6,6 +6,8 @@
 #[cfg(test)]
 mod buildings;
 #[cfg(test)]
+mod caller;
+#[cfg(test)]
 mod calls;
 #[cfg(test)]
 mod edits;
