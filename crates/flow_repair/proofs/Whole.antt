@@ -16,8 +16,9 @@ use Rattle.residual_net.specs.Closed.{reached}
 use Rattle.residual_net.specs.Network.{Network, IsAllSent, IsNet, IsWithinLimits, flow_at, limit_at, residual_room}
 use Rattle.residual_net.specs.NetLaws.{labelled}
 use Rattle.residual_net.specs.OfModel.{IsNetOf, model_limit, plan_of, site_of, stand_of}
-use Rattle.residual_net.specs.Site.{Site, End, IsPlace, arc_count, exit_at, head_of, is_barred, start_of, stop_of, sum_places}
-use Rattle.residual_net.specs.Site.End.{Source, Pair, Door}
+use Rattle.residual_net.specs.declared.end.End.{End}
+use Rattle.residual_net.specs.declared.end.End.TheVariants.{Source, Pair, Door}
+use Rattle.residual_net.specs.Site.{Site, IsPlace, arc_count, exit_at, head_of, is_barred, start_of, stop_of, sum_places}
 use Rattle.residual_net.proofs.Begin.{joined}
 use Rattle.residual_net.proofs.Fit.{fits}
 use Rattle.residual_net.proofs.Held.{arcs_same, arrival_is, horizon_same, nodes_same}

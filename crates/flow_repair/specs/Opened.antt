@@ -4,8 +4,9 @@ pub use Rattle.residual_net.specs.Labelled.{IsClosedBelow, IsLabelsOf}
 use Rattle.evac_law.specs.LabelTable.{LabelTable, label_at}
 use Rattle.residual_net.specs.declared.place.Place.{Place}
 use Rattle.residual_net.specs.Network.{Network, flow_at, limit_at}
-use Rattle.residual_net.specs.Site.{Site, End, IsPlace, head_of}
-use Rattle.residual_net.specs.Site.End.{Source, Pair, Door}
+use Rattle.residual_net.specs.declared.end.End.{End}
+use Rattle.residual_net.specs.declared.end.End.TheVariants.{Source, Pair, Door}
+use Rattle.residual_net.specs.Site.{Site, IsPlace, head_of}
 
 -- the number of an end: the label of a pair, the moment of an arrival
 abbrev pub end_number : LabelTable → End → ℕ

@@ -5,7 +5,7 @@ ghost use Rattle.residual_net.specs.Site.{IsPlace, is_barred};
 ghost use Rattle.flow_repair.specs.Opened.{IsLabelsOf, head_number};
 
 use evac_law::Labels;
-use residual_net::{Net, PathStep, Place};
+use residual_net::{End, Net, PathStep, Place};
 
 /// The label of the pair that a place leads to, or the moment of the arrival.
 pub fn head_number(net: &Net, labels: &Labels, place: Place) -> u16
@@ -14,19 +14,10 @@ pub fn head_number(net: &Net, labels: &Labels, place: Place) -> u16
     requires labels { IsLabelsOf net.now.site labels.now }
     ensures { result ≡ head_number labels.now net.now.site place }
 {
-    let shape = net.shape();
-    match place {
-        Place::Arc { arc, moment } => {
-            let ends = shape.ends()[arc as usize];
-            let arrival = moment + net.travel(arc);
-            if net.is_exit(ends.to) {
-                arrival
-            } else {
-                labels.get(ends.to, arrival)
-            }
-        }
-        Place::Hold { node, moment } => labels.get(node, moment + 1),
-        Place::Supply { node, moment } => labels.get(node, moment),
+    match net.head(place) {
+        End::Source => 0,
+        End::Pair { node, moment } => labels.get(node, moment),
+        End::Door(moment) => moment,
     }
 }
 

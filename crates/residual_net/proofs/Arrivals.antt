@@ -1,7 +1,6 @@
 -- What a path says of the moments where it begins and ends, and the arrivals that are kept of each moment.
-use Rattle.std.proofs.Common.{◌≡◌, ℕ, zero, suc, ◌+◌, ◌-◌, ◌<◌, ◌≤◌, Bool, true, false, cond, eqb, leb, List, length, get_or, Option, None, Some, refl, ap, sym, ◌∙◌, arith, subst, inl, inr, add-one}
+use Rattle.std.proofs.Common.{◌≡◌, ℕ, zero, suc, ◌+◌, ◌-◌, ◌<◌, ◌≤◌, Bool, true, false, cond, leb, List, length, get_or, refl, ap, sym, ◌∙◌, arith, subst, inl, inr, add-one}
 use Rattle.std.specs.List.{sum_by}
-use Rattle.std.specs.Option.{IfSome}
 use Rattle.std.proofs.lemmas.Bool.{cases_Bool, eq-eqb}
 use Rattle.std.proofs.lemmas.Bool.Decides.{nat_tests}
 use Rattle.evac_law.specs.Sums.{below}
@@ -10,11 +9,13 @@ use Rattle.residual_net.specs.declared.place.Place.{Place}
 use Rattle.residual_net.specs.declared.place.Place.TheVariants.{Arc, Hold, Supply}
 use Rattle.residual_net.specs.declared.place.PathStep.{PathStep}
 use Rattle.residual_net.specs.Limits.{supply_limit}
-use Rattle.residual_net.specs.Site.{Site, IsPlace, End, at, door_by, is_door, is_barred, head_of, tail_of, start_of, stop_of}
-use Rattle.residual_net.specs.Site.End.{Source, Pair, Door}
+use Rattle.residual_net.specs.declared.end.End.{End}
+use Rattle.residual_net.specs.declared.end.End.TheVariants.{Source, Pair, Door}
+use Rattle.residual_net.specs.Site.{Site, IsPlace, at, door_by, is_door, is_barred, head_of, tail_of, start_of, stop_of}
 use Rattle.residual_net.specs.Network.{Network, IsNet, IsStored, flow_at, limit_at, flow_into, residual_room}
+use Rattle.residual_net.specs.Legs.{IsUnderwayBetween}
 use Rattle.residual_net.specs.Route.{IsUnderway}
-use Rattle.residual_net.specs.Change.{IsFewerBy, IsDoorAt, is_moment, rank}
+use Rattle.residual_net.specs.Change.{IsFewerBy, rank}
 use Rattle.residual_net.proofs.Places.{cond_most, sum_places-same, sum_places-add, sum_places-le}
 use Rattle.residual_net.proofs.Push.{arrivals_moved}
 use Rattle.residual_net.proofs.Quiet.{part_into, rank_in}
@@ -52,13 +53,7 @@ from_door s r k e = elim (cases_Bool r.back) [
   | inr b ↦ absurd (no_tail s r.place k (rw b at e))
 ]
 
--- ---- the moment that is told of an end
-
-pub door_test : (e : End) (moment : Option ℕ) → IsDoorAt e moment → (j : ℕ) → at (Door j) e ≡ is_moment moment j
-door_test Source None h j = refl
-door_test (Pair n t) None h j = refl
-door_test (Door k) None h j = absurd (cc)
-door_test e (Some k) h j = ap (at (Door j)) h
+-- ---- an arrival at the end of a step
 
 -- an arrival that is told belongs to a place, and counts the people of the place
 pub told_door : (w : Network) (arrivals : List ℕ) → IsStored w arrivals → (r : PathStep) (x : ℕ) → IsPlace w.site r.place → 1 ≤ x → x ≤ residual_room w r
@@ -72,9 +67,9 @@ told_people w arrivals s p x i few j h l =
     omega (arith, part_into w p i (Door j) h, s.totals j (omega (arith, l, s.moments)))
 
 -- the arrivals that are kept stay those of the flow
-pub stored_counted : (w v : Network) (arrivals mid new : List ℕ) (from to : Option ℕ) (x : ℕ) → IsStored w arrivals → IsNet v → v.site ≡ w.site
+pub stored_counted : (w v : Network) (arrivals mid new : List ℕ) (from to : End) (x : ℕ) → IsStored w arrivals → IsNet v → v.site ≡ w.site
     → IsFewerBy mid arrivals from x → IsFewerBy mid new to x
-    → ((j : ℕ) → flow_into v (at (Door j)) + cond (is_moment from j) x 0 ≡ flow_into w (at (Door j)) + cond (is_moment to j) x 0) → IsStored v new
+    → ((j : ℕ) → flow_into v (at (Door j)) + cond (at (Door j) from) x 0 ≡ flow_into w (at (Door j)) + cond (at (Door j) to) x 0) → IsStored v new
 stored_counted w v arrivals mid new from to x s net site a b moved =
     let horizon = ap (λ (z : Site). z.shape.horizon) site in
     record {
@@ -85,70 +80,67 @@ stored_counted w v arrivals mid new from to x s net site a b moved =
 
 -- ---- the arrivals of a push
 
-module _ (v : Network) (arrivals : List ℕ) (path : List PathStep) (x : ℕ) (d : PathStep) (one : 1 ≤ x) (u : IsUnderway v arrivals path x) where
+module _ (v : Network) (arrivals : List ℕ) (first last : PathStep) (x : ℕ) (one : 1 ≤ x) (h : IsUnderwayBetween v arrivals first last x)
+    (from to : End) (a : from ≡ start_of v.site first) (b : to ≡ head_of v.site last.place) where
+  abbrev u : IsUnderway v arrivals h.path x
+  u = h.underway
+
   abbrev w : Network
   w = u.before
 
-  abbrev first : PathStep
-  first = get_or path 0 d
+  abbrev last_number : ℕ
+  last_number = length h.path - 1
 
-  abbrev last : PathStep
-  last = get_or path (length path - 1) d
+  some : 0 < length h.path
+  some = path_some w h.path x u.pushable
 
-  some : 0 < length path
-  some = path_some w path x u.pushable
+  first_is : start_of w.site first ≡ from
+  first_is = sym (a ∙ ap (λ z. start_of z first) u.pushed.site)
 
-  last_head : head_of w.site last.place ≡ Door u.pushable.1
-  last_head = (into_door w.site last u.pushable.1 (last_stop w.site u.pushable.0 (Door u.pushable.1) path d u.pushable.2.leads some)).1
+  last_is : head_of w.site last.place ≡ to
+  last_is = sym (b ∙ ap (λ z. head_of z last.place) u.pushed.site)
 
-  pub can_lower : (from : Option ℕ) → IsDoorAt (start_of v.site first) from → IfSome from (λ j. (j < length arrivals) × (x ≤ get_or arrivals j 0))
-  can_lower None a = tt
-  can_lower (Some j) a =
-      let back = from_door w.site first j (subst (λ z. start_of z first ≡ Door j) u.pushed.site a) in
-      let place = u.pushable.2.places 0 d some in
-      let room : x ≤ residual_room w first = u.pushable.2.room 0 d some in
+  from_is : from ≡ u.pushable.0
+  from_is = sym first_is ∙ ap (start_of w.site) (sym (h.first_step first))
+      ∙ first_start w.site u.pushable.0 (Door u.pushable.1) h.path first u.pushable.2.leads some
+
+  to_is : to ≡ Door u.pushable.1
+  to_is =
+      let stops = last_stop w.site u.pushable.0 (Door u.pushable.1) h.path last u.pushable.2.leads some in
+      sym last_is ∙ (into_door w.site last u.pushable.1 (ap (stop_of w.site) (sym (h.last_step last)) ∙ stops)).1
+
+  moved : (j : ℕ) → flow_into v (at (Door j)) + cond (at (Door j) from) x 0 ≡ flow_into w (at (Door j)) + cond (at (Door j) to) x 0
+  moved j =
+      omega (
+        arith,
+        arrivals_moved w v h.path x u.pushed u.pushable.2.places u.pushable.0 u.pushable.1 u.pushable.2.origin u.pushable.2.leads j,
+        ap (λ z. cond (at (Door j) z) x 0) from_is,
+        ap (λ z. cond (at (Door j) z) x 0) to_is,
+      )
+
+  net : IsNet v
+  net = net_pushed w v h.path x u.stored.net u.within u.pushable u.pushed u.grid
+
+  pub can_lower : (j : ℕ) → from ≡ Door j → (j < length arrivals) × (x ≤ get_or arrivals j 0)
+  can_lower j e =
+      let back = from_door w.site first j (first_is ∙ e) in
+      let place = subst (λ (y : PathStep). IsPlace w.site y.place) (h.first_step first) (u.pushable.2.places 0 first some) in
+      let room = subst (λ (y : PathStep). x ≤ residual_room w y) (h.first_step first) (u.pushable.2.room 0 first some) in
       let inside = told_door w arrivals u.stored first x place one room j back.1 in
-      (inside, told_people w arrivals u.stored first.place x place (rw back.0 at room) j back.1 inside)
+      let enough = subst (λ (b : Bool). x ≤ cond b (flow_at w first.place) (limit_at w first.place - flow_at w first.place)) back.0 room in
+      (inside, told_people w arrivals u.stored first.place x place enough j back.1 inside)
 
-  module _ (from to : Option ℕ) (a : IsDoorAt (start_of v.site first) from) (b : IsDoorAt (head_of v.site last.place) to) where
-    starts : (j : ℕ) → at (Door j) u.pushable.0 ≡ is_moment from j
-    starts j =
-        ap (at (Door j)) (sym (first_start w.site u.pushable.0 (Door u.pushable.1) path d u.pushable.2.leads some) ∙ sym (ap (λ z. start_of z first) u.pushed.site))
-        ∙ door_test (start_of v.site first) from a j
+  pub can_raise : (mid : List ℕ) → IsFewerBy mid arrivals from x → (j : ℕ) → to ≡ Door j → (j < length mid) × (get_or mid j 0 + x ≤ supply_limit)
+  can_raise mid m j e =
+      let place = subst (λ (y : PathStep). IsPlace w.site y.place) (h.last_step last) (u.pushable.2.places last_number last (omega (arith, some))) in
+      let room = subst (λ (y : PathStep). x ≤ residual_room w y) (h.last_step last) (u.pushable.2.room last_number last (omega (arith, some))) in
+      let inside = told_door w arrivals u.stored last x place one room j (last_is ∙ e) in
+      let all = ap (λ z. cond (at (Door j) z) x 0) e ∙ ap (λ z. cond z x 0) (eq-eqb j j refl) in
+      let total = u.stored.totals j (omega (arith, inside, u.stored.moments)) in
+      (omega (arith, inside, m.length_same), omega (arith, m.each j, moved j, all, total, few_arrive v j net))
 
-    stops : (j : ℕ) → eqb j u.pushable.1 ≡ is_moment to j
-    stops j = ap (at (Door j)) (sym last_head ∙ sym (ap (λ z. head_of z last.place) u.pushed.site)) ∙ door_test (head_of v.site last.place) to b j
-
-    moved : (j : ℕ) → flow_into v (at (Door j)) + cond (is_moment from j) x 0 ≡ flow_into w (at (Door j)) + cond (is_moment to j) x 0
-    moved j =
-        omega (
-          arith,
-          arrivals_moved w v path x u.pushed u.pushable.2.places u.pushable.0 u.pushable.1 u.pushable.2.origin u.pushable.2.leads j,
-          ap (λ z. cond z x 0) (starts j),
-          ap (λ z. cond z x 0) (stops j),
-        )
-
-    net : IsNet v
-    net = net_pushed w v path x u.stored.net u.within u.pushable u.pushed u.grid
-
-    fits : (j : ℕ) → head_of w.site last.place ≡ Door j → is_moment to j ≡ true → (mid : List ℕ) → IsFewerBy mid arrivals from x
-        → (j < length mid) × (get_or mid j 0 + x ≤ supply_limit)
-    fits j h t mid m =
-        let at_last = length path - 1 in
-        let inside = told_door w arrivals u.stored last x (u.pushable.2.places at_last d (omega (arith, some))) one
-        (u.pushable.2.room at_last d (omega (arith, some))) j h in
-        let all : cond (is_moment to j) x 0 ≡ x = ap (λ z. cond z x 0) t in
-        let total = u.stored.totals j (omega (arith, inside, u.stored.moments)) in
-        (omega (arith, inside, m.length_same), omega (arith, m.each j, moved j, all, total, few_arrive v j net))
-
-    pub stored_pushed : (mid new : List ℕ) → IsFewerBy mid arrivals from x → IsFewerBy mid new to x → IsStored v new
-    stored_pushed mid new m n = stored_counted w v arrivals mid new from to x u.stored net u.pushed.site m n moved
-
-  pub can_raise : (from to : Option ℕ) → IsDoorAt (start_of v.site first) from → IsDoorAt (head_of v.site last.place) to → (mid : List ℕ)
-      → IsFewerBy mid arrivals from x → IfSome to (λ j. (j < length mid) × (get_or mid j 0 + x ≤ supply_limit))
-  can_raise from None a b mid m = tt
-  can_raise from (Some j) a b mid m =
-      fits from (Some j) a b j (subst (λ z. head_of z last.place ≡ Door j) u.pushed.site b) (eq-eqb j j refl) mid m
+  pub stored_pushed : (mid new : List ℕ) → IsFewerBy mid arrivals from x → IsFewerBy mid new to x → IsStored v new
+  stored_pushed mid new m n = stored_counted w v arrivals mid new from to x u.stored net u.pushed.site m n moved
 
 -- ---- arrivals added up
 

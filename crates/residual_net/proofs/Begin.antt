@@ -25,7 +25,7 @@ use Rattle.residual_net.specs.declared.start.Kind.{Kind}
 use Rattle.residual_net.specs.declared.start.Kind.TheVariants as kinds
 use Rattle.residual_net.specs.Limits.{supply_limit}
 use Rattle.residual_net.specs.Site.{Site, IsSite, IsPlace, End_test, all_cells, arc_count, cell_of, at, exit_at, head_of, is_barred, is_door, is_source, same_place, sum_places, tail_of}
-use Rattle.residual_net.specs.Site.End.{Pair, Door}
+use Rattle.residual_net.specs.declared.end.End.TheVariants.{Pair, Door}
 use Rattle.residual_net.specs.Network.{Network, IsKept, IsStored, no_cell, flow_at, flow_into, flow_out, limit_at, supply_limits}
 use Rattle.residual_net.specs.OfModel.{IsNetOf, model_limit, site_of}
 use Rattle.residual_net.specs.Start.{StartsAs, cell_at, start_cells, emptied, is_kind, moment_of, place_of, row_cells, row_of, rows_cells}

@@ -10,8 +10,9 @@ use Rattle.residual_net.specs.declared.place.Place.{Place}
 use Rattle.residual_net.specs.declared.place.Place.TheVariants.{Arc, Hold, Supply}
 use Rattle.residual_net.specs.declared.place.PathStep.{PathStep}
 use Rattle.residual_net.specs.Limits.{supply_limit}
-use Rattle.residual_net.specs.Site.{Site, End, IsPlace, arc_count, door_by, is_source, same_place, sum_places, tail_of}
-use Rattle.residual_net.specs.Site.End.{Source, Door}
+use Rattle.residual_net.specs.declared.end.End.{End}
+use Rattle.residual_net.specs.declared.end.End.TheVariants.{Source, Door}
+use Rattle.residual_net.specs.Site.{Site, IsPlace, arc_count, door_by, is_source, same_place, sum_places, tail_of}
 use Rattle.residual_net.specs.Network.{Network, IsAllSent, IsNet, IsWithinLimits, arrived_by, flow_at, flow_out, limit_at, supply_limits}
 use Rattle.residual_net.specs.Route.{IsAugmentingPath, IsPushed, Leads}
 use Rattle.residual_net.specs.Change.{IsCancelled, IsFlowPath, supply_limits_with}

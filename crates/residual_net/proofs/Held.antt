@@ -15,7 +15,7 @@ use Rattle.evac_law.proofs.WeakDuality.{came-zero, came-suc, left-zero, left-suc
 use Rattle.time_expansion.specs.Expansion.{from_at, to_at, no_ends}
 use Rattle.residual_net.specs.declared.place.Place.TheVariants.{Arc, Hold, Supply}
 use Rattle.residual_net.specs.Site.{Site, at, head_of, tail_of, exit_at, arrival_at, arc_count, sum_places}
-use Rattle.residual_net.specs.Site.End.{Pair, Door}
+use Rattle.residual_net.specs.declared.end.End.TheVariants.{Pair, Door}
 use Rattle.residual_net.specs.Network.{Network, IsNet, flow_at, flow_into, flow_out}
 use Rattle.residual_net.specs.OfModel.{site_of, IsNetOf, plan_of}
 use Rattle.evac_law.proofs.MoveLemmas.{sum_moves, sum2-at}

@@ -6,7 +6,7 @@ use Rattle.residual_net.specs.declared.place.Place.{Place}
 use Rattle.residual_net.specs.declared.place.Cell.{Cell}
 use Rattle.residual_net.specs.Limits.{supply_limit}
 use Rattle.residual_net.specs.Site.{Site, IsPlace, End_test, at, head_of, is_barred, is_door, is_source, same_place, sum_places, tail_of}
-use Rattle.residual_net.specs.Site.End.{Pair, Door}
+use Rattle.residual_net.specs.declared.end.End.TheVariants.{Pair, Door}
 use Rattle.residual_net.specs.Network.{Network, IsGrid, IsKept, IsStored, flow_at, flow_into, flow_out, limit_at, saved_of, supply_limits, with_saved}
 use Rattle.residual_net.specs.Change.{IsLimitSet, supply_limits_with}
 use Rattle.residual_net.proofs.Places.{sum_places-same, same-place}

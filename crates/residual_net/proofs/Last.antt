@@ -10,7 +10,7 @@ use Rattle.evac_law.proofs.MoveLemmas.{moved-moves_of, ordered-moves_of}
 use Rattle.residual_net.specs.declared.place.Place.{Place}
 use Rattle.residual_net.specs.declared.place.Place.TheVariants.{Arc, Hold, Supply}
 use Rattle.residual_net.specs.Site.{Site, IsPlace, arc_count, arrival_at, at, head_of, tail_of}
-use Rattle.residual_net.specs.Site.End.{Pair, Door}
+use Rattle.residual_net.specs.declared.end.End.TheVariants.{Pair, Door}
 use Rattle.residual_net.specs.Network.{Network, IsNet, IsStored, flow_at, flow_into}
 use Rattle.residual_net.specs.Change.{rank}
 use Rattle.residual_net.specs.OfModel.{last_move, plan_of}

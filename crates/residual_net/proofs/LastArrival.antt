@@ -4,8 +4,9 @@ use Rattle.std.proofs.lemmas.Bool.{cases_lt, le-leb}
 use Rattle.std.proofs.lemmas.Bool.Decides.{nat_tests}
 use Rattle.evac_law.proofs.SumLemmas.{cond_nothing}
 use Rattle.residual_net.specs.declared.place.Place.{Place}
-use Rattle.residual_net.specs.Site.{End, IsPlace, at, door_by, head_of, is_door}
-use Rattle.residual_net.specs.Site.End.{Source, Pair, Door}
+use Rattle.residual_net.specs.declared.end.End.{End}
+use Rattle.residual_net.specs.declared.end.End.TheVariants.{Source, Pair, Door}
+use Rattle.residual_net.specs.Site.{IsPlace, at, door_by, head_of, is_door}
 use Rattle.residual_net.specs.Network.{Network, IsNet, arrived_by, flow_at, flow_into}
 use Rattle.residual_net.specs.OfModel.{last_move, plan_of}
 use Rattle.residual_net.proofs.Last.{arrival_moves, moves_by_last}

@@ -21,7 +21,7 @@ use Rattle.evac_law.proofs.WeakDuality.{value_is, out_le_value}
 use Rattle.evac_law.proofs.Tight.{tight_is_equal}
 use Rattle.residual_net.specs.declared.place.Place.TheVariants.{Arc, Hold, Supply}
 use Rattle.residual_net.specs.Site.{IsPlace, door_by, head_of, tail_of, arc_count, sum_places}
-use Rattle.residual_net.specs.Site.End.{Pair, Door}
+use Rattle.residual_net.specs.declared.end.End.TheVariants.{Pair, Door}
 use Rattle.residual_net.specs.Network.{Network, IsNet, IsWithinLimits, flow_at, limit_at, flow_into, arrived_by}
 use Rattle.residual_net.specs.OfModel.{IsNetOf, plan_of}
 use Rattle.residual_net.specs.Closed.{IsClosed, reached}

@@ -5,8 +5,9 @@ use Rattle.std.proofs.lemmas.Bool.Decides.{nat_tests}
 use Rattle.time_expansion.specs.Expansion.{to_at}
 use Rattle.residual_net.specs.declared.place.Place.{Place}
 use Rattle.residual_net.specs.declared.place.Place.TheVariants.{Arc, Hold, Supply}
-use Rattle.residual_net.specs.Site.{Site, IsSite, IsPlace, End, at, is_barred, head_of, tail_of, exit_at, arrival_at, same_place, sum_places}
-use Rattle.residual_net.specs.Site.End.{Source, Pair, Door}
+use Rattle.residual_net.specs.declared.end.End.{End}
+use Rattle.residual_net.specs.declared.end.End.TheVariants.{Source, Pair, Door}
+use Rattle.residual_net.specs.Site.{Site, IsSite, IsPlace, at, is_barred, head_of, tail_of, exit_at, arrival_at, same_place, sum_places}
 use Rattle.residual_net.specs.Network.{Network, IsNet, flow_at, limit_at, flow_into, flow_out}
 use Rattle.residual_net.specs.Change.{rank}
 use Rattle.residual_net.specs.Closed.{IsClosed, reached}

@@ -1,21 +1,21 @@
 -- People taken off a flow path.
-use Rattle.std.proofs.Common.{◌≡◌, ℕ, ◌+◌, ◌-◌, ◌<◌, ◌≤◌, true, false, cond, not, ◌&&◌, eqb, List, [], ◌∷◌, length, take, get_or, Option, None, Some, refl, ap, sym, ◌∙◌, arith, subst}
+use Rattle.std.proofs.Common.{◌≡◌, ℕ, ◌+◌, ◌-◌, ◌<◌, ◌≤◌, true, false, cond, not, ◌&&◌, eqb, List, [], ◌∷◌, length, take, get_or, refl, ap, sym, ◌∙◌, arith, subst}
 use Rattle.std.specs.List.{sum_by, All}
-use Rattle.std.specs.Option.{IfSome}
 use Rattle.std.proofs.lemmas.List.{take_more}
 use Rattle.std.proofs.lemmas.List.Sums.{sum_by-cons, sum_by-append}
 use Rattle.std.proofs.lemmas.List.Elements.{All-weaker}
 use Rattle.residual_net.specs.declared.place.Place.{Place}
 use Rattle.residual_net.specs.declared.place.PathStep.{PathStep}
 use Rattle.residual_net.specs.Site.{Site, IsPlace, at, head_of, is_barred, is_source, same_place, sum_places, tail_of}
-use Rattle.residual_net.specs.Site.End.{Source, Door}
+use Rattle.residual_net.specs.declared.end.End.{End}
+use Rattle.residual_net.specs.declared.end.End.TheVariants.{Source, Door}
 use Rattle.residual_net.specs.Network.{Network, IsGrid, IsNet, IsStored, flow_at, flow_into, flow_out}
 use Rattle.residual_net.specs.Route.{IsPushed, Leads, added, taken}
-use Rattle.residual_net.specs.Change.{IsFewerBy, IsDoorAt, IsFlowPath, IsLowering, IsTakeable, IsTaken, is_moment}
+use Rattle.residual_net.specs.Change.{IsFewerBy, IsFlowPath, IsLowering, IsTakeable, IsTaken}
 use Rattle.residual_net.proofs.Places.{cond_le, sum_places-le}
 use Rattle.residual_net.proofs.Push.{arrivals_moved, was_conserved}
 use Rattle.residual_net.proofs.Steps.{added_none, apart_before, last_stop, same_supplies, steps_none}
-use Rattle.residual_net.proofs.Arrivals.{door_test, into_door, stored_counted, told_door, told_people}
+use Rattle.residual_net.proofs.Arrivals.{into_door, stored_counted, told_door, told_people}
 
 abbrev back_over : PathStep → PathStep
 back_over r = record { place = r.place; back = true }
@@ -121,20 +121,21 @@ module _ (v : Network) (arrivals : List ℕ) (path : List PathStep) (x : ℕ) (d
   last_head : head_of h.before.site last.place ≡ Door h.takeable.arrives.0
   last_head = (into_door h.before.site last h.takeable.arrives.0 (last_stop h.before.site Source (Door h.takeable.arrives.0) path d h.takeable.arrives.1.leads some)).1
 
-  pub can_lower : (from : Option ℕ) → IsDoorAt (head_of v.site last.place) from → IfSome from (λ j. (j < length arrivals) × (x ≤ get_or arrivals j 0))
-  can_lower None a = tt
-  can_lower (Some j) a =
-      let head = subst (λ z. head_of z last.place ≡ Door j) h.taken.site a in
-      let enough : x ≤ flow_at h.before last.place = h.takeable.enough (length path - 1) d (omega (arith, some)) in
-      let inside = told_door h.before arrivals h.stored (back_over last) x place h.takeable.some enough j head in
-      (inside, told_people h.before arrivals h.stored last.place x place enough j head inside)
+  module _ (from : End) (a : from ≡ head_of v.site last.place) where
+    last_is : head_of h.before.site last.place ≡ from
+    last_is = sym (a ∙ ap (λ z. head_of z last.place) h.taken.site)
 
-  module _ (from : Option ℕ) (a : IsDoorAt (head_of v.site last.place) from) where
-    stops : (j : ℕ) → eqb j h.takeable.arrives.0 ≡ is_moment from j
-    stops j = ap (at (Door j)) (sym last_head ∙ sym (ap (λ z. head_of z last.place) h.taken.site)) ∙ door_test (head_of v.site last.place) from a j
+    pub can_lower : (j : ℕ) → from ≡ Door j → (j < length arrivals) × (x ≤ get_or arrivals j 0)
+    can_lower j e =
+        let enough : x ≤ flow_at h.before last.place = h.takeable.enough (length path - 1) d (omega (arith, some)) in
+        let inside = told_door h.before arrivals h.stored (back_over last) x place h.takeable.some enough j (last_is ∙ e) in
+        (inside, told_people h.before arrivals h.stored last.place x place enough j (last_is ∙ e) inside)
+
+    stops : (j : ℕ) → eqb j h.takeable.arrives.0 ≡ at (Door j) from
+    stops j = ap (at (Door j)) (sym last_head ∙ last_is)
 
     pub stored_taken : (new : List ℕ) → IsFewerBy new arrivals from x → IsStored v new
     stored_taken new n =
-        stored_counted h.before v arrivals new new from None x h.stored (net_taken h.before v path x h.takeable.arrives.0 h.stored.net h.taken h.takeable.arrives.1 h.grid)
+        stored_counted h.before v arrivals new new from Source x h.stored (net_taken h.before v path x h.takeable.arrives.0 h.stored.net h.taken h.takeable.arrives.1 h.grid)
         h.taken.site n (record { length_same = refl; each = λ j. omega arith })
         (λ j. omega (arith, arrivals_fall h.before v path x h.takeable.arrives.0 h.stored.net h.taken h.takeable.arrives.1 h.grid j, ap (λ z. cond z x 0) (stops j)))

@@ -9,43 +9,58 @@ use Rattle.time_expansion.specs.Expansion.{from_at, to_at, no_ends}
 use Rattle.residual_net.specs.declared.place.Place.{Place}
 use Rattle.residual_net.specs.declared.place.Place.TheVariants.{Arc, Hold, Supply}
 use Rattle.residual_net.specs.declared.place.PathStep.{PathStep}
-use Rattle.residual_net.specs.Site.{Site, IsSite, IsPlace, End, arrival_at, at, exit_at, head_of, is_barred, start_of, stop_of, tail_of}
-use Rattle.residual_net.specs.Site.End.{Source, Pair, Door}
-use Rattle.residual_net.specs.Network.{Network, IsNet, flow_at, flow_into, flow_out}
+use Rattle.residual_net.specs.declared.end.End.{End}
+use Rattle.residual_net.specs.declared.end.End.TheVariants.{Source, Pair, Door}
+use Rattle.residual_net.specs.Site.{Site, IsOpenEnd, IsOpenPair, IsSite, IsPlace, arrival_at, at, exit_at, head_of, is_barred, start_of, stop_of, tail_of}
+use Rattle.residual_net.specs.Network.{Network, IsNet, flow_at, flow_into, flow_out, residual_room}
 use Rattle.residual_net.specs.Route.{Leads}
-use Rattle.residual_net.specs.Change.{IsAlong, IsFlowPath, IsOpenPair, IsWalk, rank}
-use Rattle.residual_net.proofs.Quiet.{in_time, none_from, none_into, open_flow, part_from, part_into, rank_up}
+use Rattle.residual_net.specs.Change.{IsAlong, IsFlowPath, IsWalk, rank}
+use Rattle.residual_net.proofs.Arrivals.{open_step}
+use Rattle.residual_net.proofs.Quiet.{none_from, none_into, open_flow, part_from, part_into, rank_in, rank_up}
 
 abbrev pub step_on : Place → PathStep
 step_on p = record { place = p; back = false }
 
 -- ---- pairs that flow goes through
 
--- what an end says where it is a pair
-abbrev IsOpenEnd : Site → End → Type 0
-IsOpenEnd s Source = Unit {0}
-IsOpenEnd s (Pair n t) = IsOpenPair s n t
-IsOpenEnd s (Door t) = Unit {0}
-
 no_exit : (b c : Bool) → (b || c) ≡ false → b ≡ false
 no_exit b c h = grind arith
 
-open_tail : (s : Site) → IsSite s → (p : Place) → IsPlace s p → is_barred s p ≡ false → IsOpenEnd s (tail_of s p)
+pub open_tail : (s : Site) → IsSite s → (p : Place) → IsPlace s p → is_barred s p ≡ false → IsOpenEnd s (tail_of s p)
 open_tail s h (Arc a t) i b = record { node = (h.shape.ends_in a no_ends i.0).0; moment = i.1; no_exit = h.from_no_exit a i.0 }
 open_tail s h (Hold n t) i b = record { node = i.0; moment = i.1; no_exit = no_exit (exit_at s n) (eqb t s.shape.horizon) b }
 open_tail s h (Supply n t) i b = tt
 
-open_head : (s : Site) → IsSite s → (p : Place) → IsPlace s p → is_barred s p ≡ false → rank (head_of s p) ≤ s.shape.horizon + 1
-    → IsOpenEnd s (head_of s p)
-open_head s h (Arc a t) i b l = by_exit (exit_at s (to_at s.shape a)) refl l
+pub open_head : (s : Site) → IsSite s → (p : Place) → IsPlace s p → is_barred s p ≡ false → IsOpenEnd s (head_of s p)
+open_head s h (Arc a t) i b = by_exit (exit_at s (to_at s.shape a)) refl (rank_in s (Arc a t) i b)
   where
     by_exit : (b : Bool) → exit_at s (to_at s.shape a) ≡ b
         → rank (cond b (Door (arrival_at s a t)) (Pair (to_at s.shape a) (arrival_at s a t))) ≤ s.shape.horizon + 1
         → IsOpenEnd s (cond b (Door (arrival_at s a t)) (Pair (to_at s.shape a) (arrival_at s a t)))
     by_exit true e l = tt
     by_exit false e l = record { node = (h.shape.ends_in a no_ends i.0).1; moment = omega (arith, l); no_exit = e }
-open_head s h (Hold n t) i b l = record { node = i.0; moment = omega (arith, l); no_exit = no_exit (exit_at s n) (eqb t s.shape.horizon) b }
-open_head s h (Supply n t) i b l = record { node = i.0; moment = i.1; no_exit = b }
+open_head s h (Hold n t) i b =
+    record { node = i.0; moment = omega (arith, rank_in s (Hold n t) i b); no_exit = no_exit (exit_at s n) (eqb t s.shape.horizon) b }
+open_head s h (Supply n t) i b = record { node = i.0; moment = i.1; no_exit = b }
+
+-- a step with room starts and stops where people can be
+module _ (w : Network) (r : PathStep) (net : IsNet w) (i : IsPlace w.site r.place) (some : 0 < residual_room w r) where
+  free : is_barred w.site r.place ≡ false
+  free = open_step w r 1 net i (omega arith) (omega (arith, some))
+
+  ends : (b : Bool) → IsOpenEnd w.site (cond b (head_of w.site r.place) (tail_of w.site r.place))
+  ends true = open_head w.site net.site r.place i free
+  ends false = open_tail w.site net.site r.place i free
+
+  pub start_open : IsOpenEnd w.site (start_of w.site r)
+  start_open = ends r.back
+
+  pub stop_open : IsOpenEnd w.site (stop_of w.site r)
+  stop_open = opposite r.back
+    where
+      opposite : (b : Bool) → IsOpenEnd w.site (cond b (tail_of w.site r.place) (head_of w.site r.place))
+      opposite true = ends false
+      opposite false = ends true
 
 -- what a place with flow leads from, and what it leads to
 pub behind_is : (w : Network) → IsNet w → (p : Place) → IsPlace w.site p → 0 < flow_at w p → (n t : ℕ) → tail_of w.site p ≡ Pair n t
@@ -58,7 +73,7 @@ behind_is w net p i some n t e = (
 pub ahead_is : (w : Network) → IsNet w → (p : Place) → IsPlace w.site p → 0 < flow_at w p → (n t : ℕ) → head_of w.site p ≡ Pair n t
     → IsOpenPair w.site n t × (0 < flow_out w (at (Pair n t)))
 ahead_is w net p i some n t e = (
-  subst (IsOpenEnd w.site) e (open_head w.site net.site p i (open_flow w net p i some) (in_time w net p i some)),
+  subst (IsOpenEnd w.site) e (open_head w.site net.site p i (open_flow w net p i some)),
   omega (arith, part_into w p i (Pair n t) e, some, net.conserved.pairs n t),
 )
 

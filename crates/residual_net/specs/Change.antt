@@ -1,12 +1,13 @@
 -- What becomes of a net when a limit is set, and when flow is taken off.
-use Rattle.std.specs.Prelude.{◌≡◌, ◌≢◌, ℕ, ◌+◌, ◌≤◌, ◌<◌, ◌==◌, if◌then◌else◌, Bool, false, List, length, slice_index, Option, None, Some, MatchOption, IsFalse}
+use Rattle.std.specs.Prelude.{◌≡◌, ◌≢◌, ℕ, ◌+◌, ◌≤◌, ◌<◌, if◌then◌else◌, List, length, slice_index, Option, MatchOption, IsFalse}
 use Rattle.std.specs.List.{All, AllPairs, Any}
 use Rattle.residual_net.specs.declared.place.Place.{Place}
 use Rattle.residual_net.specs.declared.place.Place.TheVariants.{Arc}
 use Rattle.time_expansion.specs.Expansion.{to_at}
 use Rattle.residual_net.specs.declared.place.PathStep.{PathStep}
-use Rattle.residual_net.specs.Site.{Site, End, IsPlace, arrival_at, exit_at, is_door, is_source, same_place, sum_places, tail_of}
-use Rattle.residual_net.specs.Site.End.{Source, Pair, Door}
+use Rattle.residual_net.specs.declared.end.End.{End}
+use Rattle.residual_net.specs.declared.end.End.TheVariants.{Source, Pair, Door}
+use Rattle.residual_net.specs.Site.{Site, IsPlace, arrival_at, at, is_source, same_place, sum_places, tail_of}
 use Rattle.residual_net.specs.Network.{Network, IsGrid, IsStored, excess_at, flow_at, limit_at}
 use Rattle.residual_net.specs.Route.{Leads, added}
 
@@ -38,12 +39,6 @@ pub record IsWalk (w : Network) (p : Place) (path : List PathStep) (e f : End) :
   pub leads : Leads w.site e path f
   pub through : Any (λ x. x.place ≡ p) path
   pub short : length path + rank e ≤ rank f
-
--- a node at a moment that people can be at
-pub record IsOpenPair (s : Site) (n t : ℕ) : Type 0 where
-  pub node : n < s.shape.nodes
-  pub moment : t ≤ s.shape.horizon
-  pub no_exit : IsFalse (exit_at s n)
 
 -- the arc, where there is one with flow, leads into a node at a moment, and else no arc with flow does
 abbrev pub IsArcInto : Network → ℕ → ℕ → Option Place → Type 0
@@ -80,19 +75,10 @@ pub record IsCancelled (w v : Network) (p : Place) (path : List PathStep) (peopl
   pub through : Any (λ x. x.place ≡ p) path
   pub taken : IsTaken w v path people
 
--- the moment is told where the end is an arrival, and is the arrival's
-abbrev pub IsDoorAt : End → Option ℕ → Type 0
-IsDoorAt e moment = MatchOption moment (IsFalse (is_door e)) (λ k. e ≡ Door k)
-
--- whether a moment is the one that is told
-abbrev pub is_moment : Option ℕ → ℕ → Bool
-is_moment None j = false
-is_moment (Some k) j = j == k
-
--- two lists differ by some people at the moment that is told
-pub record IsFewerBy (fewer more : List ℕ) (moment : Option ℕ) (people : ℕ) : Type 0 where
+-- two lists differ by some people at an end, where it is an arrival
+pub record IsFewerBy (fewer more : List ℕ) (end : End) (people : ℕ) : Type 0 where
   pub length_same : length fewer ≡ length more
-  pub each : (j : ℕ) → slice_index fewer j + (if is_moment moment j then people else 0) ≡ slice_index more j
+  pub each : (j : ℕ) → slice_index fewer j + (if at (Door j) end then people else 0) ≡ slice_index more j
 
 -- the cells are those after people were taken off a flow path, and the arrivals kept are those before
 pub record IsLowering (v : Network) (arrivals : List ℕ) (path : List PathStep) (people : ℕ) : Type 0 where

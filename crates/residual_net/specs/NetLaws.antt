@@ -11,7 +11,8 @@ use Rattle.residual_net.specs.declared.place.PathStep.{PathStep}
 use Rattle.residual_net.specs.declared.place.Place.{Place}
 use Rattle.residual_net.specs.declared.place.Place.TheVariants.{Supply}
 use Rattle.residual_net.specs.Limits.{supply_limit}
-use Rattle.residual_net.specs.Site.{End, IsPlace, door_by, is_source, start_of, stop_of}
+use Rattle.residual_net.specs.declared.end.End.{End}
+use Rattle.residual_net.specs.Site.{IsPlace, door_by, is_source, start_of, stop_of}
 use Rattle.residual_net.specs.Network.{Network, IsAllSent, IsNet, IsWithinLimits, arrived_by, flow_out, limit_at, residual_room}
 use Rattle.residual_net.specs.Route.{IsAugmentingPath, IsPushable, IsPushed}
 use Rattle.residual_net.specs.Change.{IsCancelled, IsFlowPath, supply_limits_with}

@@ -6,7 +6,7 @@ use Rattle.residual_net.specs.declared.place.PathStep.{PathStep}
 use Rattle.residual_net.specs.declared.place.Cell.{Cell}
 use Rattle.residual_net.specs.Limits.{supply_limit}
 use Rattle.residual_net.specs.Site.{Site, IsSite, IsPlace, End_test, at, is_door, is_source, door_by, head_of, tail_of, is_barred, sum_places, cell_of, all_cells}
-use Rattle.residual_net.specs.Site.End.{Pair, Door}
+use Rattle.residual_net.specs.declared.end.End.TheVariants.{Pair, Door}
 
 -- a net as contracts see it: its network, the flow and the limit at its places, and what was saved of these; only `flow_at` and `limit_at` look into the cells
 pub record Network : Type 0 where

@@ -3,8 +3,9 @@ use Rattle.std.specs.Prelude.{◌≡◌, ◌≢◌, ℕ, ◌+◌, ◌<◌, ◌�
 use Rattle.std.specs.List.{All, AllPairs, sum_by}
 use Rattle.residual_net.specs.declared.place.Place.{Place}
 use Rattle.residual_net.specs.declared.place.PathStep.{PathStep}
-use Rattle.residual_net.specs.Site.{Site, IsPlace, End, start_of, stop_of, same_place}
-use Rattle.residual_net.specs.Site.End.{Source, Pair, Door}
+use Rattle.residual_net.specs.declared.end.End.{End}
+use Rattle.residual_net.specs.declared.end.End.TheVariants.{Source, Pair, Door}
+use Rattle.residual_net.specs.Site.{Site, IsPlace, start_of, stop_of, same_place}
 use Rattle.residual_net.specs.Network.{Network, IsGrid, IsStored, IsWithinLimits, flow_at, limit_at, residual_room}
 
 -- the steps lead from one end to another, each from where the one before stops

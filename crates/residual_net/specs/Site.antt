@@ -4,6 +4,8 @@ use Rattle.std.specs.List.{sum_by, All}
 use Rattle.evac_law.specs.Sums.{below}
 use Rattle.evac_law.specs.Limits.{travel_limit}
 use Rattle.time_expansion.specs.Expansion.{Expansion, IsExpansion, from_at, to_at, arc_cell, hold_cell, cells}
+use Rattle.residual_net.specs.declared.end.End.{End}
+use Rattle.residual_net.specs.declared.end.End.TheVariants.{Source, Pair, Door}
 use Rattle.residual_net.specs.declared.place.Place.{Place}
 use Rattle.residual_net.specs.declared.place.Place.TheVariants.{Arc, Hold, Supply}
 use Rattle.residual_net.specs.declared.place.PathStep.{PathStep}
@@ -40,11 +42,17 @@ IsPlace s (Arc a t) = (a < arc_count s) × (t ≤ s.shape.horizon)
 IsPlace s (Hold n t) = (n < s.shape.nodes) × (t ≤ s.shape.horizon)
 IsPlace s (Supply n t) = (n < s.shape.nodes) × (t ≤ s.shape.horizon)
 
--- what a place leads from and to: the source of all people, a node at a moment, or the exits at a moment
-pub data End : Type 0 where
-  Source : End
-  Pair : ℕ → ℕ → End
-  Door : ℕ → End
+-- a node at a moment that people can be at
+pub record IsOpenPair (s : Site) (n t : ℕ) : Type 0 where
+  pub node : n < s.shape.nodes
+  pub moment : t ≤ s.shape.horizon
+  pub no_exit : IsFalse (exit_at s n)
+
+-- where the end is a pair, people can be at it
+abbrev pub IsOpenEnd : Site → End → Type 0
+IsOpenEnd s Source = Unit {0}
+IsOpenEnd s (Pair n t) = IsOpenPair s n t
+IsOpenEnd s (Door t) = Unit {0}
 
 -- where a place leads from
 abbrev pub tail_of : Site → Place → End

@@ -1,49 +1,15 @@
 // A flow path through a place: back to its supply, and on to its arrival.
-ghost use Rattle.std.specs.Prelude.{◌≡◌, ℕ, ◌+◌, ◌<◌, ◌≤◌, IsFalse, IsTrue, MatchOption, length};
+ghost use Rattle.std.specs.Prelude.{◌≡◌, ℕ, ◌+◌, ◌<◌, ◌≤◌};
 ghost use Rattle.std.specs.List.{All, Any};
-ghost use Rattle.residual_net.specs.Site.{IsPlace, at, head_of, is_door, tail_of};
-ghost use Rattle.residual_net.specs.Site.End.{Door, Pair, Source};
+ghost use Rattle.residual_net.specs.Site.{IsOpenPair, IsPlace, at, head_of, tail_of};
+ghost use Rattle.residual_net.specs.declared.end.End.TheVariants.{Door, Pair, Source};
 ghost use Rattle.residual_net.specs.Network.{IsGrid, IsNet, flow_at, flow_into, flow_out};
-ghost use Rattle.residual_net.specs.Change.{IsArcInto, IsFlowPath, IsOpenPair, IsTakeable, IsTaken, IsWalk};
+ghost use Rattle.residual_net.specs.Change.{IsArcInto, IsFlowPath, IsTakeable, IsTaken, IsWalk};
 
+use crate::end::End;
 use crate::grid::Grid;
 use crate::path::Path;
 use crate::place::{PathStep, Place};
-
-/// The node and moment that a place leads from, where it isn't a supply.
-fn behind(grid: &Grid, place: Place) -> Option<(u32, u16)>
-    requires { IsPlace grid.now.site place }
-    ensures { MatchOption result (tail_of grid.now.site place ≡ Source) (λ p. tail_of grid.now.site place ≡ Pair p.0 p.1) }
-{
-    match place {
-        Place::Arc { arc, moment } => {
-            let ends = grid.shape().ends()[arc as usize];
-            Some((ends.from, moment))
-        }
-        Place::Hold { node, moment } => Some((node, moment)),
-        Place::Supply { .. } => None,
-    }
-}
-
-/// The node and moment that a place leads to, where it isn't a move into an exit.
-fn ahead(grid: &Grid, place: Place) -> Option<(u32, u16)>
-    requires { IsPlace grid.now.site place }
-    ensures { MatchOption result (IsTrue (is_door (head_of grid.now.site place))) (λ p. head_of grid.now.site place ≡ Pair p.0 p.1) }
-{
-    let shape = grid.shape();
-    match place {
-        Place::Arc { arc, moment } => {
-            let ends = shape.ends()[arc as usize];
-            if grid.is_exit(ends.to) {
-                None
-            } else {
-                Some((ends.to, grid.arrives(arc, moment)))
-            }
-        }
-        Place::Hold { node, moment } => Some((node, moment + 1)),
-        Place::Supply { node, moment } => Some((node, moment)),
-    }
-}
 
 /// An arc with flow that leads into a node at a moment.
 fn arc_into(grid: &Grid, node: u32, moment: u16) -> Option<Place>
@@ -135,7 +101,7 @@ fn walk_back(grid: &Grid, place: Place, path: &mut Path)
     path.clear();
     path.add(PathStep { place, back: false });
     let mut here = place;
-    while let Some((node, moment)) = behind(grid, here) {
+    while let End::Pair { node, moment } = grid.tail(here) {
         here = place_into(grid, node, moment);
         path.add(PathStep {
             place: here,
@@ -156,7 +122,7 @@ fn walk_on(grid: &Grid, place: Place, path: &mut Path)
     ensures room { path.new.room ≡ path.old.room }
 {
     let mut here = place;
-    while let Some((node, moment)) = ahead(grid, here) {
+    while let End::Pair { node, moment } = grid.head(here) {
         here = place_out(grid, node, moment);
         path.add(PathStep {
             place: here,

@@ -1,14 +1,15 @@
 // The cells of a net, with no rule on its flow.
 ghost use Rattle.std.specs.Prelude.{◌≡◌, ◌∷◌, [], ◌≤◌, ◌<◌, ◌+◌, IfOk, length, vec_capacity};
-ghost use Rattle.residual_net.specs.Site.{IsSite, IsPlace, all_cells, arrival_at, cell_of, exit_at, head_of, start_of};
+ghost use Rattle.residual_net.specs.Site.{IsSite, IsPlace, all_cells, arrival_at, cell_of, exit_at, head_of, start_of, stop_of, tail_of};
 ghost use Rattle.residual_net.specs.Network.{IsGrid, flow_at, limit_at, residual_room, saved_of, with_cell, with_saved};
 ghost use Rattle.time_expansion.specs.Expansion.{hold_cell};
 ghost use Rattle.residual_net.specs.Legs.{wait_at};
 ghost use Rattle.residual_net.specs.Route.{IsPushed};
-ghost use Rattle.residual_net.specs.Change.{IsDoorAt, IsLimitSet};
+ghost use Rattle.residual_net.specs.Change.{IsLimitSet};
 ghost use Rattle.residual_net.specs.Start.{emptied, saved_cells};
 ghost use Rattle.residual_net.specs.declared.place.Place.TheVariants.{Arc, Hold};
 
+use crate::end::End;
 use crate::place::{Cell, PathStep, Place};
 use std::alloc::{AllocError, Global};
 use std::marker::Model;
@@ -251,33 +252,67 @@ impl Grid {
             .copy_from_slice(self.saved.as_slice());
     }
 
-    /// The moment of the arrival that a place leads to, where it leads to one.
-    pub fn arrival(&self, place: Place) -> Option<u16>
+    /// Where a place leads from.
+    pub fn tail(&self, place: Place) -> End
         requires { IsPlace self.now.site place }
-        ensures { IsDoorAt (head_of self.now.site place) result }
+        ensures { result ≡ tail_of self.now.site place }
     {
         match place {
             Place::Arc { arc, moment } => {
-                let ends = self.shape().ends()[arc as usize];
-                if self.is_exit(ends.to) {
-                    Some(self.arrives(arc, moment))
-                } else {
-                    None
-                }
+                let node = self.shape().ends()[arc as usize].from;
+                End::Pair { node, moment }
             }
-            Place::Hold { .. } | Place::Supply { .. } => None,
+            Place::Hold { node, moment } => End::Pair { node, moment },
+            Place::Supply { .. } => End::Source,
         }
     }
 
-    /// The moment of the arrival that a step starts from, where it starts from one.
-    pub fn origin(&self, step: PathStep) -> Option<u16>
+    /// Where a place leads to.
+    pub fn head(&self, place: Place) -> End
+        requires { IsPlace self.now.site place }
+        ensures { result ≡ head_of self.now.site place }
+    {
+        // The network's sizes bound the moments.
+        let shape = self.shape();
+        match place {
+            Place::Arc { arc, moment } => {
+                let node = shape.ends()[arc as usize].to;
+                let moment = self.arrives(arc, moment);
+                if self.is_exit(node) {
+                    End::Door(moment)
+                } else {
+                    End::Pair { node, moment }
+                }
+            }
+            Place::Hold { node, moment } => {
+                let moment = moment + 1;
+                End::Pair { node, moment }
+            }
+            Place::Supply { node, moment } => End::Pair { node, moment },
+        }
+    }
+
+    /// Where a step starts.
+    pub fn start(&self, step: PathStep) -> End
         requires { IsPlace self.now.site step.place }
-        ensures { IsDoorAt (start_of self.now.site step) result }
+        ensures { result ≡ start_of self.now.site step }
     {
         if step.back {
-            self.arrival(step.place)
+            self.head(step.place)
         } else {
-            None
+            self.tail(step.place)
+        }
+    }
+
+    /// Where a step stops.
+    pub fn stop(&self, step: PathStep) -> End
+        requires { IsPlace self.now.site step.place }
+        ensures { result ≡ stop_of self.now.site step }
+    {
+        if step.back {
+            self.tail(step.place)
+        } else {
+            self.head(step.place)
         }
     }
 }

@@ -7,6 +7,7 @@
 #![tactic(auto)]
 
 mod cancel;
+mod end;
 mod grid;
 mod laws;
 mod legs;
@@ -17,6 +18,7 @@ mod place;
 mod standing;
 mod start;
 
+pub use end::End;
 pub use laws::{
     arrived_is_out, arrived_rises, arrived_within_cut, cancel_lowers_arrivals, closed_grows,
     closed_is_cut, closed_survives_push, last_is_arrival, net_fits, net_is_feasible,

@@ -1,17 +1,19 @@
 // A net: its flow keeps conservation.
-ghost use Rattle.std.specs.Prelude.{◌≡◌, ◌+◌, ◌-◌, ◌<◌, ◌≤◌, IfOk, IfSome, IsTrue, length, replicate, slice_index};
+ghost use Rattle.std.specs.Prelude.{◌≡◌, ℕ, ◌+◌, ◌-◌, ◌<◌, ◌≤◌, IfOk, IsFalse, IsTrue, length, replicate, slice_index};
 ghost use Rattle.evac_law.specs.Building.{IsValid};
 ghost use Rattle.residual_net.specs.Limits.{supply_limit};
-ghost use Rattle.residual_net.specs.Site.{IsPlace, arrival_at, exit_at, is_barred};
+ghost use Rattle.residual_net.specs.Site.{IsOpenEnd, IsPlace, arrival_at, exit_at, head_of, is_barred, start_of, stop_of, tail_of};
 ghost use Rattle.residual_net.specs.Network.{IsGrid, IsNet, IsStored, IsWithinLimits, arrived_by, excess_at, flow_at, limit_at, residual_room, saved_of, unsent_at, with_saved};
 ghost use Rattle.residual_net.specs.Route.{IsPushable, IsPushed};
 ghost use Rattle.residual_net.specs.Legs.{IsShiftable, IsUnderwayBetween, steps_of_leg, steps_of_legs, waits_at};
 ghost use Rattle.residual_net.specs.Change.{IsCancelled, IsFewerBy, IsLimitSet, IsLowering, supply_limits_with};
 ghost use Rattle.residual_net.specs.OfModel.{IsNetOf, last_move, plan_of};
+ghost use Rattle.residual_net.specs.declared.end.End.TheVariants.{Door};
 ghost use Rattle.residual_net.specs.declared.place.Place.{Place};
 ghost use Rattle.residual_net.specs.declared.place.Place.TheVariants.{Arc, Hold, Supply};
 
 use crate::cancel::{find_path, least, take_all};
+use crate::end::End;
 use crate::grid::Grid;
 use crate::legs::Leg;
 use crate::path::Path;
@@ -96,48 +98,46 @@ fn shift_legs(grid: &mut Grid, legs: &[Leg], people: u32)
     }
 }
 
-/// Counts people no more at a moment, where one is told.
-fn lower(arrivals: &mut [u32], moment: Option<u16>, people: u32)
-    requires { IfSome moment (λ j. (j < length arrivals.old) × (people ≤ slice_index arrivals.old j)) }
-    ensures { IsFewerBy arrivals.new arrivals.old moment people }
+/// Counts people no more at an end, where it is an arrival.
+fn lower(arrivals: &mut [u32], end: End, people: u32)
+    requires { (j : ℕ) → end ≡ Door j → (j < length arrivals.old) × (people ≤ slice_index arrivals.old j) }
+    ensures { IsFewerBy arrivals.new arrivals.old end people }
 {
-    let Some(moment) = moment else {
-        return;
-    };
-    arrivals[moment as usize] -= people;
+    if let End::Door(moment) = end {
+        arrivals[moment as usize] -= people;
+    }
 }
 
-/// Counts people at a moment, where one is told.
+/// Counts people at an end, where it is an arrival.
 #[tactic(auto, unfolding(crate::specs::Limits::supply_limit))]
-fn raise(arrivals: &mut [u32], moment: Option<u16>, people: u32)
-    requires { IfSome moment (λ j. (j < length arrivals.old) × (slice_index arrivals.old j + people ≤ supply_limit)) }
-    ensures { IsFewerBy arrivals.old arrivals.new moment people }
+fn raise(arrivals: &mut [u32], end: End, people: u32)
+    requires { (j : ℕ) → end ≡ Door j → (j < length arrivals.old) × (slice_index arrivals.old j + people ≤ supply_limit) }
+    ensures { IsFewerBy arrivals.old arrivals.new end people }
 {
-    let Some(moment) = moment else {
-        return;
-    };
-    arrivals[moment as usize] += people;
+    if let End::Door(moment) = end {
+        arrivals[moment as usize] += people;
+    }
 }
 
-/// Counts the people of a push at the moment at which the path arrives, and no more at the one where it begins.
+/// Counts the people of a push where the path arrives, and no more where it begins.
 fn move_arrivals(arrivals: &mut [u32], grid: &Grid, first: PathStep, last: PathStep, people: u32)
     requires some { 1 ≤ people }
     requires underway { IsUnderwayBetween grid.now arrivals.old first last people }
     ensures { IsStored grid.now arrivals.new }
 {
-    let from = grid.origin(first);
-    let to = grid.arrival(last.place);
+    let from = grid.start(first);
+    let to = grid.head(last.place);
     lower(arrivals, from, people);
     raise(arrivals, to, people);
 }
 
-/// Counts the people who were taken off a path no more at the moment at which it arrives.
+/// Counts the people who were taken off a path no more where it arrives.
 fn lower_arrivals(arrivals: &mut [u32], grid: &Grid, path: &[PathStep], people: u32)
     requires { IsLowering grid.now arrivals.old path.now people }
     ensures { IsStored grid.now arrivals.new }
 {
     let last = path[path.len() - 1];
-    let from = grid.arrival(last.place);
+    let from = grid.head(last.place);
     lower(arrivals, from, people);
 }
 
@@ -210,6 +210,41 @@ impl Net {
         ensures { arrival_at self.now.site arc 0 ≡ result }
     {
         self.grid.travel(arc)
+    }
+
+    /// Where a place leads from.
+    pub fn tail(&self, place: Place) -> End
+        requires { IsPlace self.now.site place }
+        ensures end { result ≡ tail_of self.now.site place }
+        ensures open { IsFalse (is_barred self.now.site place) → IsOpenEnd self.now.site result }
+    {
+        self.grid.tail(place)
+    }
+
+    /// Where a place leads to.
+    pub fn head(&self, place: Place) -> End
+        requires { IsPlace self.now.site place }
+        ensures end { result ≡ head_of self.now.site place }
+        ensures open { IsFalse (is_barred self.now.site place) → IsOpenEnd self.now.site result }
+    {
+        self.grid.head(place)
+    }
+
+    /// Where a step starts.
+    pub fn start(&self, step: PathStep) -> End
+        requires { IsPlace self.now.site step.place }
+        ensures end { result ≡ start_of self.now.site step }
+        ensures open { 0 < residual_room self.now step → IsOpenEnd self.now.site result }
+    {
+        self.grid.start(step)
+    }
+
+    /// Where a step stops.
+    pub fn stop(&self, step: PathStep) -> End
+        requires { IsPlace self.now.site step.place }
+        ensures { result ≡ stop_of self.now.site step }
+    {
+        self.grid.stop(step)
     }
 
     /// The people who may go over a step.

@@ -1,9 +1,9 @@
 -- What a search that found nobody shows: the pairs that it marked and those labelled before are closed.
-use Rattle.std.proofs.Common.{◌≡◌, ◌≢◌, ℕ, suc, ◌+◌, ◌-◌, ◌<◌, ◌≤◌, Bool, true, false, cond, ◌&&◌, ◌||◌, eqb, leb, ltb, List, [], ◌∷◌, Option, Some, None, ap, sym, subst, ◌∙◌, ◌⊎◌, refl, arith, inl, inr}
+use Rattle.std.proofs.Common.{◌≡◌, ℕ, suc, ◌+◌, ◌-◌, ◌<◌, ◌≤◌, Bool, true, false, cond, ◌&&◌, ◌||◌, eqb, leb, ltb, List, [], ◌∷◌, Option, Some, None, ap, sym, subst, ◌∙◌, ◌⊎◌, refl, arith, inl, inr}
 use Rattle.std.specs.List.{All}
-use Rattle.std.proofs.lemmas.Bool.{cases_Bool, cases_lt, cases_eq, le-leb, lt-leb, leb-true, lt-ltb, le-ltb, ltb-true, ltb-false, or_cases, eqb-false}
+use Rattle.std.proofs.lemmas.Bool.{cases_lt, cases_eq, le-leb, lt-leb, leb-true, lt-ltb, le-ltb, ltb-true, ltb-false, or_cases}
 use Rattle.evac_law.specs.LabelTable.{LabelTable, label_at, unset}
-use Rattle.time_expansion.specs.Expansion.{from_at, to_at, no_ends}
+use Rattle.time_expansion.specs.Expansion.{to_at}
 use Rattle.time_expansion.proofs.Cells.{sizes}
 use Rattle.residual_net.specs.declared.place.Place.{Place}
 use Rattle.residual_net.specs.declared.place.Place.TheVariants.{Arc, Hold, Supply}
@@ -11,9 +11,11 @@ use Rattle.residual_net.specs.declared.place.PathStep.{PathStep}
 use Rattle.residual_net.specs.Closed.{IsClosed, reached}
 use Rattle.residual_net.specs.Network.{Network, IsNet, residual_room}
 use Rattle.residual_net.specs.NetLaws.{labelled}
-use Rattle.residual_net.specs.Site.{Site, End, IsPlace, IsSite, arc_count, arrival_at, exit_at, head_of, is_barred, start_of, stop_of, tail_of}
-use Rattle.residual_net.specs.Site.End.{Source, Pair, Door}
-use Rattle.residual_net.proofs.Arrivals.{into_door, open_step}
+use Rattle.residual_net.specs.declared.end.End.{End}
+use Rattle.residual_net.specs.declared.end.End.TheVariants.{Source, Pair, Door}
+use Rattle.residual_net.specs.Site.{Site, IsOpenEnd, IsOpenPair, IsPlace, arc_count, arrival_at, exit_at, head_of, start_of, stop_of}
+use Rattle.residual_net.proofs.Arrivals.{into_door}
+use Rattle.residual_net.proofs.Walks.{start_open, stop_open}
 use Rattle.terminal_augment.specs.declared.spot.Frame.{Frame}
 use Rattle.terminal_augment.specs.declared.spot.Spot.{Spot}
 use Rattle.terminal_augment.specs.declared.work.Work.{Work}
@@ -21,82 +23,25 @@ use Rattle.terminal_augment.specs.Frames.{spots, top_end}
 use Rattle.terminal_augment.specs.Marking.{MarkTable, is_marked}
 use Rattle.terminal_augment.specs.Searching.{AreDoorsDone, IsExplored, IsSearching, entered}
 use Rattle.terminal_augment.specs.Settled.{IsClosedBelow, IsLabelled, IsLabelsOf, IsUnsetFrom}
-use Rattle.terminal_augment.specs.Spots.{IsInside, has}
+use Rattle.terminal_augment.specs.Spots.{has}
 use Rattle.terminal_augment.specs.Ways.{IsDone, IsDoorStep, IsUsable, passed}
 use Rattle.terminal_augment.proofs.AdvanceLemmas.{or_none}
 use Rattle.terminal_augment.proofs.SearchLemmas.{IsEntry, at_spot, explored_entered, is_in, or_here, or_later}
 use Rattle.terminal_augment.proofs.MarkLemmas.{marked_here}
-use Rattle.terminal_augment.proofs.WayLemmas.{pair_moment, pair_node}
-
--- ---- the ends of steps with room
-
-tail_inside : (s : Site) (p : Place) (n t : ℕ) → IsSite s → IsPlace s p → is_barred s p ≡ false → tail_of s p ≡ Pair n t → IsInside s n t
-tail_inside s (Arc a u) n t site place barred e =
-    let ends = site.shape.ends_in a no_ends place.0 in
-    let node : from_at s.shape a ≡ n = ap pair_node e in
-    let moment : u ≡ t = ap pair_moment e in
-    record { node = omega (arith, ends.0, node); moment = omega (arith, place.1, moment); open_node = ap (exit_at s) (sym node) ∙ site.from_no_exit a place.0 }
-tail_inside s (Hold m u) n t site place barred e =
-    let node : m ≡ n = ap pair_node e in
-    let moment : u ≡ t = ap pair_moment e in
-    record { node = omega (arith, place.0, node); moment = omega (arith, place.1, moment); open_node = ap (exit_at s) (sym node) ∙ (or_none (exit_at s m) _ barred).0 }
-tail_inside s (Supply m u) n t site place barred e = absurd (cc)
-
-head_inside : (s : Site) (p : Place) (n t : ℕ) → IsSite s → IsPlace s p → is_barred s p ≡ false → head_of s p ≡ Pair n t → IsInside s n t
-head_inside s (Arc a u) n t site place barred e = by (exit_at s (to_at s.shape a)) refl e
-  where
-    by : (x : Bool) → exit_at s (to_at s.shape a) ≡ x → cond x (Door (arrival_at s a u)) (Pair (to_at s.shape a) (arrival_at s a u)) ≡ Pair n t → IsInside s n t
-    by true x h = absurd (cc)
-    by false x h =
-        let ends = site.shape.ends_in a no_ends place.0 in
-        let node : to_at s.shape a ≡ n = ap pair_node h in
-        let moment : arrival_at s a u ≡ t = ap pair_moment h in
-        let time : arrival_at s a u ≤ s.shape.horizon = ltb-false _ _ barred in
-        record { node = omega (arith, ends.1, node); moment = omega (arith, time, moment); open_node = ap (exit_at s) (sym node) ∙ x }
-head_inside s (Hold m u) n t site place barred e =
-    let node : m ≡ n = ap pair_node e in
-    let moment : u + 1 ≡ t = ap pair_moment e in
-    let both = or_none (exit_at s m) (eqb u s.shape.horizon) barred in
-    let before : u ≢ s.shape.horizon = eqb-false _ _ both.1 in
-    record { node = omega (arith, place.0, node); moment = omega (arith, place.1, before, moment); open_node = ap (exit_at s) (sym node) ∙ both.0 }
-head_inside s (Supply m u) n t site place barred e =
-    let node : m ≡ n = ap pair_node e in
-    let moment : u ≡ t = ap pair_moment e in
-    record { node = omega (arith, place.0, node); moment = omega (arith, place.1, moment); open_node = ap (exit_at s) (sym node) ∙ barred }
-
-pub start_inside : (w : Network) (y : PathStep) (n t : ℕ) → IsNet w → IsPlace w.site y.place → 0 < residual_room w y → start_of w.site y ≡ Pair n t → IsInside w.site n t
-start_inside w y n t net place room e = by (cases_Bool y.back)
-  where
-    barred : is_barred w.site y.place ≡ false
-    barred = open_step w y 1 net place (omega arith) room
-
-    by : (y.back ≡ true) ⊎ (y.back ≡ false) → IsInside w.site n t
-    by (inl b) = head_inside w.site y.place n t net.site place barred (rw b at e)
-    by (inr b) = tail_inside w.site y.place n t net.site place barred (rw b at e)
-
-pub stop_inside : (w : Network) (y : PathStep) (n t : ℕ) → IsNet w → IsPlace w.site y.place → 0 < residual_room w y → stop_of w.site y ≡ Pair n t → IsInside w.site n t
-stop_inside w y n t net place room e = by (cases_Bool y.back)
-  where
-    barred : is_barred w.site y.place ≡ false
-    barred = open_step w y 1 net place (omega arith) room
-
-    by : (y.back ≡ true) ⊎ (y.back ≡ false) → IsInside w.site n t
-    by (inl b) = tail_inside w.site y.place n t net.site place barred (rw b at e)
-    by (inr b) = head_inside w.site y.place n t net.site place barred (rw b at e)
 
 -- sets that agree on the network's pairs are closed together
-pub closed_same : (w : Network) (x y : ℕ → ℕ → Bool) (k : ℕ) → IsNet w → ((n t : ℕ) → IsInside w.site n t → y n t ≡ x n t) → IsClosed w x k → IsClosed w y k
+pub closed_same : (w : Network) (x y : ℕ → ℕ → Bool) (k : ℕ) → IsNet w → ((n t : ℕ) → IsOpenPair w.site n t → y n t ≡ x n t) → IsClosed w x k → IsClosed w y k
 closed_same w x y k net same closed r place room inside =
     at_end (start_of w.site r) refl (closed r place room (from_end (stop_of w.site r) refl inside))
   where
     at_end : (e : End) → start_of w.site r ≡ e → reached x k e ≡ true → reached y k e ≡ true
     at_end Source q h = h
-    at_end (Pair n t) q h = same n t (start_inside w r n t net place room q) ∙ h
+    at_end (Pair n t) q h = same n t (subst (IsOpenEnd w.site) q (start_open w r net place room)) ∙ h
     at_end (Door j) q h = h
 
     from_end : (e : End) → stop_of w.site r ≡ e → reached y k e ≡ true → reached x k e ≡ true
     from_end Source q h = h
-    from_end (Pair n t) q h = sym (same n t (stop_inside w r n t net place room q)) ∙ h
+    from_end (Pair n t) q h = sym (same n t (subst (IsOpenEnd w.site) q (stop_open w r net place room))) ∙ h
     from_end (Door j) q h = h
 
 -- ---- what is passed is closed
@@ -137,7 +82,7 @@ passed_closed w l k x net closed explored none y place room inside = by (stop_of
           let less = ltb-true _ _ before in
           old (k - 1) (omega (arith, less)) (ap (reached (labelled l (k - 1)) (k - 1)) q ∙ le-leb _ _ (omega (arith, less)))
       | inr here ↦
-          let in_site = stop_inside w y n t net place room q in
+          let in_site = subst (IsOpenEnd w.site) q (stop_open w y net place room) in
           elim (explored.expanded n t in_site here) [
             | inl frame ↦ absurd (no_frame n t x.frames.list none frame)
             | inr expanded ↦ expanded y place q room
@@ -159,7 +104,7 @@ pub record AreLabelled (l m : LabelTable) (seen : List Spot) (k : ℕ) : Type 0 
   pub labels : (n t : ℕ) → n < l.nodes → t ≤ l.horizon → label_at m n t ≡ cond (has seen n t) k (label_at l n t)
 
 seen_unset : (s : Site) (l : LabelTable) (k : ℕ) (ps : List Spot) (n t : ℕ)
-    → All (λ (p : Spot). IsInside s p.node p.moment × (k ≤ label_at l p.node p.moment)) ps → has ps n t ≡ true → k ≤ label_at l n t
+    → All (λ (p : Spot). IsOpenPair s p.node p.moment × (k ≤ label_at l p.node p.moment)) ps → has ps n t ≡ true → k ≤ label_at l n t
 seen_unset s l k [] n t all h = absurd (cc)
 seen_unset s l k (p ∷ ps) n t all h = elim (or_cases (eqb p.node n && eqb p.moment t) (has ps n t) h) [
   | inl here ↦ at_spot p.node p.moment n t (λ u v. k ≤ label_at l u v) here (all 0 p (omega arith)).1
@@ -200,10 +145,10 @@ closed_after w l m k x net in_time of free closed searching explored none labels
       (closed_same w (passed l x.marks k) (labelled m k) k net now (passed_closed w l k x net closed explored none))
 ]
   where
-    at_pair : (n t : ℕ) → IsInside w.site n t → ((has x.seen.list n t ≡ true) × (label_at m n t ≡ k)) ⊎ ((has x.seen.list n t ≡ false) × (label_at m n t ≡ label_at l n t))
+    at_pair : (n t : ℕ) → IsOpenPair w.site n t → ((has x.seen.list n t ≡ true) × (label_at m n t ≡ k)) ⊎ ((has x.seen.list n t ≡ false) × (label_at m n t ≡ label_at l n t))
     at_pair n t a = label_at_cond _ k _ _ (labels.labels n t (omega (arith, a.node, of.nodes)) (omega (arith, a.moment, of.horizon)))
 
-    earlier : (n t : ℕ) → IsInside w.site n t → i < k → leb (label_at m n t) i ≡ leb (label_at l n t) i
+    earlier : (n t : ℕ) → IsOpenPair w.site n t → i < k → leb (label_at m n t) i ≡ leb (label_at l n t) i
     earlier n t a before = elim (at_pair n t a) [
       | inl h ↦
           let late = seen_unset w.site l k x.seen.list n t searching.unset h.0 in
@@ -211,13 +156,13 @@ closed_after w l m k x net in_time of free closed searching explored none labels
       | inr h ↦ ap (λ z. leb z i) h.1
     ]
 
-    now : (n t : ℕ) → IsInside w.site n t → leb (label_at m n t) k ≡ passed l x.marks k n t
+    now : (n t : ℕ) → IsOpenPair w.site n t → leb (label_at m n t) k ≡ passed l x.marks k n t
     now n t a = elim (at_pair n t a) [
       | inl h ↦ le-leb _ _ (omega (arith, h.1)) ∙ sym (or_later (ltb (label_at l n t) k) _ (explored.listed n t a ∙ h.0))
       | inr h ↦ ap (λ z. leb z k) h.1 ∙ other n t a (explored.listed n t a ∙ h.0) (cases_lt (label_at l n t) k)
     ]
       where
-        other : (n t : ℕ) → IsInside w.site n t → is_marked x.marks n t ≡ false → (label_at l n t < k) ⊎ (k ≤ label_at l n t)
+        other : (n t : ℕ) → IsOpenPair w.site n t → is_marked x.marks n t ≡ false → (label_at l n t < k) ⊎ (k ≤ label_at l n t)
             → leb (label_at l n t) k ≡ (ltb (label_at l n t) k || is_marked x.marks n t)
         other n t a unmarked (inl less) = le-leb _ _ (omega (arith, less)) ∙ sym (or_here (ltb (label_at l n t) k) _ (lt-ltb _ _ less))
         other n t a unmarked (inr more) =
@@ -231,16 +176,11 @@ closed_after w l m k x net in_time of free closed searching explored none labels
 
 -- ---- doors
 
-abbrev door_moment : End → ℕ
-door_moment Source = 0
-door_moment (Pair n u) = 0
-door_moment (Door j) = j
-
 door_time : (s : Site) (a t k : ℕ) → head_of s (Arc a t) ≡ Door k → arrival_at s a t ≡ k
 door_time s a t k e = by (exit_at s (to_at s.shape a)) e
   where
     by : (x : Bool) → cond x (Door (arrival_at s a t)) (Pair (to_at s.shape a) (arrival_at s a t)) ≡ Door k → arrival_at s a t ≡ k
-    by true h = ap door_moment h
+    by true h = cc
     by false h = absurd (cc)
 
 -- one more arc into an exit is done
@@ -267,7 +207,7 @@ door_done w l m k a (Some y) door done t place stop =
 
 -- the pair before a door may be entered
 pub entry_door : (w : Network) (l : LabelTable) (k a : ℕ) (x : Work) (y : PathStep) (p : Spot) → IsUsable w l x.marks k y → IsDoorStep w.site a k (Some y)
-    → start_of w.site y ≡ Pair p.node p.moment → IsInside w.site p.node p.moment → x.frames.list ≡ [] → IsEntry w.site l k x p y
+    → start_of w.site y ≡ Pair p.node p.moment → IsOpenPair w.site p.node p.moment → x.frames.list ≡ [] → IsEntry w.site l k x p y
 entry_door w l k a x y p usable door start inside none =
     let open_start : reached (passed l x.marks k) k (Pair p.node p.moment) ≡ false = ap (reached (passed l x.marks k) k) (sym start) ∙ usable.start in
     let both = or_none (ltb (label_at l p.node p.moment) k) (is_marked x.marks p.node p.moment) open_start in

@@ -9,8 +9,8 @@ use Rattle.residual_net.specs.declared.place.PathStep.{PathStep}
 use Rattle.residual_net.specs.declared.place.Place.TheVariants.{Arc, Hold, Supply}
 use Rattle.residual_net.specs.Closed.{reached}
 use Rattle.residual_net.specs.Network.{Network}
-use Rattle.residual_net.specs.Site.{Site, start_of}
-use Rattle.residual_net.specs.Site.End.{Pair}
+use Rattle.residual_net.specs.Site.{Site, IsOpenPair, start_of}
+use Rattle.residual_net.specs.declared.end.End.TheVariants.{Pair}
 use Rattle.terminal_augment.specs.declared.spot.Frame.{Frame}
 use Rattle.terminal_augment.specs.declared.spot.Spot.{Spot}
 use Rattle.terminal_augment.specs.declared.work.Work.{Work}
@@ -19,7 +19,7 @@ use Rattle.terminal_augment.specs.Frames.{IsChain, IsExpanded, spots}
 use Rattle.terminal_augment.specs.Marking.{MarkTable, IsMarks, is_marked, mark_place, open_count, with_stamp}
 use Rattle.terminal_augment.specs.Piles.{Pile}
 use Rattle.terminal_augment.specs.Searching.{AreDoorsDone, IsUnmarked, IsExplored, IsResting, IsWork, noted}
-use Rattle.terminal_augment.specs.Spots.{IsInside, has}
+use Rattle.terminal_augment.specs.Spots.{has}
 use Rattle.terminal_augment.specs.Ways.{IsDone, in_count, out_count, passed, way_at, way_back, way_before, way_behind, way_by_arc, way_in}
 use Rattle.terminal_augment.proofs.MarkLemmas.{IsIn, marked_grows, marked_here, marked_listed, open_few, open_marked}
 use Rattle.terminal_augment.proofs.SearchLemmas.{all_cons, at_spot, cleared_work, done_grows, is_in, or_later, way_done}
@@ -73,7 +73,7 @@ flooding_begins s l k x y w c =
 
 -- a pair that may be marked
 pub record IsNew (s : Site) (l : LabelTable) (k : ℕ) (x : Work) (p : Spot) : Type 0 where
-  pub inside : IsInside s p.node p.moment
+  pub inside : IsOpenPair s p.node p.moment
   pub unmarked : is_marked x.marks p.node p.moment ≡ false
   pub unset : k ≤ label_at l p.node p.moment
 
@@ -82,7 +82,7 @@ neither true c e = absurd (cc)
 neither false true e = absurd (cc)
 neither false false e = (refl, refl)
 
-pub new_of : (s : Site) (l : LabelTable) (k : ℕ) (x : Work) (p : Spot) → IsInside s p.node p.moment → not (passed l x.marks k p.node p.moment) ≡ true → IsNew s l k x p
+pub new_of : (s : Site) (l : LabelTable) (k : ℕ) (x : Work) (p : Spot) → IsOpenPair s p.node p.moment → not (passed l x.marks k p.node p.moment) ≡ true → IsNew s l k x p
 new_of s l k x p inside fresh =
     let both = neither (ltb (label_at l p.node p.moment) k) (is_marked x.marks p.node p.moment) fresh in
     record { inside = inside; unmarked = both.1; unset = ltb-false _ _ both.0 }
@@ -114,7 +114,7 @@ noted_here s l k x p h e marks = record {
   };
   none = h.none;
   seen = omega (arith, one, h.seen);
-  unset = all_cons (λ (q : Spot). IsInside s q.node q.moment × (k ≤ label_at l q.node q.moment)) p x.seen.list (e.inside, e.unset) h.unset;
+  unset = all_cons (λ (q : Spot). IsOpenPair s q.node q.moment × (k ≤ label_at l q.node q.moment)) p x.seen.list (e.inside, e.unset) h.unset;
   listed = λ n t i. marked_listed x.marks p.node p.moment n t h.work.marks in_table (is_in s x n t h.work i)
       ∙ ap (λ b. (eqb p.node n && eqb p.moment t) || b) (h.listed n t i);
 }
@@ -157,7 +157,7 @@ done_later w l k x y z g h = done_grows w l x.marks y.marks k z g.marks h
 pub doors_later : (w : Network) (l : LabelTable) (k n : ℕ) (x y : Work) → IsGrown x y → AreDoorsDone w l x.marks k n → AreDoorsDone w l y.marks k n
 doors_later w l k n x y g h a t q place stop = done_later w l k x y (record { place = Arc a t; back = false }) g (h a t q place stop)
 
-pub expanded_by : (w : Network) (l : LabelTable) (m : MarkTable) (k n t : ℕ) → IsInside w.site n t → IsDone w l m k (record { place = Supply n t; back = false })
+pub expanded_by : (w : Network) (l : LabelTable) (m : MarkTable) (k n t : ℕ) → IsOpenPair w.site n t → IsDone w l m k (record { place = Supply n t; back = false })
     → ((i : ℕ) → i < in_count w.site n → IsWayDone w l m k (way_in w.site (get_or (arcs_to w.site.shape n) i 0) t)) → IsWayDone w l m k (way_before n t)
     → ((i : ℕ) → i < out_count w.site n → IsDone w l m k (record { place = Arc (get_or (arcs_from w.site.shape n) i 0) t; back = true }))
     → IsDone w l m k (record { place = Hold n t; back = true }) → IsExpanded w l m k n t
@@ -193,7 +193,7 @@ expanded_by w l m k n t inside supply entering before leaving after y place stop
 -- ---- all that was seen
 
 pub unset_at : (s : Site) (l : LabelTable) (k : ℕ) (x : Work) (i : ℕ) (blank : Spot) → IsFlooding s l k x → i < length x.seen.list
-    → IsInside s (get_or x.seen.list i blank).node (get_or x.seen.list i blank).moment
+    → IsOpenPair s (get_or x.seen.list i blank).node (get_or x.seen.list i blank).moment
 unset_at s l k x i blank h q = (h.unset i blank q).0
 
 pub expanded_more : (w : Network) (l : LabelTable) (k done : ℕ) (x y : Work) (blank : Spot) → IsGrown x y

@@ -11,29 +11,27 @@ use Rattle.residual_net.proofs.LegLemmas.{legs_from, waits_first, waits_none}
 use Rattle.residual_net.specs.declared.place.Place.TheVariants.{Hold}
 use Rattle.residual_net.specs.Network.{Network, IsNet, IsWithinLimits, residual_room}
 use Rattle.residual_net.specs.Route.{IsAugmentingPath, IsOrigin, IsPushed}
-use Rattle.residual_net.specs.Site.{Site, End, cell_of, start_of}
-use Rattle.residual_net.specs.Site.End.{Pair}
+use Rattle.residual_net.specs.declared.end.End.{End}
+use Rattle.residual_net.specs.declared.end.End.TheVariants.{Pair, Door}
+use Rattle.residual_net.specs.Site.{Site, IsOpenPair, cell_of, start_of}
 use Rattle.residual_net.proofs.Places.{cell_below}
 use Rattle.terminal_augment.specs.declared.guess.Look.{Look}
 use Rattle.terminal_augment.specs.declared.spot.Frame.{Frame}
 use Rattle.terminal_augment.specs.declared.spot.Spot.{Spot}
-use Rattle.terminal_augment.specs.declared.spot.Start.{Start}
-use Rattle.terminal_augment.specs.declared.spot.Start.TheVariants as starts
-use Rattle.terminal_augment.specs.Frames.{IsChain, IsFound, IsFrame, end_of, spots, steps_of, top_end}
+use Rattle.terminal_augment.specs.Frames.{IsChain, IsFound, IsFrame, spots, steps_of, top_end}
 use Rattle.terminal_augment.specs.declared.work.Work.{Work}
 use Rattle.terminal_augment.specs.Guesses.{CarriesPeople, IsMarkedOn, IsStep, IsTail, frame_of, frames_of, spot_of}
 use Rattle.terminal_augment.specs.Marking.{MarkTable, IsMarks, is_marked, with_stamp}
 use Rattle.terminal_augment.specs.Searching.{IsWork}
 use Rattle.terminal_augment.specs.Settled.{IsPushedOn}
-use Rattle.terminal_augment.specs.Spots.{IsInside, has}
+use Rattle.terminal_augment.specs.Spots.{has}
 use Rattle.terminal_augment.proofs.MarkLemmas.{IsIn, marked_grows, marked_here}
 use Rattle.terminal_augment.proofs.SearchLemmas.{all_cons, at_spot, differs}
 use Rattle.terminal_augment.proofs.SendLemmas.{augments, pushed_on}
 
-pub tail_none : (w : Network) (k : ℕ) (m : MarkTable) (people : ℕ) → 1 ≤ people → IsTail w k m (starts.Door k) people []
+pub tail_none : (w : Network) (k : ℕ) (m : MarkTable) (people : ℕ) → 1 ≤ people → IsTail w k m (Door k) people []
 tail_none w k m people one = record {
   chain = tt;
-  inside = tt;
   top = refl;
   some = one;
   room = λ j d l. absurd (omega (arith, l));
@@ -46,13 +44,12 @@ with_spot y p = record { spot = p; step = y; next = 0 }
 frame_at : (s : Site) (y : PathStep) (p : Spot) → start_of s y ≡ Pair p.node p.moment → frame_of s y ≡ with_spot y p
 frame_at s y p e = ap (λ (z : End). with_spot y (spot_of z)) e
 
-pub tail_more : (w : Network) (k : ℕ) (m v : MarkTable) (e r : Start) (p : Spot) (people next : ℕ) (y : PathStep) (path : List PathStep)
-    → IsMarks m → m.nodes ≡ w.site.shape.nodes → m.horizon ≡ w.site.shape.horizon → IsTail w k m e people path → IsStep w y r e → r ≡ starts.At p
+pub tail_more : (w : Network) (k : ℕ) (m v : MarkTable) (e r : End) (p : Spot) (people next : ℕ) (y : PathStep) (path : List PathStep)
+    → IsMarks m → m.nodes ≡ w.site.shape.nodes → m.horizon ≡ w.site.shape.horizon → IsTail w k m e people path → IsStep w y r e → r ≡ Pair p.node p.moment
     → is_marked m p.node p.moment ≡ false → v ≡ with_stamp m p.node p.moment m.stamp → 1 ≤ next → next ≤ people → next ≤ residual_room w y
-    → IsTail w k v (starts.At p) next (y ∷ path)
+    → IsTail w k v (Pair p.node p.moment) next (y ∷ path)
 tail_more w k m v e r p people next y path marks nodes horizon tail first is off same one few room = record {
   chain = subst (λ (f : Frame). IsChain w.site k (f ∷ frames_of w.site path)) (sym here) (frame, tail.chain);
-  inside = step.inside;
   top = ap (λ (f : Frame). top_end k (f ∷ frames_of w.site path)) (sym here);
   some = one;
   room = all_cons (λ (z : PathStep). next ≤ residual_room w z) y path room (λ j d l. omega (arith, few, tail.room j d l));
@@ -60,8 +57,8 @@ tail_more w k m v e r p people next y path marks nodes horizon tail first is off
       (λ n t q. by n t (or_cases (eqb p.node n && eqb p.moment t) (has (spots (frames_of w.site path)) n t) q));
 }
   where
-    step : IsStep w y (starts.At p) e
-    step = subst (λ (z : Start). IsStep w y z e) is first
+    step : IsStep w y (Pair p.node p.moment) e
+    step = subst (λ (z : End). IsStep w y z e) is first
 
     here : frame_of w.site y ≡ with_spot y p
     here = frame_at w.site y p step.start
@@ -94,8 +91,8 @@ steps_of_frames : (s : Site) (xs : List PathStep) → steps_of (frames_of s xs) 
 steps_of_frames s [] = refl
 steps_of_frames s (x ∷ xs) = ap (λ (z : List PathStep). x ∷ z) (steps_of_frames s xs)
 
-pub all_carried : (w : Network) (k : ℕ) (m : MarkTable) (e r : Start) (people next : ℕ) (y : PathStep) (path whole : List PathStep) → IsTail w k m e people path
-    → IsStep w y r e → IsOrigin k (end_of r) → next ≤ people → next ≤ residual_room w y → whole ≡ y ∷ path → CarriesPeople w k whole next
+pub all_carried : (w : Network) (k : ℕ) (m : MarkTable) (e r : End) (people next : ℕ) (y : PathStep) (path whole : List PathStep) → IsTail w k m e people path
+    → IsStep w y r e → IsOrigin k r → next ≤ people → next ≤ residual_room w y → whole ≡ y ∷ path → CarriesPeople w k whole next
 all_carried w k m e r people next y path whole tail step origin few room same = (start_of w.site y, subst (λ (z : List PathStep). IsAugmentingPath w z next (start_of w.site y) k) (sym same) here)
   where
     found : IsFound w k (frames_of w.site path) y
@@ -136,13 +133,13 @@ legs_whole gs left blank some fits first none =
 
 -- ---- a wait
 
-wait_step : (w : Network) (q p : Spot) → q.node ≡ p.node → q.moment ≡ p.moment + 1 → IsInside w.site q.node q.moment
-    → 0 < residual_room w (wait_at p.node p.moment) → IsStep w (wait_at p.node p.moment) (starts.At p) (starts.At q)
+wait_step : (w : Network) (q p : Spot) → q.node ≡ p.node → q.moment ≡ p.moment + 1 → IsOpenPair w.site q.node q.moment
+    → 0 < residual_room w (wait_at p.node p.moment) → IsStep w (wait_at p.node p.moment) (Pair p.node p.moment) (Pair q.node q.moment)
 wait_step w q p node moment inside room = record {
   place = (omega (arith, inside.node, node), omega (arith, inside.moment, moment));
   room = room;
   start = refl;
-  inside = record { node = omega (arith, inside.node, node); moment = omega (arith, inside.moment, moment); open_node = rw node at inside.open_node };
+  inside = record { node = omega (arith, inside.node, node); moment = omega (arith, inside.moment, moment); no_exit = rw node at inside.no_exit };
   stop = ap (λ n. Pair n (p.moment + 1)) (sym node) ∙ ap (λ t. Pair q.node t) (sym moment);
 }
 
@@ -157,24 +154,24 @@ wait_cell w n t first net node moment here =
 -- a look that goes back over one more wait of a leg
 pub looked_more : (w : Network) (m v u : MarkTable) (n to : ℕ) (start x : Look) (p : Spot) (next : ℕ) → IsMarks v → v.nodes ≡ w.site.shape.nodes
     → v.horizon ≡ w.site.shape.horizon → x.spot.node ≡ n → p.node ≡ n → x.spot.moment ≡ p.moment + 1 → x.spot.moment ≤ to
-    → IsInside w.site x.spot.node x.spot.moment
-    → ((k : ℕ) (path : List PathStep) → IsTail w k m (starts.At start.spot) start.people path
-    → IsTail w k v (starts.At x.spot) x.people (waits_at n x.spot.moment (to - x.spot.moment) ++ path))
+    → IsOpenPair w.site x.spot.node x.spot.moment
+    → ((k : ℕ) (path : List PathStep) → IsTail w k m (Pair start.spot.node start.spot.moment) start.people path
+    → IsTail w k v (Pair x.spot.node x.spot.moment) x.people (waits_at n x.spot.moment (to - x.spot.moment) ++ path))
     → is_marked v p.node p.moment ≡ false → u ≡ with_stamp v p.node p.moment v.stamp → (0 < x.people → 1 ≤ next) → next ≤ x.people
     → next ≤ residual_room w (wait_at p.node p.moment)
-    → (k : ℕ) (path : List PathStep) → IsTail w k m (starts.At start.spot) start.people path
-    → IsTail w k u (starts.At p) next (waits_at n p.moment (to - p.moment) ++ path)
+    → (k : ℕ) (path : List PathStep) → IsTail w k m (Pair start.spot.node start.spot.moment) start.people path
+    → IsTail w k u (Pair p.node p.moment) next (waits_at n p.moment (to - p.moment) ++ path)
 looked_more w m v u n to start x p next marks nodes horizon node here moment last inside old off same one few room k path tail =
     let so_far = waits_at n x.spot.moment (to - x.spot.moment) ++ path in
     let was = old k path tail in
     let some = one (omega (arith, was.some)) in
     let step = wait_step w x.spot p (node ∙ sym here) moment inside (omega (arith, some, room)) in
-    let now = tail_more w k v u (starts.At x.spot) (starts.At p) p x.people next (wait_at p.node p.moment) so_far marks nodes horizon was step refl off same some few room in
+    let now = tail_more w k v u (Pair x.spot.node x.spot.moment) (Pair p.node p.moment) p x.people next (wait_at p.node p.moment) so_far marks nodes horizon was step refl off same some few room in
     let first : waits_at n p.moment (to - p.moment) ≡ wait_at p.node p.moment ∷ waits_at n x.spot.moment (to - x.spot.moment) =
     waits_first n p.moment to (omega (arith, moment, last))
     ∙ ap (λ t. wait_at n p.moment ∷ waits_at n t (to - t)) (sym moment)
     ∙ ap (λ i. wait_at i p.moment ∷ waits_at n x.spot.moment (to - x.spot.moment)) (sym here) in
-    subst (λ (z : List PathStep). IsTail w k u (starts.At p) next (z ++ path)) (sym first) now
+    subst (λ (z : List PathStep). IsTail w k u (Pair p.node p.moment) next (z ++ path)) (sym first) now
 
 -- a push along a path that was looked at
 pub carried_pushed : (w v : Network) (k people : ℕ) (path : List PathStep) → IsNet v → IsWithinLimits v → 1 ≤ people → CarriesPeople w k path people

@@ -9,8 +9,9 @@ use Rattle.residual_net.specs.declared.place.Place.TheVariants.{Arc}
 use Rattle.residual_net.specs.Closed.{reached}
 use Rattle.residual_net.specs.Network.{Network}
 use Rattle.residual_net.specs.Route.{Trail}
-use Rattle.residual_net.specs.Site.{Site, End, IsPlace, start_of, stop_of}
-use Rattle.residual_net.specs.Site.End.{Source, Pair, Door}
+use Rattle.residual_net.specs.declared.end.End.{End}
+use Rattle.residual_net.specs.declared.end.End.TheVariants.{Source, Pair, Door}
+use Rattle.residual_net.specs.Site.{Site, IsOpenPair, IsPlace, start_of, stop_of}
 use Rattle.terminal_augment.specs.declared.spot.Frame.{Frame}
 use Rattle.terminal_augment.specs.declared.spot.Spot.{Spot}
 use Rattle.terminal_augment.specs.declared.work.Work.{Work}
@@ -18,7 +19,7 @@ use Rattle.terminal_augment.specs.Frames.{AreDone, IsChain, IsExpanded, IsTried,
 use Rattle.terminal_augment.specs.Marking.{MarkTable, IsMarks, is_marked, mark_place, open_count, with_stamp}
 use Rattle.terminal_augment.specs.Piles.{Pile, top_of}
 use Rattle.terminal_augment.specs.Searching.{IsUnmarked, IsExplored, IsSearching, IsWork, entered, freed, freed_from, popped, released, retried}
-use Rattle.terminal_augment.specs.Spots.{IsInside, has}
+use Rattle.terminal_augment.specs.Spots.{has}
 use Rattle.terminal_augment.specs.Ways.{IsDone, passed, way_count}
 use Rattle.terminal_augment.proofs.MarkLemmas.{IsIn, marked_grows, marked_here, marked_listed, marked_other, open_few, open_marked, open_unmarked}
 use Rattle.terminal_augment.proofs.WayLemmas.{each_way}
@@ -47,19 +48,19 @@ release_more x y z i e f = rw add-one (f ∙ ap freed e)
 -- ---- the pairs of frames
 
 -- a pair of a frame is the network's
-pub has_inside : (s : Site) (k : ℕ) (fs : List Frame) (n t : ℕ) → IsChain s k fs → has (spots fs) n t ≡ true → IsInside s n t
+pub has_inside : (s : Site) (k : ℕ) (fs : List Frame) (n t : ℕ) → IsChain s k fs → has (spots fs) n t ≡ true → IsOpenPair s n t
 has_inside s k [] n t c e = absurd (cc)
 has_inside s k (f ∷ fs) n t c e = elim (or_cases (eqb f.spot.node n && eqb f.spot.moment t) (has (spots fs) n t) e) [
   | inl here ↦
       let both = and_parts _ _ here in
       let node : f.spot.node ≡ n = eqb-true _ _ both.0 in
       let moment : f.spot.moment ≡ t = eqb-true _ _ both.1 in
-      let at_node : IsInside s n f.spot.moment = subst (λ z. IsInside s z f.spot.moment) node c.0.inside in
-      subst (λ z. IsInside s n z) moment at_node
+      let at_node : IsOpenPair s n f.spot.moment = subst (λ z. IsOpenPair s z f.spot.moment) node c.0.inside in
+      subst (λ z. IsOpenPair s n z) moment at_node
   | inr later ↦ has_inside s k fs n t c.1 later
 ]
 
-pub is_in : (s : Site) (x : Work) (n t : ℕ) → IsWork s.shape.nodes s.shape.horizon x → IsInside s n t → IsIn x.marks n t
+pub is_in : (s : Site) (x : Work) (n t : ℕ) → IsWork s.shape.nodes s.shape.horizon x → IsOpenPair s n t → IsIn x.marks n t
 is_in s x n t w i = record { node = omega (arith, w.nodes, i.node); moment = omega (arith, w.horizon, i.moment) }
 
 pub chain_in : (s : Site) (k : ℕ) (x : Work) (fs : List Frame) → IsWork s.shape.nodes s.shape.horizon x → IsChain s k fs
@@ -120,7 +121,7 @@ explored_begins w l k x y c =
 
 -- what a pair must be for its frame to lie on top
 pub record IsEntry (s : Site) (l : LabelTable) (k : ℕ) (x : Work) (p : Spot) (y : PathStep) : Type 0 where
-  pub inside : IsInside s p.node p.moment
+  pub inside : IsOpenPair s p.node p.moment
   pub place : IsPlace s y.place
   pub start : start_of s y ≡ Pair p.node p.moment
   pub stop : stop_of s y ≡ top_end k x.frames.list
@@ -171,7 +172,7 @@ entered_here s l k x p y h e marks = record {
   seen = omega (arith, one, h.seen);
   chain = (record { inside = e.inside; place = e.place; start = e.start; stop = e.stop; fresh = fresh (cases_Bool (has (spots x.frames.list) p.node p.moment)) }, h.chain);
   marked = λ n t q. by n t (or_cases (eqb p.node n && eqb p.moment t) (has (spots x.frames.list) n t) q);
-  unset = all_cons (λ (q : Spot). IsInside s q.node q.moment × (k ≤ label_at l q.node q.moment)) p x.seen.list (e.inside, e.unset) h.unset;
+  unset = all_cons (λ (q : Spot). IsOpenPair s q.node q.moment × (k ≤ label_at l q.node q.moment)) p x.seen.list (e.inside, e.unset) h.unset;
 }
   where
     in_table : IsIn x.marks p.node p.moment
@@ -235,7 +236,7 @@ entered_explored w l k n x p y h e r = record {
     grows : (n t : ℕ) → is_marked x.marks n t ≡ true → is_marked (with_stamp x.marks p.node p.moment x.marks.stamp) n t ≡ true
     grows n t q = marked_grows x.marks p.node p.moment n t h.work.marks in_table q
 
-    by : (n t : ℕ) → IsInside w.site n t → ((eqb p.node n && eqb p.moment t) ≡ true) ⊎ (is_marked x.marks n t ≡ true)
+    by : (n t : ℕ) → IsOpenPair w.site n t → ((eqb p.node n && eqb p.moment t) ≡ true) ⊎ (is_marked x.marks n t ≡ true)
         → (has (spots (entered x p y).frames.list) n t ≡ true) ⊎ IsExpanded w l (entered x p y).marks k n t
     by n t i (inl q) = inl (or_here _ _ q)
     by n t i (inr q) = elim (r.expanded n t i q) [
@@ -298,7 +299,7 @@ explored_retried w l k n x z f i r e done same = subst (λ (v : Work). IsExplore
         let tried : All (λ g. IsTried w l x.marks k g) (f ∷ fs) = subst (λ (v : List Frame). All (λ g. IsTried w l x.marks k g) v) q r.tried in
         record {
           listed = r.listed;
-          expanded = subst (λ (v : List Frame). (u t : ℕ) → IsInside w.site u t → is_marked x.marks u t ≡ true
+          expanded = subst (λ (v : List Frame). (u t : ℕ) → IsOpenPair w.site u t → is_marked x.marks u t ≡ true
               → (has (spots v) u t ≡ true) ⊎ IsExpanded w l x.marks k u t) q r.expanded;
           tried = all_cons (λ g. IsTried w l x.marks k g) _ fs (tried_on w l x.marks k f i (tried 0 f (omega arith)) done)
               (all_rest (λ g. IsTried w l x.marks k g) f fs tried);
@@ -330,7 +331,7 @@ measure_left x z f e same =
     omega (arith, ap length (top_cons x.frames.list f e), ap (λ (v : Work). open_count v.marks) same, ap (λ (v : Work). length v.frames.list) same)
 
 -- a pair whose ways are all done is expanded
-all_expanded : (w : Network) (l : LabelTable) (m : MarkTable) (k : ℕ) (f : Frame) → IsInside w.site f.spot.node f.spot.moment → IsTried w l m k f
+all_expanded : (w : Network) (l : LabelTable) (m : MarkTable) (k : ℕ) (f : Frame) → IsOpenPair w.site f.spot.node f.spot.moment → IsTried w l m k f
     → AreDone w l m k f (way_count w.site f.spot.node) → IsExpanded w l m k f.spot.node f.spot.moment
 all_expanded w l m k f inside tried done y place stop =
     let way = each_way w.site f.spot.node f.spot.moment y inside place stop in
@@ -345,8 +346,8 @@ explored_left w l k n x z f h r e done same = subst (λ (v : Work). IsExplored w
     here fs q =
         let chain : IsChain w.site k (f ∷ fs) = subst (λ (v : List Frame). IsChain w.site k v) q h.chain in
         let tried : All (λ g. IsTried w l x.marks k g) (f ∷ fs) = subst (λ (v : List Frame). All (λ g. IsTried w l x.marks k g) v) q r.tried in
-        let expanded : (u t : ℕ) → IsInside w.site u t → is_marked x.marks u t ≡ true → (has (spots (f ∷ fs)) u t ≡ true) ⊎ IsExpanded w l x.marks k u t =
-        subst (λ (v : List Frame). (u t : ℕ) → IsInside w.site u t → is_marked x.marks u t ≡ true
+        let expanded : (u t : ℕ) → IsOpenPair w.site u t → is_marked x.marks u t ≡ true → (has (spots (f ∷ fs)) u t ≡ true) ⊎ IsExpanded w l x.marks k u t =
+        subst (λ (v : List Frame). (u t : ℕ) → IsOpenPair w.site u t → is_marked x.marks u t ≡ true
         → (has (spots v) u t ≡ true) ⊎ IsExpanded w l x.marks k u t) q r.expanded in
         let whole = all_expanded w l x.marks k f chain.0.inside (tried 0 f (omega arith)) done in
         record {

@@ -7,8 +7,9 @@ use Rattle.residual_net.specs.declared.place.PathStep.{PathStep}
 use Rattle.residual_net.specs.Closed.{reached}
 use Rattle.residual_net.specs.Network.{Network, IsNet, IsWithinLimits, arrived_by, residual_room}
 use Rattle.residual_net.specs.Route.{IsAugmentingPath, IsOrigin, IsPushed, Leads}
-use Rattle.residual_net.specs.Site.{Site, End, IsPlace, door_by, head_of, start_of, stop_of, tail_of}
-use Rattle.residual_net.specs.Site.End.{Source, Pair, Door}
+use Rattle.residual_net.specs.declared.end.End.{End}
+use Rattle.residual_net.specs.declared.end.End.TheVariants.{Source, Pair, Door}
+use Rattle.residual_net.specs.Site.{Site, IsPlace, door_by, head_of, start_of, stop_of, tail_of}
 use Rattle.time_expansion.proofs.Cells.{sizes}
 use Rattle.residual_net.specs.Limits.{supply_limit}
 use Rattle.residual_net.proofs.Arrivals.{arrived_all, arrivals_fit}
@@ -20,7 +21,6 @@ use Rattle.terminal_augment.specs.Settled.{IsCountedOn, IsPushedOn}
 use Rattle.terminal_augment.specs.Spots.{has}
 use Rattle.terminal_augment.proofs.AdvanceLemmas.{or_none}
 use Rattle.terminal_augment.proofs.SearchLemmas.{all_cons, all_rest, differs}
-use Rattle.terminal_augment.proofs.WayLemmas.{pair_moment, pair_node}
 
 -- ---- the path
 
@@ -68,8 +68,9 @@ pair_off : (k : ℕ) (fs : List Frame) (n t : ℕ) → has (spots fs) n t ≡ fa
 pair_off k [] n t h = λ e. cc
 pair_off k (f ∷ fs) n t h =
     let both = or_none (eqb f.spot.node n && eqb f.spot.moment t) (has (spots fs) n t) h in (
-      (λ q. differs (eqb f.spot.node n && eqb f.spot.moment t)
-          (and_from _ _ (eq-eqb _ _ (sym (ap pair_node q))) (eq-eqb _ _ (sym (ap pair_moment q)))) both.0),
+      (λ q. let node : f.spot.node ≡ n = cc in
+          let moment : f.spot.moment ≡ t = cc in
+          differs (eqb f.spot.node n && eqb f.spot.moment t) (and_from _ _ (eq-eqb _ _ node) (eq-eqb _ _ moment)) both.0),
       pair_off k fs n t both.1,
     )
 
@@ -79,15 +80,10 @@ chain_apart s k (f ∷ fs) c =
     let off : IsOff k fs (start_of s f.step) = subst (λ (e : End). IsOff k fs e) (sym c.0.start) (pair_off k fs f.spot.node f.spot.moment c.0.fresh) in
     AllPairs-cons (λ (y z : PathStep). y.place ≢ z.place) f.step (steps_of fs) (off_places s k fs f.step c.1 off) (chain_apart s k fs c.1)
 
-abbrev door_moment : End → ℕ
-door_moment Source = 0
-door_moment (Pair n t) = 0
-door_moment (Door j) = j
-
 origin_off : (k : ℕ) (fs : List Frame) (e : End) → IsOrigin k e → IsOff k fs e
 origin_off k [] Source o = λ q. cc
 origin_off k [] (Pair n t) o = absurd o
-origin_off k [] (Door j) o = λ q. let same : j ≡ k = ap door_moment q in omega (arith, o, same)
+origin_off k [] (Door j) o = λ q. let same : j ≡ k = cc in omega (arith, o, same)
 origin_off k (f ∷ fs) Source o = ((λ q. cc), origin_off k fs Source o)
 origin_off k (f ∷ fs) (Pair n t) o = absurd o
 origin_off k (f ∷ fs) (Door j) o = ((λ q. cc), origin_off k fs (Door j) o)

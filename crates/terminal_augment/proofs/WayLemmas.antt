@@ -9,9 +9,8 @@ use Rattle.time_expansion.proofs.Lists as lists
 use Rattle.residual_net.specs.declared.place.Place.{Place}
 use Rattle.residual_net.specs.declared.place.Place.TheVariants.{Arc, Hold, Supply}
 use Rattle.residual_net.specs.declared.place.PathStep.{PathStep}
-use Rattle.residual_net.specs.Site.{Site, End, IsPlace, arc_count, arrival_at, exit_at, head_of, stop_of}
-use Rattle.residual_net.specs.Site.End.{Source, Pair, Door}
-use Rattle.terminal_augment.specs.Spots.{IsInside}
+use Rattle.residual_net.specs.Site.{Site, IsOpenPair, IsPlace, arc_count, arrival_at, exit_at, head_of, stop_of}
+use Rattle.residual_net.specs.declared.end.End.TheVariants.{Pair, Door}
 use Rattle.terminal_augment.specs.Ways.{in_count, out_count, way_at, way_back, way_before, way_behind, way_by_arc, way_count, way_in}
 
 -- ---- how many ways there are
@@ -40,7 +39,7 @@ step p b = record { place = p; back = b }
 some_same : {A : Type 0} (x y : A) → Some x ≡ Some y → y ≡ x
 some_same x y e = cc
 
-in_leads : (s : Site) (n t a : ℕ) (y : PathStep) → IsInside s n t → a < arc_count s → to_at s.shape a ≡ n → way_in s a t ≡ Some y → LeadsTo s n t y
+in_leads : (s : Site) (n t a : ℕ) (y : PathStep) → IsOpenPair s n t → a < arc_count s → to_at s.shape a ≡ n → way_in s a t ≡ Some y → LeadsTo s n t y
 in_leads s n t a y inside l to e = elim (cases_Bool (leb (arrival_at s a 0) t)) [
   | inl h ↦
       let le : arrival_at s a 0 ≤ t = leb-true _ _ h in
@@ -48,7 +47,7 @@ in_leads s n t a y inside l to e = elim (cases_Bool (leb (arrival_at s a 0) t)) 
       let place : IsPlace s (Arc a (t - arrival_at s a 0)) = (l, omega (arith, inside.moment)) in
       let when : arrival_at s a (t - arrival_at s a 0) ≡ t = omega arith in
       let stop : head_of s (Arc a (t - arrival_at s a 0)) ≡ Pair n t =
-      rw to (rw inside.open_node (ap (λ z. Pair n z) when)) in
+      rw to (rw inside.no_exit (ap (λ z. Pair n z) when)) in
       subst (λ (z : PathStep). LeadsTo s n t z) (sym is) (record { place = place; stop = stop })
   | inr h ↦ absurd (none (rw h at e))
 ]
@@ -56,7 +55,7 @@ in_leads s n t a y inside l to e = elim (cases_Bool (leb (arrival_at s a 0) t)) 
     none : None ≡ Some y → ⊥
     none q = cc
 
-back_leads : (s : Site) (n t i : ℕ) (y : PathStep) → IsInside s n t → way_back s n t i ≡ Some y → LeadsTo s n t y
+back_leads : (s : Site) (n t i : ℕ) (y : PathStep) → IsOpenPair s n t → way_back s n t i ≡ Some y → LeadsTo s n t y
 back_leads s n t i y inside e = elim (cases_Bool (ltb i (out_count s n))) [
   | inl h ↦
       let here = lists.arc_out s.shape n i 0 (ltb-true _ _ h) in
@@ -67,7 +66,7 @@ back_leads s n t i y inside e = elim (cases_Bool (ltb i (out_count s n))) [
       subst (λ (z : PathStep). LeadsTo s n t z) (sym is) (record { place = (inside.node, inside.moment); stop = refl })
 ]
 
-before_leads : (s : Site) (n t : ℕ) (y : PathStep) → IsInside s n t → way_before n t ≡ Some y → LeadsTo s n t y
+before_leads : (s : Site) (n t : ℕ) (y : PathStep) → IsOpenPair s n t → way_before n t ≡ Some y → LeadsTo s n t y
 before_leads s n t y inside e = elim (cases_Bool (eqb t 0)) [
   | inl h ↦ absurd (none (rw h at e))
   | inr h ↦
@@ -80,13 +79,13 @@ before_leads s n t y inside e = elim (cases_Bool (eqb t 0)) [
     none : None ≡ Some y → ⊥
     none q = cc
 
-behind_leads : (s : Site) (n t i : ℕ) (y : PathStep) → IsInside s n t → way_behind s n t i ≡ Some y → LeadsTo s n t y
+behind_leads : (s : Site) (n t i : ℕ) (y : PathStep) → IsOpenPair s n t → way_behind s n t i ≡ Some y → LeadsTo s n t y
 behind_leads s n t i y inside e = elim (cases_Bool (eqb i 0)) [
   | inl h ↦ before_leads s n t y inside (rw h at e)
   | inr h ↦ back_leads s n t (i - 1) y inside (rw h at e)
 ]
 
-arc_leads : (s : Site) (n t i : ℕ) (y : PathStep) → IsInside s n t → way_by_arc s n t i ≡ Some y → LeadsTo s n t y
+arc_leads : (s : Site) (n t i : ℕ) (y : PathStep) → IsOpenPair s n t → way_by_arc s n t i ≡ Some y → LeadsTo s n t y
 arc_leads s n t i y inside e = elim (cases_Bool (ltb i (in_count s n))) [
   | inl h ↦
       let here = lists.arc_into s.shape n i 0 (ltb-true _ _ h) in
@@ -94,7 +93,7 @@ arc_leads s n t i y inside e = elim (cases_Bool (ltb i (in_count s n))) [
   | inr h ↦ behind_leads s n t (i - in_count s n) y inside (rw h at e)
 ]
 
-pub way_leads : (s : Site) (n t i : ℕ) (y : PathStep) → IsInside s n t → way_at s n t i ≡ Some y → LeadsTo s n t y
+pub way_leads : (s : Site) (n t i : ℕ) (y : PathStep) → IsOpenPair s n t → way_at s n t i ≡ Some y → LeadsTo s n t y
 unfolding way_at
 way_leads s n t i y inside e = elim (cases_Bool (eqb i 0)) [
   | inl h ↦
@@ -110,16 +109,6 @@ pub record Numbered (s : Site) (n t : ℕ) (y : PathStep) : Type 0 where
   pub number : ℕ
   pub below : number < way_count s n
   pub is : way_at s n t number ≡ Some y
-
-abbrev pub pair_node : End → ℕ
-pair_node Source = 0
-pair_node (Pair n t) = n
-pair_node (Door t) = 0
-
-abbrev pub pair_moment : End → ℕ
-pair_moment Source = 0
-pair_moment (Pair n t) = t
-pair_moment (Door t) = 0
 
 by_arc : (s : Site) (n t i : ℕ) (y : PathStep) → i < in_count s n + out_count s n + 2 → way_by_arc s n t i ≡ Some y → Numbered s n t y
 unfolding way_at
@@ -140,28 +129,28 @@ back_way s n t i y l e =
     let back : i + 1 - 1 ≡ i = omega arith in
     behind s n t (i + 1) y (omega (arith, l)) (rw (some, back) e)
 
-numbered : (s : Site) (n t : ℕ) (p : Place) (b : Bool) → IsInside s n t → IsPlace s p → stop_of s (record { place = p; back = b }) ≡ Pair n t
+numbered : (s : Site) (n t : ℕ) (p : Place) (b : Bool) → IsOpenPair s n t → IsPlace s p → stop_of s (record { place = p; back = b }) ≡ Pair n t
     → Numbered s n t (record { place = p; back = b })
 unfolding way_at
 numbered s n t (Supply m u) true inside place e = absurd (cc)
 numbered s n t (Supply m u) false inside place e =
-    let node : m ≡ n = ap pair_node e in
-    let moment : u ≡ t = ap pair_moment e in
+    let node : m ≡ n = cc in
+    let moment : u ≡ t = cc in
     record { number = 0; below = omega arith; is = rw (node, moment) }
 numbered s n t (Hold m u) true inside place e =
-    let node : m ≡ n = ap pair_node e in
-    let moment : u ≡ t = ap pair_moment e in
+    let node : m ≡ n = cc in
+    let moment : u ≡ t = cc in
     let last : ltb (out_count s n) (out_count s n) ≡ false = le-ltb _ _ (omega arith) in
     back_way s n t (out_count s n) _ (omega arith) (rw (last, node, moment))
 numbered s n t (Hold m u) false inside place e =
-    let node : m ≡ n = ap pair_node e in
-    let moment : u + 1 ≡ t = ap pair_moment e in
+    let node : m ≡ n = cc in
+    let moment : u + 1 ≡ t = cc in
     let some : eqb t 0 ≡ false = ne_eqb _ _ (omega arith) in
     let before : t - 1 ≡ u = omega arith in
     behind s n t 0 _ (omega arith) (rw (some, before, node))
 numbered s n t (Arc a u) true inside place e =
-    let node : from_at s.shape a ≡ n = ap pair_node e in
-    let moment : u ≡ t = ap pair_moment e in
+    let node : from_at s.shape a ≡ n = cc in
+    let moment : u ≡ t = cc in
     let here = lists.out_listed s.shape n a place.0 node in
     let i = here.0 in
     let listed : ltb i (out_count s n) ≡ true = lt-ltb _ _ here.1 in
@@ -171,13 +160,13 @@ numbered s n t (Arc a u) false inside place e = by_exit (exit_at s (to_at s.shap
     by_exit : (x : Bool) → cond x (Door (arrival_at s a u)) (Pair (to_at s.shape a) (arrival_at s a u)) ≡ Pair n t → Numbered s n t (record { place = Arc a u; back = false })
     by_exit true h = absurd (cc)
     by_exit false h =
-        let node : to_at s.shape a ≡ n = ap pair_node h in
-        let moment : arrival_at s a u ≡ t = ap pair_moment h in
+        let node : to_at s.shape a ≡ n = cc in
+        let moment : arrival_at s a u ≡ t = cc in
         let here = lists.into_listed s.shape n a place.0 node in
         let listed : ltb here.0 (in_count s n) ≡ true = lt-ltb _ _ here.1 in
         let early : leb (arrival_at s a 0) t ≡ true = le-leb _ _ (omega arith) in
         let when : t - arrival_at s a 0 ≡ u = omega arith in
         by_arc s n t here.0 _ (omega (arith, here.1)) (rw (listed, here.2, early, when))
 
-pub each_way : (s : Site) (n t : ℕ) (y : PathStep) → IsInside s n t → IsPlace s y.place → stop_of s y ≡ Pair n t → Numbered s n t y
+pub each_way : (s : Site) (n t : ℕ) (y : PathStep) → IsOpenPair s n t → IsPlace s y.place → stop_of s y ≡ Pair n t → Numbered s n t y
 each_way s n t y inside place e = numbered s n t y.place y.back inside place e

@@ -1,16 +1,15 @@
 -- A search that goes on from all pairs that it has met, one after another.
-use Rattle.std.specs.Prelude.{◌≡◌, ℕ, ◌+◌, ◌-◌, ◌≤◌, Option, MatchOption, List, [], length, drop, IsTrue}
+use Rattle.std.specs.Prelude.{◌≡◌, ℕ, ◌+◌, ◌-◌, ◌≤◌, Option, MatchOption, [], length, drop, IsTrue}
 use Rattle.std.specs.List.{All}
 use Rattle.evac_law.specs.LabelTable.{LabelTable, label_at}
 use Rattle.residual_net.specs.declared.place.PathStep.{PathStep}
 use Rattle.residual_net.specs.Network.{Network}
-use Rattle.residual_net.specs.Site.{Site}
-use Rattle.terminal_augment.specs.declared.spot.Spot.{Spot}
+use Rattle.residual_net.specs.Site.{Site, IsOpenPair}
 use Rattle.terminal_augment.specs.declared.work.Work.{Work}
 use Rattle.terminal_augment.specs.Frames.{IsExpanded}
 use Rattle.terminal_augment.specs.Marking.{MarkTable, is_marked, open_count}
 use Rattle.terminal_augment.specs.Searching.{IsWork}
-use Rattle.terminal_augment.specs.Spots.{IsInside, has}
+use Rattle.terminal_augment.specs.Spots.{has}
 use Rattle.terminal_augment.specs.Ways.{IsDone}
 
 -- a way is done, where there is one
@@ -22,8 +21,8 @@ pub record IsFlooding (s : Site) (l : LabelTable) (k : ℕ) (x : Work) : Type 0 
   pub work : IsWork s.shape.nodes s.shape.horizon x
   pub none : x.frames.list ≡ []
   pub seen : open_count x.marks + length x.seen.list ≤ x.seen.room
-  pub unset : All (λ p. IsInside s p.node p.moment × (k ≤ label_at l p.node p.moment)) x.seen.list
-  pub listed : (n t : ℕ) → IsInside s n t → is_marked x.marks n t ≡ has x.seen.list n t
+  pub unset : All (λ p. IsOpenPair s p.node p.moment × (k ≤ label_at l p.node p.moment)) x.seen.list
+  pub listed : (n t : ℕ) → IsOpenPair s n t → is_marked x.marks n t ≡ has x.seen.list n t
 
 -- no mark is taken off, and what was seen lies below what has been seen since
 pub record IsGrown (x y : Work) : Type 0 where

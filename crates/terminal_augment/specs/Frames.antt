@@ -5,15 +5,14 @@ use Rattle.evac_law.specs.LabelTable.{LabelTable}
 use Rattle.residual_net.specs.declared.place.PathStep.{PathStep}
 use Rattle.residual_net.specs.Network.{Network, residual_room}
 use Rattle.residual_net.specs.Route.{IsOrigin}
-use Rattle.residual_net.specs.Site.{Site, End, IsPlace, start_of, stop_of}
-use Rattle.residual_net.specs.Site.End.{Source, Pair, Door}
+use Rattle.residual_net.specs.declared.end.End.{End}
+use Rattle.residual_net.specs.declared.end.End.TheVariants.{Pair, Door}
+use Rattle.residual_net.specs.Site.{Site, IsOpenPair, IsPlace, start_of, stop_of}
 use Rattle.terminal_augment.specs.declared.spot.Frame.{Frame}
 use Rattle.terminal_augment.specs.declared.spot.Spot.{Spot}
-use Rattle.terminal_augment.specs.declared.spot.Start.{Start}
-use Rattle.terminal_augment.specs.declared.spot.Start.TheVariants as starts
 use Rattle.terminal_augment.specs.declared.spot.Way.{Way}
 use Rattle.terminal_augment.specs.Marking.{MarkTable}
-use Rattle.terminal_augment.specs.Spots.{IsInside, has}
+use Rattle.terminal_augment.specs.Spots.{has}
 use Rattle.terminal_augment.specs.Ways.{IsDone, IsUsable, way_at, way_count}
 
 -- where the steps of the frames begin
@@ -31,7 +30,7 @@ top_end k (f ∷ fs) = Pair f.spot.node f.spot.moment
 
 -- a frame's step leads from its pair to the frame below, and no frame below has that pair
 pub record IsFrame (s : Site) (k : ℕ) (f : Frame) (fs : List Frame) : Type 0 where
-  pub inside : IsInside s f.spot.node f.spot.moment
+  pub inside : IsOpenPair s f.spot.node f.spot.moment
   pub place : IsPlace s f.step.place
   pub start : start_of s f.step ≡ Pair f.spot.node f.spot.moment
   pub stop : stop_of s f.step ≡ top_end k fs
@@ -67,18 +66,6 @@ pub record IsFound (w : Network) (k : ℕ) (fs : List Frame) (y : PathStep) : Ty
   pub place : IsPlace w.site y.place
   pub stop : stop_of w.site y ≡ top_end k fs
   pub origin : IsOrigin k (start_of w.site y)
-
--- the end at which a step begins
-abbrev pub end_of : Start → End
-end_of starts.Source = Source
-end_of (starts.At p) = Pair p.node p.moment
-end_of (starts.Door t) = Door t
-
--- a pair at which a step begins is the network's
-abbrev pub IsStart : Site → Start → Type 0
-IsStart s starts.Source = Unit {0}
-IsStart s (starts.At p) = IsInside s p.node p.moment
-IsStart s (starts.Door t) = Unit {0}
 
 -- the ways into a frame's pair from its next one up to a number are done
 abbrev pub AreDone : Network → LabelTable → MarkTable → ℕ → Frame → ℕ → Type 0

@@ -6,16 +6,15 @@ use Rattle.residual_net.specs.declared.place.PathStep.{PathStep}
 use Rattle.residual_net.specs.Legs.{waits_at}
 use Rattle.residual_net.specs.Network.{Network, residual_room}
 use Rattle.residual_net.specs.Route.{IsAugmentingPath}
-use Rattle.residual_net.specs.Site.{Site, End, IsPlace, start_of, stop_of}
-use Rattle.residual_net.specs.Site.End.{Source, Pair, Door}
+use Rattle.residual_net.specs.declared.end.End.{End}
+use Rattle.residual_net.specs.declared.end.End.TheVariants.{Source, Pair, Door}
+use Rattle.residual_net.specs.Site.{Site, IsOpenEnd, IsOpenPair, IsPlace, start_of, stop_of}
 use Rattle.terminal_augment.specs.declared.guess.Look.{Look}
 use Rattle.terminal_augment.specs.declared.spot.Frame.{Frame}
 use Rattle.terminal_augment.specs.declared.spot.Spot.{Spot}
-use Rattle.terminal_augment.specs.declared.spot.Start.{Start}
-use Rattle.terminal_augment.specs.declared.spot.Start.TheVariants as starts
-use Rattle.terminal_augment.specs.Frames.{IsChain, IsStart, end_of, spots, top_end}
+use Rattle.terminal_augment.specs.Frames.{IsChain, spots, top_end}
 use Rattle.terminal_augment.specs.Marking.{MarkTable, IsMarks, is_marked}
-use Rattle.terminal_augment.specs.Spots.{IsInside, has}
+use Rattle.terminal_augment.specs.Spots.{has}
 
 -- the pair of an end, where it is one
 abbrev pub spot_of : End → Spot
@@ -31,27 +30,26 @@ abbrev pub frames_of : Site → List PathStep → List Frame
 frames_of s = map (frame_of s)
 
 -- a step with room leads from one end to another
-pub record IsStep (w : Network) (y : PathStep) (r e : Start) : Type 0 where
+pub record IsStep (w : Network) (y : PathStep) (r e : End) : Type 0 where
   pub place : IsPlace w.site y.place
   pub room : 0 < residual_room w y
-  pub start : start_of w.site y ≡ end_of r
-  pub inside : IsStart w.site r
-  pub stop : stop_of w.site y ≡ end_of e
+  pub start : start_of w.site y ≡ r
+  pub inside : IsOpenEnd w.site r
+  pub stop : stop_of w.site y ≡ e
 
 -- the steps lead from an end to an arrival at moment k over marked pairs, and each has room for some people
-pub record IsTail (w : Network) (k : ℕ) (m : MarkTable) (e : Start) (people : ℕ) (path : List PathStep) : Type 0 where
+pub record IsTail (w : Network) (k : ℕ) (m : MarkTable) (e : End) (people : ℕ) (path : List PathStep) : Type 0 where
   pub chain : IsChain w.site k (frames_of w.site path)
-  pub inside : IsStart w.site e
-  pub top : end_of e ≡ top_end k (frames_of w.site path)
+  pub top : e ≡ top_end k (frames_of w.site path)
   pub some : 1 ≤ people
   pub room : All (λ y. people ≤ residual_room w y) path
   pub marked : (n t : ℕ) → IsTrue (has (spots (frames_of w.site path)) n t) → IsTrue (is_marked m n t)
 
 -- a look at a path has come to a pair of the network, over the waits of a leg before what it had come over
 pub record IsLookedBack (w : Network) (m v : MarkTable) (g : Leg) (x y : Look) : Type 0 where
-  pub inside : IsInside w.site y.spot.node y.spot.moment
-  pub tail : (k : ℕ) (path : List PathStep) → IsTail w k m (starts.At x.spot) x.people path
-      → IsTail w k v (starts.At y.spot) y.people (waits_at g.node g.from (g.to - g.from) ++ path)
+  pub inside : IsOpenPair w.site y.spot.node y.spot.moment
+  pub tail : (k : ℕ) (path : List PathStep) → IsTail w k m (Pair x.spot.node x.spot.moment) x.people path
+      → IsTail w k v (Pair y.spot.node y.spot.moment) y.people (waits_at g.node g.from (g.to - g.from) ++ path)
 
 -- the waits of a leg were looked at, if they may be taken
 abbrev pub IsLookedOver : Network → MarkTable → MarkTable → Leg → Look → Option Look → Type 0

@@ -5,15 +5,15 @@ use Rattle.evac_law.specs.LabelTable.{LabelTable, label_at}
 use Rattle.residual_net.specs.declared.place.PathStep.{PathStep}
 use Rattle.residual_net.specs.declared.place.Place.TheVariants.{Arc}
 use Rattle.residual_net.specs.Network.{Network, IsNet}
-use Rattle.residual_net.specs.Site.{Site, IsPlace, stop_of}
-use Rattle.residual_net.specs.Site.End.{Door}
+use Rattle.residual_net.specs.Site.{Site, IsOpenPair, IsPlace, stop_of}
+use Rattle.residual_net.specs.declared.end.End.TheVariants.{Door}
 use Rattle.terminal_augment.specs.declared.spot.Frame.{Frame}
 use Rattle.terminal_augment.specs.declared.spot.Spot.{Spot}
 use Rattle.terminal_augment.specs.declared.work.Work.{Work}
 use Rattle.terminal_augment.specs.Frames.{HaveRoom, IsChain, IsExpanded, IsTried, spots}
 use Rattle.terminal_augment.specs.Marking.{MarkTable, IsMarks, is_marked, open_count, with_stamp}
 use Rattle.terminal_augment.specs.Piles.{Pile}
-use Rattle.terminal_augment.specs.Spots.{IsInside, has}
+use Rattle.terminal_augment.specs.Spots.{has}
 use Rattle.terminal_augment.specs.Ways.{IsDone, IsSearchable}
 
 -- ---- the scratch
@@ -94,7 +94,7 @@ pub record IsSearching (s : Site) (l : LabelTable) (k : ℕ) (x : Work) : Type 0
   pub seen : open_count x.marks + length x.seen.list ≤ x.seen.room
   pub chain : IsChain s k x.frames.list
   pub marked : (n t : ℕ) → IsTrue (has (spots x.frames.list) n t) → IsTrue (is_marked x.marks n t)
-  pub unset : All (λ p. IsInside s p.node p.moment × (k ≤ label_at l p.node p.moment)) x.seen.list
+  pub unset : All (λ p. IsOpenPair s p.node p.moment × (k ≤ label_at l p.node p.moment)) x.seen.list
 
 -- a search of a net goes on, and each frame's step has room
 pub record IsWalking (w : Network) (l : LabelTable) (k : ℕ) (x : Work) : Type 0 where
@@ -121,8 +121,8 @@ AreDoorsDone w l m k n = (a t : ℕ) → a < n → IsPlace w.site (Arc a t) → 
 
 -- what is marked was seen, each step into it is done or its frame still tries its ways, and so are the arcs of smaller numbers into exits
 pub record IsExplored (w : Network) (l : LabelTable) (k arc : ℕ) (x : Work) : Type 0 where
-  pub listed : (n t : ℕ) → IsInside w.site n t → is_marked x.marks n t ≡ has x.seen.list n t
-  pub expanded : (n t : ℕ) → IsInside w.site n t → IsTrue (is_marked x.marks n t)
+  pub listed : (n t : ℕ) → IsOpenPair w.site n t → is_marked x.marks n t ≡ has x.seen.list n t
+  pub expanded : (n t : ℕ) → IsOpenPair w.site n t → IsTrue (is_marked x.marks n t)
       → IsTrue (has (spots x.frames.list) n t) ⊎ IsExpanded w l x.marks k n t
   pub tried : All (λ f. IsTried w l x.marks k f) x.frames.list
   pub doors : AreDoorsDone w l x.marks k arc

@@ -8,7 +8,7 @@ use Rattle.residual_net.specs.Closed.{reached}
 use Rattle.residual_net.specs.Labelled.{IsLabelsOf}
 use Rattle.residual_net.specs.Network.{Network, IsWithinLimits, residual_room}
 use Rattle.residual_net.specs.Site.{Site, IsPlace, arc_count, arrival_at, head_of, start_of}
-use Rattle.residual_net.specs.Site.End.{Door}
+use Rattle.residual_net.specs.declared.end.End.TheVariants.{Door}
 use Rattle.terminal_augment.specs.Marking.{MarkTable, is_marked}
 
 -- a net is within its limits, and labels are for its nodes and moments

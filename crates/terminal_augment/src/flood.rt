@@ -2,18 +2,17 @@
 ghost use Rattle.std.specs.Prelude.{◌≡◌, ℕ, ◌+◌, ◌<◌, ◌≤◌, IsTrue, length, slice_index, false, true};
 ghost use Rattle.time_expansion.specs.Expansion.{arcs_from, arcs_to};
 ghost use Rattle.residual_net.specs.declared.place.Place.TheVariants.{Arc};
-ghost use Rattle.residual_net.specs.Site.{IsPlace, arc_count};
+ghost use Rattle.residual_net.specs.Site.{IsOpenPair, IsPlace, arc_count};
 ghost use Rattle.terminal_augment.specs.Floods.{IsFlooding, IsGrown, IsWayDone};
 ghost use Rattle.terminal_augment.specs.Frames.{IsExpanded};
 ghost use Rattle.terminal_augment.specs.Searching.{AreDoorsDone, IsExplored, IsResting, IsWork};
-ghost use Rattle.terminal_augment.specs.Spots.{IsInside};
 ghost use Rattle.terminal_augment.specs.Ways.{IsArcAt, IsDone, IsSearchable, in_count, out_count, way_before, way_in};
 
-use crate::spot::{Spot, Start};
-use crate::ways::{back, door_step, forth, is_fresh, start};
+use crate::spot::Spot;
+use crate::ways::{back, door_step, forth, is_fresh};
 use crate::work::Work;
 use evac_law::Labels;
-use residual_net::{Net, PathStep, Place};
+use residual_net::{End, Net, PathStep, Place};
 
 /// Marks where a step begins, if it may be taken. Whether nobody can be sent from there.
 fn meet(net: &Net, labels: &Labels, work: &mut Work, step: PathStep, k: u16) -> bool
@@ -27,10 +26,11 @@ fn meet(net: &Net, labels: &Labels, work: &mut Work, step: PathStep, k: u16) -> 
     if net.room(step) == 0 {
         return true;
     }
-    match start(net, step) {
-        Start::Source => false,
-        Start::Door(moment) => moment <= k,
-        Start::At(spot) => {
+    match net.start(step) {
+        End::Source => false,
+        End::Door(moment) => moment <= k,
+        End::Pair { node, moment } => {
+            let spot = Spot { node, moment };
             if !is_fresh(labels, &work.marks, spot, k) {
                 return true;
             }
@@ -64,7 +64,7 @@ fn meet_in(net: &Net, labels: &Labels, work: &mut Work, arc: u32, moment: u16, k
 /// Marks where the arcs begin by which people come to a pair. Whether nobody can be sent from there.
 fn expand_in(net: &Net, labels: &Labels, work: &mut Work, spot: Spot, k: u16) -> bool
     requires searchable { IsSearchable net.now labels.now }
-    requires inside { IsInside net.now.site spot.node spot.moment }
+    requires inside { IsOpenPair net.now.site spot.node spot.moment }
     requires flooding { IsFlooding net.now.site labels.now k work.old }
     ensures flooding { IsFlooding net.now.site labels.now k work.new }
     ensures grown { IsGrown work.old work.new }
@@ -82,7 +82,7 @@ fn expand_in(net: &Net, labels: &Labels, work: &mut Work, spot: Spot, k: u16) ->
 /// Marks where the wait before a pair begins. Whether nobody can be sent from there.
 fn meet_before(net: &Net, labels: &Labels, work: &mut Work, spot: Spot, k: u16) -> bool
     requires searchable { IsSearchable net.now labels.now }
-    requires inside { IsInside net.now.site spot.node spot.moment }
+    requires inside { IsOpenPair net.now.site spot.node spot.moment }
     requires flooding { IsFlooding net.now.site labels.now k work.old }
     ensures flooding { IsFlooding net.now.site labels.now k work.new }
     ensures grown { IsGrown work.old work.new }
@@ -102,7 +102,7 @@ fn meet_before(net: &Net, labels: &Labels, work: &mut Work, spot: Spot, k: u16) 
 /// Marks where the arcs lead by which people leave a pair. Whether nobody can be sent from there.
 fn expand_out(net: &Net, labels: &Labels, work: &mut Work, spot: Spot, k: u16) -> bool
     requires searchable { IsSearchable net.now labels.now }
-    requires inside { IsInside net.now.site spot.node spot.moment }
+    requires inside { IsOpenPair net.now.site spot.node spot.moment }
     requires flooding { IsFlooding net.now.site labels.now k work.old }
     ensures flooding { IsFlooding net.now.site labels.now k work.new }
     ensures grown { IsGrown work.old work.new }
@@ -122,7 +122,7 @@ fn expand_out(net: &Net, labels: &Labels, work: &mut Work, spot: Spot, k: u16) -
 /// Marks all pairs from which steps lead to a pair. Whether nobody can be sent from there.
 fn expand(net: &Net, labels: &Labels, work: &mut Work, spot: Spot, k: u16) -> bool
     requires searchable { IsSearchable net.now labels.now }
-    requires inside { IsInside net.now.site spot.node spot.moment }
+    requires inside { IsOpenPair net.now.site spot.node spot.moment }
     requires flooding { IsFlooding net.now.site labels.now k work.old }
     ensures flooding { IsFlooding net.now.site labels.now k work.new }
     ensures grown { IsGrown work.old work.new }

@@ -1,23 +1,20 @@
 // A guess at a path, looked at leg by leg and step by step before people are sent along it.
-ghost use Rattle.std.specs.Prelude.{◌≡◌, ℕ, ◌+◌, ◌<◌, false, ◌≤◌, IsTrue, MatchOption, length};
+ghost use Rattle.std.specs.Prelude.{◌≡◌, ◌+◌, ◌<◌, false, ◌≤◌, IsTrue, MatchOption, length};
 ghost use Rattle.time_expansion.specs.Expansion.{hold_cell};
 ghost use Rattle.residual_net.specs.declared.place.Place.TheVariants.{Hold};
 ghost use Rattle.residual_net.specs.Legs.{steps_of_legs};
 ghost use Rattle.residual_net.specs.Network.{IsNet, IsWithinLimits, residual_room};
-ghost use Rattle.residual_net.specs.Site.{IsPlace, cell_of, head_of, stop_of, tail_of};
-ghost use Rattle.terminal_augment.specs.Frames.{IsStart, end_of};
+ghost use Rattle.residual_net.specs.Site.{IsOpenPair, IsPlace, cell_of};
 ghost use Rattle.terminal_augment.specs.Guesses.{CarriesPeople, IsLookedOver, IsMarkedOn, IsMarksOf, IsStep};
 ghost use Rattle.terminal_augment.specs.Searching.{IsWork};
 ghost use Rattle.terminal_augment.specs.Settled.{IsCountedOn};
-ghost use Rattle.terminal_augment.specs.Spots.{IsInside};
 
 use crate::marks::Marks;
-use crate::spot::{Spot, Start};
-use crate::ways::start;
+use crate::spot::Spot;
 use crate::work::Work;
 use evac_law::{Labels, Steps};
 use guided_search::Scout;
-use residual_net::{Leg, Net, PathStep, Place};
+use residual_net::{End, Leg, Net, PathStep, Place};
 use std::sync::ledger::Ledger;
 
 /// The most guesses at one arrival moment.
@@ -34,64 +31,6 @@ fn is_place(net: &Net, place: Place) -> bool
         }
         Place::Hold { node, moment } => node < shape.nodes() && moment <= shape.horizon(),
         Place::Supply { node, moment } => node < shape.nodes() && moment <= shape.horizon(),
-    }
-}
-
-/// Whether a place leads to an end.
-fn leads_to(net: &Net, place: Place, end: Start) -> bool
-    requires { IsPlace net.now.site place }
-    ensures { IsTrue result → head_of net.now.site place ≡ end_of end }
-{
-    let shape = net.shape();
-    match place {
-        Place::Arc { arc, moment } => {
-            let to = shape.ends()[arc as usize].to;
-            let then = moment as u32 + net.travel(arc) as u32;
-            match end {
-                Start::Source => false,
-                Start::At(spot) => {
-                    to == spot.node && then == spot.moment as u32 && !net.is_exit(to)
-                }
-                Start::Door(k) => net.is_exit(to) && then == k as u32,
-            }
-        }
-        Place::Hold { node, moment } => match end {
-            Start::At(spot) => node == spot.node && moment as u32 + 1 == spot.moment as u32,
-            Start::Source | Start::Door(_) => false,
-        },
-        Place::Supply { node, moment } => match end {
-            Start::At(spot) => node == spot.node && moment == spot.moment,
-            Start::Source | Start::Door(_) => false,
-        },
-    }
-}
-
-/// Whether a place leads from an end.
-fn leads_from(net: &Net, place: Place, end: Start) -> bool
-    requires { IsPlace net.now.site place }
-    ensures { IsTrue result → tail_of net.now.site place ≡ end_of end }
-{
-    match end {
-        Start::At(spot) => match place {
-            Place::Arc { arc, moment } => {
-                net.shape().ends()[arc as usize].from == spot.node && moment == spot.moment
-            }
-            Place::Hold { node, moment } => node == spot.node && moment == spot.moment,
-            Place::Supply { .. } => false,
-        },
-        Start::Source | Start::Door(_) => false,
-    }
-}
-
-/// Whether a step stops at an end.
-fn stops_at(net: &Net, step: PathStep, end: Start) -> bool
-    requires { IsPlace net.now.site step.place }
-    ensures { IsTrue result → stop_of net.now.site step ≡ end_of end }
-{
-    if step.back {
-        leads_from(net, step.place, end)
-    } else {
-        leads_to(net, step.place, end)
     }
 }
 
@@ -132,7 +71,7 @@ struct Look {
 fn over_waits(net: &Net, marks: &mut Marks, leg: Leg, from: Look) -> Option<Look>
     requires within { IsWithinLimits net.now }
     requires marks { IsMarksOf net.now.site marks.old }
-    requires inside { IsInside net.now.site from.spot.node from.spot.moment }
+    requires inside { IsOpenPair net.now.site from.spot.node from.spot.moment }
     ensures looked { IsLookedOver net.now marks.old marks.new leg from result }
     ensures marks { IsMarkedOn marks.old marks.new }
 {
@@ -163,22 +102,21 @@ fn over_waits(net: &Net, marks: &mut Marks, leg: Leg, from: Look) -> Option<Look
     Some(look)
 }
 
-/// Where a step begins, if it is one of the net's, has room and stops at an end.
-fn begins(net: &Net, step: PathStep, end: Start) -> Option<Start>
-    requires within { IsWithinLimits net.now }
-    requires inside { IsStart net.now.site end }
+/// Where a step starts, if it is one of the net's, has room and stops at an end.
+fn begins(net: &Net, step: PathStep, end: End) -> Option<End>
+    requires { IsWithinLimits net.now }
     ensures { MatchOption result (Unit {0}) (λ r. IsStep net.now step r end) }
 {
     if !is_place(net, step.place) {
         return None;
     }
-    if !stops_at(net, step, end) {
+    if net.stop(step) != end {
         return None;
     }
     if net.room(step) == 0 {
         return None;
     }
-    Some(start(net, step))
+    Some(net.start(step))
 }
 
 /// Whether a leg is the first one, and no wait comes before its step.
@@ -196,7 +134,7 @@ fn carried(net: &Net, marks: &mut Marks, legs: &[Leg], most: u32, k: u16) -> u32
     ensures path { 0 < result → CarriesPeople net.now k (steps_of_legs legs.now) result }
     ensures marks { IsMarkedOn marks.old marks.new }
 {
-    let mut end = Start::Door(k);
+    let mut end = End::Door(k);
     if most == 0 {
         return 0;
     }
@@ -210,7 +148,8 @@ fn carried(net: &Net, marks: &mut Marks, legs: &[Leg], most: u32, k: u16) -> u32
         };
         people = people.min(net.room(leg.step));
         match before {
-            Start::At(spot) => {
+            End::Pair { node, moment } => {
+                let spot = Spot { node, moment };
                 if marks.is_marked(spot) {
                     return 0;
                 }
@@ -218,13 +157,14 @@ fn carried(net: &Net, marks: &mut Marks, legs: &[Leg], most: u32, k: u16) -> u32
                 let Some(look) = over_waits(net, marks, leg, Look { spot, people }) else {
                     return 0;
                 };
-                end = Start::At(look.spot);
+                let Spot { node, moment } = look.spot;
+                end = End::Pair { node, moment };
                 people = look.people;
             }
-            Start::Source => {
+            End::Source => {
                 return if is_first(leg, left) { people } else { 0 };
             }
-            Start::Door(moment) => {
+            End::Door(moment) => {
                 return if is_first(leg, left) && k < moment {
                     people
                 } else {

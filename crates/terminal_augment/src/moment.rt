@@ -14,13 +14,13 @@ ghost use Rattle.terminal_augment.specs.Ways.{IsArcAt, IsSearchable};
 use crate::flood::flood;
 use crate::guess::send_guessed;
 use crate::pile::Pile;
-use crate::spot::{Spot, Start};
+use crate::spot::Spot;
 use crate::walk::send_next;
-use crate::ways::{door_step, is_usable, start};
+use crate::ways::{door_step, is_usable};
 use crate::work::Work;
 use evac_law::{Labels, Steps};
 use guided_search::Scout;
-use residual_net::Net;
+use residual_net::{End, Net};
 use std::alloc::{AllocError, Global};
 use std::marker::Model;
 use std::sync::ledger::Ledger;
@@ -36,8 +36,8 @@ fn open_door(net: &Net, labels: &Labels, work: &mut Work, arc: u32, k: u16)
 {
     if let Some(step) = door_step(net, arc, k) {
         if is_usable(net, labels, &work.marks, step, k) {
-            if let Start::At(spot) = start(net, step) {
-                work.enter(spot, step);
+            if let End::Pair { node, moment } = net.start(step) {
+                work.enter(Spot { node, moment }, step);
             }
         }
     }

@@ -18,14 +18,6 @@ pub struct Frame {
     pub next: u32,
 }
 
-/// Where a step begins: at the source of all people, at a node at a moment, or at the exits at a moment.
-#[derive(Clone, Copy)]
-pub enum Start {
-    Source,
-    At(Spot),
-    Door(u16),
-}
-
 /// A step into a node at a moment, with its number among the ways there.
 #[derive(Clone, Copy)]
 pub struct Way {

@@ -10,11 +10,11 @@ ghost use Rattle.terminal_augment.specs.Searching.{IsExplored, IsSearching, IsWa
 ghost use Rattle.terminal_augment.specs.Settled.{IsCountedOn};
 
 use crate::pile::Pile;
-use crate::spot::{Frame, Start};
-use crate::ways::{look, start};
+use crate::spot::{Frame, Spot};
+use crate::ways::look;
 use crate::work::Work;
 use evac_law::{Labels, Steps};
-use residual_net::{Net, Path, PathStep};
+use residual_net::{End, Net, Path, PathStep};
 use std::sync::ledger::Ledger;
 
 /// Takes one step of a search: over a way into the top frame's pair, or off that frame. A step at whose start people may be had
@@ -34,12 +34,12 @@ fn advance(net: &Net, labels: &Labels, work: &mut Work, frame: Frame, k: u16) ->
         }
         Some(way) => {
             work.retry(frame, way.number);
-            match start(net, way.step) {
-                Start::At(spot) => {
-                    work.enter(spot, way.step);
+            match net.start(way.step) {
+                End::Pair { node, moment } => {
+                    work.enter(Spot { node, moment }, way.step);
                     None
                 }
-                Start::Source | Start::Door(_) => Some(way.step),
+                End::Source | End::Door(_) => Some(way.step),
             }
         }
     }

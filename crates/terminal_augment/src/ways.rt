@@ -1,15 +1,13 @@
 // The steps that lead into a node at a moment, and which of them a search may take.
-ghost use Rattle.std.specs.Prelude.{◌≡◌, ℕ, ◌+◌, ◌<◌, ◌≤◌, ◌^◌, IsFalse, IsTrue, false, length, not, true};
-ghost use Rattle.residual_net.specs.Network.{flow_at, limit_at, residual_room};
-ghost use Rattle.residual_net.specs.Site.{IsPlace, arc_count, head_of, start_of, tail_of};
-ghost use Rattle.terminal_augment.specs.Frames.{IsLooked, IsStart, end_of};
-ghost use Rattle.terminal_augment.specs.Spots.{IsInside};
+ghost use Rattle.std.specs.Prelude.{◌≡◌, ◌+◌, ◌<◌, ◌≤◌, ◌^◌, IsFalse, IsTrue, false, not, true};
+ghost use Rattle.residual_net.specs.Site.{IsOpenPair, IsPlace, arc_count};
+ghost use Rattle.terminal_augment.specs.Frames.{IsLooked};
 ghost use Rattle.terminal_augment.specs.Ways.{IsArcAt, IsDone, IsDoorStep, IsSearchable, IsUsable, passed, way_at, way_back, way_before, way_behind, way_by_arc, way_count, way_in};
 
 use crate::marks::Marks;
-use crate::spot::{Frame, Spot, Start, Way};
+use crate::spot::{Frame, Spot, Way};
 use evac_law::Labels;
-use residual_net::{Net, PathStep, Place};
+use residual_net::{End, Net, PathStep, Place};
 
 pub fn forth(place: Place) -> PathStep
     ensures { result ≡ record { place = place; back = false } }
@@ -52,7 +50,7 @@ fn way_before(spot: Spot) -> Option<PathStep>
 
 /// An arc backwards, and behind the arcs the wait after a moment.
 fn way_back(net: &Net, spot: Spot, number: usize) -> PathStep
-    requires { IsInside net.now.site spot.node spot.moment }
+    requires { IsOpenPair net.now.site spot.node spot.moment }
     ensures { way_back net.now.site spot.node spot.moment number ≡ Some result }
 {
     let leaving = net.shape().leaving(spot.node);
@@ -68,7 +66,7 @@ fn way_back(net: &Net, spot: Spot, number: usize) -> PathStep
 
 /// The wait before a moment, and the ways backwards.
 fn way_behind(net: &Net, spot: Spot, number: usize) -> Option<PathStep>
-    requires { IsInside net.now.site spot.node spot.moment }
+    requires { IsOpenPair net.now.site spot.node spot.moment }
     ensures { result ≡ way_behind net.now.site spot.node spot.moment number }
 {
     if number == 0 {
@@ -80,7 +78,7 @@ fn way_behind(net: &Net, spot: Spot, number: usize) -> Option<PathStep>
 
 /// The arcs into a node, and the ways behind them.
 fn way_by_arc(net: &Net, spot: Spot, number: usize) -> Option<PathStep>
-    requires { IsInside net.now.site spot.node spot.moment }
+    requires { IsOpenPair net.now.site spot.node spot.moment }
     ensures { result ≡ way_by_arc net.now.site spot.node spot.moment number }
 {
     let entering = net.shape().entering(spot.node);
@@ -94,7 +92,7 @@ fn way_by_arc(net: &Net, spot: Spot, number: usize) -> Option<PathStep>
 /// The way of a number into a node at a moment.
 #[tactic(auto, unfolding(crate::specs::Ways::way_at))]
 fn way(net: &Net, spot: Spot, number: usize) -> Option<PathStep>
-    requires { IsInside net.now.site spot.node spot.moment }
+    requires { IsOpenPair net.now.site spot.node spot.moment }
     ensures { result ≡ way_at net.now.site spot.node spot.moment number }
 {
     if number == 0 {
@@ -114,64 +112,6 @@ fn way_count(net: &Net, node: u32) -> usize
 {
     let shape = net.shape();
     shape.entering(node).len() + shape.leaving(node).len() + 3
-}
-
-/// Where a place that has a limit above 0 leads from.
-fn tail(net: &Net, place: Place) -> Start
-    requires place { IsPlace net.now.site place }
-    requires some { 0 < limit_at net.now place }
-    ensures start { tail_of net.now.site place ≡ end_of result }
-    ensures inside { IsStart net.now.site result }
-{
-    let shape = net.shape();
-    match place {
-        Place::Arc { arc, moment } => {
-            let node = shape.ends()[arc as usize].from;
-            Start::At(Spot { node, moment })
-        }
-        Place::Hold { node, moment } => Start::At(Spot { node, moment }),
-        Place::Supply { .. } => Start::Source,
-    }
-}
-
-/// Where a place with flow leads to.
-fn head(net: &Net, place: Place) -> Start
-    requires place { IsPlace net.now.site place }
-    requires some { 0 < flow_at net.now place }
-    ensures start { head_of net.now.site place ≡ end_of result }
-    ensures inside { IsStart net.now.site result }
-{
-    let shape = net.shape();
-    match place {
-        Place::Arc { arc, moment } => {
-            let node = shape.ends()[arc as usize].to;
-            let moment = moment + net.travel(arc);
-            if net.is_exit(node) {
-                Start::Door(moment)
-            } else {
-                Start::At(Spot { node, moment })
-            }
-        }
-        Place::Hold { node, moment } => {
-            let moment = moment + 1;
-            Start::At(Spot { node, moment })
-        }
-        Place::Supply { node, moment } => Start::At(Spot { node, moment }),
-    }
-}
-
-/// Where a step with room begins.
-pub fn start(net: &Net, step: PathStep) -> Start
-    requires place { IsPlace net.now.site step.place }
-    requires room { 0 < residual_room net.now step }
-    ensures start { start_of net.now.site step ≡ end_of result }
-    ensures inside { IsStart net.now.site result }
-{
-    if step.back {
-        head(net, step.place)
-    } else {
-        tail(net, step.place)
-    }
 }
 
 /// Whether a node at a moment has neither a label below k nor a mark.
@@ -197,10 +137,10 @@ pub fn is_usable(net: &Net, labels: &Labels, marks: &Marks, step: PathStep, k: u
     if net.room(step) == 0 {
         return false;
     }
-    match start(net, step) {
-        Start::Source => true,
-        Start::At(spot) => is_fresh(labels, marks, spot, k),
-        Start::Door(moment) => k < moment,
+    match net.start(step) {
+        End::Source => true,
+        End::Pair { node, moment } => is_fresh(labels, marks, Spot { node, moment }, k),
+        End::Door(moment) => k < moment,
     }
 }
 
@@ -209,7 +149,7 @@ pub fn look(net: &Net, labels: &Labels, marks: &Marks, frame: Frame, k: u16) -> 
     requires searchable { IsSearchable net.now labels.now }
     requires nodes { marks.now.nodes ≡ net.now.site.shape.nodes }
     requires horizon { marks.now.horizon ≡ net.now.site.shape.horizon }
-    requires inside { IsInside net.now.site frame.spot.node frame.spot.moment }
+    requires inside { IsOpenPair net.now.site frame.spot.node frame.spot.moment }
     ensures { IsLooked net.now labels.now marks.now k frame result }
 {
     for number in frame.next as usize..way_count(net, frame.spot.node) {

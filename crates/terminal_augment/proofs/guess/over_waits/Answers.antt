@@ -4,10 +4,10 @@ use Rattle.residual_net.specs.declared.place.PathStep.{PathStep}
 use Rattle.residual_net.specs.Legs.{waits_at}
 use Rattle.residual_net.proofs.LegLemmas.{waits_none}
 use Rattle.terminal_augment.specs.declared.spot.Spot.{Spot}
-use Rattle.terminal_augment.specs.declared.spot.Start.TheVariants as starts
+use Rattle.residual_net.specs.declared.end.End.TheVariants.{Pair}
 use Rattle.terminal_augment.specs.Guesses.{IsTail}
 use Rattle.terminal_augment.specs.Marking.{MarkTable, mark_place}
-use Rattle.terminal_augment.specs.Spots.{IsInside}
+use Rattle.residual_net.specs.Site.{IsOpenPair}
 use Rattle.terminal_augment.proofs.GuessLemmas.{looked_more}
 use Rattle.terminal_augment.proofs.guess.over_waits.Goals as goal
 
@@ -18,7 +18,7 @@ returns-then-leg-clause-looked c =
     record {
       inside = c.requires.inside;
       tail = λ k path tail.
-          subst (λ (z : List PathStep). IsTail c.args.net.now k c.args.marks.now (starts.At x.spot) x.people (z ++ path))
+          subst (λ (z : List PathStep). IsTail c.args.net.now k c.args.marks.now (Pair x.spot.node x.spot.moment) x.people (z ++ path))
           (sym (waits_none g.node g.from g.to c.if-leg.true)) tail;
     }
 
@@ -32,7 +32,7 @@ loop-look-init c =
       most = omega (arith, c.if-leg-from-2.false);
       inside = c.requires.inside;
       tail = λ k path tail.
-          subst (λ (z : List PathStep). IsTail c.args.net.now k c.args.marks.now (starts.At x.spot) x.people (z ++ path))
+          subst (λ (z : List PathStep). IsTail c.args.net.now k c.args.marks.now (Pair x.spot.node x.spot.moment) x.people (z ++ path))
           (sym (waits_none g.node x.spot.moment g.to (omega (arith, c.if-leg-from-2.false)))) tail;
       marks = record { nodes = refl; horizon = refl; size = refl; marks = λ h. h };
     }
@@ -47,14 +47,14 @@ loop-look-preserved c =
     let old = c.loop-look.invariant in
     let some = c.loop-look-test.true in
     let p : Spot = record { node = n; moment = x.spot.moment - 1 } in
-    let inside = subst (λ z. IsInside w.site z x.spot.moment) (old.node ∙ c.if-leg-from.false) old.inside in
+    let inside = subst (λ z. IsOpenPair w.site z x.spot.moment) (old.node ∙ c.if-leg-from.false) old.inside in
     let marks = old.marks.marks c.requires.marks.marks in
     let same = c.mark_at.ensures.marked in
     record {
       node = sym c.if-leg-from.false;
       least = omega (arith, some);
       most = omega (arith, old.most);
-      inside = record { node = inside.node; moment = omega (arith, inside.moment); open_node = inside.open_node };
+      inside = record { node = inside.node; moment = omega (arith, inside.moment); no_exit = inside.no_exit };
       tail =
           looked_more w c.args.marks.now m c.mark_at.new.self g.node g.to c.args.from x p c.min-people.result marks
           (old.marks.nodes ∙ c.requires.marks.nodes) (old.marks.horizon ∙ c.requires.marks.horizon) old.node (sym c.if-leg-from.false) (omega (arith, some))
@@ -77,6 +77,6 @@ returns-clause-looked c =
     record {
       inside = c.loop-look.invariant.inside;
       tail = λ k path tail.
-          subst (λ t. IsTail c.args.net.now k c.loop-look.marks (starts.At x.spot) x.people (waits_at g.node t (g.to - t) ++ path)) here
+          subst (λ t. IsTail c.args.net.now k c.loop-look.marks (Pair x.spot.node x.spot.moment) x.people (waits_at g.node t (g.to - t) ++ path)) here
           (c.loop-look.invariant.tail k path tail);
     }

@@ -1,9 +1,9 @@
 use Rattle.std.proofs.Common.{◌≡◌, ℕ, ◌-◌, ◌≤◌, ◌++◌, List}
 use Rattle.residual_net.specs.declared.place.PathStep.{PathStep}
 use Rattle.residual_net.specs.Legs.{waits_at}
-use Rattle.terminal_augment.specs.declared.spot.Start.TheVariants as starts
+use Rattle.residual_net.specs.declared.end.End.TheVariants.{Pair}
 use Rattle.terminal_augment.specs.Guesses.{IsMarkedOn, IsTail}
-use Rattle.terminal_augment.specs.Spots.{IsInside}
+use Rattle.residual_net.specs.Site.{IsOpenPair}
 use Rattle.terminal_augment.proofs.guess.over_waits.Given as goal
 
 abbrev pub invariant-loop-look : goal.invariant-loop-look
@@ -11,9 +11,9 @@ invariant-loop-look l = record {
   node : l.look.spot.node ≡ l.leg.node;
   least : l.leg.from ≤ l.look.spot.moment;
   most : l.look.spot.moment ≤ l.leg.to;
-  inside : IsInside l.net.site l.look.spot.node l.look.spot.moment;
-  tail : (k : ℕ) (path : List PathStep) → IsTail l.net k l.fn.marks (starts.At l.fn.from.spot) l.fn.from.people path
-      → IsTail l.net k l.marks (starts.At l.look.spot) l.look.people (waits_at l.leg.node l.look.spot.moment (l.leg.to - l.look.spot.moment) ++ path);
+  inside : IsOpenPair l.net.site l.look.spot.node l.look.spot.moment;
+  tail : (k : ℕ) (path : List PathStep) → IsTail l.net k l.fn.marks (Pair l.fn.from.spot.node l.fn.from.spot.moment) l.fn.from.people path
+      → IsTail l.net k l.marks (Pair l.look.spot.node l.look.spot.moment) l.look.people (waits_at l.leg.node l.look.spot.moment (l.leg.to - l.look.spot.moment) ++ path);
   marks : IsMarkedOn l.fn.marks l.marks;
 }
 

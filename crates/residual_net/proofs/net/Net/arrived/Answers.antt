@@ -3,7 +3,7 @@ use Rattle.evac_law.specs.Sums.{below}
 use Rattle.evac_law.proofs.SumLemmas.{sum_below-more}
 use Rattle.residual_net.specs.Limits.{supply_limit}
 use Rattle.residual_net.specs.Site.{at}
-use Rattle.residual_net.specs.Site.End.{Door}
+use Rattle.residual_net.specs.declared.end.End.TheVariants.{Door}
 use Rattle.residual_net.specs.Network.{Network, IsStored, flow_into}
 use Rattle.residual_net.proofs.Arrivals.{arrivals_fit, arrived_all}
 use Rattle.residual_net.proofs.net.Net.arrived.Goals as goal
