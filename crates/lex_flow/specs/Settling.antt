@@ -5,7 +5,7 @@ use Rattle.evac_law.specs.LabelTable.{LabelTable, label_at, unset}
 use Rattle.evac_law.specs.Sums.{below}
 use Rattle.residual_net.specs.Network.{Network, IsAllSent, IsNet, IsWithinLimits, arrived_by, unsent_at}
 use Rattle.residual_net.specs.OfModel.{last_move, plan_of}
-use Rattle.terminal_augment.specs.Settled.{IsClosedBelow, IsLabelsOf, IsSearchOf, IsUnsetFrom, KeepsLimits, SearchSize}
+use Rattle.terminal_augment.specs.Settled.{IsClosedBelow, IsLabelsOf, IsSearchOf, KeepsLimits, SearchSize}
 
 -- labels below a moment stay as they are, and each other one becomes unset, or a moment from there on and before the next to be settled
 pub record IsRelabelled (l m : LabelTable) (from next : ℕ) : Type 0 where
@@ -49,14 +49,8 @@ pub record IsSettledTo (w v : Network) (l m : LabelTable) (from k pushes : ℕ) 
   pub none : k ≡ from → pushes ≡ 0
   pub labels : IsRelabelled l m from k
   pub closed : IsClosedBelow v m k
-  pub unset : IsUnsetFrom m k
   pub needed : (i : ℕ) → from ≤ i → i + 1 ≡ k → IsOver v i → ⊥
-
--- the labels and the search are the network's, and a moment is one of it or the next one after
-pub record IsReadyFrom (w : Network) (l : LabelTable) (x : SearchSize) (k : ℕ) : Type 0 where
-  pub labels : IsLabelsOf w.site l
-  pub search : IsSearchOf w.site x
-  pub from : k ≤ w.site.shape.horizon + 1
+  pub rests : IsOver w from → k ≡ from
 
 -- what settling asks: labels and a search of the network, a moment of it or the next one after, flow within its limits, and sets below the
 -- moment that are closed

@@ -1,12 +1,11 @@
 // All arrival moments, settled one after another.
-ghost use Rattle.std.specs.Prelude.{◌≡◌, ◌+◌, ◌<◌, ◌≤◌, ◌*◌, ◌==◌, ◌↔◌, IsTrue, if◌then◌else◌, length, nat_le, true};
+ghost use Rattle.std.specs.Prelude.{◌≡◌, ◌+◌, ◌<◌, ◌≤◌, ◌*◌, ◌==◌, ◌&&◌, ◌↔◌, IsTrue, length, true};
 ghost use Rattle.evac_law.specs.declared.model.Model.{Model};
 ghost use Rattle.evac_law.specs.Building.{IsValid};
-ghost use Rattle.evac_law.specs.LabelTable.{label_at, unset, with_label};
 ghost use Rattle.residual_net.specs.Network.{IsAllSent, IsWithinLimits};
 ghost use Rattle.residual_net.specs.OfModel.{IsNetOf};
 ghost use Rattle.lex_flow.specs.Outcomes.{AreLabelsSettled, IsAnswer, IsNetSettled, IsOutcome, pushes_of};
-ghost use Rattle.lex_flow.specs.Settling.{IsMomentSent, IsOver, IsReadyFrom, IsSettleable, IsSettledThrough, IsSettledTo, IsUnset};
+ghost use Rattle.lex_flow.specs.Settling.{IsMomentSent, IsOver, IsSettleable, IsSettledThrough, IsUnset};
 
 use crate::outcome::Outcome;
 use evac_law::{Labels, Steps};
@@ -15,10 +14,12 @@ use std::sync::ledger::Ledger;
 use terminal_augment::{Search, settle};
 
 /// Unsets a label where it isn't below a moment.
+#[tactic(auto, using(terminal_augment::proofs::LabelLemmas::label_set))]
 fn unset_late(labels: &mut Labels, node: u32, moment: u16, from: u16)
     requires node { node < labels.old.nodes }
     requires moment { moment ≤ labels.old.horizon }
-    ensures { labels.new ≡ (if nat_le from (label_at labels.old node moment) then with_label labels.old node moment unset else labels.old) }
+    requires full { length labels.old.list ≡ labels.old.nodes * (labels.old.horizon + 1) }
+    ensures { IsUnset labels.old labels.new from (λ n t. n == node && t == moment) }
 {
     if labels.get(node, moment) >= from {
         labels.set(node, moment, Labels::UNSET);
@@ -87,7 +88,9 @@ struct Progress {
     pushes: u64,
 }
 
-/// Settles moment after moment until everybody arrives before the next one, or to the horizon.
+/// Unsets the labels that aren't below a moment, and settles moment after moment from that one on until everybody arrives before the
+/// next one, or to the horizon.
+#[tactic(auto, using(crate::proofs::SettleLemmas::below_few, terminal_augment::proofs::SendLemmas::horizon_small), unfolding(residual_net::specs::Limits::supply_limit))]
 fn settle_on<L: Ledger>(
     net: &mut Net,
     labels: &mut Labels,
@@ -95,13 +98,14 @@ fn settle_on<L: Ledger>(
     from: u16,
     steps: &mut Steps<L>,
 ) -> Progress
-    requires ready { IsReadyFrom net.old labels.old search.old from }
-    requires begun { IsSettledTo net.old net.old labels.old labels.old from from 0 }
+    requires { IsSettleable net.old labels.old search.old from }
     ensures settled { IsSettledThrough net.old net.new labels.old labels.new from result.next result.pushes }
     ensures search { search.new ≡ search.old }
     ensures ticked { steps.new ≡ steps.old + result.pushes }
 {
-    let horizon = net.horizon();
+    let horizon = net.shape().horizon();
+    search.renew();
+    unset_from(labels, from);
     let mut pushes = 0u64;
     let mut next = from;
     while next <= horizon && !is_over(net, next) {
@@ -145,9 +149,6 @@ pub fn settle_all<L: Ledger>(
     ensures search { search.new ≡ search.old }
     ensures ticked { steps.new ≡ steps.old + pushes_of result }
 {
-    let _ = net.shape();
-    search.renew();
-    unset_from(labels, from);
     let progress = settle_on(net, labels, search, from, steps);
     outcome_of(net, progress.pushes)
 }
