@@ -15,7 +15,7 @@ use Rattle.residual_net.specs.OfModel.{IsNetOf, plan_of, site_of}
 use Rattle.residual_net.proofs.Effects.{arrived_all_sent}
 use Rattle.terminal_augment.specs.Settled.{KeepsLimits}
 use Rattle.lex_flow.specs.Outcomes.{IsCleared}
-use Rattle.lex_flow.proofs.SettleLemmas.{net_of_kept}
+use Rattle.terminal_augment.proofs.KeptLemmas.{net_of_kept}
 use Rattle.residual_net.specs.Site.{Site}
 use Rattle.edit_session.specs.declared.faults.EditRefusal.TheVariants.{Fault, NotCleared}
 use Rattle.edit_session.specs.declared.scratch.Scratch.{Scratch}

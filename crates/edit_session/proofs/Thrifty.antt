@@ -16,15 +16,11 @@ use Rattle.residual_net.specs.Site.{Site, IsPlace, arc_count}
 use Rattle.residual_net.proofs.LastArrival.{arrived_rises}
 use Rattle.residual_net.proofs.Law.{arrived_is_out}
 use Rattle.lex_flow.specs.Settling.{arrivals_below}
-use Rattle.lex_flow.proofs.SettleLemmas.{below_more, below_none}
+use Rattle.lex_flow.proofs.SettleLemmas.{below_le, below_more, below_none}
 use Rattle.edit_session.specs.declared.work.Work.{Work}
 use Rattle.edit_session.specs.Thrift.{IsSpent, IsSpentOpening, IsThrifty, IsThriftyOpening, outs_to}
 
 -- ---- sums of arrivals
-
-pub below_le : (w v : Network) (n c : ℕ) → ((i : ℕ) → arrived_by w i ≤ arrived_by v i + c) → arrivals_below w n ≤ arrivals_below v n + n * c
-below_le w v zero c h = omega (arith, below_none w)
-below_le w v (suc k) c h = rw (sym (add-one k)) (omega (arith, below_more w k, below_more v k, below_le w v k c h, h k))
 
 pub below_most : (w : Network) (n k most : ℕ) → n ≤ k + 1 → arrived_by w k ≡ most → arrivals_below w n ≤ n * most
 below_most w zero k most l e = omega (arith, below_none w)

@@ -8,7 +8,6 @@ use Rattle.evac_law.specs.Building.{IsValid, arrival, people}
 use Rattle.evac_law.specs.Certificates.{IsCertified, IsShortfall, label_cut}
 use Rattle.evac_law.specs.LabelTable.{LabelTable, label_at}
 use Rattle.evac_law.specs.Plans.{last_arrival}
-use Rattle.evac_law.specs.Sums.{below}
 use Rattle.evac_law.proofs.Optimal.{label_cut_is_cut, lawful_down}
 use Rattle.evac_law.proofs.SumLemmas as sums
 use Rattle.residual_net.specs.Closed.{IsClosed}
@@ -30,7 +29,7 @@ use Rattle.lex_flow.specs.declared.outcome.Outcome.{Outcome}
 use Rattle.lex_flow.specs.declared.outcome.Outcome.TheVariants.{Cleared, Short}
 use Rattle.lex_flow.specs.Outcomes.{AreLabelsSettled, IsAnswer, IsBounded, IsNetSettled, IsOutcome, last_settled, pushes_of}
 use Rattle.lex_flow.specs.Settling.{IsOver, IsSettledThrough, IsSettledTo, IsUnset, arrivals_below}
-use Rattle.lex_flow.proofs.KeptLemmas.{limits_stay, limits_then, net_of_kept, over_before}
+use Rattle.terminal_augment.proofs.KeptLemmas.{limits_stay, limits_then, net_of_kept, over_before}
 use Rattle.lex_flow.proofs.UnsetLemmas.{early_same, relabelled_more, relabelled_unset}
 
 -- ---- sums of arrivals
@@ -43,9 +42,9 @@ pub below_more : (w : Network) (k : ℕ) → arrivals_below w (k + 1) ≡ arriva
 unfolding arrivals_below
 below_more w k = sums.sum_below-more (λ i. arrived_by w i) k
 
-below_le : (w v : Network) (k : ℕ) → ((i : ℕ) → arrived_by w i ≤ arrived_by v i) → arrivals_below w k ≤ arrivals_below v k
-unfolding arrivals_below
-below_le w v k h = sums.sum_by-le_all (arrived_by w) (arrived_by v) (below k) (λ i d l. h _)
+pub below_le : (w v : Network) (n c : ℕ) → ((i : ℕ) → arrived_by w i ≤ arrived_by v i + c) → arrivals_below w n ≤ arrivals_below v n + n * c
+below_le w v zero c h = omega (arith, below_none w)
+below_le w v (suc k) c h = rw (sym (add-one k)) (omega (arith, below_more w k, below_more v k, below_le w v k c h, h k))
 
 pub below_few : (w : Network) (k : ℕ) → IsNet w → arrivals_below w k ≤ k * supply_limit
 below_few w zero n = omega (arith, below_none w)
@@ -88,7 +87,7 @@ settled_more w v u l m z from k p r before after h not_over in_time counted labe
       net = pushed.net;
       earlier = λ i q. sent.earlier i (omega (arith, q, h.since)) ∙ h.earlier i q;
       later = λ i. omega (arith, h.later i, sent.later i);
-      bounded = omega (arith, below_more w k, below_more u k, below_le v u k sent.later, h.bounded, sent.risen, h.later k);
+      bounded = omega (arith, below_more w k, below_more u k, below_le v u k 0 (λ i. omega (arith, sent.later i)), h.bounded, sent.risen, h.later k);
       idle = λ q. sent.idle (omega (arith, q)) ∙ h.idle (omega (arith, q));
       none = λ q. absurd (omega (arith, q, h.since));
       labels = relabelled_more l m z from k h.since (omega (arith, in_time, horizon_small v h.net)) h.labels labels;

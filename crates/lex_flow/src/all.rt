@@ -14,7 +14,6 @@ use std::sync::ledger::Ledger;
 use terminal_augment::{Search, settle};
 
 /// Unsets a label where it isn't below a moment.
-#[tactic(auto, using(terminal_augment::proofs::LabelLemmas::label_set))]
 fn unset_late(labels: &mut Labels, node: u32, moment: u16, from: u16)
     requires node { node < labels.old.nodes }
     requires moment { moment ≤ labels.old.horizon }

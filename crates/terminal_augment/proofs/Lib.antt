@@ -7,3 +7,4 @@ pub mod LabelLemmas
 pub mod ClosedLemmas
 pub mod GuessLemmas
 pub mod FloodLemmas
+pub mod KeptLemmas

@@ -20,6 +20,7 @@ use Rattle.terminal_augment.specs.Frames.{IsChain, IsFound, spots, steps_of, top
 use Rattle.terminal_augment.specs.Settled.{IsCountedOn, IsPushedOn}
 use Rattle.terminal_augment.specs.Spots.{has}
 use Rattle.terminal_augment.proofs.AdvanceLemmas.{or_none}
+use Rattle.terminal_augment.proofs.KeptLemmas.{limits_stay, limits_then}
 use Rattle.terminal_augment.proofs.SearchLemmas.{all_cons, all_rest, differs}
 
 -- ---- the path
@@ -154,7 +155,7 @@ pushed_on w v path x e k net within one p a = record {
 
 pub pushed_none : (w : Network) (k : ℕ) → IsNet w → IsWithinLimits w → IsPushedOn w w k 0
 pushed_none w k net within = record {
-  limits = record { site = refl; saved = refl; limits = λ p i. refl };
+  limits = limits_stay w;
   within = within;
   net = net;
   sent = record { earlier = λ i l. refl; later = λ i. omega arith; risen = omega arith; idle = λ q. refl };
@@ -163,11 +164,7 @@ pushed_none w k net within = record {
 
 pub pushed_more : (w v u : Network) (k a b c : ℕ) → IsPushedOn w v k a → IsPushedOn v u k b → a + b ≡ c → IsPushedOn w u k c
 pushed_more w v u k a b c p q e = record {
-  limits = record {
-    site = q.limits.site ∙ p.limits.site;
-    saved = q.limits.saved ∙ p.limits.saved;
-    limits = λ z i. q.limits.limits z (subst (λ (s : Site). IsPlace s z) (sym p.limits.site) i) ∙ p.limits.limits z i;
-  };
+  limits = limits_then w v u p.limits q.limits;
   within = q.within;
   net = q.net;
   sent = record {

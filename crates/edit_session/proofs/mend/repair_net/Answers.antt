@@ -11,7 +11,7 @@ use Rattle.lex_flow.specs.declared.outcome.Outcome.{Outcome}
 use Rattle.lex_flow.specs.declared.outcome.Outcome.TheVariants.{Cleared, Short}
 use Rattle.lex_flow.specs.Outcomes.{IsAnswer, IsBounded, IsCleared, last_settled, pushes_of}
 use Rattle.lex_flow.specs.Settling.{arrivals_below}
-use Rattle.lex_flow.proofs.SettleLemmas.{net_of_kept}
+use Rattle.terminal_augment.proofs.KeptLemmas.{net_of_kept}
 use Rattle.flow_repair.proofs.Whole.{valid_now}
 use Rattle.edit_session.specs.declared.work.Work.{Work}
 use Rattle.edit_session.specs.Mended.{last_arrival_of}

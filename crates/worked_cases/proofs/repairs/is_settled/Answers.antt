@@ -3,7 +3,7 @@ use Rattle.residual_net.specs.Labelled.{IsClosedBelow}
 use Rattle.residual_net.specs.Site.{Site}
 use Rattle.residual_net.proofs.Effects.{arrived_all_sent}
 use Rattle.lex_flow.specs.Outcomes.{IsCleared}
-use Rattle.lex_flow.proofs.SettleLemmas.{net_of_kept}
+use Rattle.terminal_augment.proofs.KeptLemmas.{net_of_kept}
 use Rattle.worked_cases.proofs.repairs.is_settled.Goals as goal
 
 pub returns-in-Cleared-clause-standing : goal.returns-in-Cleared-clause-standing
