@@ -1,5 +1,5 @@
 -- Limits on the way from one model to another.
-use Rattle.std.proofs.Common.{◌≡◌, ℕ, ◌≤◌, Bool, cond, ap, sym, ◌∙◌, arith, inl, inr, subst}
+use Rattle.std.proofs.Common.{◌≡◌, ℕ, ◌≤◌, Bool, true, cond, ◌⊎◌, ap, sym, ◌∙◌, arith, inl, inr, subst}
 use Rattle.std.proofs.lemmas.Bool.{cases_Bool}
 use Rattle.evac_law.specs.declared.model.Model.{Model}
 use Rattle.evac_law.specs.Building.{IsValid, entry}
@@ -8,7 +8,7 @@ use Rattle.residual_net.specs.declared.place.Place.{Place}
 use Rattle.residual_net.specs.declared.place.Place.TheVariants.{Supply}
 use Rattle.residual_net.specs.Limits.{supply_limit}
 use Rattle.residual_net.specs.Site.{Site, IsPlace, same_place}
-use Rattle.residual_net.specs.Network.{Network, IsWithinLimits, excess_at, limit_at}
+use Rattle.residual_net.specs.Network.{Network, IsWithinLimits, excess_at, flow_at, limit_at}
 use Rattle.residual_net.specs.Change.{IsLimitSet, supply_limits_with}
 use Rattle.residual_net.specs.OfModel.{model_limit, site_of}
 use Rattle.residual_net.proofs.Effects.{supplies_between}
@@ -26,6 +26,9 @@ supplies_fit m w p x valid b i e =
     (λ k t j. elim (b.limits (Supply k t) j) [ inl old ↦ omega (arith, old) | inr new ↦ omega (arith, new) ])
     (λ k t h. let at : x ≡ entry m k t = e ∙ ap (model_limit m) h in omega (arith, at))
 
+set_or_kept : (b : Bool) (x old other new : ℕ) → new ≡ cond b x old → (old ≡ other) ⊎ (old ≡ x) → (new ≡ other) ⊎ (new ≡ x)
+set_or_kept b x old other new e o = grind arith
+
 -- limits between two models stay so
 pub still_between : (m : Model) (l : LabelTable) (w v : Network) (b : Place → Bool) (r s : Reshaped) → IsBetween m w → IsRefitted m l w v b r s → IsBetween m v
 still_between m l w v b r s h g = record {
@@ -35,12 +38,7 @@ still_between m l w v b r s h g = record {
   of_model = g.site ∙ h.of_model;
   limits = λ p i.
       let at : IsPlace w.site p = subst (λ (z : Site). IsPlace z p) g.site i in
-      elim (cases_Bool (b p)) [
-        | inl e ↦ inr (g.limits p at ∙ ap (λ z. cond z (model_limit m p) (limit_at w p)) e)
-        | inr e ↦
-            let kept : limit_at v p ≡ limit_at w p = g.limits p at ∙ ap (λ z. cond z (model_limit m p) (limit_at w p)) e in
-            elim (h.limits p at) [ inl old ↦ inl (kept ∙ old) | inr new ↦ inr (kept ∙ new) ]
-      ];
+      set_or_kept (b p) (model_limit m p) (limit_at w p) (model_limit h.other p) (limit_at v p) (g.limits p at) (h.limits p at);
 }
 
 pub still_fittable : (m : Model) (l : LabelTable) (w v : Network) (b : Place → Bool) (x y : ℕ) (r s : Reshaped) → IsRefitted m l w v b r s
@@ -54,19 +52,14 @@ still_fittable m l w v b x y r s g within same h = record {
 
 -- ---- within limits again
 
+raised : (b : Bool) (x here old new f g : ℕ) → new ≡ cond b x old → (b ≡ true → here ≡ old) → here ≤ x → f ≤ old → g ≡ f → g ≤ new
+raised b x here old new f g e same more within kept = grind arith
+
 pub within_raised : (w v : Network) (p : Place) (x : ℕ) → IsWithinLimits w → IsLimitSet w v p x → limit_at w p ≤ x → IsWithinLimits v
-within_raised w v p x within set more q i = elim (cases_Bool (same_place p q)) [
-  | inl e ↦
-      let new : limit_at v q ≡ x = set.limits q at ∙ ap (λ b. cond b x (limit_at w q)) e in
-      let old : limit_at w q ≤ x = subst (λ z. limit_at w z ≤ x) (same-place p q e) more in
-      omega (arith, new, old, within q at, set.flows q at)
-  | inr e ↦
-      let kept : limit_at v q ≡ limit_at w q = set.limits q at ∙ ap (λ b. cond b x (limit_at w q)) e in
-      omega (arith, kept, within q at, set.flows q at)
-]
-  where
-    at : IsPlace w.site q
-    at = subst (λ (z : Site). IsPlace z q) set.site i
+within_raised w v p x within set more q i =
+    let at : IsPlace w.site q = subst (λ (z : Site). IsPlace z q) set.site i in
+    raised (same_place p q) x (limit_at w p) (limit_at w q) (limit_at v q) (flow_at w q) (flow_at v q) (set.limits q at)
+    (λ e. ap (limit_at w) (same-place p q e)) more (within q at) (set.flows q at)
 
 pub within_thinned : (l : LabelTable) (w v u : Network) (p : Place) (x : ℕ) (r s : Reshaped) → IsWithinLimits w → IsLimitSet w v p x → IsThinned p l v u r s
     → excess_at u p ≡ 0 → IsWithinLimits u

@@ -1,7 +1,7 @@
 -- Limits set and people taken off, one after another.
-use Rattle.std.proofs.Common.{◌≡◌, ℕ, ◌+◌, ◌-◌, ◌<◌, ◌≤◌, Bool, true, false, cond, not, ◌||◌, leb, List, get_or, min, refl, ap, sym, ◌∙◌, arith, inl, inr, ◌⊎◌, subst}
+use Rattle.std.proofs.Common.{◌≡◌, ℕ, ◌+◌, ◌-◌, ◌<◌, ◌≤◌, Bool, true, false, cond, ◌||◌, leb, List, get_or, min, refl, ap, sym, ◌∙◌, arith, inl, inr, ◌⊎◌, subst}
 use Rattle.std.specs.List.{All, Any}
-use Rattle.std.proofs.lemmas.Bool.{cases_Bool, cases_lt}
+use Rattle.std.proofs.lemmas.Bool.{cases_Bool}
 use Rattle.evac_law.specs.declared.model.Model.{Model}
 use Rattle.evac_law.specs.LabelTable.{LabelTable}
 use Rattle.residual_net.specs.declared.place.Place.{Place}
@@ -73,6 +73,10 @@ least_none l w first = record {
   one = inl refl;
 }
 
+-- what rises or falls over two changes does so over the one or the other
+apart : (a b c x y z : ℕ) → (a < c) ⊎ (z < x) → ((a < b) ⊎ (y < x)) ⊎ ((b < c) ⊎ (z < y))
+apart a b c x y z o = grind arith
+
 -- what two changes open together is what the one or the other opens, where flows only fall and a limit that rose stays
 pub least_then : (l : LabelTable) (w v u : Network) (a b c : ℕ) → v.site ≡ w.site
     → ((p : Place) → IsPlace w.site p → flow_at v p ≤ flow_at w p) → ((p : Place) → IsPlace w.site p → flow_at u p ≤ flow_at v p)
@@ -81,7 +85,7 @@ pub least_then : (l : LabelTable) (w v u : Network) (a b c : ℕ) → v.site ≡
     → IsLeastOpened l w v a b → IsLeastOpened l v u b c → IsLeastOpened l w u a c
 least_then l w v u a b c site falls_v falls_u stays late h g = record {
   most = omega (arith, h.most, g.most);
-  places = λ p i o. split p i (apart p i o);
+  places = λ p i o. split p i (apart (limit_at w p) (limit_at v p) (limit_at u p) (flow_at w p) (flow_at v p) (flow_at u p) o);
   one = elim g.one [
     | inl e ↦ elim h.one [
       | inl f ↦ inl (e ∙ f)
@@ -93,27 +97,15 @@ least_then l w v u a b c site falls_v falls_u stays late h g = record {
   ];
 }
   where
-    apart : (p : Place) → IsPlace w.site p → IsOpened w u p → IsOpened w v p ⊎ IsOpened v u p
-    apart p i (inl rose) = elim (cases_lt (limit_at w p) (limit_at v p)) [
-      | inl one ↦ inl (inl one)
-      | inr not ↦ inr (inl (omega (arith, rose, not)))
-    ]
-    apart p i (inr fell) = elim (cases_lt (flow_at v p) (flow_at w p)) [
-      | inl one ↦ inl (inr one)
-      | inr not ↦ inr (inr (omega (arith, fell, not)))
-    ]
-
     split : (p : Place) → IsPlace w.site p → IsOpened w v p ⊎ IsOpened v u p → c ≤ head_number l w.site p
     split p i (inl o) = omega (arith, h.places p i o, g.most)
     split p i (inr o) = subst (λ (z : Site). c ≤ head_number l z p) site (g.places p (subst (λ (z : Site). IsPlace z p) (sym site) i) o)
 
     first : (p : Place) → IsPlace w.site p → IsOpened w v p → IsOpened w u p
-    first p i (inl rose) = inl (stays p i rose)
-    first p i (inr fell) = inr (omega (arith, fell, falls_u p i))
+    first p i o = grind (arith, stays p i, falls_u p i)
 
     second : (p : Place) → IsPlace w.site p → IsOpened v u p → IsOpened w u p
-    second p i (inl rose) = inl (late p i rose)
-    second p i (inr fell) = inr (omega (arith, fell, falls_v p i))
+    second p i o = grind (arith, late p i, falls_v p i)
 
 pub steps_then : (a b c : ℕ) (r s t : Reshaped) → IsStepPerPerson a b r s → IsStepPerPerson b c s t → IsStepPerPerson a c r t
 steps_then a b c r s t h g = record { counted = omega (arith, h.counted, g.counted); ticked = omega (arith, h.ticked, g.ticked) }
@@ -145,8 +137,9 @@ thinned_then l w v u p r s t h g = record {
     mid : (q : Place) → IsPlace w.site q → IsPlace v.site q
     mid q i = subst (λ (z : Site). IsPlace z q) (sym h.site) i
 
-either : (c b : Bool) (x y : ℕ) → cond c x (cond b x y) ≡ cond (c || b) x y
-either c b x y = grind arith
+-- a number that is set where the one or the other test passes
+set_twice : (b c d : Bool) (x old mid new : ℕ) → mid ≡ cond b x old → new ≡ cond c x mid → d ≡ (c || b) → new ≡ cond d x old
+set_twice b c d x o m n e f g = grind arith
 
 -- what was opened stays so, and no more is opened than one by one
 rose_stays : (b c : Bool) (x old mid new : ℕ) → mid ≡ cond b x old → new ≡ cond c x mid → old < mid → old < new
@@ -160,11 +153,7 @@ pub refitted_then : (m : Model) (l : LabelTable) (w v u : Network) (b c d : Plac
 refitted_then m l w v u b c d r s t h g or = record {
   site = g.site ∙ h.site;
   saved = g.saved ∙ h.saved;
-  limits = λ p i.
-      g.limits p (mid p i)
-      ∙ ap (λ z. cond (c p) (model_limit m p) z) (h.limits p i)
-      ∙ either (c p) (b p) (model_limit m p) (limit_at w p)
-      ∙ ap (λ z. cond z (model_limit m p) (limit_at w p)) (sym (or p i));
+  limits = λ p i. set_twice (b p) (c p) (d p) (model_limit m p) (limit_at w p) (limit_at v p) (limit_at u p) (h.limits p i) (g.limits p (mid p i)) (or p i);
   flows = λ p i. omega (arith, h.flows p i, g.flows p (mid p i));
   more = omega (arith, h.more, g.more);
   sent = omega (arith, h.sent, g.sent);

@@ -1,5 +1,5 @@
 -- The whole repair: the limits of the edited model, what it takes off, and the closed sets that stand.
-use Rattle.std.proofs.Common.{◌≡◌, ℕ, ◌+◌, ◌-◌, ◌<◌, ◌≤◌, Bool, true, false, cond, ◌||◌, eqb, ltb, length, ap, ap₂, sym, ◌∙◌, arith, inl, inr, ◌⊎◌, subst}
+use Rattle.std.proofs.Common.{◌≡◌, ℕ, ◌+◌, ◌-◌, ◌<◌, ◌≤◌, Bool, true, false, cond, ◌||◌, eqb, ltb, length, ap, sym, ◌∙◌, arith, inl, inr, ◌⊎◌, subst}
 use Rattle.std.proofs.lemmas.Bool.{cases_Bool, cases_lt, leb-true}
 use Rattle.std.proofs.lemmas.List.{length-map}
 use Rattle.evac_law.specs.declared.edit.Edit.{Edit}
@@ -9,7 +9,7 @@ use Rattle.evac_law.specs.Edits.{IsEditOf, edited}
 use Rattle.evac_law.specs.LabelTable.{LabelTable}
 use Rattle.evac_law.specs.Plans.{above, held, moved, violation}
 use Rattle.evac_law.specs.Stands.{Fits}
-use Rattle.evac_law.proofs.SumLemmas.{sum2, sum2-le}
+use Rattle.evac_law.proofs.SumLemmas.{sum2-le}
 use Rattle.residual_net.specs.declared.place.Place.{Place}
 use Rattle.residual_net.specs.declared.place.Place.TheVariants.{Arc, Hold, Supply}
 use Rattle.residual_net.specs.Closed.{reached}
@@ -158,17 +158,9 @@ module _ (m n : Model) (w : Network) (valid : IsValid m) (net : IsNet w) (of : I
   unfolding overrun violation sum_places
   few_over =
       let k = w.site.shape.horizon + 1 in
-      let h = m.horizon + 1 in
-      let same : k ≡ h = ap (λ z. z + 1) (horizon_same m w net of valid) in
       let arcs = sum2-le (arc_count w.site) k (λ a t. flow_at w (Arc a t) - model_limit n (Arc a t)) (λ a t. moved (plan_of w) a t - rate n a t) arc_over in
       let holds = sum2-le w.site.shape.nodes k (λ i t. flow_at w (Hold i t) - model_limit n (Hold i t))
       (λ i t. cond (is_exit_at m i) 0 (above (held m (plan_of w) i t) (capacity n i))) hold_over in
       let entries = sum2-le w.site.shape.nodes k (λ i t. flow_at w (Supply i t) - model_limit n (Supply i t)) (λ i t. entry m i t - entry n i t) entry_over in
-      let of_arcs : sum2 (arc_count w.site) k (λ a t. moved (plan_of w) a t - rate n a t) ≡ sum2 (length m.arcs) h (λ a t. moved (plan_of w) a t - rate n a t) =
-      ap₂ (λ x y. sum2 x y (λ a t. moved (plan_of w) a t - rate n a t)) (arcs_same m w net of valid) same in
-      let of_holds : sum2 w.site.shape.nodes k (λ i t. cond (is_exit_at m i) 0 (above (held m (plan_of w) i t) (capacity n i)))
-      ≡ sum2 (length m.nodes) h (λ i t. cond (is_exit_at m i) 0 (above (held m (plan_of w) i t) (capacity n i))) =
-      ap₂ (λ x y. sum2 x y (λ i t. cond (is_exit_at m i) 0 (above (held m (plan_of w) i t) (capacity n i)))) (nodes_same m w net of valid) same in
-      let of_entries : sum2 w.site.shape.nodes k (λ i t. entry m i t - entry n i t) ≡ sum2 (length m.nodes) h (λ i t. entry m i t - entry n i t) =
-      ap₂ (λ x y. sum2 x y (λ i t. entry m i t - entry n i t)) (nodes_same m w net of valid) same in
-      omega (arith, arcs, holds, entries, of_arcs, of_holds, of_entries)
+      let same : k ≡ m.horizon + 1 = ap (λ z. z + 1) (horizon_same m w net of valid) in
+      rw (← arcs_same m w net of valid, ← nodes_same m w net of valid, ← same) (omega (arith, arcs, holds, entries))

@@ -11,6 +11,7 @@ use residual_net::{Net, Path, Place, limit_of};
 use std::sync::ledger::Ledger;
 
 /// Takes people off one flow path through a place with too many.
+#[tactic(auto, using(residual_net::proofs::Effects::fewer_sent), unfolding(residual_net::specs::Limits::supply_limit))]
 fn cancel_one<L: Ledger>(
     net: &mut Net,
     labels: &Labels,
@@ -59,6 +60,7 @@ fn cancel_all<L: Ledger>(
 }
 
 /// Gives a place the limit of a model, and takes people off flow paths through it until it fits.
+#[tactic(auto, using(crate::proofs::Between::supplies_fit))]
 pub fn fit_place<L: Ledger>(
     net: &mut Net,
     model: &Model,

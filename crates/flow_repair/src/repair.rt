@@ -67,6 +67,7 @@ fn fit_edit<L: Ledger>(
 /// until every place fits.
 ///
 /// `labels` prove the net best up to its last arrival before the edit; below `least_label` they still do.
+#[tactic(auto, using(residual_net::proofs::LastArrival::last_fits, crate::proofs::Numbers::horizon_small))]
 pub fn reshape<L: Ledger>(
     net: &mut Net,
     model: &Model,

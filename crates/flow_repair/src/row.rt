@@ -14,6 +14,7 @@ use residual_net::{Kind, Net, Path, place_of};
 use std::sync::ledger::Ledger;
 
 /// Brings an arc's or a node's places of a kind under a model at each moment.
+#[tactic(auto, unfolding(evac_law::specs::Limits::horizon_limit))]
 pub fn fit_row<L: Ledger>(
     net: &mut Net,
     model: &Model,
@@ -65,6 +66,7 @@ fn fit_arc_into<L: Ledger>(
 }
 
 /// Brings the arcs into a node under a model at each moment.
+#[tactic(auto, unfolding(evac_law::specs::Limits::arc_limit))]
 pub fn fit_arcs_into<L: Ledger>(
     net: &mut Net,
     model: &Model,

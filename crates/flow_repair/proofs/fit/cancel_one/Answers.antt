@@ -1,8 +1,6 @@
 use Rattle.std.proofs.Common.{◌+◌, List, refl, subst, sym, arith}
 use Rattle.residual_net.specs.declared.place.PathStep.{PathStep}
 use Rattle.residual_net.specs.Change.{IsCancelled}
-use Rattle.residual_net.specs.Limits.{supply_limit}
-use Rattle.residual_net.proofs.Effects.{fewer_sent}
 use Rattle.flow_repair.proofs.Cancelling.{here, open_path}
 use Rattle.flow_repair.proofs.Refitting.{one_cancelled}
 use Rattle.flow_repair.proofs.fit.cancel_one.Goals as goal
@@ -14,14 +12,6 @@ least_on-least_label-requires-clause-open g c =
     let x = c.cancel-people.result in
     let made = subst (λ (z : List PathStep). IsCancelled w v c.args.place z x) (sym c.steps.ensures) c.cancel-people.ensures.cancelled in
     open_path w v c.args.place c.steps.result.now x made c.shape.ensures.net
-
-pub overflow_add-result : goal.overflow_add-result
-unfolding supply_limit
-overflow_add-result g c =
-    let w = c.args.net.now in
-    let v = c.cancel-people.new.self in
-    let sent = fewer_sent w v c.args.place c.cancel-people.new.path.steps c.cancel-people.result c.cancel-people.ensures.cancelled in
-    omega (arith, sent, c.requires.cancellable.few)
 
 pub returns-clause-taken : goal.returns-clause-taken
 returns-clause-taken g c =

@@ -5,17 +5,9 @@ use Rattle.residual_net.specs.OfModel.{model_limit}
 use Rattle.residual_net.specs.Site.{Site, is_source}
 use Rattle.flow_repair.specs.Opened.{head_number}
 use Rattle.residual_net.proofs.Kept.{out_same}
-use Rattle.flow_repair.proofs.Between.{supplies_fit, within_raised, within_thinned}
+use Rattle.flow_repair.proofs.Between.{within_raised, within_thinned}
 use Rattle.flow_repair.proofs.Refitting.{least_raised, lowered_refits, right_already, set_refitted, still_cancellable}
 use Rattle.flow_repair.proofs.fit.fit_place.Goals as goal
-
-pub set_limit-requires-clause-supplies : goal.set_limit-requires-clause-supplies
-set_limit-requires-clause-supplies g c =
-    supplies_fit c.args.model.now c.args.net.now c.args.place c.limit_of-limit.result c.requires.fittable.valid c.requires.fittable.between c.requires.place c.limit_of-limit.ensures
-
-pub set_limit-requires-then-limit-old-2-clause-supplies : goal.set_limit-requires-then-limit-old-2-clause-supplies
-set_limit-requires-then-limit-old-2-clause-supplies g c =
-    supplies_fit c.args.model.now c.args.net.now c.args.place c.limit_of-limit.result c.requires.fittable.valid c.requires.fittable.between c.requires.place c.limit_of-limit.ensures
 
 pub cancel_all-requires-clause-cancellable : goal.cancel_all-requires-clause-cancellable
 cancel_all-requires-clause-cancellable g c =

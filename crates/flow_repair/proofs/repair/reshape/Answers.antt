@@ -1,15 +1,8 @@
 use Rattle.std.proofs.Common.{◌≡◌, ◌+◌, ap, subst, arith}
 use Rattle.residual_net.specs.OfModel.{last_move, plan_of}
-use Rattle.residual_net.proofs.LastArrival.{last_fits}
 use Rattle.flow_repair.specs.Opened.{IsLeastOpened}
-use Rattle.flow_repair.proofs.Numbers.{horizon_small}
 use Rattle.flow_repair.proofs.Whole.{between_now, closed_stays, few_over, now_of, valid_now}
 use Rattle.flow_repair.proofs.repair.reshape.Goals as goal
-
-pub overflow_add-first : goal.overflow_add-first
-overflow_add-first g c =
-    let w = c.args.net.now in
-    omega (arith, last_fits w c.shape.ensures.net, horizon_small w.site c.shape.ensures.net.site, c.last_arrival-first.ensures)
 
 pub fit_edit-requires-clause-fittable : goal.fit_edit-requires-clause-fittable
 fit_edit-requires-clause-fittable g c = record {

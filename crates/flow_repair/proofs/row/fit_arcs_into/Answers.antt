@@ -1,5 +1,4 @@
-use Rattle.std.proofs.Common.{◌≡◌, ◌+◌, ℕ, eqb, ltb, ◌&&◌, ap, subst, arith, ◌∙◌}
-use Rattle.evac_law.specs.Limits.{arc_limit}
+use Rattle.std.proofs.Common.{◌≡◌, ◌+◌, ℕ, eqb, ltb, ◌&&◌, ap, subst, ◌∙◌}
 use Rattle.time_expansion.specs.Expansion.{to_at}
 use Rattle.residual_net.specs.Site.{Site}
 use Rattle.residual_net.specs.Start.{is_kind, row_of}
@@ -9,10 +8,6 @@ use Rattle.flow_repair.proofs.Arcs.{arcs_step}
 use Rattle.flow_repair.proofs.Between.{still_fittable}
 use Rattle.flow_repair.proofs.Refitting.{refitted_then, steps_then}
 use Rattle.flow_repair.proofs.row.fit_arcs_into.Goals as goal
-
-pub overflow_cast-arc-end : goal.overflow_cast-arc-end
-unfolding arc_limit
-overflow_cast-arc-end g c = omega (arith, c.requires.fittable.valid.arcs_fit, c.len-arc-end.ensures)
 
 pub fit_arc_into-now-requires-clause-fittable : goal.fit_arc_into-now-requires-clause-fittable
 fit_arc_into-now-requires-clause-fittable g c =

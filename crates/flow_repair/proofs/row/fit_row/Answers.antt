@@ -1,5 +1,4 @@
-use Rattle.std.proofs.Common.{◌+◌, subst, arith, ◌∙◌}
-use Rattle.evac_law.specs.Limits.{horizon_limit}
+use Rattle.std.proofs.Common.{◌+◌, subst, ◌∙◌}
 use Rattle.residual_net.specs.declared.place.Place.{Place}
 use Rattle.residual_net.specs.Site.{same_place}
 use Rattle.residual_net.specs.Start.{place_of}
@@ -8,10 +7,6 @@ use Rattle.flow_repair.specs.Refit.{IsRefitted}
 use Rattle.flow_repair.proofs.Between.{still_fittable}
 use Rattle.flow_repair.proofs.Refitting.{refitted_then, steps_then}
 use Rattle.flow_repair.proofs.row.fit_row.Goals as goal
-
-pub overflow_add-moment-end : goal.overflow_add-moment-end
-unfolding horizon_limit
-overflow_add-moment-end g c = omega (arith, c.requires.fittable.valid.horizon)
 
 pub fit_place-now-requires-clause-fittable : goal.fit_place-now-requires-clause-fittable
 fit_place-now-requires-clause-fittable g c =
