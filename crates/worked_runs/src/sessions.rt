@@ -1,11 +1,11 @@
 // Sessions on worked buildings, hostile lines, and sources and sinks that fail.
 ghost use Rattle.std.specs.Prelude.{◌<◌};
 
-use crate::runs::{check, joined, status_of};
+use crate::runs::{check, joined, run_failing, run_over};
 use crate::texts::{
     LONG_COMMENT, OFFICE, ONE_ROOM, ONE_ROOM_BLOCK, TWO_EXITS, TWO_EXITS_BLOCK, TWO_EXITS_ROUTES,
 };
-use line_io::{CleanSource, MemSink, MemSource};
+use line_io::MemSink;
 use std::alloc::{AllocError, Global};
 use std::process::Abort;
 use std::test::Fail;
@@ -36,11 +36,25 @@ fn said(alloc: Global, talk: &[Exchange], taken: usize) -> Result<String, AllocE
     Ok(text)
 }
 
+// A session over these lines has its replies, and ends with this status.
+fn check_said(
+    rt: &(impl Abort + AllocGlobal),
+    talk: &[Exchange],
+    input: &str,
+    status: u8,
+) -> Result<(), Fail> {
+    let text = said(rt.alloc(), talk, input.len())?;
+    let checked = check(rt, &["session"], input, status, text.as_str());
+    drop(text);
+    checked
+}
+
 // A session is held as it stands here, and ends with this status.
 fn check_talk(rt: &(impl Abort + AllocGlobal), talk: &[Exchange], status: u8) -> Result<(), Fail> {
     let input = heard(rt.alloc(), talk)?;
-    let text = said(rt.alloc(), talk, input.len())?;
-    check(rt, &["session"], input.as_str(), status, text.as_str())
+    let checked = check_said(rt, talk, input.as_str(), status);
+    drop(input);
+    checked
 }
 
 // All by the narrow way, one behind the other.
@@ -149,18 +163,6 @@ const REFUSED: [Exchange; 13] = [
     ("open DS1.1\n", "refused 31 22\n"),
 ];
 
-#[test]
-fn worked_sessions_are_held(rt: HostRuntime) -> Result<(), Fail> {
-    check_talk(&rt, &REPORTS, 0)?;
-    check_talk(&rt, &TRAPPED, 1)?;
-    check_talk(&rt, &CLOSED, 0)?;
-    check_talk(&rt, &UNUSED, 0)?;
-    check_talk(&rt, &BETWEEN, 0)?;
-    check_talk(&rt, &FASTER, 0)?;
-    check_talk(&rt, &ENTERED, 0)?;
-    check_talk(&rt, &REFUSED, 0)
-}
-
 // A block is no list of commands, and the last line may end with the input.
 const BLOCK_BEHIND: [Exchange; 4] = [
     (ONE_ROOM, ONE_ROOM_BLOCK),
@@ -208,30 +210,73 @@ const HOSTILE: [Exchange; 28] = [
 ];
 
 #[test]
-fn hostile_lines_are_refused(rt: HostRuntime) -> Result<(), Fail> {
+fn worked_sessions_are_held(rt: HostRuntime) -> Result<(), Fail> {
+    check_talk(&rt, &REPORTS, 0)?;
+    check_talk(&rt, &TRAPPED, 1)?;
+    check_talk(&rt, &CLOSED, 0)?;
+    check_talk(&rt, &UNUSED, 0)?;
+    check_talk(&rt, &BETWEEN, 0)?;
+    check_talk(&rt, &FASTER, 0)?;
+    check_talk(&rt, &ENTERED, 0)?;
+    check_talk(&rt, &REFUSED, 0)?;
     check_talk(&rt, &BLOCK_BEHIND, 0)?;
     check_talk(&rt, &HOSTILE, 1)
 }
 
-// Sixty-five edits, of which only sixty-four can be undone.
-#[test]
-fn the_first_of_many_edits_stays(rt: HostRuntime) -> Result<(), Fail> {
-    let alloc = rt.alloc();
+// Sixty-five edits, and an undo for each and one more.
+fn many_edits(alloc: Global) -> Result<String, AllocError> {
     let mut input = String::from_str(alloc, TWO_EXITS)?;
-    let mut text = String::from_str(alloc, TWO_EXITS_BLOCK)?;
     for index in 1..130u32 {
-        let (edit, block) = if index % 2 == 0 {
-            ("reopen WP1.1 DS2.1\n", SECOND_BLOCK)
+        let edit = if index % 2 == 0 {
+            "reopen WP1.1 DS2.1\n"
         } else {
-            ("shut WP1.1 DS2.1\n", NARROW_BLOCK)
+            "shut WP1.1 DS2.1\n"
         };
         input.push_str(if index > 65 { "undo\n" } else { edit })?;
-        text.push_str(format!(in alloc; "answer {index}")?.as_str())?;
-        text.push_str(block.strip_prefix("answer 1").unwrap_or(block))?;
     }
     input.push_str("undo\n")?;
+    Ok(input)
+}
+
+// Puts the block of an answer behind a text.
+fn push_block(alloc: Global, text: &mut String, index: u32) -> Result<(), AllocError> {
+    let block = if index % 2 == 0 {
+        SECOND_BLOCK
+    } else {
+        NARROW_BLOCK
+    };
+    let head = format!(in alloc; "answer {index}")?;
+    let put = text.push_str(head.as_str());
+    drop(head);
+    put?;
+    text.push_str(block.strip_prefix("answer 1").unwrap_or(block))
+}
+
+// Their replies.
+fn many_blocks(alloc: Global) -> Result<String, AllocError> {
+    let mut text = String::from_str(alloc, TWO_EXITS_BLOCK)?;
+    for index in 1..130u32 {
+        push_block(alloc, &mut text, index)?;
+    }
     text.push_str("refused 39 140\n")?;
-    check(&rt, &["session"], input.as_str(), 0, text.as_str())
+    Ok(text)
+}
+
+// A session over these lines has those replies.
+fn check_many(rt: &(impl Abort + AllocGlobal), input: &str) -> Result<(), Fail> {
+    let text = many_blocks(rt.alloc())?;
+    let checked = check(rt, &["session"], input, 0, text.as_str());
+    drop(text);
+    checked
+}
+
+// Only sixty-four edits can be undone.
+#[test]
+fn the_first_of_many_edits_stays(rt: HostRuntime) -> Result<(), Fail> {
+    let input = many_edits(rt.alloc())?;
+    let checked = check_many(&rt, input.as_str());
+    drop(input);
+    checked
 }
 
 // Whether a line is of a plan or of its routes.
@@ -266,6 +311,42 @@ fn on_routes(text: &str) -> u32 {
     people
 }
 
+// A text but for its plans, and the people on its routes.
+fn check_whole(
+    rt: &(impl Abort + AllocGlobal),
+    whole: &str,
+    text: &str,
+    routed: u32,
+) -> Result<(), Fail> {
+    let rest = forced(rt.alloc(), whole)?;
+    assert_eq!(rt; rest.as_str(), text);
+    drop(rest);
+    assert_eq!(rt; on_routes(whole), routed);
+    Ok(())
+}
+
+// What a session over these lines writes, as text.
+fn session_text(rt: &(impl Abort + AllocGlobal), input: &str) -> Result<String, AllocError> {
+    let mut sink = MemSink::new(rt.alloc(), 100_000, 4096, &[])?;
+    let status = run_over(rt.alloc(), &["session"], input.as_bytes(), &mut sink);
+    let text = String::from_utf8_lossy(rt.alloc(), sink.bytes());
+    drop(sink);
+    assert_eq!(rt; status?, 0);
+    text
+}
+
+// What a session on a building is told.
+fn session_on(
+    rt: &(impl Abort + AllocGlobal),
+    model: &str,
+    commands: &str,
+) -> Result<String, AllocError> {
+    let input = joined(rt.alloc(), model, commands)?;
+    let text = session_text(rt, input.as_str());
+    drop(input);
+    text
+}
+
 // A session on a building whose best plans are many: its text but for the plans, and the people on routes.
 fn check_forced(
     rt: &(impl Abort + AllocGlobal),
@@ -274,15 +355,10 @@ fn check_forced(
     text: &str,
     routed: u32,
 ) -> Result<(), Fail> {
-    let alloc = rt.alloc();
-    let input = joined(alloc, model, commands)?;
-    let mut source = CleanSource::new(alloc, input.as_str().as_bytes())?;
-    let mut sink = MemSink::new(alloc, 100_000, 4096, &[])?;
-    assert_eq!(rt; status_of(alloc, &["session"], &mut source, &mut sink)?, 0);
-    let whole = String::from_utf8_lossy(alloc, sink.bytes())?;
-    assert_eq!(rt; forced(alloc, whole.as_str())?.as_str(), text);
-    assert_eq!(rt; on_routes(whole.as_str()), routed);
-    Ok(())
+    let whole = session_on(rt, model, commands)?;
+    let checked = check_whole(rt, whole.as_str(), text, routed);
+    drop(whole);
+    checked
 }
 
 // As many people as there may be.
@@ -307,7 +383,52 @@ fn large_buildings_have_their_curves(rt: HostRuntime) -> Result<(), Fail> {
     )
 }
 
-// A session over pieces, of which one call fails: what was taken whole has its replies, and nothing else has.
+// A session over pieces of these lines, of which one call fails, has this status and text.
+fn check_taken(
+    rt: &(impl Abort + AllocGlobal),
+    input: &str,
+    text: &str,
+    piece: usize,
+    call: u32,
+    status: u8,
+) -> Result<(), Fail>
+    requires { 0 < piece }
+{
+    let mut sink = MemSink::new(rt.alloc(), 1000, 4096, &[])?;
+    let got = run_failing(
+        rt.alloc(),
+        &["session"],
+        input.as_bytes(),
+        piece,
+        &[call],
+        &mut sink,
+    );
+    let is_text = sink.bytes() == text.as_bytes();
+    drop(sink);
+    assert_eq!(rt; got?, status, "at call {call}");
+    assert!(rt; is_text, "at call {call}");
+    Ok(())
+}
+
+// What was taken whole has its replies, and nothing else has.
+fn check_replies(
+    rt: &(impl Abort + AllocGlobal),
+    talk: &[Exchange],
+    input: &str,
+    piece: usize,
+    call: u32,
+    status: u8,
+) -> Result<(), Fail>
+    requires { 0 < piece }
+{
+    let taken = (call as usize).saturating_sub(1).saturating_mul(piece);
+    let text = said(rt.alloc(), talk, taken)?;
+    let checked = check_taken(rt, input, text.as_str(), piece, call, status);
+    drop(text);
+    checked
+}
+
+// A session over pieces, of which one call fails.
 fn check_fault(
     rt: &(impl Abort + AllocGlobal),
     talk: &[Exchange],
@@ -317,19 +438,10 @@ fn check_fault(
 ) -> Result<(), Fail>
     requires { 0 < piece }
 {
-    let alloc = rt.alloc();
-    let input = heard(alloc, talk)?;
-    let taken = (call as usize).saturating_sub(1).saturating_mul(piece);
-    let text = said(alloc, talk, taken)?;
-    let mut source = MemSource::new(alloc, input.as_str().as_bytes(), piece, &[call])?;
-    let mut sink = MemSink::new(alloc, 1000, 4096, &[])?;
-    assert_eq!(rt;
-        status_of(alloc, &["session"], &mut source, &mut sink)?,
-        status,
-        "at call {call}"
-    );
-    assert_eq!(rt; sink.bytes(), text.as_str().as_bytes(), "at call {call}");
-    Ok(())
+    let input = heard(rt.alloc(), talk)?;
+    let checked = check_replies(rt, talk, input.as_str(), piece, call, status);
+    drop(input);
+    checked
 }
 
 // Eleven calls take all of the lines, the last of which is `quit`.
@@ -342,26 +454,57 @@ fn lines_taken_before_a_fault_have_replies(rt: HostRuntime) -> Result<(), Fail> 
     check_fault(&rt, &[(ONE_ROOM, ONE_ROOM_BLOCK)], 4096, 2, 3)
 }
 
-// A sink in pieces that fails at one call: it has a front of the replies, a piece a call at the least.
-#[test]
-fn a_session_into_a_failing_sink_has_a_front(rt: HostRuntime) -> Result<(), Fail> {
-    let alloc = rt.alloc();
-    let input = heard(alloc, &BETWEEN)?;
-    let text = said(alloc, &BETWEEN, input.len())?;
+// The status of a session into a sink that fails at one call: it has a front of the replies, a piece a call at the least.
+fn check_replied(
+    rt: &(impl Abort + AllocGlobal),
+    input: &str,
+    text: &str,
+    call: u32,
+    sink: &mut MemSink,
+) -> Result<u8, Fail> {
+    let status = run_over(rt.alloc(), &["session"], input.as_bytes(), sink)?;
+    let count = sink.bytes().len();
+    assert_eq!(rt; Some(sink.bytes()), text.as_bytes().get(..count));
+    if status == 0 {
+        assert_eq!(rt; count, text.len());
+    } else {
+        assert_eq!(rt; status, 4, "at call {call}");
+        assert!(rt;
+            count >= (call as usize).saturating_sub(1),
+            "at call {call}"
+        );
+    }
+    Ok(status)
+}
+
+// At some call of the sink the session has ended before.
+fn check_calls(rt: &(impl Abort + AllocGlobal), input: &str, text: &str) -> Result<(), Fail> {
     let mut last = 4;
     for call in 1..200u32 {
-        let mut source = CleanSource::new(alloc, input.as_str().as_bytes())?;
-        let mut sink = MemSink::new(alloc, 1000, 7, &[call])?;
-        last = status_of(alloc, &["session"], &mut source, &mut sink)?;
-        let count = sink.bytes().len();
-        assert_eq!(rt; Some(sink.bytes()), text.as_str().as_bytes().get(..count));
+        let mut sink = MemSink::new(rt.alloc(), 1000, 7, &[call])?;
+        let status = check_replied(rt, input, text, call, &mut sink);
+        drop(sink);
+        last = status?;
         if last == 0 {
-            assert_eq!(rt; count, text.len());
             break;
         }
-        assert_eq!(rt; last, 4, "at call {call}");
-        assert!(rt; count >= call as usize - 1, "at call {call}");
     }
     assert_eq!(rt; last, 0);
     Ok(())
+}
+
+// A session over these lines, with its replies.
+fn check_session_calls(rt: &(impl Abort + AllocGlobal), input: &str) -> Result<(), Fail> {
+    let text = said(rt.alloc(), &BETWEEN, input.len())?;
+    let checked = check_calls(rt, input, text.as_str());
+    drop(text);
+    checked
+}
+
+#[test]
+fn a_session_into_a_failing_sink_has_a_front(rt: HostRuntime) -> Result<(), Fail> {
+    let input = heard(rt.alloc(), &BETWEEN)?;
+    let checked = check_session_calls(&rt, input.as_str());
+    drop(input);
+    checked
 }
