@@ -1,4 +1,4 @@
--- A plan that fills a cut has as many people out_by as the cut is worth.
+-- A plan that fills a cut of a moment has as many people out by then as the cut is worth.
 use Rattle.std.proofs.Common.{◌≡◌, ℕ, zero, suc, ◌+◌, ◌<◌, ◌≤◌, Bool, true, false, cond, not, ◌&&◌, ◌||◌, eqb, ltb, leb, List, length, refl, ap, ◌∙◌, arith, add-one, inl, inr, IsFalse, pos}
 use Rattle.std.specs.List.{sum_by, All}
 use Rattle.std.proofs.lemmas.List.Elements.{All-weaker, All-get_or}

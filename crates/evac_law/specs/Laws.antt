@@ -27,7 +27,7 @@ abbrev pub AllOutLeavesNobody : Type 0
 AllOutLeavesNobody =
     (m : Model) (p : List Move) (k : ℕ) → IsValid m → IsFeasible m p k → out_by m p k ≡ people m → NobodyIsLeft m p k
 
--- at no moment has a feasible plan more people out_by than a certified one
+-- at no moment does a feasible plan have more people out than a certified one
 abbrev pub CertifiedIsBest : Type 0
 CertifiedIsBest =
     (m : Model) (p : List Move) (l : LabelTable) (c : ℕ) → IsValid m → IsCertified m p l c
@@ -71,7 +71,7 @@ CertifiedIsQuickest =
     → out_by m q m.horizon ≡ people m
     → (0 < c → SomeoneArrivesFrom m q c) × (person_periods m p ≤ person_periods m q)
 
--- a plan that fills a cut has as many people out_by as the cut is worth
+-- a plan that fills a cut of moment k has as many people out by then as the cut is worth
 abbrev pub TightIsEqual : Type 0
 TightIsEqual =
     (m : Model) (x : Cut) (p : List Move) (k : ℕ) → IsValid m → IsFeasible m p k → IsTight m p x k → out_by m p k ≡ cut_value m x k

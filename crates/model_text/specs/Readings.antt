@@ -25,7 +25,7 @@ pub data Step : Type 0 where
   Ended : Step
   Stopped : (code : ℕ) → Step
 
--- a step, step_unless there is a fault
+-- a step, unless there is a fault
 abbrev pub step_unless : Option ℕ → Step → Step
 step_unless (Some code) step = Stopped code
 step_unless None step = step

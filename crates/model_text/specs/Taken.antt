@@ -99,7 +99,7 @@ abbrev pub first_code : List (Bool × ℕ) → Option ℕ
 first_code [] = None
 first_code (c ∷ cs) = if c.0 then Some c.1 else first_code cs
 
--- the statement_checks of a statement against those before it, in their order, each with its code
+-- the checks of a statement against those before it, in their order, each with its code
 abbrev pub statement_checks : List Said → Said → List (Bool × ℕ)
 statement_checks before (Title text) = (is_some (title_of before), repeated_setting) ∷ []
 statement_checks before (Period seconds) = (is_some (seconds_of before), repeated_setting) ∷ []
