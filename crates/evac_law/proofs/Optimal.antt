@@ -55,7 +55,7 @@ lawful_down m p b c l h = record {
 all_in_time : (e : Bool) (r c k p : ℕ) → r ≤ c → c ≤ k → cond (e && leb r k) p 0 ≡ cond (e && leb r c) p 0
 all_in_time e r c k p i j = grind (arith, nat_tests)
 
--- nobody gets out_by later than the last arrival
+-- nobody gets out later than the last arrival
 pub out_stays : (m : Model) (p : List Move) (c k : ℕ) → c ≤ k → All (λ v. arrival m v.arc v.moment ≤ c) p → out_by m p k ≡ out_by m p c
 unfolding out_by
 out_stays m p c k l a =
@@ -295,7 +295,8 @@ last_by m c (v ∷ p) all =
     let first = All-head (λ v. arrival m v.arc v.moment ≤ c) v p all in
     omega (arith, first, last_by m c p (All-tail (λ v. arrival m v.arc v.moment ≤ c) v p all))
 
-at_most_last : (m : Model) (p : List Move) (i : ℕ) (e : Move) → i < length p → arrival m (get_or p i e).arc (get_or p i e).moment ≤ last_arrival m p
+-- no move arrives after the last arrival
+pub at_most_last : (m : Model) (p : List Move) (i : ℕ) (e : Move) → i < length p → arrival m (get_or p i e).arc (get_or p i e).moment ≤ last_arrival m p
 unfolding last_arrival
 at_most_last m [] i e l = absurd (omega (arith, l))
 at_most_last m (v ∷ p) zero e l = omega arith

@@ -1,14 +1,11 @@
 -- Moment after moment settled, and what it comes to.
-use Rattle.std.proofs.Common.{◌≡◌, ◌≢◌, ℕ, zero, suc, ◌+◌, ◌-◌, ◌*◌, ◌<◌, ◌≤◌, true, List, [], ◌∷◌, ap, sym, subst, ◌∙◌, refl, arith, inl, inr, add-one}
-use Rattle.std.specs.List.{All}
+use Rattle.std.proofs.Common.{◌≡◌, ◌≢◌, ℕ, zero, suc, ◌+◌, ◌-◌, ◌*◌, ◌<◌, ◌≤◌, true, ap, sym, subst, ◌∙◌, refl, arith, inl, inr, add-one}
 use Rattle.std.proofs.lemmas.Bool.{cases_lt}
 use Rattle.evac_law.specs.declared.model.Model.{Model}
-use Rattle.evac_law.specs.declared.plan.Move.{Move}
-use Rattle.evac_law.specs.Building.{IsValid, arrival, people}
+use Rattle.evac_law.specs.Building.{IsValid, people}
 use Rattle.evac_law.specs.Certificates.{IsCertified, IsShortfall, label_cut}
 use Rattle.evac_law.specs.LabelTable.{LabelTable, label_at}
-use Rattle.evac_law.specs.Plans.{last_arrival}
-use Rattle.evac_law.proofs.Optimal.{label_cut_is_cut, lawful_down}
+use Rattle.evac_law.proofs.Optimal.{at_most_last, label_cut_is_cut, lawful_down}
 use Rattle.evac_law.proofs.SumLemmas as sums
 use Rattle.residual_net.specs.Closed.{IsClosed}
 use Rattle.residual_net.specs.Limits.{supply_limit}
@@ -102,12 +99,6 @@ settled_more w v u l m z from k p r before after h not_over in_time counted labe
 
 -- ---- what it comes to
 
-all_by_last : (m : Model) (p : List Move) → All (λ (v : Move). arrival m v.arc v.moment ≤ last_arrival m p) p
-unfolding last_arrival
-all_by_last m [] j d l = absurd (omega (arith, l))
-all_by_last m (v ∷ p) zero d l = omega arith
-all_by_last m (v ∷ p) (suc j) d l = omega (arith, all_by_last m p j d (omega (arith, l)))
-
 -- the moment of the last arrival is c
 certified : (m : Model) (w : Network) (l : LabelTable) (c : ℕ) → IsValid m → IsNet w → IsNetOf m w → IsWithinLimits w → IsAllSent w
     → c ≡ last_move w.site (plan_of w) → IsClosedBelow w l (c + 1) → IsCertified m (plan_of w) l c
@@ -119,7 +110,7 @@ certified m w l c valid net of within all last closed =
       in_horizon = in_time;
       feasible = lawful_down m (plan_of w) c m.horizon in_time (feasible m w valid net of within all);
       all_out = sym (arrived_is_out m w valid net of c) ∙ arrived_by_last w net c (omega (arith, last)) ∙ ap (arrived_by w) horizon ∙ everybody;
-      arrives = λ j d q. omega (arith, last, all_by_last m (plan_of w) j d q, (fits m w valid net of within all).last_same);
+      arrives = λ j d q. omega (arith, last, at_most_last m (plan_of w) j d q, (fits m w valid net of within all).last_same);
       cuts = λ k q. sym (arrived_is_out m w valid net of k) ∙ closed_is_cut m w valid net of within l k (omega (arith, q, in_time)) (closed k (omega (arith, q)));
       least = λ b e.
           let fewer : arrived_by w b ≢ people m = λ q. omega (arith, e, last, last_by_arrived w net b (q ∙ sym everybody ∙ ap (arrived_by w) (sym horizon))) in
