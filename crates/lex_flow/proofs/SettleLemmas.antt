@@ -20,13 +20,13 @@ use Rattle.residual_net.proofs.LastArrival.{arrived_by_last, arrived_rises, last
 use Rattle.residual_net.proofs.Law.{arrived_is_out, closed_is_cut}
 use Rattle.residual_net.proofs.SentLemmas.{few_arrive}
 use Rattle.terminal_augment.proofs.ClosedLemmas.{closed_same}
+use Rattle.terminal_augment.proofs.KeptLemmas.{limits_stay, limits_then, net_of_kept, over_before}
 use Rattle.terminal_augment.proofs.SendLemmas.{few_by, horizon_small}
 use Rattle.terminal_augment.specs.Settled.{IsClosedBelow, IsCountedOn, IsLabelled, IsLabelsOf}
 use Rattle.lex_flow.specs.declared.outcome.Outcome.{Outcome}
 use Rattle.lex_flow.specs.declared.outcome.Outcome.TheVariants.{Cleared, Short}
 use Rattle.lex_flow.specs.Outcomes.{AreLabelsSettled, IsAnswer, IsBounded, IsNetSettled, IsOutcome, last_settled, pushes_of}
 use Rattle.lex_flow.specs.Settling.{IsOver, IsSettledThrough, IsSettledTo, IsUnset, arrivals_below}
-use Rattle.terminal_augment.proofs.KeptLemmas.{limits_stay, limits_then, net_of_kept, over_before}
 use Rattle.lex_flow.proofs.UnsetLemmas.{early_same, relabelled_more, relabelled_unset}
 
 -- ---- sums of arrivals
