@@ -17,7 +17,7 @@ pub struct Bounds {
     pub list: Vec<u16>,
     pub places: Vec<u8>,
     pub lates: Vec<u32>,
-    comes: Vec<u32>,
+    pub comes: Vec<u32>,
 }
 
 impl Bounds {
@@ -116,7 +116,7 @@ impl Bounds {
     }
 
     /// Finds when people first come into each node, be it by walking.
-    fn find_comes(&mut self, cells: &[Cell], sizes: Sizes, ways: &Ways) {
+    pub fn find_comes(&mut self, cells: &[Cell], sizes: Sizes, ways: &Ways) {
         for node in 0..sizes.nodes {
             let come = first_entry(cells, sizes, node);
             write(self.comes.as_mut_slice(), node as usize, come);

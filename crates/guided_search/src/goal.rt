@@ -21,13 +21,14 @@ enum Ended {
 
 /// The flow to come to, and how far a walk has come. The place of a pair is 0 until nobody at it may be sent, and then by 1 more
 /// than the number of the way into it that is to be tried next. Its height is the number of hops up to it, and 0 where it isn't on
-/// the walk. The memory isn't touched before a goal is sought, and that of the hops only as far as walks go.
+/// the walk. The memory isn't touched before a goal is sought, and that of the hops only as far as walks go. Where a cut is looked for,
+/// places and heights have the pairs that are met.
 #[derive(Drop)]
 pub struct Goal {
-    sizes: Sizes,
-    cells: Vec<Cell>,
-    places: Vec<u8>,
-    heights: Vec<u32>,
+    pub sizes: Sizes,
+    pub cells: Vec<Cell>,
+    pub places: Vec<u8>,
+    pub heights: Vec<u32>,
     hops: Vec<Hop>,
     top: usize,
     door: usize,
@@ -55,17 +56,18 @@ impl Goal {
 
     /// Finds the flow to come to, by a search from no flow.
     pub fn seek(&mut self, guide: &mut Guide, cells: &[Cell]) {
-        let pairs = self.sizes.pairs();
         self.cells.clear();
         for cell in cells {
-            add(
-                &mut self.cells,
-                Cell {
-                    flow: 0,
-                    limit: cell.limit,
-                },
-            );
+            let limit = cell.limit;
+            add(&mut self.cells, Cell { flow: 0, limit });
         }
+        self.forget();
+        guide.send_all(self.cells.as_mut_slice());
+    }
+
+    /// Forgets where walks have been.
+    pub fn forget(&mut self) {
+        let pairs = self.sizes.pairs();
         // Each of these lists has room for all pairs; one that were too short would end the walk.
         let _ = self.places.resize(0, 0);
         let _ = self.places.resize(pairs, 0);
@@ -73,7 +75,6 @@ impl Goal {
         let _ = self.heights.resize(pairs, 0);
         self.hops.clear();
         self.top = 0;
-        guide.send_all(self.cells.as_mut_slice());
     }
 
     /// Begins with an arrival moment.

@@ -8,11 +8,15 @@
 //! shortest, and mends the bounds where it fails; they outlive the moments. Where everybody is sent already, as after an exit is
 //! opened again, a `Goal` is a flow of the best arrivals, found by that walk from no flow; what it has more or less than the net's
 //! leads people straight to where they are to arrive.
+//!
+//! A `Scout` also guesses at a cut that shows that not everybody can get out, where the `Totals` of the rates don't let them: what no
+//! arrival can be come to from, once as many people are sent as can be.
 #![tactic(auto)]
 
 mod bounds;
 mod cells;
 mod change;
+mod cut;
 mod goal;
 mod ground;
 mod guide;
@@ -22,6 +26,7 @@ mod raised;
 mod run;
 mod scout;
 mod sizes;
+mod totals;
 mod walk;
 mod ways;
 

@@ -1,8 +1,11 @@
 //! Who guesses at the next path: a walk by bounds where people are unsent, else one along what is to change.
+ghost use Rattle.std.specs.Prelude.{◌≡◌};
+
 use crate::cells::{count_sent, is_all_sent};
 use crate::goal::Goal;
 use crate::guide::Guide;
 use crate::lists::short;
+use crate::totals::Totals;
 use evac_law::{Labels, Model as Building};
 use residual_net::{Cell, Leg, Net};
 use std::alloc::{AllocError, Global};
@@ -33,6 +36,7 @@ enum Way {
 pub struct Scout {
     guide: Guide,
     goal: Goal,
+    totals: Totals,
     legs: Vec<Leg>,
     way: Way,
     next: u32,
@@ -48,10 +52,12 @@ impl Scout {
     pub fn new(alloc: Global, model: &Building) -> Result<Scout, AllocError> {
         let guide = Guide::new(alloc, model)?;
         let goal = Goal::new(alloc, guide.sizes())?;
+        let totals = Totals::new(alloc, guide.sizes())?;
         let legs = Vec::with_capacity(alloc, guide.sizes().pairs().saturating_add(1))?;
         Ok(Scout {
             guide,
             goal,
+            totals,
             legs,
             way: Way::Guide,
             next: u32::MAX,
@@ -67,6 +73,29 @@ impl Scout {
     pub fn renew(&mut self) {
         self.next = u32::MAX;
         self.idle = u32::MAX;
+    }
+
+    /// Guesses at a cut that shows that not everybody can get out: labels with the horizon the pairs from which people may still arrive
+    /// by then, and unsets the others. Whether there may be one.
+    pub fn guess_cut(&mut self, net: &Net, labels: &mut Labels) -> bool
+        ensures nodes { labels.new.nodes ≡ labels.old.nodes }
+        ensures horizon { labels.new.horizon ≡ labels.old.horizon }
+    {
+        let cells = net.cells();
+        if is_all_sent(cells, self.guide.sizes()) || self.let_all_out(cells) {
+            return false;
+        }
+        self.goal.seek(&mut self.guide, cells);
+        self.goal.mark(self.guide.ways());
+        self.goal.label(labels);
+        true
+    }
+
+    /// Whether the totals of the rates let everybody out.
+    fn let_all_out(&mut self, cells: &[Cell]) -> bool {
+        self.guide.sort(cells);
+        self.totals
+            .let_all_out(cells, self.guide.ways(), self.guide.comes())
     }
 
     /// Whether everybody is sent and nothing is known yet, so that it is worth a search whether anybody can arrive sooner. Until
@@ -88,6 +117,7 @@ impl Scout {
             self.missed = 0;
             if is_all_sent(cells, self.guide.sizes()) {
                 self.way = Way::Goal;
+                self.guide.sort(cells);
                 self.goal.seek(&mut self.guide, cells);
             } else {
                 self.way = Way::Guide;
