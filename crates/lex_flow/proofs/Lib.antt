@@ -1,2 +1,3 @@
 pub mod UnsetLemmas
 pub mod SettleLemmas
+pub mod SupplyLemmas
