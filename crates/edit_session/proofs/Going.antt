@@ -153,4 +153,4 @@ pub never_barred : (m : Model) (e : Edit) (w v : Network) (l k refused cut : Lab
 never_barred m e w v l k refused cut ring room most x h short =
     let passed = unless-Ok (checks m e) (edited m e, inverse_of m e) (edited m e, inverse_of m e) h.back.1 in
     let valid = valid_edited m e h.standing.valid h.back.0 passed.0 in
-    shortfall_bars_clearing (edited m e) (label_cut (edited m e) cut (edited m e).horizon) most valid short.shortfall h.back.2
+    shortfall_bars_clearing (edited m e) (label_cut (edited m e) cut (edited m e).horizon) most valid short.shown.shortfall h.back.2

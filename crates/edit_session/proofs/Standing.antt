@@ -163,7 +163,7 @@ barred_by m m' e e' w v l k cut ring old most steps h valid short spent accepted
   edited = m';
   inverse = e';
   accepted = accepted;
-  table = short.table;
-  not_cleared = not_cleared_by m' cut most valid short.shortfall;
+  table = short.shown.table;
+  not_cleared = not_cleared_by m' cut most valid short.shown.shortfall;
   spent = spent;
 }

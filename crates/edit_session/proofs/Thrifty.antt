@@ -22,7 +22,7 @@ use Rattle.edit_session.specs.Thrift.{IsSpent, IsSpentOpening, IsThrifty, IsThri
 
 -- ---- sums of arrivals
 
-pub below_most : (w : Network) (n k most : ℕ) → n ≤ k + 1 → arrived_by w k ≡ most → arrivals_below w n ≤ n * most
+pub below_most : (w : Network) (n k most : ℕ) → n ≤ k + 1 → arrived_by w k ≤ most → arrivals_below w n ≤ n * most
 below_most w zero k most l e = omega (arith, below_none w)
 below_most w (suc n) k most l e =
     let rise = arrived_rises w n k (omega (arith, l)) in
@@ -66,7 +66,7 @@ thrifty m n w v u c work valid now net_w net_u of_w of_u site few falls idle bou
 
 pub spent : (m n : Model) (w v u : Network) (cancelled pushes most steps : ℕ) → IsValid m → IsNet w → IsNetOf m w
     → cancelled ≤ violation m (plan_of w) n → ((k : ℕ) → arrived_by w k ≤ arrived_by v k + cancelled)
-    → pushes + arrivals_below v (m.horizon + 1) ≤ arrivals_below u (m.horizon + 1) → arrived_by u m.horizon ≡ most → steps ≤ cancelled + pushes
+    → pushes + arrivals_below v (m.horizon + 1) ≤ arrivals_below u (m.horizon + 1) → arrived_by u m.horizon ≤ most → steps ≤ cancelled + pushes
     → IsSpent m (plan_of w) n most steps
 spent m n w v u cancelled pushes most steps valid net of few falls bounded all fewer =
     let times : (m.horizon + 2) * cancelled ≤ (m.horizon + 2) * violation m (plan_of w) n = times_le (m.horizon + 2) cancelled (violation m (plan_of w) n) few in
@@ -96,4 +96,5 @@ thrifty_opening m w u c work valid net of none bounded = record {
 
 pub spent_opening : (m : Model) (w u : Network) (pushes most : ℕ) → arrived_by u m.horizon ≡ most
     → pushes + arrivals_below w (m.horizon + 1) ≤ arrivals_below u (m.horizon + 1) → IsSpentOpening m most pushes
-spent_opening m w u pushes most all bounded = omega (arith, below_most u (m.horizon + 1) m.horizon most (omega arith) all, bounded)
+spent_opening m w u pushes most all bounded =
+    omega (arith, below_most u (m.horizon + 1) m.horizon most (omega arith) (omega (arith, all)), bounded)

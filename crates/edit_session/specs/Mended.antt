@@ -53,12 +53,16 @@ pub record IsCarried (m : Model) (w v : Network) (l : LabelTable) (work : Work) 
   pub standing : IsStanding m v l
   pub thrifty : (b : Model) → IsValid b → IsNetOf b w → IsThrifty b (plan_of w) m (plan_of v) (last_arrival_of v) work
 
+-- the labels show that not everybody gets out of the model: their cut at the horizon is worth `most`, fewer than the people
+pub record IsShown (m : Model) (cut : LabelTable) (most : ℕ) : Type 0 where
+  pub table : IsTableOf m cut
+  pub shortfall : IsShortfall m (label_cut m cut m.horizon) most
+
 -- net and labels are as before, and other labels show that not everybody gets out
 pub record IsRefused (m : Model) (w v : Network) (l k cut : LabelTable) (most : ℕ) : Type 0 where
   pub net : v ≡ with_saved w
   pub labels : k ≡ l
-  pub table : IsTableOf m cut
-  pub shortfall : IsShortfall m (label_cut m cut m.horizon) most
+  pub shown : IsShown m cut most
 
 abbrev pub IsMended : Model → Network → Network → LabelTable → LabelTable → LabelTable → Repaired → Type 0
 IsMended m w v l k cut (Cleared work) = IsCarried m w v k work

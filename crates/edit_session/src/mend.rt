@@ -1,15 +1,38 @@
 // A standing net brought to an edited model.
-ghost use Rattle.std.specs.Prelude.{◌≡◌, ◌+◌};
-ghost use Rattle.edit_session.specs.Mended.{IsMended, IsRepairable, IsScratchOf, IsWithinWork};
+ghost use Rattle.std.specs.Prelude.{◌≡◌, ◌+◌, MatchOption};
+ghost use Rattle.evac_law.specs.Building.{IsValid};
+ghost use Rattle.residual_net.specs.OfModel.{site_of};
+ghost use Rattle.edit_session.specs.Mended.{IsMended, IsRepairable, IsScratchOf, IsShown, IsWithinWork};
 
 use crate::repaired::Repaired;
 use crate::scratch::Scratch;
 use crate::work::Work;
+use cut_witness::cut_value;
 use evac_law::{Edit, Labels, Model, Steps};
 use flow_repair::reshape;
 use lex_flow::{Outcome, settle_all};
 use residual_net::Net;
 use std::sync::ledger::Ledger;
+
+/// What a cut is worth at the horizon that shows that not everybody can get out of a model, where a search guesses at one. The scratch has
+/// its labels.
+fn find_shortfall(net: &Net, model: &Model, scratch: &mut Scratch) -> Option<u32>
+    requires valid { IsValid model.now }
+    requires of { net.now.site ≡ site_of model.now }
+    requires scratch { IsScratchOf net.now.site scratch.old }
+    ensures scratch { IsScratchOf net.now.site scratch.new }
+    ensures shown { MatchOption result (Unit {0}) (λ most. IsShown model.now scratch.new.labels most) }
+{
+    if !scratch.search.guess_cut(net, &mut scratch.labels) {
+        return None;
+    }
+    let most = cut_value(model, &scratch.labels, model.horizon);
+    if most < u64::from(model.people()) {
+        Some(most as u32)
+    } else {
+        None
+    }
+}
 
 /// Brings a standing net and its labels to an edited model. Where not everybody can get out, both are left as they were, and the
 /// scratch has the labels that show it.
@@ -29,8 +52,14 @@ pub fn repair_net<L: Ledger>(
 {
     let _ = net.shape();
     net.save();
+    let taken = reshape(net, model, edit, labels, &mut scratch.path, steps);
+    if let Some(most) = find_shortfall(net, model, scratch) {
+        // a net keeps its flow in balance
+        let _ = net.shape();
+        net.restore();
+        return Repaired::Short { most };
+    }
     scratch.labels.copy_from(labels);
-    let taken = reshape(net, model, edit, &scratch.labels, &mut scratch.path, steps);
     match settle_all(
         net,
         &mut scratch.labels,

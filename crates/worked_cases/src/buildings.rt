@@ -24,6 +24,10 @@ pub(crate) const THREE_EXITS: &str =
 pub(crate) const TWO_ROOMS: &str =
     "evacplan 1\nperiod 5\nhorizon 20\nfloor 1 Ground\nnode WP1.1 8 8\nnode WP2.1 4 0\nnode DS3.1\nnode DS4.1\nnode DS5.1\narc WP1.1 DS3.1 1 1\narc WP1.1 DS4.1 3 5\narc WP2.1 DS3.1 1 1\nend\n";
 
+/// A room near a door and one far from it, from which three people just come out in time.
+pub(crate) const NEAR_AND_FAR: &str =
+    "evacplan 1\nperiod 5\nhorizon 8\nfloor 1 Ground\nnode WP1.1 1 1\nnode WP2.1 3 3\nnode HA1.1 0 0\nnode DS1.1\narc WP1.1 HA1.1 1 1\narc WP2.1 HA1.1 5 4\narc HA1.1 DS1.1 1 1\nend\n";
+
 /// Five people in a room without a door.
 pub(crate) const TRAPPED: &str =
     "evacplan 1\nperiod 5\nhorizon 10\nfloor 1 Ground\nnode WP1.1 5 5\nnode DS1.1\nend\n";

@@ -2,7 +2,7 @@
 ghost use Rattle.std.specs.Prelude.{IfOk};
 ghost use Rattle.evac_law.specs.Building.{IsValid};
 
-use crate::buildings::{OFFICE, TWO_EXITS, TWO_ROOMS, model_of};
+use crate::buildings::{NEAR_AND_FAR, OFFICE, TWO_EXITS, TWO_ROOMS, model_of};
 use crate::calls::{expect, is_edit_of, make, open_on};
 use crate::shown::stand_alike;
 use cut_witness::cut_value;
@@ -218,5 +218,22 @@ fn half_of_an_office_gets_out_by_a_narrow_door(rt: HostRuntime) -> Result<(), Al
         most: 119,
     };
     assert_eq!(rt; worth_of_refusal(&rt, rt.alloc(), &case)?, 119);
+    Ok(())
+}
+
+// All together the door lets out seven by the horizon, but only three of those who come from far.
+#[test]
+fn one_more_from_far_comes_too_late(rt: HostRuntime) -> Result<(), AllocError> {
+    let case = Shortfall {
+        text: NEAR_AND_FAR,
+        made: Edit::Room {
+            node: 1,
+            capacity: 4,
+        },
+        refused: Edit::Enter { node: 1, people: 1 },
+        people: 5,
+        most: 4,
+    };
+    assert_eq!(rt; worth_of_refusal(&rt, rt.alloc(), &case)?, 4);
     Ok(())
 }
