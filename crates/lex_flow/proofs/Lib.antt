@@ -1,3 +1,2 @@
 pub mod UnsetLemmas
 pub mod SettleLemmas
-pub mod SupplyLemmas

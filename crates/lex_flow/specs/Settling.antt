@@ -27,9 +27,9 @@ pub record IsUnset (l m : LabelTable) (from : ℕ) (b : ℕ → ℕ → Bool) : 
 unfoldable pub arrivals_below : Network → ℕ → ℕ
 arrivals_below w n = sum_by (λ i. arrived_by w i) (below n)
 
--- everybody who comes into a node is sent
-abbrev pub IsNodeSent : Network → ℕ → Type 0
-IsNodeSent w n = (t : ℕ) → t ≤ w.site.shape.horizon → unsent_at w n t ≡ 0
+-- everybody who comes in at a moment is sent
+abbrev pub IsMomentSent : Network → ℕ → Type 0
+IsMomentSent w t = (n : ℕ) → n < w.site.shape.nodes → unsent_at w n t ≡ 0
 
 -- everybody is sent, and the last move arrives before a moment
 pub record IsOver (w : Network) (k : ℕ) : Type 0 where

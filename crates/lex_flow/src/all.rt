@@ -1,14 +1,11 @@
 // All arrival moments, settled one after another.
-ghost use Rattle.std.specs.Prelude.{◌≡◌, ◌+◌, ◌<◌, ◌≤◌, ◌*◌, ◌^◌, ◌==◌, ◌&&◌, ◌↔◌, IsTrue, length, true};
+ghost use Rattle.std.specs.Prelude.{◌≡◌, ◌+◌, ◌<◌, ◌≤◌, ◌*◌, ◌==◌, ◌&&◌, ◌↔◌, IsTrue, length, true};
 ghost use Rattle.evac_law.specs.declared.model.Model.{Model};
 ghost use Rattle.evac_law.specs.Building.{IsValid};
-ghost use Rattle.time_expansion.specs.Expansion.{cells};
-ghost use Rattle.residual_net.specs.declared.place.Place.TheVariants.{Supply};
-ghost use Rattle.residual_net.specs.Site.{cell_of};
-ghost use Rattle.residual_net.specs.Network.{IsAllSent, IsWithinLimits, unsent_at};
+ghost use Rattle.residual_net.specs.Network.{IsAllSent, IsWithinLimits};
 ghost use Rattle.residual_net.specs.OfModel.{IsNetOf};
 ghost use Rattle.lex_flow.specs.Outcomes.{AreLabelsSettled, IsAnswer, IsNetSettled, IsOutcome, pushes_of};
-ghost use Rattle.lex_flow.specs.Settling.{IsNodeSent, IsOver, IsSettleable, IsSettledThrough, IsUnset};
+ghost use Rattle.lex_flow.specs.Settling.{IsMomentSent, IsOver, IsSettleable, IsSettledThrough, IsUnset};
 
 use crate::outcome::Outcome;
 use evac_law::{Labels, Steps};
@@ -48,45 +45,14 @@ fn unset_from(labels: &mut Labels, from: u16)
     }
 }
 
-/// The cell of the people who come into a node at a moment, by where those of the node begin.
-#[tactic(auto, using(crate::proofs::SupplyLemmas::supply_in), unfolding(residual_net::specs::Site::cell_of))]
-fn supply_cell(net: &Net, first: usize, node: u32, moment: u16) -> usize
-    requires few { first < 2 ^ 63 }
-    requires node { node < net.now.site.shape.nodes }
+/// Whether everybody who comes in at a moment is sent.
+fn is_moment_sent(net: &Net, moment: u16) -> bool
+    requires within { IsWithinLimits net.now }
     requires moment { moment ≤ net.now.site.shape.horizon }
-    requires first { first ≡ cells net.now.site.shape + node * (net.now.site.shape.horizon + 1) }
-    ensures cell { result ≡ cell_of net.now.site (Supply node moment) }
-    ensures within { result < length net.now.cells }
+    ensures { IsTrue result ↔ IsMomentSent net.now moment }
 {
-    // The cells are those of a net, as many as it has places.
-    let _ = net.shape();
-    first + moment as usize
-}
-
-/// Whether everybody who comes into a node at a moment is sent, by where the cells of the node's people begin.
-#[tactic(auto, unfolding(residual_net::specs::Network::flow_at, residual_net::specs::Network::limit_at))]
-fn is_pair_sent(net: &Net, first: usize, node: u32, moment: u16) -> bool
-    requires few { first < 2 ^ 63 }
-    requires node { node < net.now.site.shape.nodes }
-    requires moment { moment ≤ net.now.site.shape.horizon }
-    requires first { first ≡ cells net.now.site.shape + node * (net.now.site.shape.horizon + 1) }
-    ensures { IsTrue result ↔ (unsent_at net.now node moment ≡ 0) }
-{
-    let at = supply_cell(net, first, node, moment);
-    let cell = net.cells()[at];
-    cell.limit <= cell.flow
-}
-
-/// Whether everybody who comes into a node is sent.
-fn is_node_sent(net: &Net, node: u32) -> bool
-    requires { node < net.now.site.shape.nodes }
-    ensures { IsTrue result ↔ IsNodeSent net.now node }
-{
-    let shape = net.shape();
-    let horizon = shape.horizon();
-    let first = shape.cells() as usize + node as usize * (horizon as usize + 1);
-    for moment in 0..=horizon {
-        if !is_pair_sent(net, first, node, moment) {
+    for node in 0..net.nodes() {
+        if net.unsent(node, moment) > 0 {
             return false;
         }
     }
@@ -95,10 +61,11 @@ fn is_node_sent(net: &Net, node: u32) -> bool
 
 /// Whether everybody is sent.
 fn is_all_sent(net: &Net) -> bool
+    requires { IsWithinLimits net.now }
     ensures { IsTrue result ↔ IsAllSent net.now }
 {
-    for node in 0..net.nodes() {
-        if !is_node_sent(net, node) {
+    for moment in 0..=net.horizon() {
+        if !is_moment_sent(net, moment) {
             return false;
         }
     }
@@ -148,13 +115,12 @@ fn settle_on<L: Ledger>(
 }
 
 /// What a net comes to whose moments are settled.
-fn outcome_of(net: &Net, progress: Progress) -> Outcome
-    requires over { progress.next ≤ net.now.site.shape.horizon → IsOver net.now progress.next }
-    ensures pushes { pushes_of result ≡ progress.pushes }
+fn outcome_of(net: &Net, pushes: u64) -> Outcome
+    requires { IsWithinLimits net.now }
+    ensures pushes { pushes_of result ≡ pushes }
     ensures outcome { IsOutcome net.now result }
 {
-    let Progress { next, pushes } = progress;
-    if next <= net.horizon() || is_all_sent(net) {
+    if is_all_sent(net) {
         let moment = net.last_arrival();
         Outcome::Cleared { moment, pushes }
     } else {
@@ -183,5 +149,5 @@ pub fn settle_all<L: Ledger>(
     ensures ticked { steps.new ≡ steps.old + pushes_of result }
 {
     let progress = settle_on(net, labels, search, from, steps);
-    outcome_of(net, progress)
+    outcome_of(net, progress.pushes)
 }
