@@ -2,6 +2,7 @@ pub mod Conserved
 pub mod Curve
 pub mod EditLemmas
 pub mod Entries
+pub mod LabelLemmas
 pub mod MoveLemmas
 pub mod NameLemmas
 pub mod Optimal

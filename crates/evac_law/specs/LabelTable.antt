@@ -1,5 +1,5 @@
 -- Labels: a number for each node at each moment.
-use Rattle.std.specs.Prelude.{◌≡◌, ℕ, ◌+◌, ◌*◌, ◌<◌, ◌^◌, List, length, slice_index, slice_set}
+use Rattle.std.specs.Prelude.{◌≡◌, ℕ, ◌+◌, ◌*◌, ◌<◌, ◌^◌, if◌then◌else◌, List, length, map, nat_lt, slice_index, slice_set}
 use Rattle.std.specs.List.{All}
 
 -- labels as contracts see them: the number of nodes, the horizon, and the labels node by node
@@ -28,3 +28,11 @@ label_at l n t = slice_index l.list (label_place l n t)
 -- the labels with another one for a node and moment
 abbrev pub with_label : LabelTable → ℕ → ℕ → ℕ → LabelTable
 with_label l n t label = record l { list = slice_set l.list (label_place l n t) label }
+
+-- a label that is below a moment, or else none
+abbrev pub below_or_unset : ℕ → ℕ → ℕ
+below_or_unset from label = if nat_lt label from then label else unset
+
+-- the labels without those that aren't below a moment
+abbrev pub unset_from : LabelTable → ℕ → LabelTable
+unset_from l from = record l { list = map (below_or_unset from) l.list }

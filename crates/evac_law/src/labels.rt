@@ -1,6 +1,6 @@
 // A label for each node and moment.
-ghost use Rattle.std.specs.Prelude.{◌≡◌, ◌+◌, ◌*◌, ◌<◌, ◌≤◌, IfOk, replicate};
-ghost use Rattle.evac_law.specs.LabelTable.{IsTable, label_at, unset, with_label};
+ghost use Rattle.std.specs.Prelude.{◌≡◌, ◌+◌, ◌*◌, ◌<◌, ◌≤◌, IfOk, map, replicate};
+ghost use Rattle.evac_law.specs.LabelTable.{IsTable, below_or_unset, label_at, unset, unset_from, with_label};
 
 use std::alloc::{AllocError, Global};
 use std::marker::Model;
@@ -21,6 +21,22 @@ impl Model for Labels {
     ghost view = { λ l. record { nodes = l.nodes; horizon = l.horizon; list = l.labels.items } };
 
     ghost invariant = { λ l. IsTable l.nodes l.horizon l.labels.items };
+}
+
+/// A label that is below a moment, or else none.
+fn below_or_unset(from: u16, label: u16) -> u16
+    ensures { result ≡ below_or_unset from label }
+{
+    if label < from { label } else { Labels::UNSET }
+}
+
+/// Unsets each label that isn't below a moment.
+fn unset_late(labels: &mut [u16], from: u16)
+    ensures { labels.new ≡ map (below_or_unset from) labels.old }
+{
+    for label in labels.iter_mut() {
+        *label = below_or_unset(from, *label);
+    }
 }
 
 impl Labels {
@@ -72,6 +88,14 @@ impl Labels {
     {
         let place = node as usize * (self.horizon as usize + 1) + moment as usize;
         self.labels[place] = label;
+    }
+
+    /// Unsets each label that isn't below a moment.
+    pub fn unset_from(&mut self, from: u16)
+        ensures unset { self.new ≡ unset_from self.old from }
+        ensures table { IsTable self.new.nodes self.new.horizon self.new.list }
+    {
+        unset_late(self.labels.as_mut_slice(), from);
     }
 
     /// Takes the labels of another table of the same sizes.
