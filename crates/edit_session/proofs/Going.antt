@@ -12,7 +12,7 @@ use Rattle.evac_law.specs.Certificates.{IsTableOf, label_cut}
 use Rattle.residual_net.specs.Labelled.{IsClosedBelow, IsLabelsOf}
 use Rattle.residual_net.specs.Network.{Network, IsNet, IsWithinLimits, flow_at}
 use Rattle.residual_net.specs.OfModel.{IsNetOf, plan_of, site_of}
-use Rattle.residual_net.proofs.Effects.{arrived_all_sent}
+use Rattle.residual_net.proofs.SentLemmas.{arrived_all_sent}
 use Rattle.terminal_augment.specs.Settled.{KeepsLimits}
 use Rattle.lex_flow.specs.Outcomes.{IsCleared}
 use Rattle.terminal_augment.proofs.KeptLemmas.{net_of_kept}

@@ -1,10 +1,11 @@
 -- Moment after moment settled, and what it comes to.
-use Rattle.std.proofs.Common.{◌≡◌, ◌≢◌, ℕ, zero, suc, ◌+◌, ◌-◌, ◌*◌, ◌<◌, ◌≤◌, true, ap, sym, subst, ◌∙◌, refl, arith, inl, inr, add-one}
+use Rattle.std.proofs.Common.{◌≡◌, ◌≢◌, ℕ, zero, suc, ◌+◌, ◌-◌, ◌*◌, ◌<◌, ◌≤◌, leb, length, ap, sym, subst, ◌∙◌, refl, arith, inl, inr, add-one}
 use Rattle.std.proofs.lemmas.Bool.{cases_lt}
 use Rattle.evac_law.specs.declared.model.Model.{Model}
 use Rattle.evac_law.specs.Building.{IsValid, people}
 use Rattle.evac_law.specs.Certificates.{IsCertified, IsShortfall, label_cut}
-use Rattle.evac_law.specs.LabelTable.{LabelTable, label_at}
+use Rattle.evac_law.specs.LabelTable.{LabelTable, label_at, unset_from}
+use Rattle.evac_law.proofs.LabelLemmas.{unset_at}
 use Rattle.evac_law.proofs.Optimal.{at_most_last, label_cut_is_cut, lawful_down}
 use Rattle.evac_law.proofs.SumLemmas as sums
 use Rattle.residual_net.specs.Closed.{IsClosed}
@@ -13,12 +14,11 @@ use Rattle.residual_net.specs.Network.{Network, IsAllSent, IsNet, IsWithinLimits
 use Rattle.residual_net.specs.NetLaws.{labelled}
 use Rattle.residual_net.specs.OfModel.{IsNetOf, last_move, plan_of}
 use Rattle.residual_net.proofs.Begin.{supplies_are_people}
-use Rattle.residual_net.proofs.Effects.{all_sent_arrive, arrived_all_sent}
 use Rattle.residual_net.proofs.Fit.{feasible, fits}
 use Rattle.residual_net.proofs.Held.{horizon_same}
 use Rattle.residual_net.proofs.LastArrival.{arrived_by_last, arrived_rises, last_by_arrived, last_fits}
 use Rattle.residual_net.proofs.Law.{arrived_is_out, closed_is_cut}
-use Rattle.residual_net.proofs.SentLemmas.{few_arrive}
+use Rattle.residual_net.proofs.SentLemmas.{all_sent_arrive, arrived_all_sent, few_arrive}
 use Rattle.terminal_augment.proofs.ClosedLemmas.{closed_same}
 use Rattle.terminal_augment.proofs.KeptLemmas.{limits_stay, limits_then, net_of_kept, over_before}
 use Rattle.terminal_augment.proofs.SendLemmas.{few_by, horizon_small}
@@ -26,7 +26,7 @@ use Rattle.terminal_augment.specs.Settled.{IsClosedBelow, IsCountedOn, IsLabelle
 use Rattle.lex_flow.specs.declared.outcome.Outcome.{Outcome}
 use Rattle.lex_flow.specs.declared.outcome.Outcome.TheVariants.{Cleared, Short}
 use Rattle.lex_flow.specs.Outcomes.{AreLabelsSettled, IsAnswer, IsBounded, IsNetSettled, IsOutcome, last_settled, pushes_of}
-use Rattle.lex_flow.specs.Settling.{IsOver, IsSettledThrough, IsSettledTo, IsUnset, arrivals_below}
+use Rattle.lex_flow.specs.Settling.{IsOver, IsSettledThrough, IsSettledTo, arrivals_below}
 use Rattle.lex_flow.proofs.UnsetLemmas.{early_same, relabelled_more, relabelled_unset}
 
 -- ---- sums of arrivals
@@ -50,9 +50,9 @@ below_few w (suc k) n = rw (sym (add-one k)) (omega (arith, below_more w k, belo
 -- ---- moment after moment
 
 -- with the labels from a moment on unset
-pub settled_begins : (w : Network) (l m : LabelTable) (from : ℕ) → IsNet w → IsWithinLimits w → IsLabelsOf w.site l → IsUnset l m from (λ _ _. true)
-    → from ≤ w.site.shape.horizon + 1 → IsClosedBelow w l from → IsSettledTo w w l m from from 0
-settled_begins w l m from net within of unset_all early closed = record {
+pub settled_begins : (w : Network) (l : LabelTable) (from : ℕ) → IsNet w → IsWithinLimits w → IsLabelsOf w.site l → length l.list ≡ l.nodes * (l.horizon + 1)
+    → from ≤ w.site.shape.horizon + 1 → IsClosedBelow w l from → IsSettledTo w w l (unset_from l from) from from 0
+settled_begins w l from net within of full early closed = record {
   since = omega arith;
   limits = limits_stay w;
   within = within;
@@ -62,15 +62,15 @@ settled_begins w l m from net within of unset_all early closed = record {
   bounded = omega arith;
   idle = λ _. refl;
   none = λ _. refl;
-  labels = relabelled_unset l m from unset_all;
-  closed = λ i q. closed_same w (labelled l i) (labelled m i) i net (λ n t a. same i n t q (omega (arith, a.node, of.nodes)) (omega (arith, a.moment, of.horizon)))
-      (closed i q);
+  labels = relabelled_unset l from full;
+  closed = λ i q. closed_same w (labelled l i) (labelled (unset_from l from) i) i net
+      (λ n t a. same i n t q (omega (arith, a.node, of.nodes)) (omega (arith, a.moment, of.horizon))) (closed i q);
   needed = λ i q e over. omega (arith, q, e);
   rests = λ _. refl;
 }
   where
-    same : (i n t : ℕ) → i < from → n < l.nodes → t ≤ l.horizon → labelled m i n t ≡ labelled l i n t
-    same i n t q a b = early_same from i (label_at l n t) (label_at m n t) (unset_all.labels n t a b) q (omega (arith, early, horizon_small w net))
+    same : (i n t : ℕ) → i < from → n < l.nodes → t ≤ l.horizon → labelled (unset_from l from) i n t ≡ labelled l i n t
+    same i n t q a b = ap (λ z. leb z i) (unset_at l from n t full a b) ∙ early_same from i (label_at l n t) q (omega (arith, early, horizon_small w net))
 
 pub settled_more : (w v u : Network) (l m z : LabelTable) (from k p r before after : ℕ) → IsSettledTo w v l m from k p → (IsOver v k → ⊥)
     → k ≤ v.site.shape.horizon → IsCountedOn v u k r before after → IsLabelled m z k → IsClosedBelow u z (k + 1) → IsSettledTo w u l z from (k + 1) (p + r)

@@ -1,46 +1,32 @@
 -- Labels that are unset from a moment on, and labels that change once more.
-use Rattle.std.proofs.Common.{◌≡◌, ℕ, ◌+◌, ◌*◌, ◌<◌, ◌≤◌, true, cond, ◌&&◌, eqb, leb, length, ap₂, sym, ◌∙◌, refl, arith, inr}
+use Rattle.std.proofs.Common.{subst, ◌≡◌, ℕ, ◌+◌, ◌*◌, ◌<◌, ◌≤◌, leb, length, sym, ◌∙◌, refl, arith, inr}
 use Rattle.std.proofs.lemmas.Bool.Decides.{nat_tests}
-use Rattle.std.proofs.lemmas.List.{length-set}
-use Rattle.evac_law.specs.LabelTable.{LabelTable, label_at, label_place, unset, with_label}
-use Rattle.terminal_augment.proofs.LabelLemmas.{label_set}
+use Rattle.std.proofs.lemmas.List.{length-map}
+use Rattle.evac_law.specs.LabelTable.{LabelTable, below_or_unset, label_at, unset, unset_from}
+use Rattle.evac_law.proofs.LabelLemmas.{unset_at}
 use Rattle.terminal_augment.specs.Settled.{IsLabelled}
-use Rattle.lex_flow.specs.Settling.{IsRelabelled, IsUnset}
+use Rattle.lex_flow.specs.Settling.{IsRelabelled}
 
--- a label that is set where another is late
-late_one : (n t u v from d e : ℕ) → from ≤ d → (n ≡ u → t ≡ v → e ≡ d)
-    → cond (eqb n u && eqb t v) unset e ≡ cond ((eqb u n && eqb v t) && leb from e) unset e
-late_one n t u v from d e late same = grind (arith, nat_tests)
+kept_early : (from d : ℕ) → d < from → below_or_unset from d ≡ d
+kept_early from d less = grind (arith, nat_tests)
 
--- one label, which isn't below the moment, is unset
-pub unset_one : (l m : LabelTable) (from n t : ℕ) → length l.list ≡ l.nodes * (l.horizon + 1) → n < l.nodes → t ≤ l.horizon → from ≤ label_at l n t
-    → m ≡ with_label l n t unset → IsUnset l m from (λ u v. eqb u n && eqb v t)
-unset_one l m from n t full i j late e =
-    rw e (record {
-      nodes = refl;
-      horizon = refl;
-      full = length-set l.list (label_place l n t) unset ∙ full;
-      labels = λ u v x y.
-          label_set l n t u v unset full i j x y
-          ∙ late_one n t u v from (label_at l n t) (label_at l u v) late (λ a b. ap₂ (label_at l) (sym a) (sym b));
-    })
-
-kept_early : (from d e : ℕ) → e ≡ cond (leb from d) unset d → d < from → e ≡ d
-kept_early from d e h less = grind (arith, nat_tests)
-
-unset_late : (from d e : ℕ) → e ≡ cond (leb from d) unset d → from ≤ d → e ≡ unset
-unset_late from d e h late = grind (arith, nat_tests)
+unset_late : (from d : ℕ) → from ≤ d → below_or_unset from d ≡ unset
+unset_late from d late = grind (arith, nat_tests)
 
 -- at moments before all that are unset a label counts as it did
-pub early_same : (from i d e : ℕ) → e ≡ cond (leb from d) unset d → i < from → from < unset → leb e i ≡ leb d i
-early_same from i d e h less few = grind (arith, nat_tests)
+pub early_same : (from i d : ℕ) → i < from → from < unset → leb (below_or_unset from d) i ≡ leb d i
+early_same from i d less few = grind (arith, nat_tests)
 
-pub relabelled_unset : (l m : LabelTable) (from : ℕ) → IsUnset l m from (λ _ _. true) → IsRelabelled l m from from
-relabelled_unset l m from h = record {
-  nodes = h.nodes;
-  horizon = h.horizon;
-  kept = λ n t i j. kept_early from (label_at l n t) (label_at m n t) (h.labels n t i j);
-  others = λ n t i j late. inr (unset_late from (label_at l n t) (label_at m n t) (h.labels n t i j) late);
+-- a table is as full as it is with labels unset
+pub full_before : (l m : LabelTable) (from : ℕ) → m ≡ unset_from l from → length m.list ≡ m.nodes * (m.horizon + 1) → length l.list ≡ l.nodes * (l.horizon + 1)
+full_before l m from e full = sym (length-map l.list (below_or_unset from)) ∙ subst (λ (z : LabelTable). length z.list ≡ z.nodes * (z.horizon + 1)) e full
+
+pub relabelled_unset : (l : LabelTable) (from : ℕ) → length l.list ≡ l.nodes * (l.horizon + 1) → IsRelabelled l (unset_from l from) from from
+relabelled_unset l from full = record {
+  nodes = refl;
+  horizon = refl;
+  kept = λ n t i j less. unset_at l from n t full i j ∙ kept_early from (label_at l n t) less;
+  others = λ n t i j late. inr (unset_at l from n t full i j ∙ unset_late from (label_at l n t) late);
 }
 
 -- one more moment is settled

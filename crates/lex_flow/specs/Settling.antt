@@ -1,9 +1,9 @@
 -- What holds while moment after moment is settled.
-use Rattle.std.specs.Prelude.{◌≡◌, ℕ, ◌+◌, ◌*◌, ◌<◌, ◌≤◌, ◌⊎◌, Bool, ◌&&◌, if◌then◌else◌, length, nat_le}
+use Rattle.std.specs.Prelude.{◌≡◌, ℕ, ◌+◌, ◌<◌, ◌≤◌, ◌⊎◌}
 use Rattle.std.specs.List.{sum_by}
 use Rattle.evac_law.specs.LabelTable.{LabelTable, label_at, unset}
 use Rattle.evac_law.specs.Sums.{below}
-use Rattle.residual_net.specs.Network.{Network, IsAllSent, IsNet, IsWithinLimits, arrived_by, unsent_at}
+use Rattle.residual_net.specs.Network.{Network, IsAllSent, IsNet, IsWithinLimits, arrived_by}
 use Rattle.residual_net.specs.OfModel.{last_move, plan_of}
 use Rattle.terminal_augment.specs.Settled.{IsClosedBelow, IsLabelsOf, IsSearchOf, KeepsLimits, SearchSize}
 
@@ -15,21 +15,9 @@ pub record IsRelabelled (l m : LabelTable) (from next : ℕ) : Type 0 where
   pub others : (n t : ℕ) → n < l.nodes → t ≤ l.horizon → from ≤ label_at l n t
       → ((from ≤ label_at m n t) × (label_at m n t < next)) ⊎ (label_at m n t ≡ unset)
 
--- of the labels at the pairs that pass a test those that aren't below a moment are unset, and nothing else changes
-pub record IsUnset (l m : LabelTable) (from : ℕ) (b : ℕ → ℕ → Bool) : Type 0 where
-  pub nodes : m.nodes ≡ l.nodes
-  pub horizon : m.horizon ≡ l.horizon
-  pub full : length m.list ≡ m.nodes * (m.horizon + 1)
-  pub labels : (n t : ℕ) → n < l.nodes → t ≤ l.horizon
-      → label_at m n t ≡ (if b n t && nat_le from (label_at l n t) then unset else label_at l n t)
-
 -- the arrivals by each moment below n, added up
 unfoldable pub arrivals_below : Network → ℕ → ℕ
 arrivals_below w n = sum_by (λ i. arrived_by w i) (below n)
-
--- everybody who comes in at a moment is sent
-abbrev pub IsMomentSent : Network → ℕ → Type 0
-IsMomentSent w t = (n : ℕ) → n < w.site.shape.nodes → unsent_at w n t ≡ 0
 
 -- everybody is sent, and the last move arrives before a moment
 pub record IsOver (w : Network) (k : ℕ) : Type 0 where

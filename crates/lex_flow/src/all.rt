@@ -1,11 +1,11 @@
 // All arrival moments, settled one after another.
-ghost use Rattle.std.specs.Prelude.{◌≡◌, ◌+◌, ◌<◌, ◌≤◌, ◌*◌, ◌==◌, ◌&&◌, ◌↔◌, IsTrue, length, true};
+ghost use Rattle.std.specs.Prelude.{◌≡◌, ◌+◌, ◌↔◌, IsTrue};
 ghost use Rattle.evac_law.specs.declared.model.Model.{Model};
 ghost use Rattle.evac_law.specs.Building.{IsValid};
-ghost use Rattle.residual_net.specs.Network.{IsAllSent, IsWithinLimits};
+ghost use Rattle.residual_net.specs.Network.{IsWithinLimits};
 ghost use Rattle.residual_net.specs.OfModel.{IsNetOf};
 ghost use Rattle.lex_flow.specs.Outcomes.{AreLabelsSettled, IsAnswer, IsNetSettled, IsOutcome, pushes_of};
-ghost use Rattle.lex_flow.specs.Settling.{IsMomentSent, IsOver, IsSettleable, IsSettledThrough, IsUnset};
+ghost use Rattle.lex_flow.specs.Settling.{IsOver, IsSettleable, IsSettledThrough};
 
 use crate::outcome::Outcome;
 use evac_law::{Labels, Steps};
@@ -13,71 +13,12 @@ use residual_net::Net;
 use std::sync::ledger::Ledger;
 use terminal_augment::{Search, settle};
 
-/// Unsets a label where it isn't below a moment.
-fn unset_late(labels: &mut Labels, node: u32, moment: u16, from: u16)
-    requires node { node < labels.old.nodes }
-    requires moment { moment ≤ labels.old.horizon }
-    requires full { length labels.old.list ≡ labels.old.nodes * (labels.old.horizon + 1) }
-    ensures { IsUnset labels.old labels.new from (λ n t. n == node && t == moment) }
-{
-    if labels.get(node, moment) >= from {
-        labels.set(node, moment, Labels::UNSET);
-    }
-}
-
-/// Unsets the labels of a node that aren't below a moment.
-fn unset_row(labels: &mut Labels, node: u32, from: u16)
-    requires node { node < labels.old.nodes }
-    requires full { length labels.old.list ≡ labels.old.nodes * (labels.old.horizon + 1) }
-    ensures { IsUnset labels.old labels.new from (λ n t. n == node) }
-{
-    for moment in 0..=labels.horizon() {
-        unset_late(labels, node, moment, from);
-    }
-}
-
-/// Unsets the labels that aren't below a moment.
-fn unset_from(labels: &mut Labels, from: u16)
-    ensures { IsUnset labels.old labels.new from (λ _ _. true) }
-{
-    for node in 0..labels.nodes() {
-        unset_row(labels, node, from);
-    }
-}
-
-/// Whether everybody who comes in at a moment is sent.
-fn is_moment_sent(net: &Net, moment: u16) -> bool
-    requires within { IsWithinLimits net.now }
-    requires moment { moment ≤ net.now.site.shape.horizon }
-    ensures { IsTrue result ↔ IsMomentSent net.now moment }
-{
-    for node in 0..net.nodes() {
-        if net.unsent(node, moment) > 0 {
-            return false;
-        }
-    }
-    true
-}
-
-/// Whether everybody is sent.
-fn is_all_sent(net: &Net) -> bool
-    requires { IsWithinLimits net.now }
-    ensures { IsTrue result ↔ IsAllSent net.now }
-{
-    for moment in 0..=net.horizon() {
-        if !is_moment_sent(net, moment) {
-            return false;
-        }
-    }
-    true
-}
-
 /// Whether everybody is sent and arrives before a moment.
 fn is_over(net: &Net, k: u16) -> bool
     requires { IsWithinLimits net.now }
     ensures { IsTrue result ↔ IsOver net.now k }
 {
-    net.last_arrival() < k && is_all_sent(net)
+    net.last_arrival() < k && net.is_all_sent()
 }
 
 /// How far a net is settled, and after how many pushes.
@@ -104,7 +45,7 @@ fn settle_on<L: Ledger>(
 {
     let horizon = net.shape().horizon();
     search.renew();
-    unset_from(labels, from);
+    labels.unset_from(from);
     let mut pushes = 0u64;
     let mut next = from;
     while next <= horizon && !is_over(net, next) {
@@ -120,7 +61,7 @@ fn outcome_of(net: &Net, pushes: u64) -> Outcome
     ensures pushes { pushes_of result ≡ pushes }
     ensures outcome { IsOutcome net.now result }
 {
-    if is_all_sent(net) {
+    if net.is_all_sent() {
         let moment = net.last_arrival();
         Outcome::Cleared { moment, pushes }
     } else {

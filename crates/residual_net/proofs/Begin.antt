@@ -324,8 +324,10 @@ empty_stored m w arrivals valid h e =
     }
 
 pub empty_kept : (m : Model) (w : Network) (arrivals saved : List ℕ) → IsValid m → StartsAs m w → arrivals ≡ replicate (m.horizon + 1) 0
-    → saved ≡ replicate (m.horizon + 1) 0 → IsKept w arrivals saved
+    → saved ≡ replicate (m.horizon + 1) 0 → IsKept w arrivals saved (people m) (people m)
 empty_kept m w arrivals saved valid h e f = record {
   stored = empty_stored m w arrivals valid h e;
   saved = subst (λ (z : Network). IsStored z saved) (sym h.saved) (empty_stored m w saved valid h f);
+  counted = sym (supplies_are_people m w h.of);
+  saved_counted = sym (ap supply_limits h.saved ∙ supplies_are_people m w h.of);
 }

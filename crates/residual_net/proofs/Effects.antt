@@ -1,26 +1,25 @@
--- Arrivals after pushes and cancels, everybody sent, and supplies within their limit.
-use Rattle.std.proofs.Common.{◌≡◌, ℕ, ◌+◌, ◌<◌, ◌≤◌, true, false, cond, leb, List, length, get_or, refl, ap, sym, ◌∙◌, arith, inl, inr, ◌⊎◌, subst}
+-- Arrivals after pushes and cancels, and supplies within their limit.
+use Rattle.std.proofs.Common.{◌≡◌, ℕ, ◌+◌, ◌≤◌, true, false, cond, leb, List, length, get_or, ap, sym, ◌∙◌, arith, inl, inr, ◌⊎◌, subst}
 use Rattle.std.specs.List.{All}
-use Rattle.std.proofs.lemmas.Bool.{cases_Bool, cases_lt}
+use Rattle.std.proofs.lemmas.Bool.{cases_Bool}
 use Rattle.evac_law.specs.declared.model.Model.{Model}
 use Rattle.evac_law.specs.Limits.{people_limit}
 use Rattle.evac_law.specs.Building.{IsValid, entry, people}
 use Rattle.evac_law.proofs.SumLemmas as sums
 use Rattle.residual_net.specs.declared.place.Place.{Place}
-use Rattle.residual_net.specs.declared.place.Place.TheVariants.{Arc, Hold, Supply}
+use Rattle.residual_net.specs.declared.place.Place.TheVariants.{Supply}
 use Rattle.residual_net.specs.declared.place.PathStep.{PathStep}
 use Rattle.residual_net.specs.Limits.{supply_limit}
 use Rattle.residual_net.specs.declared.end.End.{End}
 use Rattle.residual_net.specs.declared.end.End.TheVariants.{Source, Door}
-use Rattle.residual_net.specs.Site.{Site, IsPlace, arc_count, door_by, is_source, same_place, sum_places, tail_of}
-use Rattle.residual_net.specs.Network.{Network, IsAllSent, IsNet, IsWithinLimits, arrived_by, flow_at, flow_out, limit_at, supply_limits}
+use Rattle.residual_net.specs.Site.{Site, IsPlace, arc_count, door_by, is_source, same_place, sum_places}
+use Rattle.residual_net.specs.Network.{Network, arrived_by, flow_out, limit_at}
 use Rattle.residual_net.specs.Route.{IsAugmentingPath, IsPushed, Leads}
 use Rattle.residual_net.specs.Change.{IsCancelled, IsFlowPath, supply_limits_with}
-use Rattle.residual_net.specs.OfModel.{IsNetOf, site_of}
-use Rattle.residual_net.proofs.Begin.{entries_are_people, supplies_are_people}
-use Rattle.residual_net.proofs.Places.{cond_le, same-place, sum_places-le, sum_places-pick, sum_places-same, sum_places-split}
+use Rattle.residual_net.specs.OfModel.{site_of}
+use Rattle.residual_net.proofs.Begin.{entries_are_people}
+use Rattle.residual_net.proofs.Places.{same-place}
 use Rattle.residual_net.proofs.Push.{arrived_moved, balance, into_source}
-use Rattle.residual_net.proofs.LastArrival.{all_arrive}
 use Rattle.residual_net.proofs.Taking.{undone}
 
 places_after : (w v : Network) (p : Place) (path : List PathStep) (x : ℕ) → IsCancelled w v p path x → All (λ r. IsPlace v.site r.place) path
@@ -47,58 +46,6 @@ fewer_sent w v p path x c =
       into_source v,
       into_source w,
     )
-
--- ---- everybody sent
-
-pub all_sent_arrive : (m : Model) (w : Network) → IsNet w → IsNetOf m w → IsWithinLimits w → IsAllSent w → arrived_by w m.horizon ≡ people m
-unfolding flow_out supply_limits
-all_sent_arrive m w net of within all =
-    let horizon : w.site.shape.horizon ≡ m.horizon = ap (λ (s : Site). s.shape.horizon) of.site in
-    let same : flow_out w is_source ≡ supply_limits w = sum_places-same w.site _ _ at_place in
-    ap (arrived_by w) (sym horizon) ∙ all_arrive w net ∙ net.conserved.sent ∙ same ∙ supplies_are_people m w of
-  where
-    at_place : (p : Place) → IsPlace w.site p → cond (is_source (tail_of w.site p)) (flow_at w p) 0 ≡ cond (is_source (tail_of w.site p)) (limit_at w p) 0
-    at_place (Arc a t) i = refl
-    at_place (Hold n t) i = refl
-    at_place (Supply n t) i = omega (arith, within (Supply n t) i, all n t i)
-
--- an unsent person is missing from the sum
-pub one_missing : (w : Network) → IsWithinLimits w → (n t : ℕ) → IsPlace w.site (Supply n t) → flow_at w (Supply n t) < limit_at w (Supply n t)
-    → flow_out w is_source + 1 ≤ supply_limits w
-unfolding flow_out supply_limits
-one_missing w within n t i less =
-    let q = Supply n t in
-    let b = λ (p : Place). is_source (tail_of w.site p) in
-    let split = sum_places-split w.site b (λ p. flow_at w p) (λ p. cond (same_place q p) 1 0) in
-    let one = sum_places-pick w.site q i b 1 in
-    let le = sum_places-le w.site (λ p. cond (b p) (flow_at w p + cond (same_place q p) 1 0) 0) (λ p. cond (b p) (limit_at w p) 0)
-    (λ p j. cond_le (b p) (flow_at w p + cond (same_place q p) 1 0) (limit_at w p) (at_place p j (cases_Bool (same_place q p)))) in
-    omega (arith, split, one, le)
-  where
-    at_place : (p : Place) → IsPlace w.site p → (same_place (Supply n t) p ≡ true) ⊎ (same_place (Supply n t) p ≡ false)
-        → flow_at w p + cond (same_place (Supply n t) p) 1 0 ≤ limit_at w p
-    at_place p j (inl e) =
-        let same = same-place (Supply n t) p e in
-        let here : flow_at w p < limit_at w p = subst (λ z. flow_at w z < limit_at w z) same less in
-        rw e (omega (arith, here))
-    at_place p j (inr e) = rw e (omega (arith, within p j))
-
-pub arrived_all_sent : (m : Model) (w : Network) → IsNet w → IsNetOf m w → IsWithinLimits w → arrived_by w m.horizon ≡ people m → IsAllSent w
-arrived_all_sent m w net of within e n t i = elim (cases_lt (flow_at w (Supply n t)) (limit_at w (Supply n t))) [
-  | inl less ↦
-      let horizon : w.site.shape.horizon ≡ m.horizon = ap (λ (s : Site). s.shape.horizon) of.site in
-      let missing = one_missing w within n t i less in
-      absurd (omega (
-        arith,
-        missing,
-        supplies_are_people m w of,
-        net.conserved.sent,
-        all_arrive w net,
-        ap (arrived_by w) horizon,
-        e,
-      ))
-  | inr full ↦ omega (arith, full)
-]
 
 -- ---- limits of supplies between those of two models
 

@@ -1,15 +1,17 @@
 -- What a net keeps beside its flow, where only limits or the saved copy change.
-use Rattle.std.proofs.Common.{◌≡◌, ℕ, ◌≤◌, true, false, cond, inl, inr, ◌⊎◌, List, length, take, drop, ◌++◌, refl, ap, sym, ◌∙◌, arith, subst}
+use Rattle.std.proofs.Common.{◌≡◌, ℕ, ◌+◌, ◌-◌, ◌≤◌, true, false, cond, inl, inr, ◌⊎◌, List, length, take, drop, ◌++◌, refl, ap, sym, ◌∙◌, arith, subst}
 use Rattle.std.proofs.lemmas.List.{take_at}
 use Rattle.std.proofs.lemmas.Bool.{cases_Bool}
 use Rattle.residual_net.specs.declared.place.Place.{Place}
+use Rattle.residual_net.specs.declared.place.Place.TheVariants.{Supply}
 use Rattle.residual_net.specs.declared.place.Cell.{Cell}
 use Rattle.residual_net.specs.Limits.{supply_limit}
 use Rattle.residual_net.specs.Site.{Site, IsPlace, End_test, at, head_of, is_barred, is_door, is_source, same_place, sum_places, tail_of}
 use Rattle.residual_net.specs.declared.end.End.TheVariants.{Pair, Door}
 use Rattle.residual_net.specs.Network.{Network, IsGrid, IsKept, IsStored, flow_at, flow_into, flow_out, limit_at, saved_of, supply_limits, with_saved}
 use Rattle.residual_net.specs.Change.{IsLimitSet, supply_limits_with}
-use Rattle.residual_net.proofs.Places.{sum_places-same, same-place}
+use Rattle.residual_net.proofs.Steps.{same_supplies}
+use Rattle.residual_net.proofs.Places.{same-place, sum_places-pick, sum_places-same, sum_places-split}
 
 -- ---- the saved copy
 
@@ -28,11 +30,19 @@ stored_again w saved arrivals h = record {
   totals = h.totals;
 }
 
-pub kept_saved : (w : Network) (arrivals : List ℕ) → IsStored w arrivals → IsKept (with_saved w) arrivals arrivals
-kept_saved w arrivals h = record { stored = stored_again w w.cells arrivals h; saved = stored_again w w.cells arrivals h }
+pub kept_saved : (w : Network) (arrivals : List ℕ) (supplies : ℕ) → IsStored w arrivals → supplies ≡ supply_limits w
+    → IsKept (with_saved w) arrivals arrivals supplies supplies
+unfolding limit_at supply_limits
+kept_saved w arrivals supplies h e = record {
+  stored = stored_again w w.cells arrivals h;
+  saved = stored_again w w.cells arrivals h;
+  counted = e;
+  saved_counted = e;
+}
 
-pub kept_restored : (w : Network) (arrivals saved : List ℕ) → IsKept w arrivals saved → IsKept (saved_of w) saved saved
-kept_restored w arrivals saved h = record { stored = h.saved; saved = h.saved }
+pub kept_restored : (w : Network) (arrivals saved : List ℕ) (supplies saved_supplies : ℕ) → IsKept w arrivals saved supplies saved_supplies
+    → IsKept (saved_of w) saved saved saved_supplies saved_supplies
+kept_restored w arrivals saved supplies saved_supplies h = record { stored = h.saved; saved = h.saved; counted = h.saved_counted; saved_counted = h.saved_counted }
 
 pub refilled : {X : Type 0} (items xs ys : List X) (len : ℕ) → len ≡ length items → xs ≡ ys → length ys ≡ length items → take len (xs ++ drop (length xs) items) ≡ ys
 refilled items xs ys len e f g = take_at xs (drop (length xs) items) len (omega (arith, ap length f)) ∙ f
@@ -41,12 +51,23 @@ pub same_saved : (w v : Network) → v.site ≡ w.site → v.saved ≡ w.saved �
 same_saved w v e f =
     ap (λ (z : Site). record { site = z; cells = v.saved; saved = v.saved }) e ∙ ap (λ (z : List Cell). record { site = w.site; cells = z; saved = z }) f
 
-pub kept_changed : (w v : Network) (arrivals saved more : List ℕ) → IsKept w arrivals saved → v.site ≡ w.site → v.saved ≡ w.saved → IsStored v more
-    → IsKept v more saved
-kept_changed w v arrivals saved more h e f g = record {
+pub kept_changed : (w v : Network) (arrivals saved more : List ℕ) (supplies saved_supplies count : ℕ) → IsKept w arrivals saved supplies saved_supplies
+    → v.site ≡ w.site → v.saved ≡ w.saved → IsStored v more → count ≡ supply_limits v → IsKept v more saved count saved_supplies
+kept_changed w v arrivals saved more supplies saved_supplies count h e f g counted = record {
   stored = g;
   saved = subst (λ (z : Network). IsStored z saved) (sym (same_saved w v e f)) h.saved;
+  counted = counted;
+  saved_counted = h.saved_counted ∙ ap supply_limits (sym (same_saved w v e f));
 }
+
+-- flow moves, and the limits stay
+pub kept_moved : (w v : Network) (arrivals saved now : List ℕ) (supplies saved_supplies len : ℕ) → IsKept w arrivals saved supplies saved_supplies → v.site ≡ w.site
+    → v.saved ≡ w.saved → ((p : Place) → IsPlace w.site p → limit_at v p ≡ limit_at w p) → IsStored v now → len ≡ length arrivals
+    → IsKept v (take len (now ++ drop (length now) arrivals)) saved supplies saved_supplies
+kept_moved w v arrivals saved now supplies saved_supplies len h e f limits stored full =
+    let same : length now ≡ length arrivals = omega (arith, stored.moments, h.stored.moments, ap (λ (s : Site). s.shape.horizon) e) in
+    subst (λ (z : List ℕ). IsKept v z saved supplies saved_supplies) (sym (refilled arrivals now now len full refl same))
+    (kept_changed w v arrivals saved now supplies saved_supplies supplies h e f stored (h.counted ∙ sym (same_supplies w v e limits)))
 
 -- ---- flows that are the same
 
@@ -62,7 +83,7 @@ out_same w v e h t =
     ap (λ s. sum_places s (λ p. cond (t (tail_of s p)) (flow_at v p) 0)) e
     ∙ sum_places-same w.site _ _ (λ p i. ap (λ z. cond (t (tail_of w.site p)) z 0) (h p i))
 
-supplies_set : (w v : Network) (p : Place) (people : ℕ) → IsLimitSet w v p people → supply_limits v ≡ supply_limits_with w p people
+pub supplies_set : (w v : Network) (p : Place) (people : ℕ) → IsLimitSet w v p people → supply_limits v ≡ supply_limits_with w p people
 unfolding supply_limits supply_limits_with
 supplies_set w v p people h =
     ap (λ s. sum_places s (λ q. cond (is_source (tail_of s q)) (limit_at v q) 0)) h.site
@@ -78,6 +99,38 @@ supplies_stay w p people other =
         → cond (is_source (tail_of w.site q)) (cond (same_place p q) people (limit_at w q)) 0 ≡ cond (is_source (tail_of w.site q)) (limit_at w q) 0
     at_place q (inl e) = rw (← same-place p q e, other) refl
     at_place q (inr e) = rw e refl
+
+-- another limit of a supply comes in the place of the one that it had
+pub supplies_moved : (w : Network) (n t people : ℕ) → IsPlace w.site (Supply n t)
+    → supply_limits_with w (Supply n t) people + limit_at w (Supply n t) ≡ supply_limits w + people
+unfolding supply_limits supply_limits_with
+supplies_moved w n t people i =
+    let q = Supply n t in
+    let b = λ (p : Place). is_source (tail_of w.site p) in
+    let set = λ (p : Place). cond (same_place q p) people (limit_at w p) in
+    omega (
+      arith,
+      sum_places-split w.site b set (λ p. cond (same_place q p) (limit_at w q) 0),
+      sum_places-split w.site b (λ p. limit_at w p) (λ p. cond (same_place q p) people 0),
+      sum_places-pick w.site q i b (limit_at w q),
+      sum_places-pick w.site q i b people,
+      sum_places-same w.site _ _ (λ p _. ap (λ z. cond (b p) z 0) (at_place p (cases_Bool (same_place q p)))),
+    )
+  where
+    at_place : (p : Place) → (same_place (Supply n t) p ≡ true) ⊎ (same_place (Supply n t) p ≡ false)
+        → cond (same_place (Supply n t) p) people (limit_at w p) + cond (same_place (Supply n t) p) (limit_at w (Supply n t)) 0
+        ≡ limit_at w p + cond (same_place (Supply n t) p) people 0
+    at_place p (inl e) = rw e (let same = ap (limit_at w) (same-place (Supply n t) p e) in omega (arith, same))
+    at_place p (inr e) = rw e refl
+
+pub supplies_then : (w : Network) (p : Place) (n t people supplies limit : ℕ) → p ≡ Supply n t → IsPlace w.site p → supplies ≡ supply_limits w → limit ≡ limit_at w p
+    → (limit ≤ supplies) × (supplies - limit + people ≡ supply_limits_with w p people)
+supplies_then w p n t people supplies limit is i e f =
+    let place : IsPlace w.site (Supply n t) = subst (IsPlace w.site) is i in
+    let here = f ∙ ap (limit_at w) is in
+    let less : limit ≤ supplies = omega (arith, e, here, supplies_moved w n t 0 place) in
+    let moved : supplies - limit + people ≡ supply_limits_with w (Supply n t) people = omega (arith, e, here, less, supplies_moved w n t people place) in
+    (less, moved ∙ ap (λ z. supply_limits_with w z people) (sym is))
 
 pub stored_limit : (w v : Network) (p : Place) (people : ℕ) (arrivals : List ℕ) → IsStored w arrivals → IsLimitSet w v p people → IsGrid v → IsPlace w.site p
     → (is_barred w.site p ≡ true → people ≡ 0) → supply_limits_with w p people ≤ supply_limit → IsStored v arrivals

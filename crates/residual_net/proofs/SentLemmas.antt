@@ -1,14 +1,38 @@
 -- Everybody is sent exactly where as many arrive as the supplies allow.
-use Rattle.std.proofs.Common.{◌≡◌, ◌≤◌, cond, refl, ◌∙◌, arith, inl, inr}
-use Rattle.std.proofs.lemmas.Bool.{cases_lt}
+use Rattle.std.proofs.Common.{◌+◌, ◌<◌, ◌⊎◌, ap, false, subst, sym, true, ◌≡◌, ℕ, ◌≤◌, ◌↔◌, IsTrue, cond, nat_eq, refl, ◌∙◌, arith, inl, inr}
+use Rattle.std.proofs.lemmas.Bool.{cases_Bool, cases_lt, eq-eqb, eqb-true}
 use Rattle.residual_net.specs.declared.place.Place.{Place}
 use Rattle.residual_net.specs.declared.place.Place.TheVariants.{Arc, Hold, Supply}
 use Rattle.residual_net.specs.Network.{Network, IsAllSent, IsNet, IsWithinLimits, arrived_by, flow_at, flow_out, limit_at, supply_limits}
-use Rattle.residual_net.specs.Site.{IsPlace, is_source, tail_of}
-use Rattle.residual_net.proofs.Effects.{one_missing}
+use Rattle.residual_net.specs.Site.{IsPlace, Site, is_source, same_place, tail_of}
+use Rattle.residual_net.specs.OfModel.{IsNetOf}
+use Rattle.evac_law.specs.declared.model.Model.{Model}
+use Rattle.evac_law.specs.Building.{people}
+use Rattle.residual_net.proofs.Begin.{supplies_are_people}
 use Rattle.residual_net.proofs.LastArrival.{all_arrive}
-use Rattle.residual_net.proofs.Places.{sum_places-same}
+use Rattle.residual_net.proofs.Places.{cond_le, same-place, sum_places-le, sum_places-pick, sum_places-same, sum_places-split}
 use Rattle.residual_net.proofs.Steps.{sent_fits}
+
+-- an unsent person is missing from the sum
+one_missing : (w : Network) → IsWithinLimits w → (n t : ℕ) → IsPlace w.site (Supply n t) → flow_at w (Supply n t) < limit_at w (Supply n t)
+    → flow_out w is_source + 1 ≤ supply_limits w
+unfolding flow_out supply_limits
+one_missing w within n t i less =
+    let q = Supply n t in
+    let b = λ (p : Place). is_source (tail_of w.site p) in
+    let split = sum_places-split w.site b (λ p. flow_at w p) (λ p. cond (same_place q p) 1 0) in
+    let one = sum_places-pick w.site q i b 1 in
+    let le = sum_places-le w.site (λ p. cond (b p) (flow_at w p + cond (same_place q p) 1 0) 0) (λ p. cond (b p) (limit_at w p) 0)
+    (λ p j. cond_le (b p) (flow_at w p + cond (same_place q p) 1 0) (limit_at w p) (at_place p j (cases_Bool (same_place q p)))) in
+    omega (arith, split, one, le)
+  where
+    at_place : (p : Place) → IsPlace w.site p → (same_place (Supply n t) p ≡ true) ⊎ (same_place (Supply n t) p ≡ false)
+        → flow_at w p + cond (same_place (Supply n t) p) 1 0 ≤ limit_at w p
+    at_place p j (inl e) =
+        let same = same-place (Supply n t) p e in
+        let here : flow_at w p < limit_at w p = subst (λ z. flow_at w z < limit_at w z) same less in
+        rw e (omega (arith, here))
+    at_place p j (inr e) = rw e (omega (arith, within p j))
 
 arrived_is_sent : (w : Network) → IsNet w → arrived_by w w.site.shape.horizon ≡ flow_out w is_source
 arrived_is_sent w net = all_arrive w net ∙ net.conserved.sent
@@ -32,3 +56,20 @@ arrived_sent w net within e n t i = elim (cases_lt (flow_at w (Supply n t)) (lim
   | inl less ↦ absurd (omega (arith, one_missing w within n t i less, arrived_is_sent w net, e))
   | inr full ↦ omega (arith, full)
 ]
+
+-- everybody is sent where the arrivals are as many as the supplies
+pub sent_counted : (w : Network) → IsNet w → IsWithinLimits w → (arrived supplies : ℕ) → arrived ≡ arrived_by w w.site.shape.horizon → supplies ≡ supply_limits w
+    → IsTrue (nat_eq arrived supplies) ↔ IsAllSent w
+sent_counted w net within arrived supplies e f = (
+  λ same. arrived_sent w net within (omega (arith, eqb-true arrived supplies same, e, f)),
+  λ all. eq-eqb arrived supplies (omega (arith, sent_arrive w net within all, e, f)),
+)
+
+-- ---- of a model
+
+pub all_sent_arrive : (m : Model) (w : Network) → IsNet w → IsNetOf m w → IsWithinLimits w → IsAllSent w → arrived_by w m.horizon ≡ people m
+all_sent_arrive m w net of within all = ap (λ (s : Site). arrived_by w s.shape.horizon) (sym of.site) ∙ sent_arrive w net within all ∙ supplies_are_people m w of
+
+pub arrived_all_sent : (m : Model) (w : Network) → IsNet w → IsNetOf m w → IsWithinLimits w → arrived_by w m.horizon ≡ people m → IsAllSent w
+arrived_all_sent m w net of within e =
+    arrived_sent w net within (ap (λ (s : Site). arrived_by w s.shape.horizon) of.site ∙ e ∙ sym (supplies_are_people m w of))

@@ -229,11 +229,11 @@ within_pushed w v path x h p a q i =
     let place : IsPlace w.site q = subst (λ s. IsPlace s q) a.site i in
     omega (arith, a.flows q place, a.limits q place, added_fits w path x q (h q place) p.2.room p.2.apart)
 
-pub same_supplies : (w v : Network) (path : List PathStep) (x : ℕ) → IsPushed w v path x → supply_limits v ≡ supply_limits w
+pub same_supplies : (w v : Network) → v.site ≡ w.site → ((p : Place) → IsPlace w.site p → limit_at v p ≡ limit_at w p) → supply_limits v ≡ supply_limits w
 unfolding supply_limits
-same_supplies w v path x a =
-    ap (λ s. sum_places s (λ p. cond (is_source (tail_of s p)) (limit_at v p) 0)) a.site
-    ∙ sum_places-same w.site _ _ (λ p i. ap (λ z. cond (is_source (tail_of w.site p)) z 0) (a.limits p i))
+same_supplies w v e h =
+    ap (λ s. sum_places s (λ p. cond (is_source (tail_of s p)) (limit_at v p) 0)) e
+    ∙ sum_places-same w.site _ _ (λ p i. ap (λ z. cond (is_source (tail_of w.site p)) z 0) (h p i))
 
 pub sent_fits : (w : Network) → IsWithinLimits w → flow_out w is_source ≤ supply_limits w
 unfolding flow_out supply_limits
@@ -243,7 +243,7 @@ pub net_pushed : (w v : Network) (path : List PathStep) (x : ℕ) → IsNet w �
     → IsNet v
 net_pushed w v path x n h p a g =
     let within = within_pushed w v path x h p a in
-    let same = same_supplies w v path x a in
+    let same = same_supplies w v a.site a.limits in
     let sent = sent_fits v within in record {
       site = g.site;
       full = g.full;

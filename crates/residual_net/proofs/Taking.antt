@@ -85,7 +85,7 @@ module _ (w v : Network) (path : List PathStep) (x k : ℕ) (net : IsNet w) (a :
   pub net_taken : IsNet v
   net_taken =
       let back = undone w v path x a flow.forwards in
-      let same = same_supplies v w path x back in
+      let same = same_supplies v w back.site back.limits in
       record {
         site = grid.site;
         full = grid.full;

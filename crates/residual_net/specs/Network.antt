@@ -100,7 +100,9 @@ pub record IsStored (w : Network) (arrivals : List ℕ) : Type 0 where
   pub moments : length arrivals ≡ w.site.shape.horizon + 1
   pub totals : (j : ℕ) → j ≤ w.site.shape.horizon → slice_index_or arrivals j 0 ≡ flow_into w (at (Door j))
 
--- what a net keeps: its arrivals, and those of the net that was saved
-pub record IsKept (w : Network) (arrivals saved_arrivals : List ℕ) : Type 0 where
+-- what a net keeps: its arrivals and the limits of its supplies together, and those of the net that was saved
+pub record IsKept (w : Network) (arrivals saved_arrivals : List ℕ) (supplies saved_supplies : ℕ) : Type 0 where
   pub stored : IsStored w arrivals
   pub saved : IsStored (saved_of w) saved_arrivals
+  pub counted : supplies ≡ supply_limits w
+  pub saved_counted : saved_supplies ≡ supply_limits (saved_of w)

@@ -1,9 +1,9 @@
 // A net: its flow keeps conservation.
-ghost use Rattle.std.specs.Prelude.{◌≡◌, ℕ, ◌+◌, ◌-◌, ◌<◌, ◌≤◌, IfOk, IsFalse, IsTrue, length, replicate, slice_index};
+ghost use Rattle.std.specs.Prelude.{◌≡◌, ℕ, ◌+◌, ◌-◌, ◌<◌, ◌≤◌, ◌↔◌, IfOk, IsFalse, IsTrue, length, replicate, slice_index};
 ghost use Rattle.evac_law.specs.Building.{IsValid};
 ghost use Rattle.residual_net.specs.Limits.{supply_limit};
 ghost use Rattle.residual_net.specs.Site.{IsOpenEnd, IsPlace, arrival_at, exit_at, head_of, is_barred, start_of, stop_of, tail_of};
-ghost use Rattle.residual_net.specs.Network.{IsGrid, IsNet, IsStored, IsWithinLimits, arrived_by, excess_at, flow_at, limit_at, residual_room, saved_of, unsent_at, with_saved};
+ghost use Rattle.residual_net.specs.Network.{IsAllSent, IsGrid, IsNet, IsStored, IsWithinLimits, arrived_by, excess_at, flow_at, limit_at, residual_room, saved_of, unsent_at, with_saved};
 ghost use Rattle.residual_net.specs.Route.{IsPushable, IsPushed};
 ghost use Rattle.residual_net.specs.Legs.{IsShiftable, IsUnderwayBetween, steps_of_leg, steps_of_legs, waits_at};
 ghost use Rattle.residual_net.specs.Change.{IsCancelled, IsFewerBy, IsLimitSet, IsLowering, supply_limits_with};
@@ -27,11 +27,15 @@ use std::sync::ledger::Ledger;
 use time_expansion::Shape;
 
 /// A flow over time with its limits, and what was saved of it.
+///
+/// The arrivals at each moment and the limits of all supplies together are kept beside the cells.
 #[derive(Drop)]
 pub struct Net {
     grid: Grid,
     arrivals: Vec<u32>,
     saved_arrivals: Vec<u32>,
+    supplies: u32,
+    saved_supplies: u32,
 }
 
 impl Model for Net {
@@ -41,7 +45,7 @@ impl Model for Net {
 
     ghost view = { λ n. n.grid };
 
-    ghost invariant = { λ n. IsKept n.grid n.arrivals.items n.saved_arrivals.items };
+    ghost invariant = { λ n. IsKept n.grid n.arrivals.items n.saved_arrivals.items n.supplies n.saved_supplies };
 }
 
 /// Sends people over each step in turn.
@@ -160,10 +164,13 @@ impl Net {
         let moments = model.horizon as usize + 1;
         let arrivals = zeros(alloc, moments)?;
         let saved_arrivals = zeros(alloc, moments)?;
+        let supplies = model.people();
         Ok(Net {
             grid,
             arrivals,
             saved_arrivals,
+            supplies,
+            saved_supplies: supplies,
         })
     }
 
@@ -299,6 +306,14 @@ impl Net {
         self.room(PathStep { place, back: false })
     }
 
+    /// Whether everybody is sent. Takes time in proportion to the horizon.
+    pub fn is_all_sent(&self) -> bool
+        requires { IsWithinLimits self.now }
+        ensures { IsTrue result ↔ IsAllSent self.now }
+    {
+        self.arrived(self.horizon()) == self.supplies
+    }
+
     /// The flow less the limit, or 0 where the flow isn't above the limit.
     pub fn excess(&self, place: Place) -> u32
         requires { IsPlace self.now.site place }
@@ -378,6 +393,18 @@ impl Net {
         let _ = &self.grid;
     }
 
+    /// The limits of all supplies together, with another limit at a place.
+    fn supplies_with(&self, place: Place, people: u32) -> u32
+        requires place { IsPlace self.now.site place }
+        requires supplies { supply_limits_with self.now place people ≤ supply_limit }
+        ensures { result ≡ supply_limits_with self.now place people }
+    {
+        match place {
+            Place::Supply { .. } => self.supplies - self.limit(place) + people,
+            Place::Arc { .. } | Place::Hold { .. } => self.supplies,
+        }
+    }
+
     /// Gives a place another limit. The flow stays, and may be above it then.
     pub fn set_limit(&mut self, place: Place, people: u32)
         requires place { IsPlace self.old.site place }
@@ -385,7 +412,9 @@ impl Net {
         requires supplies { supply_limits_with self.old place people ≤ supply_limit }
         ensures { IsLimitSet self.old self.new place people }
     {
+        let supplies = self.supplies_with(place, people);
         self.grid.set_limit(place, people);
+        self.supplies = supplies;
     }
 
     /// Takes people off one flow path through a place with too many: at least one, and at most the excess of the place.
@@ -418,6 +447,7 @@ impl Net {
         self.saved_arrivals
             .as_mut_slice()
             .copy_from_slice(self.arrivals.as_slice());
+        self.saved_supplies = self.supplies;
     }
 
     /// Gives back the flow and the limits that were saved last, and where nothing was saved those of the new net.
@@ -428,5 +458,6 @@ impl Net {
         self.arrivals
             .as_mut_slice()
             .copy_from_slice(self.saved_arrivals.as_slice());
+        self.supplies = self.saved_supplies;
     }
 }

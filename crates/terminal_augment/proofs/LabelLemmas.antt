@@ -1,9 +1,9 @@
 -- A label that is set, and the labels of a list's pairs.
 use Rattle.std.proofs.Common.{◌≡◌, ◌≢◌, ℕ, zero, suc, ◌+◌, ◌*◌, ◌<◌, ◌≤◌, Bool, true, false, cond, ◌&&◌, ◌||◌, eqb, List, [], ◌∷◌, length, get_or, set, take, ap, sym, ◌∙◌, ◌⊎◌, refl, arith, inl, inr}
-use Rattle.std.proofs.Math.Nat.{mul_comm}
 use Rattle.std.proofs.lemmas.Bool.{cases_eq, eq-eqb, ne_eqb, and_left, and_right}
 use Rattle.std.proofs.lemmas.List.{get_or-set_same, get_or-set_other}
-use Rattle.std.proofs.lemmas.Nat.{same_from_place, mul-add-lt}
+use Rattle.std.proofs.lemmas.Nat.{same_from_place}
+use Rattle.evac_law.proofs.LabelLemmas.{label_within}
 use Rattle.evac_law.specs.LabelTable.{LabelTable, label_at, label_place, with_label}
 use Rattle.terminal_augment.specs.declared.spot.Spot.{Spot}
 use Rattle.terminal_augment.specs.Spots.{has}
@@ -12,11 +12,6 @@ pub label_set : (l : LabelTable) (n t u v k : ℕ) → length l.list ≡ l.nodes
     → label_at (with_label l n t k) u v ≡ cond (eqb n u && eqb t v) k (label_at l u v)
 label_set l n t u v k full a b c d = by (cases_eq n u) (cases_eq t v)
   where
-    inside : label_place l n t < length l.list
-    inside =
-        let below = mul-add-lt n (l.horizon + 1) t l.nodes (omega (arith, a)) (omega (arith, b)) in
-        omega (arith, below, full, mul_comm (l.horizon + 1) l.nodes)
-
     same : n ≡ u → t ≡ v → label_place l n t ≡ label_place l u v
     same p q = rw (p, q)
 
@@ -37,7 +32,7 @@ label_set l n t u v k full a b c d = by (cases_eq n u) (cases_eq t v)
     by : (n ≡ u) ⊎ (n ≡ u → ⊥) → (t ≡ v) ⊎ (t ≡ v → ⊥) → label_at (with_label l n t k) u v ≡ cond (eqb n u && eqb t v) k (label_at l u v)
     by (inl p) (inl q) =
         here (eqb n u) (eqb t v) (eq-eqb n u p) (eq-eqb t v q)
-        (ap (λ z. get_or (set l.list (label_place l n t) k) z 0) (sym (same p q)) ∙ get_or-set_same l.list (label_place l n t) k 0 inside)
+        (ap (λ z. get_or (set l.list (label_place l n t) k) z 0) (sym (same p q)) ∙ get_or-set_same l.list (label_place l n t) k 0 (label_within l n t full a b))
     by (inl p) (inr q) = other (eqb n u && eqb t v) (and_right _ _ (ne_eqb t v q)) (differ (λ _ z. q z))
     by (inr p) q = other (eqb n u && eqb t v) (and_left _ _ (ne_eqb n u p)) (differ (λ z _. p z))
 

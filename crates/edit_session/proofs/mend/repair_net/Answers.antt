@@ -5,7 +5,7 @@ use Rattle.evac_law.specs.Plans.{violation}
 use Rattle.residual_net.specs.Network.{Network, arrived_by, flow_at, saved_of}
 use Rattle.residual_net.specs.OfModel.{IsNetOf, last_move, plan_of}
 use Rattle.residual_net.specs.Site.{Site, IsPlace}
-use Rattle.residual_net.proofs.Effects.{arrived_all_sent}
+use Rattle.residual_net.proofs.SentLemmas.{arrived_all_sent}
 use Rattle.residual_net.proofs.Kept.{same_saved}
 use Rattle.residual_net.proofs.LastArrival.{last_fits}
 use Rattle.residual_net.proofs.Law.{arrived_within}

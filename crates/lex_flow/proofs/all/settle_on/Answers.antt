@@ -2,12 +2,14 @@ use Rattle.std.proofs.Common.{arith, ap, sym, ◌∙◌}
 use Rattle.residual_net.specs.Site.{Site}
 use Rattle.std.proofs.lemmas.Bool.{iff_false}
 use Rattle.lex_flow.proofs.SettleLemmas.{settled_begins, settled_more}
+use Rattle.lex_flow.proofs.UnsetLemmas.{full_before}
 use Rattle.lex_flow.proofs.all.settle_on.Goals as goal
 
 pub loop-next-init : goal.loop-next-init
 loop-next-init g c = record {
-  settled = settled_begins c.args.net.now c.args.labels.now c.unset_from.new.labels c.args.from c.shape.ensures.net c.requires.within c.requires.labels c.unset_from.ensures
-      c.requires.from c.requires.closed;
+  settled = rw c.unset_from.ensures.unset
+      (settled_begins c.args.net.now c.args.labels.now c.args.from c.shape.ensures.net c.requires.within c.requires.labels
+      (full_before c.args.labels.now c.unset_from.new.self c.args.from c.unset_from.ensures.unset c.unset_from.ensures.table.full) c.requires.from c.requires.closed);
   horizon = cc;
   next = grind arith;
   search = c.renew.ensures;

@@ -1,4 +1,4 @@
-use Rattle.residual_net.proofs.Effects.{all_sent_arrive, arrived_all_sent}
+use Rattle.residual_net.proofs.SentLemmas.{all_sent_arrive, arrived_all_sent}
 use Rattle.residual_net.proofs.laws.sent_is_arrived.Goals as goal
 
 pub returns : goal.returns

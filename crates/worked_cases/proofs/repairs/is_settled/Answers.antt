@@ -1,7 +1,7 @@
 use Rattle.std.proofs.Common.{◌+◌, ap, sym, subst, ◌∙◌}
 use Rattle.residual_net.specs.Labelled.{IsClosedBelow}
 use Rattle.residual_net.specs.Site.{Site}
-use Rattle.residual_net.proofs.Effects.{arrived_all_sent}
+use Rattle.residual_net.proofs.SentLemmas.{arrived_all_sent}
 use Rattle.lex_flow.specs.Outcomes.{IsCleared}
 use Rattle.terminal_augment.proofs.KeptLemmas.{net_of_kept}
 use Rattle.worked_cases.proofs.repairs.is_settled.Goals as goal

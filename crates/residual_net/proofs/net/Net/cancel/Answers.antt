@@ -1,6 +1,7 @@
 use Rattle.std.proofs.Common.{◌≡◌, ◌∙◌, ap, subst, sym, arith}
 use Rattle.residual_net.specs.Network.{Network, excess_at}
 use Rattle.residual_net.specs.Change.{IsCancelled}
+use Rattle.residual_net.proofs.Kept.{kept_moved}
 use Rattle.residual_net.proofs.net.Net.cancel.Goals as goal
 
 pub take_all-requires-clause-path : goal.take_all-requires-clause-path
@@ -36,3 +37,10 @@ returns-clause-cancelled g c =
       through = c.find_path.ensures.through;
       taken = rw c.steps-list.ensures at c.take_all.ensures.taken;
     })
+
+pub invariant_of-self : goal.invariant_of-self
+invariant_of-self g c =
+    let was = c.self.inside in
+    let moved = c.take_all.ensures.taken in
+    kept_moved was.grid c.take_all.new.grid was.arrivals.items was.saved_arrivals.items c.lower_arrivals.new.arrivals was.supplies was.saved_supplies was.arrivals.len
+    c.self.invariant moved.site moved.saved moved.limits c.lower_arrivals.ensures was.arrivals.ok.0

@@ -4,6 +4,7 @@ use Rattle.residual_net.specs.declared.place.PathStep.{PathStep}
 use Rattle.residual_net.specs.declared.place.Place.TheVariants.{Arc}
 use Rattle.residual_net.specs.Route.{IsPushable}
 use Rattle.residual_net.proofs.Steps.{path_some}
+use Rattle.residual_net.proofs.Kept.{kept_moved}
 use Rattle.residual_net.proofs.net.Net.push.Goals as goal
 
 abbrev blank : PathStep
@@ -28,3 +29,10 @@ move_arrivals-requires-clause-underway g c =
       first_step = λ d. get_or_default path 0 d blank some;
       last_step = λ d. get_or_default path (length path - 1) d blank (omega (arith, some));
     }
+
+pub invariant_of-self : goal.invariant_of-self
+invariant_of-self g c =
+    let was = c.self.inside in
+    let moved = c.shift_all.ensures.pushed in
+    kept_moved was.grid c.shift_all.new.grid was.arrivals.items was.saved_arrivals.items c.move_arrivals.new.arrivals was.supplies was.saved_supplies was.arrivals.len
+    c.self.invariant moved.site moved.saved moved.limits c.move_arrivals.ensures was.arrivals.ok.0

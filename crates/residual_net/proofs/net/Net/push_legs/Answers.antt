@@ -6,6 +6,7 @@ use Rattle.residual_net.specs.Network.{Network, IsWithinLimits}
 use Rattle.residual_net.specs.Route.{IsPushable}
 use Rattle.residual_net.proofs.Steps.{within_pushed}
 use Rattle.residual_net.proofs.LegLemmas.{legs_first, legs_last, legs_some, shiftable_path}
+use Rattle.residual_net.proofs.Kept.{kept_moved}
 use Rattle.residual_net.proofs.net.Net.push_legs.Goals as goal
 
 abbrev blank : Leg
@@ -45,3 +46,10 @@ returns-clause-within g c =
     let pushable = subst (λ (z : Network). IsPushable z path c.args.people) (sym c.self.view_is) c.requires.path in
     let within = subst (λ (z : Network). IsWithinLimits z) (sym c.self.view_is) c.requires.within in
     within_pushed w c.shift_legs.new.grid path c.args.people within pushable c.shift_legs.ensures.pushed
+
+pub invariant_of-self : goal.invariant_of-self
+invariant_of-self g c =
+    let was = c.self.inside in
+    let moved = c.shift_legs.ensures.pushed in
+    kept_moved was.grid c.shift_legs.new.grid was.arrivals.items was.saved_arrivals.items c.move_arrivals.new.arrivals was.supplies was.saved_supplies was.arrivals.len
+    c.self.invariant moved.site moved.saved moved.limits c.move_arrivals.ensures was.arrivals.ok.0

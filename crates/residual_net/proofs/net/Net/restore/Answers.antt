@@ -10,5 +10,7 @@ invariant_of-self c =
     let saved = c.self.inside.saved_arrivals.items in
     let filled = refilled c.self.inside.arrivals.items c.copy_from_slice.new.self saved c.self.inside.arrivals.len
     c.self.inside.arrivals.ok.0 (c.copy_from_slice.ensures.after ∙ c.as_slice.ensures.value) (omega (arith, was.stored.moments, was.saved.moments)) in
-    let kept = subst (λ (z : Network). IsKept z saved saved) (sym c.restore.ensures) (kept_restored w c.self.inside.arrivals.items saved was) in
-    subst (λ (z : List ℕ). IsKept c.restore.new.self z saved) (sym filled) kept
+    let counted = c.self.inside.saved_supplies in
+    let kept = subst (λ (z : Network). IsKept z saved saved counted counted) (sym c.restore.ensures)
+    (kept_restored w c.self.inside.arrivals.items saved c.self.inside.supplies counted was) in
+    subst (λ (z : List ℕ). IsKept c.restore.new.self z saved counted counted) (sym filled) kept

@@ -10,5 +10,6 @@ invariant_of-self c =
     let arrivals = c.self.inside.arrivals.items in
     let filled = refilled c.self.inside.saved_arrivals.items c.copy_from_slice.new.self arrivals c.self.inside.saved_arrivals.len
     c.self.inside.saved_arrivals.ok.0 (c.copy_from_slice.ensures.after ∙ c.as_slice.ensures.value) (omega (arith, was.stored.moments, was.saved.moments)) in
-    let kept = subst (λ (z : Network). IsKept z arrivals arrivals) (sym c.save.ensures) (kept_saved w arrivals was.stored) in
-    subst (λ (z : List ℕ). IsKept c.save.new.self arrivals z) (sym filled) kept
+    let counted = c.self.inside.supplies in
+    let kept = subst (λ (z : Network). IsKept z arrivals arrivals counted counted) (sym c.save.ensures) (kept_saved w arrivals counted was.stored was.counted) in
+    subst (λ (z : List ℕ). IsKept c.save.new.self arrivals z counted counted) (sym filled) kept
