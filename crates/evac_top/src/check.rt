@@ -50,7 +50,11 @@ pub(crate) fn check<S: Source, K: Sink>(alloc: Global, source: &mut S, sink: &mu
         return NO_MEMORY;
     };
     match read_claim(alloc, &mut lines, source) {
-        Ok(claim) => judge(alloc, &mut out, sink, &claim.building.model, &claim.block),
+        Ok(claim) => {
+            let status = judge(alloc, &mut out, sink, &claim.building.model, &claim.block);
+            drop(claim);
+            status
+        }
         Err(fault) => stop(&mut out, sink, fault),
     }
 }

@@ -88,7 +88,9 @@ fn answer_begun<K: Sink>(
     ensures { Tells (IsDrilled number) result session.state.work.pushes
         (side (K.held sink.old) (K.faults sink.old)) (side (K.held sink.new) (K.faults sink.new)) }
 {
-    answer_drill(alloc, out, sink, number, &session)
+    let status = answer_drill(alloc, out, sink, number, &session);
+    drop(session);
+    status
 }
 
 // Sends the summary of what a session begins with, or why there is none.
@@ -125,6 +127,9 @@ pub(crate) fn drill<K: Sink, L: Ledger>(
     let (Ok(mut out), Ok(building)) = (Out::new(alloc), drill_model(alloc, number)) else {
         return NO_MEMORY;
     };
+    drop(building.names);
     let begun = Session::begin(alloc, building.model, steps);
-    tell(alloc, &mut out, sink, number, begun)
+    let status = tell(alloc, &mut out, sink, number, begun);
+    drop(out);
+    status
 }

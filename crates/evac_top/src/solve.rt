@@ -56,7 +56,9 @@ fn answer_begun<K: Sink>(
     ensures { Tells (IsPlanned flags names.now session.state.model) result session.state.work.pushes
         (side (K.held sink.old) (K.faults sink.old)) (side (K.held sink.new) (K.faults sink.new)) }
 {
-    answer_plan(alloc, flags, out, sink, &session, names)
+    let status = answer_plan(alloc, flags, out, sink, &session, names);
+    drop(session);
+    status
 }
 
 // Sends what a session begins with, or why there is none on a building whose end is at a line.

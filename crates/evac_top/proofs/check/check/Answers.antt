@@ -11,8 +11,8 @@ returns-in_default g c = λ steps. no-memory Check check-reads _
 pub returns-in-Ok : goal.returns-in-Ok
 returns-in-Ok g c = λ steps.
     let claim = c.in-Ok.claim in
-    read-told Check check-reads (IsChecked claim.building.model claim.block) claim c.judge.result 0 _ _ c.in-Ok.ensures.takes
-    (c.in-Ok.ensures.quiet (λ e. cc)) (omega arith) c.judge.ensures (checked-few claim.building.model claim.block)
+    read-told Check check-reads (IsChecked claim.building.model claim.block) claim c.judge-status.result 0 _ _ c.in-Ok.ensures.takes
+    (c.in-Ok.ensures.quiet (λ e. cc)) (omega arith) c.judge-status.ensures (checked-few claim.building.model claim.block)
     (told-map _ _ _ (said-checked claim) c.in-Ok.ensures.input)
 
 pub returns : goal.returns

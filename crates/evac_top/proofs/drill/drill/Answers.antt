@@ -13,8 +13,8 @@ returns-in_default g c = λ source.
     let n = c.args.number in
     drill-told n 5 0 source _ _ c.args.steps.now c.args.steps.now (omega arith) (drilled-few n) (tells-nothing (IsDrillSolved n) 0 _)
 
-pub tell-requires-clause-begun : goal.tell-requires-clause-begun
-tell-requires-clause-begun g c =
+pub tell-status-requires-clause-begun : goal.tell-status-requires-clause-begun
+tell-status-requires-clause-begun g c =
     let made = c.in-Ok-Ok in
     let b = c.begin-begun.ensures in
     let same : made.building.model ≡ drill_model c.args.number = made.ensures'.building.model in
@@ -27,4 +27,4 @@ returns g c = λ source.
     let b = c.begin-begun.ensures in
     let same : made.building.model ≡ drill_model n = made.ensures'.building.model in
     let ends = subst (λ (m : Model). BeginEnds m c.begin-begun.result b.0) same b.2 in
-    drill-told n c.tell.result b.0 source _ _ c.args.steps.now c.begin-begun.new.steps b.1 (drilled-few n) (c.tell.ensures b.0 ends)
+    drill-told n c.tell-status.result b.0 source _ _ c.args.steps.now c.begin-begun.new.steps b.1 (drilled-few n) (c.tell-status.ensures b.0 ends)
