@@ -97,7 +97,11 @@ fn answer<L: Ledger>(
     ensures { AnswersOn model names.now exit result }
 {
     match Session::begin(alloc, model, steps) {
-        Ok(mut session) => shut_checked(alloc, &mut session, names, exit, steps),
+        Ok(mut session) => {
+            let answer = shut_checked(alloc, &mut session, names, exit, steps);
+            drop(session);
+            answer
+        }
         Err(BeginFault::NotCleared(short)) => Err(WhatIfFault::NeverCleared { most: short.most }),
         Err(BeginFault::Memory) => Err(WhatIfFault::Memory),
     }

@@ -133,11 +133,11 @@ fn repaired(
 ) -> Result<Reshaped, AllocError>
     requires { IsValid model.old }
 {
-    let mut net = Net::new(alloc, model)?;
-    let mut labels = Labels::new(alloc, model.node_count(), model.horizon)?;
-    let mut search = Search::new(alloc, model)?;
     let mut path = Path::new(alloc, model.horizon as usize + 2)?;
-    Ok(settle_and_repair(
+    let mut labels = Labels::new(alloc, model.node_count(), model.horizon)?;
+    let mut net = Net::new(alloc, model)?;
+    let mut search = Search::new(alloc, model)?;
+    let reshaped = settle_and_repair(
         rt,
         &mut net,
         model,
@@ -145,7 +145,10 @@ fn repaired(
         &mut labels,
         &mut search,
         &mut path,
-    ))
+    );
+    drop(search);
+    drop(net);
+    Ok(reshaped)
 }
 
 // An edit of a building takes so many people off, and labels stand below a number.
@@ -158,7 +161,9 @@ fn expect(
     least_label: u16,
 ) -> Result<(), AllocError> {
     let mut building = building(rt, alloc, text)?;
-    let taken = repaired(rt, alloc, &mut building.model, edit)?;
+    let taken = repaired(rt, alloc, &mut building.model, edit);
+    drop(building);
+    let taken = taken?;
     assert_eq!(rt; taken.cancelled, cancelled);
     assert_eq!(rt; taken.least_label, least_label);
     Ok(())

@@ -4,8 +4,8 @@ use Rattle.residual_net.specs.Site.{Site}
 use Rattle.terminal_augment.specs.Settled.{IsSearchOf}
 use Rattle.worked_cases.proofs.repairs.repaired.Goals as goal
 
-pub settle_and_repair-requires-clause-settleable : goal.settle_and_repair-requires-clause-settleable
-settle_and_repair-requires-clause-settleable g c =
+pub settle_and_repair-reshaped-requires-clause-settleable : goal.settle_and_repair-reshaped-requires-clause-settleable
+settle_and_repair-reshaped-requires-clause-settleable g c =
     let net = c.in_ok-net.ensures in
     let labels = c.in_ok-labels.ensures in
     let site = sym net.of.site in
