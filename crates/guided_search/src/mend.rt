@@ -14,19 +14,16 @@ use std::alloc::{AllocError, Global};
 /// The most pairs that wait at once. Those past it are left with bounds that are too low.
 const ROOM: usize = 65_536;
 
-/// What stands before a pair where pairs are sorted by their bounds.
-const LEVEL: u64 = 4_294_967_296;
-
 /// The pairs that have bounds by those around, each behind its bound, and the pairs of a level and of the next.
 #[derive(Drop)]
 pub struct Mender {
-    order: Vec<u64>,
+    order: Vec<(u32, u32)>,
     now: Vec<u32>,
     after: Vec<u32>,
 }
 
-fn item(list: &[u64], at: usize) -> u64 {
-    if at < list.len() { list[at] } else { 0 }
+fn item(list: &[(u32, u32)], at: usize) -> (u32, u32) {
+    if at < list.len() { list[at] } else { (0, 0) }
 }
 
 impl Mender {
@@ -45,17 +42,17 @@ impl Mender {
         self.seed(ground, bounds, raised);
         self.now.clear();
         let mut seed = 0usize;
-        let mut level = 0u64;
+        let mut level = 0u32;
         for _ in 0..FUEL {
             if self.now.is_empty() {
                 if seed >= self.order.len() {
                     break;
                 }
-                level = item(self.order.as_slice(), seed) / LEVEL;
+                level = item(self.order.as_slice(), seed).0;
             }
             seed = self.join(bounds, level, seed);
             self.after.clear();
-            self.spread_all(ground, bounds, raised, (level % LEVEL) as u32);
+            self.spread_all(ground, bounds, raised, level);
             std::mem::swap(&mut self.now, &mut self.after);
             level = level.wrapping_add(1);
         }
@@ -77,21 +74,20 @@ impl Mender {
             bounds.set(pair, best);
             bounds.reset(pair);
             if best < FAR {
-                add(&mut self.order, best as u64 * LEVEL + pair as u64);
+                add(&mut self.order, (best, pair));
             }
         }
         self.order.as_mut_slice().sort_unstable();
     }
 
     /// Adds the pairs whose bound is a level by those around. The answer is how many of the sorted pairs are done.
-    fn join(&mut self, bounds: &Bounds, level: u64, from: usize) -> usize {
+    fn join(&mut self, bounds: &Bounds, level: u32, from: usize) -> usize {
         for at in from..self.order.len() {
-            let item = item(self.order.as_slice(), at);
-            if item / LEVEL != level {
+            let (bound, pair) = item(self.order.as_slice(), at);
+            if bound != level {
                 return at;
             }
-            let pair = (item % LEVEL) as u32;
-            if bounds.get(pair) as u64 == level {
+            if bounds.get(pair) == level {
                 add(&mut self.now, pair);
             }
         }

@@ -115,9 +115,9 @@ impl Scout {
         let cells = net.cells();
         if self.next != k as u32 {
             self.missed = 0;
+            self.guide.sort(cells);
             if is_all_sent(cells, self.guide.sizes()) {
                 self.way = Way::Goal;
-                self.guide.sort(cells);
                 self.goal.seek(&mut self.guide, cells);
             } else {
                 self.way = Way::Guide;
