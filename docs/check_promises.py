@@ -4,7 +4,7 @@
 - In PROMISES.md each name in backticks must be defined in the file that is linked before it. A name that is no function of a source file is
   a clause of the function named before it.
 - In DEFINITIONS.md each name must be defined in a file that its paragraph links.
-- In the README's tables each name in the right column must be a definition, a function, a clause or a field of a crate of its section.
+- In the tables of PROVED.md each name in the right column must be a definition, a function, a clause or a field of a crate of its section.
 - In every document each link must lead to a file, and to a heading of it.
 
     python3 docs/check_promises.py
@@ -90,7 +90,7 @@ def is_named(texts, name, before):
 
 
 def missing_rows(document):
-    """Names in the right column of the README's tables that no crate of the section's heading has, nor one that the cell speaks of.
+    """Names in the right column of the tables of PROVED.md that no crate of the section's heading has, nor one that the cell speaks of.
 
     A name that begins with a capital may be of any crate.
     """
@@ -129,7 +129,7 @@ def main():
     missing = [fault for document in documents for fault in missing_links(document)]
     missing += missing_promises(TOP / "docs/PROMISES.md")
     missing += missing_definitions(TOP / "docs/DEFINITIONS.md")
-    missing += missing_rows(TOP / "README.md")
+    missing += missing_rows(TOP / "docs/PROVED.md")
     print("\n".join(missing) if missing else "all that is named is there")
     return 1 if missing else 0
 

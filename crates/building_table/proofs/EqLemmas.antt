@@ -1,5 +1,5 @@
 -- Tests of names and of ends.
-use Rattle.std.proofs.Common.{◌≡◌, ℕ, ◌+◌, Bool, cond, not, nat_lt, map, Some, None, ◌&&◌, ◌||◌, ◌==◌, refl, sym, ap, ap₂, List, [], ◌∷◌, ◌∙◌}
+use Rattle.std.proofs.Common.{◌≡◌, ℕ, ◌+◌, Bool, cond, not, nat_lt, map, Some, None, ◌&&◌, ◌==◌, refl, sym, ap, ap₂, List, [], ◌∷◌, ◌∙◌}
 use Rattle.std.proofs.lemmas.Bool.Decides.{same_from_decides, Decides-eqb, Decides-like}
 use Rattle.std.specs.List.{list_any, position, prefix_len}
 use Rattle.std.proofs.lemmas.List.{length-map}
@@ -12,7 +12,7 @@ use Rattle.model_text.specs.Taken.{same_name, same_kind}
 abbrev make-name : Kind → ℕ → ℕ → NodeName
 make-name k n f = record { kind = k; number = n; floor = f }
 
-test-swap : (a b : ℕ) → (a == b) ≡ (b == a)
+pub test-swap : (a b : ℕ) → (a == b) ≡ (b == a)
 test-swap a b = same_from_decides (a == b) (b == a) (Decides-eqb a b) (Decides-like (b == a) (λ e. sym e) (λ e. sym e) (Decides-eqb b a))
 
 swapped : (a b c d : ℕ) → (a == c && b == d) ≡ (c == a && d == b)
@@ -41,10 +41,6 @@ prefix-map : {X Y : Type 0} (p : Y → Bool) (f : X → Y) (xs : List X) → pre
 prefix-map p f [] = refl
 prefix-map p f (x ∷ xs) = ap (λ n. cond (p (f x)) (1 + n) 0) (prefix-map p f xs)
 
--- the place of what passes among the images, and whether some image passes
+-- the place of what passes among the images
 pub position-map : {X Y : Type 0} (p : Y → Bool) (f : X → Y) (xs : List X) → position p (map f xs) ≡ position (λ x. p (f x)) xs
 position-map p f xs = ap₂ (λ n l. cond (nat_lt n l) (Some n) None) (prefix-map (λ y. not (p y)) f xs) (length-map xs f)
-
-pub any-map : {X Y : Type 0} (p : Y → Bool) (f : X → Y) (xs : List X) → list_any p (map f xs) ≡ list_any (λ x. p (f x)) xs
-any-map p f [] = refl
-any-map p f (x ∷ xs) = ap (λ t. p (f x) || t) (any-map p f xs)

@@ -1,6 +1,7 @@
 -- The building of what a builder holds.
 use Rattle.std.proofs.Common.{◌≡◌, ℕ, List, map, unwrap_or, Some, None, sym, ap, ap₂, subst, ◌∙◌}
 use Rattle.evac_law.specs.Building.{IsValid}
+use Rattle.evac_law.specs.declared.entrant.Entrant.{Entrant}
 use Rattle.evac_law.specs.declared.model.Model.{Model}
 use Rattle.evac_law.specs.declared.model.ArcRow.{ArcRow}
 use Rattle.evac_law.specs.declared.model.NodeRow.{NodeRow}
@@ -16,20 +17,21 @@ pub end-same : (b : Built) (taken : List Said) → b ≡ built_of taken → end_
 unfolding end_fault
 end-same b taken e = ap (λ x. first_code (end_checks x)) (sym e)
 
-abbrev pub make-model : ℕ → ℕ → List NodeRow → List ArcRow → Model
-make-model s h ns as' = record { seconds = s; horizon = h; nodes = ns; arcs = as' }
+abbrev make-model : ℕ → ℕ → List NodeRow → List ArcRow → List Entrant → Model
+make-model s h ns as' es = record { seconds = s; horizon = h; nodes = ns; arcs = as'; entrants = es }
 
-pub model-same : (b : Built) (taken : List Said) (s h : ℕ) → b ≡ built_of taken → b.seconds ≡ Some s → b.horizon ≡ Some h → make-model s h b.nodes b.arcs ≡ model_taken taken
+-- a model of what the builder holds is that of the statements
+pub model-same : (b : Built) (taken : List Said) (s h : ℕ) (ns : List NodeRow) (as' : List ArcRow) (es : List Entrant) → b ≡ built_of taken → b.seconds ≡ Some s → b.horizon ≡ Some h
+    → ns ≡ b.nodes → as' ≡ b.arcs → es ≡ b.entrants → make-model s h ns as' es ≡ model_taken taken
 unfolding model_taken
-model-same b taken s h e es eh =
-    let s-is : s ≡ unwrap_or (seconds_of taken) 0 = ap (λ o. unwrap_or o 0) (sym es ∙ ap (λ (x : Built). x.seconds) e) in
-    let h-is : h ≡ unwrap_or (horizon_of taken) 0 = ap (λ o. unwrap_or o 0) (sym eh ∙ ap (λ (x : Built). x.horizon) e) in
-    ap (λ n. make-model n h b.nodes b.arcs) s-is
-    ∙ ap (λ n. make-model (unwrap_or (seconds_of taken) 0) n b.nodes b.arcs) h-is
-    ∙ ap (λ (x : Built). make-model (unwrap_or (seconds_of taken) 0) (unwrap_or (horizon_of taken) 0) x.nodes x.arcs) e
+model-same b taken s h ns as' es e seconds horizon nodes arcs entrants =
+    let s-is : s ≡ unwrap_or (seconds_of taken) 0 = ap (λ o. unwrap_or o 0) (sym seconds ∙ ap (λ (x : Built). x.seconds) e) in
+    let h-is : h ≡ unwrap_or (horizon_of taken) 0 = ap (λ o. unwrap_or o 0) (sym horizon ∙ ap (λ (x : Built). x.horizon) e) in
+    ap (make-model s h ns as') entrants ∙ ap₂ (λ x y. make-model s h x y b.entrants) nodes arcs ∙ ap₂ (λ x y. make-model x y b.nodes b.arcs b.entrants) s-is h-is
+    ∙ ap (λ (x : Built). make-model (unwrap_or (seconds_of taken) 0) (unwrap_or (horizon_of taken) 0) x.nodes x.arcs x.entrants) e
 
-pub valid-as : (m : Model) (b : Built) (taken : List Said) → m ≡ model_taken taken → AreTaken taken → end_fault taken ≡ None → IsValid m
-valid-as m b taken e are h = subst IsValid (sym e) (taken-valid taken are h)
+pub valid-as : (m : Model) (taken : List Said) → m ≡ model_taken taken → AreTaken taken → end_fault taken ≡ None → IsValid m
+valid-as m taken e are h = subst IsValid (sym e) (taken-valid taken are h)
 
 -- the names that an index lists, with the floors and the title of a builder
 abbrev pub make-table : NameLists → Built → NameTable

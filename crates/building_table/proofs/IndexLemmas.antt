@@ -2,7 +2,7 @@
 use Rattle.std.proofs.Common.{◌≡◌, ℕ, ◌+◌, ◌<◌, ◌≤◌, suc, Bool, true, false, cond, ◌&&◌, ◌==◌, List, [], ◌∷◌, ◌++◌, length, map, take, get_or, refl, sym, ap, ◌∙◌, arith}
 use Rattle.std.specs.List.{list_any}
 use Rattle.std.proofs.Math.Seq.{take-suc}
-use Rattle.std.proofs.lemmas.Bool.{eqb-true}
+use Rattle.std.proofs.lemmas.Bool.{and_parts, eqb-true}
 use Rattle.std.proofs.lemmas.List.{get_or-take, get_or_default, length-take-le, length-append, map-append}
 use Rattle.std.proofs.lemmas.List.Elements.{All-from_get_or}
 use Rattle.std.proofs.lemmas.List.Folds.{list_any_none}
@@ -13,9 +13,9 @@ use Rattle.evac_law.specs.declared.model.NodeRow.{NodeRow}
 use Rattle.evac_law.specs.declared.name.NodeName.{NodeName}
 use Rattle.evac_law.specs.contracts.name.NodeNamePartialEq.TheImpl.{eq-value}
 use Rattle.model_text.specs.Taken.{same_name}
-use Rattle.model_text.proofs.ListFacts.{and-true, same-name-is}
+use Rattle.model_text.proofs.ListFacts.{any-map, same-name-is}
 use Rattle.building_table.specs.Names.{NameLists, NamesDiffer, EndsDiffer, names_with, ends_with}
-use Rattle.building_table.proofs.EqLemmas.{name-test, any-same, any-map}
+use Rattle.building_table.proofs.EqLemmas.{name-test, any-same}
 
 -- the ends of an arc
 abbrev pub ends-of : ArcRow → ℕ × ℕ
@@ -102,5 +102,5 @@ add-ends rows i d ends within differ same =
     ∙ add-next ends-of (λ (e : ℕ × ℕ). e.0 == new.0 && e.1 == new.1) rows i no_arc ends within (λ k h.
     let old = ends-of (get_or rows k no_arc) in
     test-false (old.0 == new.0 && old.1 == new.1) (λ is.
-    let both = and-true (old.0 == new.0) (old.1 == new.1) is in
+    let both = and_parts (old.0 == new.0) (old.1 == new.1) is in
     differ k i h within (eqb-true old.0 new.0 both.0) (eqb-true old.1 new.1 both.1))) same

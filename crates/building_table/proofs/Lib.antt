@@ -1,3 +1,4 @@
+pub mod EntrantLemmas
 pub mod EqLemmas
 pub mod TakeLemmas
 pub mod PlaceLemmas

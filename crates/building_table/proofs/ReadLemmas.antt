@@ -2,7 +2,7 @@
 use Rattle.std.proofs.Common.{◌≡◌, ℕ, ◌+◌, List, [], ◌∷◌, ◌++◌, length, Result, Ok, Err, Some, None, IfOk, refl, sym, ap, subst, ◌∙◌, append-nil}
 use Rattle.std.specs.declared.option.Option.{Option}
 use Rattle.line_io.specs.Hearing.{Listens}
-use Rattle.line_io.specs.Line.{text_lines}
+use Rattle.line_io.specs.Line.{input_too_long, line_too_long, text_lines}
 use Rattle.line_io.specs.Passes.{Follows, IsLeft, Passes}
 use Rattle.line_io.specs.Reader.{lines_left, pending_lines}
 use Rattle.line_io.specs.View.{Reader}
@@ -23,76 +23,56 @@ use Rattle.building_table.specs.declared.read.ModelReader.{ModelReader}
 use Rattle.building_table.specs.Built.{IsBuilding}
 use Rattle.building_table.specs.Names.{NameTable, NamesFit, arc_ends, node_names}
 use Rattle.building_table.specs.Passes.{ReadsLines, ReadsModel}
-use Rattle.building_table.specs.Reads.{Place, meaning, step_at, IsAt, Moves, HearsModel, Finishes, AnswersBy, ReadsBy, ConcludesModel}
+use Rattle.building_table.specs.Reads.{IsInState, HearsModel, Finishes, AnswersBy, ReadsBy, ConcludesModel}
 use Rattle.model_text.specs.Codes.{missing_end}
 use Rattle.model_text.specs.Grammar.{Said}
-use Rattle.model_text.specs.Readings.{Line, Reading, Refused, Step, Passed, Took, Ended, Stopped, step_unless, after_step, after_first_step, reading_of, opening_of}
-use Rattle.model_text.specs.Taken.{Description, description_of, end_fault}
+use Rattle.model_text.specs.Readings.{Line, Refused, ReadingState, AtStart, Step, Ended, Stopped, step_unless, end_step, step_at, after_step, reading_at, opening_of}
+use Rattle.model_text.specs.Taken.{Description, description_of}
 
 -- ---- what a line makes of a reading
 
--- what a step makes of the lines behind it
-after : Step → Place → ℕ → List Line → Reading
-after step None k rest = after_first_step step k (opening_of k rest) (reading_of [] k rest)
-after step (Some taken) k rest = after_step step taken k rest (λ more. reading_of more k rest)
+line-step : (x : ReadingState) (n : ℕ) (t : List ℕ) (rest : List Line) → reading_at x n (Ok t ∷ rest) ≡ after_step (step_at x (Ok t)) (n + 1) rest (λ y. reading_at y (n + 1) rest)
+unfolding reading_at
+line-step x n t rest = refl
 
-line-step : (x : Place) (n : ℕ) (t : List ℕ) (rest : List Line) → meaning x n (Ok t ∷ rest) ≡ after (step_at x t) x (n + 1) rest
-unfolding opening_of reading_of after
-line-step None n t rest = refl
-line-step (Some taken) n t rest = refl
+no-line : (x : ReadingState) (n : ℕ) → reading_at x n [] ≡ Refused missing_end (n + 1)
+unfolding reading_at
+no-line x n = refl
 
-no-line : (x : Place) (n : ℕ) → meaning x n [] ≡ Refused missing_end (n + 1)
-unfolding opening_of reading_of
-no-line None n = refl
-no-line (Some taken) n = refl
+bad-line : (x : ReadingState) (n k : ℕ) → reading_at x n (Err k ∷ []) ≡ Refused k (n + 1)
+unfolding reading_at
+bad-line x n k = refl
 
-bad-line : (x : Place) (n k : ℕ) → meaning x n (Err k ∷ []) ≡ Refused k (n + 1)
-unfolding opening_of reading_of
-bad-line None n k = refl
-bad-line (Some taken) n k = refl
-
-after-moves : (step : Step) (x y : Place) (k : ℕ) (rest : List Line) → Moves step x y → after step x k rest ≡ meaning y k rest
-unfolding after
-after-moves Passed None y k rest h = ap (λ z. meaning z k rest) (sym h)
-after-moves Passed (Some taken) y k rest h = ap (λ z. meaning z k rest) (sym h)
-after-moves (Took s) None y k rest h = ap (λ z. meaning z k rest) (sym h)
-after-moves (Took s) (Some taken) y k rest h = ap (λ z. meaning z k rest) (sym h)
-after-moves Ended x y k rest h = absurd h
-after-moves (Stopped code) x y k rest h = absurd h
-
-after-stopped : (x : Place) (code k : ℕ) (rest : List Line) → after (Stopped code) x k rest ≡ Refused code k
-unfolding after
-after-stopped None code k rest = refl
-after-stopped (Some taken) code k rest = refl
-
-goes-on : GoesOn HearsModel IsAt meaning
+goes-on : GoesOn HearsModel IsInState reading_at
 goes-on s s' x n t is heard =
     let h = heard x is in
-    (h.0, h.2, λ rest. line-step x n t rest ∙ after-moves (step_at x t) x h.0 (n + 1) rest h.1)
+    (h.0, h.2, λ rest. line-step x n t rest ∙ ap (λ step. after_step step (n + 1) rest (λ y. reading_at y (n + 1) rest)) h.1)
 
 -- ---- the answer
 
 -- the lines that went by with the one answered last, by its step
-step-last : {ending : Ending Refusal} {from to : ModelReader} {a c : Reader} {l n : Option (List ℕ)} (h : Listens HearsModel ending from to a c l n) (w : Comes IsAt meaning None a.number h.texts h.at)
-    (t : List ℕ) → h.last ≡ t ∷ [] → (rest : List Line) → opening_of a.number (text_lines (h.texts ++ h.last) ++ rest) ≡ after (step_at w.place t) w.place c.number rest
-step-last {ending} {from} {to} {a} h w t is rest =
-    means-last IsAt meaning h None w t is rest ∙ line-step w.place (a.number + length h.texts) t rest ∙ ap (λ k. after (step_at w.place t) w.place k rest) (last-number h t is)
+step-last : {ending : Ending Refusal} {from to : ModelReader} {a c : Reader} {l n : Option (List ℕ)} (h : Listens HearsModel ending from to a c l n) (w : Comes IsInState reading_at AtStart a.number h.texts h.at)
+    (t : List ℕ) → h.last ≡ t ∷ [] → (step : Step) → step_at w.place (Ok t) ≡ step
+    → (rest : List Line) → opening_of a.number (text_lines (h.texts ++ h.last) ++ rest) ≡ after_step step c.number rest (λ y. reading_at y c.number rest)
+step-last {ending} {from} {to} {a} {c} h w t is step steps rest =
+    means-last IsInState reading_at h AtStart w t is rest ∙ line-step w.place (a.number + length h.texts) t rest
+    ∙ ap (λ k. after_step (step_at w.place (Ok t)) k rest (λ y. reading_at y k rest)) (last-number h t is) ∙ ap (λ s. after_step s c.number rest (λ y. reading_at y c.number rest)) steps
 
 -- the end of the model
 ends-model : (a c : Reader) (l n : Option (List ℕ)) (texts : List (List ℕ)) (taken : List Said) (rest : List Line) → Passes a c l n texts → IsLeft (lines_left a l) (lines_left c n) rest
-    → ((more : List Line) → opening_of a.number (text_lines texts ++ more) ≡ after_step (step_unless (end_fault taken) Ended) taken c.number more (λ x. reading_of x c.number more))
+    → ((more : List Line) → opening_of a.number (text_lines texts ++ more) ≡ after_step (end_step taken) c.number more (λ y. reading_at y c.number more))
     → (result : Result Building ModelFault) → Finishes result taken c.number → ReadsBy result a c l n
 ends-model a c l n texts taken rest p left means (Ok b) h = record {
   texts = texts;
   passes = p;
-  answer = (description_of taken, (h.1, λ more. means more ∙ ap (λ o. after_step (step_unless o Ended) taken c.number more (λ x. reading_of x c.number more)) h.0));
+  answer = (description_of taken, (h.1, λ more. means more ∙ ap (λ o. after_step (step_unless o (Ended (description_of taken))) c.number more (λ y. reading_at y c.number more)) h.0));
 }
 ends-model a c l n texts taken rest p left means (Err (Named code number)) h =
     let refused : (more : List Line) → opening_of a.number (text_lines texts ++ more) ≡ Refused code number =
-    λ more. means more ∙ ap (λ o. after_step (step_unless o Ended) taken c.number more (λ x. reading_of x c.number more)) h.0 ∙ ap (Refused code) (sym h.1) in
+    λ more. means more ∙ ap (λ o. after_step (step_unless o (Ended (description_of taken))) c.number more (λ y. reading_at y c.number more)) h.0 ∙ ap (Refused code) (sym h.1) in
     record { texts = texts; passes = p; answer = record { rest = rest; left_is = left; left = refused rest; pending = refused (pending_lines c) } }
 ends-model a c l n texts taken rest p left means (Err ReadFault) h = absurd h
-ends-model a c l n texts taken rest p left means (Err Memory) h = absurd h
+ends-model a c l n texts taken rest p left means (Err Memory) h = record { texts = texts; passes = p; answer = tt }
 
 -- the lines are refused, where such lines follow those that went by
 refuses : (code line : ℕ) {ending : Ending Refusal} {from to : ModelReader} {a c : Reader} {l n : Option (List ℕ)} (h : Listens HearsModel ending from to a c l n) (Behind : List Line → Type 0)
@@ -104,44 +84,37 @@ refuses code line {ending} {from} {to} {a} {c} {l} {n} h behind refused left pen
   answer = record { rest = h.rest; left_is = h.is_left; left = refused h.rest left; pending = refused (pending_lines c) pending };
 })
 
-after-last : (x : Place) (taken : List Said) (step : Step) (k : ℕ) (rest : List Line) → x ≡ Some taken → after step x k rest ≡ after_step step taken k rest (λ y. reading_of y k rest)
-unfolding after
-after-last x taken step k rest is = ap (λ z. after step z k rest) is
-
-reads-by : (ending : Ending Refusal) (a c : Reader) (l n : Option (List ℕ)) (from to : ModelReader) (h : Listens HearsModel ending from to a c l n) → Comes IsAt meaning None a.number h.texts h.at → (result : Result Building ModelFault)
+reads-by : (ending : Ending Refusal) (a c : Reader) (l n : Option (List ℕ)) (from to : ModelReader) (h : Listens HearsModel ending from to a c l n) → Comes IsInState reading_at AtStart a.number h.texts h.at → (result : Result Building ModelFault)
     → ConcludesModel ending to c.number result → ReadsBy result a c l n
 reads-by Finished a c l n from to h w result done =
     let t = h.ends.0 in
     let heard = h.ends.2 w.place w.is in
-    ends-model a c l n (h.texts ++ h.last) heard.0 h.rest h.passes h.is_left
-    (λ more. step-last h w t h.ends.1 more ∙ after-last w.place heard.0 (step_at w.place t) c.number more heard.1
-    ∙ ap (λ s. after_step s heard.0 c.number more (λ y. reading_of y c.number more)) heard.2)
-    result (done heard.0 heard.3 heard.4)
+    ends-model a c l n (h.texts ++ h.last) heard.0 h.rest h.passes h.is_left (step-last h w t h.ends.1 (end_step heard.0) heard.1) result (done heard.0 heard.2 heard.3)
 reads-by (Failed (Code code)) a c l n from to h w result done =
     let heard = h.ends.2 w.place w.is in
-    refuses code c.number h (λ _. Unit {0}) (λ rest _. step-last h w h.ends.0 h.ends.1 rest ∙ ap (λ s. after s w.place c.number rest) heard ∙ after-stopped w.place code c.number rest) tt tt result done
+    refuses code c.number h (λ _. Unit {0}) (λ rest _. step-last h w h.ends.0 h.ends.1 (Stopped code) heard rest) tt tt result done
 reads-by (Failed refusals.Memory) a c l n from to h w result done =
     subst (λ (r : Result Building ModelFault). ReadsBy r a c l n) (sym done) (record { texts = h.texts ++ h.last; passes = h.passes; answer = tt })
 reads-by InputEnded a c l n from to h w result done =
-    refuses missing_end (c.number + 1) h (λ rest. rest ≡ []) (λ rest none. means-rest IsAt meaning h None w h.ends.0 rest ∙ ap (meaning w.place c.number) none ∙ no-line w.place c.number)
+    refuses missing_end (c.number + 1) h (λ rest. rest ≡ []) (λ rest none. means-rest IsInState reading_at h AtStart w h.ends.0 rest ∙ ap (reading_at w.place c.number) none ∙ no-line w.place c.number)
     h.ends.1 (none-pending-lines c h.rests.1) result done
 reads-by (Fault line_faults.LineTooLong) a c l n from to h w result done =
-    refuses 2 (c.number + 1) h (λ rest. rest ≡ Err 2 ∷ []) (λ rest bad. means-rest IsAt meaning h None w h.ends.0 rest ∙ ap (meaning w.place c.number) bad ∙ bad-line w.place c.number 2)
+    refuses line_too_long (c.number + 1) h (λ rest. rest ≡ Err line_too_long ∷ []) (λ rest bad. means-rest IsInState reading_at h AtStart w h.ends.0 rest ∙ ap (reading_at w.place c.number) bad ∙ bad-line w.place c.number line_too_long)
     h.ends.1 h.rests result done
 reads-by (Fault line_faults.InputTooLong) a c l n from to h w result done =
-    refuses 3 (c.number + 1) h (λ rest. rest ≡ Err 3 ∷ []) (λ rest bad. means-rest IsAt meaning h None w h.ends.0 rest ∙ ap (meaning w.place c.number) bad ∙ bad-line w.place c.number 3)
+    refuses input_too_long (c.number + 1) h (λ rest. rest ≡ Err input_too_long ∷ []) (λ rest bad. means-rest IsInState reading_at h AtStart w h.ends.0 rest ∙ ap (reading_at w.place c.number) bad ∙ bad-line w.place c.number input_too_long)
     h.ends.1 h.rests result done
 reads-by (Fault line_faults.ReadFault) a c l n from to h w result done =
     subst (λ (r : Result Building ModelFault). ReadsBy r a c l n) (sym done) (record {
       texts = h.texts ++ h.last;
       passes = h.passes;
-      answer = ap (opening_of a.number) (sym (append-nil (text_lines (h.texts ++ h.last)))) ∙ means-rest IsAt meaning h None w h.ends.0 [] ∙ no-line w.place c.number;
+      answer = ap (opening_of a.number) (sym (append-nil (text_lines (h.texts ++ h.last)))) ∙ means-rest IsInState reading_at h AtStart w h.ends.0 [] ∙ no-line w.place c.number;
     })
 
 -- what listening to the lines of a model tells of the answer
-pub reads-all : (ending : Ending Refusal) (a c : Reader) (l n : Option (List ℕ)) (from to : ModelReader) → Listens HearsModel ending from to a c l n → IsAt from None → (result : Result Building ModelFault) (k : ℕ)
+pub reads-all : (ending : Ending Refusal) (a c : Reader) (l n : Option (List ℕ)) (from to : ModelReader) → Listens HearsModel ending from to a c l n → IsInState from AtStart → (result : Result Building ModelFault) (k : ℕ)
     → ConcludesModel ending to k result → k ≡ c.number → ReadsBy result a c l n
-reads-all ending a c l n from to h start result k done is = reads-by ending a c l n from to h (comes HearsModel IsAt meaning goes-on h None start) result (subst (λ (j : ℕ). ConcludesModel ending to j result) is done)
+reads-all ending a c l n from to h start result k done is = reads-by ending a c l n from to h (comes HearsModel IsInState reading_at goes-on h AtStart start) result (subst (λ (j : ℕ). ConcludesModel ending to j result) is done)
 
 pub reads-memory : (a : Reader) (l : Option (List ℕ)) → ReadsBy (Err Memory) a a l l
 reads-memory a l = record { texts = []; passes = passes-none a l; answer = tt }

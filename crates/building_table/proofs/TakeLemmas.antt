@@ -5,9 +5,9 @@ use Rattle.evac_law.specs.Limits.{floor_limit}
 use Rattle.evac_law.specs.declared.name.NodeName.{NodeName}
 use Rattle.building_table.specs.declared.faults.BuildFault.{BuildFault}
 use Rattle.building_table.specs.Built.{Built, built_of, build_code}
-use Rattle.building_table.specs.Taking.{Takes, title_checks, period_checks, horizon_checks, floor_checks, room_checks, exit_checks, arc_checks, with_floor, adding_node, adding_arc, holds_floor}
+use Rattle.building_table.specs.Taking.{Takes, title_checks, period_checks, horizon_checks, floor_checks, room_checks, exit_checks, arc_checks, window_checks, entrant_checks, with_floor, adding_node, adding_arc, adding_window, adding_entrant, holds_floor}
 use Rattle.model_text.specs.Codes.{repeated_setting, too_many}
-use Rattle.model_text.specs.Grammar.{Said, Title, Period, Horizon, Floor, Node, Exit, Arc}
+use Rattle.model_text.specs.Grammar.{Said, Title, Period, Horizon, Floor, Node, Exit, Arc, Window, Entrant}
 use Rattle.model_text.specs.Taken.{first_code, statement_fault, floors_of}
 
 -- the checks and what is held then are those of the statements
@@ -74,4 +74,16 @@ pub same-arc : (start finish : NodeName) (travel rate : ℕ) (old : Built) → I
 unfolding IsSame statement_fault
 same-arc start finish travel rate old = λ before e.
     let P : Built → Type 0 = λ b. (statement_fault before (Arc start finish travel rate) ≡ first_code (arc_checks b start finish)) × (adding_arc b start finish travel rate ≡ built_of (Arc start finish travel rate ∷ before)) in
+    subst P (sym e) (refl, refl)
+
+pub same-window : (start finish : NodeName) (first until : ℕ) (old : Built) → IsSame (Window start finish first until) (window_checks old start finish first until) old (adding_window old start finish first until)
+unfolding IsSame statement_fault
+same-window start finish first until old = λ before e.
+    let P : Built → Type 0 = λ b. (statement_fault before (Window start finish first until) ≡ first_code (window_checks b start finish first until)) × (adding_window b start finish first until ≡ built_of (Window start finish first until ∷ before)) in
+    subst P (sym e) (refl, refl)
+
+pub same-entrant : (name : NodeName) (moment people : ℕ) (old : Built) → IsSame (Entrant name moment people) (entrant_checks old name moment people) old (adding_entrant old name moment people)
+unfolding IsSame statement_fault
+same-entrant name moment people old = λ before e.
+    let P : Built → Type 0 = λ b. (statement_fault before (Entrant name moment people) ≡ first_code (entrant_checks b name moment people)) × (adding_entrant b name moment people ≡ built_of (Entrant name moment people ∷ before)) in
     subst P (sym e) (refl, refl)

@@ -8,7 +8,7 @@ use Rattle.building_table.specs.declared.faults.NameFault.{NameFault}
 use Rattle.building_table.specs.declared.faults.NameFault.TheVariants.{UnknownNode, NoArc}
 use Rattle.building_table.specs.Names.{NameTable, node_place, arc_place}
 use Rattle.model_text.specs.declared.command.Command.{Command}
-use Rattle.model_text.specs.declared.command.Command.TheVariants.{Shut, Reopen, ShutExit, OpenExit, Rate, Room, Shift, Enter, Leave}
+use Rattle.model_text.specs.declared.command.Command.TheVariants.{Shut, Reopen, ShutExit, OpenExit, Rate, Room, Shift, Enter, Leave, Window, Unwindow}
 
 -- the first fault, or what follows from the value
 infixl 10 ◌>>=◌
@@ -31,7 +31,7 @@ named_nodes names start finish = named_node names start >>= λ a. named_node nam
 abbrev pub named_arc : NameTable → NodeName → NodeName → Result ℕ NameFault
 named_arc names start finish = named_nodes names start finish >>= λ n. or_fault NoArc (arc_place names n.0 n.1)
 
--- the nine commands that edit
+-- the eleven commands that edit
 abbrev pub IsEdit : Command → Type 0
 IsEdit (Shut start finish) = ⊤
 IsEdit (Reopen start finish) = ⊤
@@ -42,6 +42,8 @@ IsEdit (Room node capacity) = ⊤
 IsEdit (Shift start finish people) = ⊤
 IsEdit (Enter node people) = ⊤
 IsEdit (Leave node people) = ⊤
+IsEdit (Window start finish first until) = ⊤
+IsEdit (Unwindow start finish first until) = ⊤
 IsEdit _ = ⊥
 
 -- the edit of a command that edits, or the first name that has no place; no other command is asked
@@ -55,4 +57,6 @@ edit_named names (Room node capacity) = named_node names node >>= λ n. Ok (edit
 edit_named names (Shift start finish people) = named_nodes names start finish >>= λ n. Ok (edits.Shift n.0 n.1 people)
 edit_named names (Enter node people) = named_node names node >>= λ n. Ok (edits.Enter n people)
 edit_named names (Leave node people) = named_node names node >>= λ n. Ok (edits.Leave n people)
+edit_named names (Window start finish first until) = named_arc names start finish >>= λ a. Ok (edits.Window a first until)
+edit_named names (Unwindow start finish first until) = named_arc names start finish >>= λ a. Ok (edits.Unwindow a first until)
 edit_named names _ = Err NoArc

@@ -1,5 +1,5 @@
 -- What the parts of a model's reader answer.
-use Rattle.std.specs.Prelude.{◌≡◌, ℕ, ◌+◌, Bool, List, [], ◌∷◌, ◌++◌, Result, Ok, Err, Some, None, true, false, ⊤}
+use Rattle.std.specs.Prelude.{◌≡◌, ℕ, ◌+◌, List, [], ◌++◌, Result, Ok, Err, Some, None, ⊤}
 use Rattle.std.specs.declared.option.Option.{Option}
 use Rattle.line_io.specs.Hearing.{Hearing}
 use Rattle.line_io.specs.Line.{input_too_long, line_too_long, text_lines}
@@ -21,75 +21,46 @@ use Rattle.building_table.specs.Built.{Built, IsBuilding, built_of}
 use Rattle.building_table.specs.declared.read.ModelReader.{ModelReader}
 use Rattle.model_text.specs.Codes.{missing_end}
 use Rattle.model_text.specs.Grammar.{Said}
-use Rattle.model_text.specs.Readings.{Line, Reading, Described, Refused, Step, Passed, Took, Ended, Stopped, step_unless, first_step, later_step, reading_of, opening_of}
+use Rattle.model_text.specs.Readings.{Line, Described, Refused, ReadingState, AtStart, InModel, Step, Moved, Stopped, end_step, step_at, opening_of}
 use Rattle.model_text.specs.Taken.{Description, description_of, end_fault, AreTaken}
 
--- the statements after a step that doesn't end the reading
-abbrev pub IsNext : Step → List Said → List Said → Type 0
-IsNext Passed taken next = next ≡ taken
-IsNext (Took statement) taken next = next ≡ statement ∷ taken
-IsNext Ended taken next = ⊥
-IsNext (Stopped code) taken next = ⊥
+-- a builder with the statements behind the header of a version heard a line that takes a step
+abbrev pub TakesStep : Result Heard Refusal → Step → ℕ → List Said → Built → Type 0
+TakesStep (Ok More) step version taken new = (next : List Said) × (step ≡ Moved (InModel version next)) × AreTaken next × (new ≡ built_of next)
+TakesStep (Ok Last) step version taken new = (step ≡ end_step taken) × (new ≡ built_of taken)
+TakesStep (Err (Code code)) step version taken new = step ≡ Stopped code
+TakesStep (Err refusals.Memory) step version taken new = ⊤
 
--- a builder heard a line that takes a step
-abbrev pub TakesStep : Result Heard Refusal → Step → List Said → Built → Type 0
-TakesStep (Ok More) step taken new = (next : List Said) × (IsNext step taken next × AreTaken next × (new ≡ built_of next))
-TakesStep (Ok Last) step taken new = (step ≡ step_unless (end_fault taken) Ended) × (new ≡ built_of taken)
-TakesStep (Err (Code code)) step taken new = step ≡ Stopped code
-TakesStep (Err refusals.Memory) step taken new = ⊤
-
--- a line before the statements that takes a step: `true` is the header
-abbrev pub HearsFirst : Result Bool Refusal → Step → Type 0
-HearsFirst (Ok false) step = step ≡ Passed
-HearsFirst (Ok true) step = (header : Said) × (step ≡ Took header)
+-- a line before the statements that takes a step: a version is that of the header
+abbrev pub HearsFirst : Result (Option ℕ) Refusal → Step → Type 0
+HearsFirst (Ok None) step = step ≡ Moved AtStart
+HearsFirst (Ok (Some version)) step = step ≡ Moved (InModel version [])
 HearsFirst (Err (Code code)) step = step ≡ Stopped code
 HearsFirst (Err refusals.Memory) step = ⊥
 
 -- ---- a reader that hears lines
 
--- where a reading is: before the header, or behind it with some statements
-abbrev pub Place : Type 0
-Place = Option (List Said)
+-- a reader is in a state
+abbrev pub IsInState : ModelReader → ReadingState → Type 0
+IsInState r AtStart = (r.version ≡ None) × (r.builder ≡ built_of [])
+IsInState r (InModel version taken) = (r.version ≡ Some version) × AreTaken taken × (r.builder ≡ built_of taken)
 
--- what the lines from there on mean
-abbrev pub meaning : Place → ℕ → List Line → Reading
-meaning None before lines = opening_of before lines
-meaning (Some taken) before lines = reading_of taken before lines
-
-abbrev pub step_at : Place → List ℕ → Step
-step_at None text = first_step (Ok text)
-step_at (Some taken) text = later_step taken (Ok text)
-
--- a reader is at a place
-abbrev pub IsAt : ModelReader → Place → Type 0
-IsAt r None = (r.opened ≡ false) × (r.builder ≡ built_of [])
-IsAt r (Some taken) = (r.opened ≡ true) × AreTaken taken × (r.builder ≡ built_of taken)
-
--- a step that goes on leads from a place to a place
-abbrev pub Moves : Step → Place → Place → Type 0
-Moves Passed x y = y ≡ x
-Moves (Took header) None y = y ≡ Some []
-Moves (Took statement) (Some taken) y = y ≡ Some (statement ∷ taken)
-Moves Ended x y = ⊥
-Moves (Stopped code) x y = ⊥
-
--- what a reader answers at a place to a line that takes a step
-abbrev pub HearsAt : Result Heard Refusal → Step → Place → ModelReader → Type 0
-HearsAt (Ok More) step x new = (y : Place) × Moves step x y × IsAt new y
-HearsAt (Ok Last) step x new =
-    (taken : List Said) × (x ≡ Some taken) × (step ≡ step_unless (end_fault taken) Ended) × AreTaken taken × (new.builder ≡ built_of taken)
-HearsAt (Err (Code code)) step x new = step ≡ Stopped code
-HearsAt (Err refusals.Memory) step x new = ⊤
+-- what a reader answers to a line that takes a step
+abbrev pub HearsStep : Result Heard Refusal → Step → ModelReader → Type 0
+HearsStep (Ok More) step new = (state : ReadingState) × (step ≡ Moved state) × IsInState new state
+HearsStep (Ok Last) step new = (taken : List Said) × (step ≡ end_step taken) × AreTaken taken × (new.builder ≡ built_of taken)
+HearsStep (Err (Code code)) step new = step ≡ Stopped code
+HearsStep (Err refusals.Memory) step new = ⊤
 
 abbrev pub HearsModel : Hearing ModelReader Refusal
-HearsModel r line text result new = (x : Place) → IsAt r x → HearsAt result (step_at x text) x new
+HearsModel r line text result new = (state : ReadingState) → IsInState r state → HearsStep result (step_at state (Ok text)) new
 
--- the building of the statements, or the fault of their end
+-- the building of the statements, or the fault of their end; memory may be wanting where there is none
 abbrev pub Finishes : Result Building ModelFault → List Said → ℕ → Type 0
 Finishes (Ok building) taken line = (end_fault taken ≡ None) × IsBuilding building (description_of taken)
 Finishes (Err (Named code number)) taken line = (end_fault taken ≡ Some code) × (number ≡ line)
 Finishes (Err ReadFault) taken line = ⊥
-Finishes (Err Memory) taken line = ⊥
+Finishes (Err Memory) taken line = ⊤
 
 -- the first fault of the lines that went by: with those that are left, and with those of the bytes that are pending
 pub record RefusesAt (first code line : ℕ) (r : Reader) (before after : Option (List Line)) (texts : List (List ℕ)) : Type 0 where

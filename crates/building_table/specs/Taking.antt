@@ -1,18 +1,22 @@
 -- What a statement does to what a builder holds.
-use Rattle.std.specs.Prelude.{◌≡◌, ℕ, ◌+◌, ◌*◌, ◌≤◌, Bool, false, not, ◌&&◌, ◌||◌, ◌==◌, nat_lt, nat_le, List, [], ◌∷◌, ◌++◌, length, map, is_some, is_none, unwrap_or, Result, None, OnOk, OnErr, IfErr}
+use Rattle.std.specs.Prelude.{◌≡◌, ℕ, ◌+◌, ◌*◌, ◌≤◌, Bool, not, ◌||◌, ◌==◌, nat_lt, nat_le, List, [], ◌∷◌, ◌++◌, length, map, is_some, is_none, unwrap_or, Result, None, OnOk, OnErr, IfErr}
 use Rattle.std.specs.List.{list_any, sum_by}
-use Rattle.evac_law.specs.Limits.{floor_limit, node_limit, arc_limit, people_limit, cell_limit}
+use Rattle.evac_law.specs.Limits.{floor_limit, node_limit, arc_limit, people_limit, cell_limit, window_limit}
+use Rattle.evac_law.specs.Building.{arc_row, node_row}
 use Rattle.evac_law.specs.Names.{is_exit}
+use Rattle.evac_law.specs.Windows.{overlaps, window_of}
+use Rattle.evac_law.specs.declared.entrant.Entrant.{Entrant}
 use Rattle.evac_law.specs.declared.name.NodeName.{NodeName}
 use Rattle.evac_law.specs.declared.model.NodeRow.{NodeRow}
 use Rattle.evac_law.specs.declared.model.ArcRow.{ArcRow}
+use Rattle.evac_law.specs.declared.window.Window.{Window}
 use Rattle.building_table.specs.declared.faults.BuildFault.{BuildFault}
 use Rattle.building_table.specs.Built.{Built, build_code}
 use Rattle.building_table.specs.Names.{NameLists}
-use Rattle.model_text.specs.Codes.{repeated_setting, unknown_floor, repeated_node, over_full, unknown_node, self_arc, from_exit, repeated_arc, too_many, missing_setting, no_exit, too_large}
-use Rattle.model_text.specs.Taken.{first_code, place_of_node, same_name}
+use Rattle.model_text.specs.Codes.{repeated_setting, unknown_floor, repeated_node, over_full, unknown_node, self_arc, from_exit, repeated_arc, too_many, missing_setting, no_exit, too_large, unknown_arc, bad_window, window_overlap, too_many_windows, exit_named, repeated_entrant, entrant_late}
+use Rattle.model_text.specs.Taken.{closing, entrant_of, first_code, is_coming, joins, place_of_arc, place_of_node, same_name, arc_windows, with_entrant}
 
--- whether it holds a floor of a number, a node of a name, an arc between two names
+-- whether it holds a floor of a number, a node of a name, an arc between two names, an entrant at a node and a moment
 abbrev pub holds_floor : Built → ℕ → Bool
 holds_floor b floor = list_any (λ f. f == floor) b.floors
 
@@ -20,7 +24,21 @@ abbrev pub holds_node : Built → NodeName → Bool
 holds_node b name = list_any (λ n. same_name n.name name) b.nodes
 
 abbrev pub holds_arc : Built → NodeName → NodeName → Bool
-holds_arc b start finish = list_any (λ a. a.from == place_of_node b.nodes start && a.to == place_of_node b.nodes finish) b.arcs
+holds_arc b start finish = list_any (joins (place_of_node b.nodes start) (place_of_node b.nodes finish)) b.arcs
+
+abbrev pub holds_entrant : Built → NodeName → ℕ → Bool
+holds_entrant b name moment = list_any (is_coming (place_of_node b.nodes name) moment) b.entrants
+
+-- the place of the arc between two names, and the windows of that arc
+abbrev pub place_held : Built → NodeName → NodeName → ℕ
+place_held b start finish = place_of_arc b.arcs (place_of_node b.nodes start) (place_of_node b.nodes finish)
+
+abbrev pub windows_held : Built → NodeName → NodeName → List Window
+windows_held b start finish = arc_windows b.arcs (place_held b start finish)
+
+-- the people who start somewhere or come in later
+abbrev pub people_held : List NodeRow → List Entrant → ℕ
+people_held nodes entrants = sum_by (λ n. n.start) nodes + sum_by (λ e. e.people) entrants
 
 -- the checks of a statement in their order, each with its code
 abbrev pub title_checks : Built → List (Bool × ℕ)
@@ -38,7 +56,7 @@ floor_checks b floor = (holds_floor b floor, repeated_setting) ∷ (nat_le floor
 abbrev pub room_checks : Built → NodeName → ℕ → ℕ → List (Bool × ℕ)
 room_checks b name capacity start =
     (not (holds_floor b name.floor), unknown_floor) ∷ (holds_node b name, repeated_node) ∷ (nat_lt capacity start, over_full)
-    ∷ (nat_le node_limit (length b.nodes) || nat_lt people_limit (sum_by (λ n. n.start) b.nodes + start), too_many) ∷ []
+    ∷ (nat_le node_limit (length b.nodes) || nat_lt people_limit (people_held b.nodes b.entrants + start), too_many) ∷ []
 
 abbrev pub exit_checks : Built → NodeName → List (Bool × ℕ)
 exit_checks b name =
@@ -49,22 +67,46 @@ arc_checks b start finish =
     (not (holds_node b start), unknown_node) ∷ (not (holds_node b finish), unknown_node) ∷ (same_name start finish, self_arc)
     ∷ (is_exit start.kind, from_exit) ∷ (holds_arc b start finish, repeated_arc) ∷ (nat_le arc_limit (length b.arcs), too_many) ∷ []
 
+abbrev pub window_checks : Built → NodeName → NodeName → ℕ → ℕ → List (Bool × ℕ)
+window_checks b start finish first until =
+    (not (holds_node b start), unknown_node) ∷ (not (holds_node b finish), unknown_node) ∷ (not (holds_arc b start finish), unknown_arc)
+    ∷ (nat_le until first, bad_window) ∷ (list_any (λ v. overlaps v (window_of first until)) (windows_held b start finish), window_overlap)
+    ∷ (nat_le window_limit (length (windows_held b start finish)), too_many_windows) ∷ []
+
+-- the last two of these, of the windows of the arc
+abbrev pub close_checks : List Window → Window → List (Bool × ℕ)
+close_checks windows window =
+    (list_any (λ v. overlaps v window) windows, window_overlap) ∷ (nat_le window_limit (length windows), too_many_windows) ∷ []
+
+abbrev pub entrant_checks : Built → NodeName → ℕ → ℕ → List (Bool × ℕ)
+entrant_checks b name moment people =
+    (not (holds_node b name), unknown_node) ∷ (is_exit name.kind, exit_named) ∷ (holds_entrant b name moment, repeated_entrant)
+    ∷ (nat_lt people_limit (people_held b.nodes b.entrants + people), too_many) ∷ []
+
 -- the checks of the end
 abbrev pub end_checks : Built → List (Bool × ℕ)
 end_checks b =
     (is_none b.seconds || is_none b.horizon, missing_setting) ∷ (not (list_any (λ n. is_exit n.name.kind) b.nodes), no_exit)
-    ∷ (nat_lt cell_limit ((length b.nodes + length b.arcs) * (unwrap_or b.horizon 0 + 1)), too_large) ∷ []
+    ∷ (nat_lt cell_limit ((length b.nodes + length b.arcs) * (unwrap_or b.horizon 0 + 1)), too_large)
+    ∷ (list_any (λ e. nat_lt (unwrap_or b.horizon 0) e.moment) b.entrants, entrant_late) ∷ []
 
--- with one more floor, node or arc
+-- with one more floor, node, arc, window or entrant
 abbrev pub with_floor : Built → ℕ → List ℕ → Built
 with_floor b floor text = record b { floors = b.floors ++ (floor ∷ []); texts = b.texts ++ (text ∷ []) }
 
 abbrev pub adding_node : Built → NodeName → ℕ → ℕ → Built
-adding_node b name capacity start = record b { nodes = b.nodes ++ (record { name = name; capacity = capacity; start = start; shut = false } ∷ []) }
+adding_node b name capacity start = record b { nodes = b.nodes ++ (node_row name capacity start ∷ []) }
 
 abbrev pub adding_arc : Built → NodeName → NodeName → ℕ → ℕ → Built
 adding_arc b start finish travel rate =
-    record b { arcs = b.arcs ++ (record { from = place_of_node b.nodes start; to = place_of_node b.nodes finish; travel = travel; rate = rate; shut = false } ∷ []) }
+    record b { arcs = b.arcs ++ (arc_row (place_of_node b.nodes start) (place_of_node b.nodes finish) travel rate ∷ []) }
+
+abbrev pub adding_window : Built → NodeName → NodeName → ℕ → ℕ → Built
+adding_window b start finish first until = record b { arcs = closing b.arcs (place_held b start finish) (window_of first until) }
+
+abbrev pub adding_entrant : Built → NodeName → ℕ → ℕ → Built
+adding_entrant b name moment people =
+    record b { entrants = with_entrant b.entrants (entrant_of (place_of_node b.nodes name) moment people) }
 
 -- `Ok` comes where no check holds, and the builder then holds what it should; a fault is that of the first check that holds, and changes nothing
 pub record Takes (result : Result (Unit {0}) BuildFault) (checks : List (Bool × ℕ)) (old new after : Built) : Type 0 where
@@ -73,11 +115,11 @@ pub record Takes (result : Result (Unit {0}) BuildFault) (checks : List (Bool ×
   pub fault : IfErr result (λ f. first_code checks ≡ build_code f)
   pub same : OnErr result (new ≡ old)
 
--- what a builder keeps true: the index and the people are those of the nodes and the arcs, and the limits hold
-pub record IsBuilder (floors : List ℕ) (texts : ℕ) (nodes : List NodeRow) (arcs : List ArcRow) (index : NameLists) (people : ℕ) : Type 0 where
+-- what a builder keeps true: the index and the people are those of the nodes, the arcs and the entrants, and the limits hold
+pub record IsBuilder (floors : List ℕ) (texts : ℕ) (nodes : List NodeRow) (arcs : List ArcRow) (entrants : List Entrant) (index : NameLists) (people : ℕ) : Type 0 where
   pub listed_nodes : index.nodes ≡ map (λ n. n.name) nodes
   pub listed_arcs : index.ends ≡ map (λ a. (a.from, a.to)) arcs
-  pub counted : people ≡ sum_by (λ n. n.start) nodes
+  pub counted : people ≡ people_held nodes entrants
   pub few_people : people ≤ people_limit
   pub few_floors : length floors ≤ floor_limit
   pub few_nodes : length nodes ≤ node_limit

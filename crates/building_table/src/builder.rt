@@ -1,21 +1,25 @@
 // A building from its statements, one by one.
 ghost use Rattle.std.specs.Prelude.{◌≡◌, ◌≤◌, ◌<◌, ◌+◌, ◌*◌, ◌∷◌, ◌&&◌, ◌==◌, List, [], length, true, false, nat_le, nat_lt, MatchOption, ◌++◌, IfErr, IfOk, OnErr, OnOk, Some, None};
-ghost use Rattle.std.specs.List.{list_any, sum_by};
+ghost use Rattle.std.specs.List.{list_any, position};
 ghost use Rattle.evac_law.specs.Building.{IsValid};
-ghost use Rattle.evac_law.specs.Limits.{arc_limit, capacity_limit, cell_limit, floor_limit, node_limit, people_limit};
+ghost use Rattle.evac_law.specs.Limits.{arc_limit, capacity_limit, cell_limit, floor_limit, horizon_limit, node_limit, people_limit, window_limit};
 ghost use Rattle.evac_law.specs.Names.{is_exit};
+ghost use Rattle.evac_law.specs.Windows.{overlaps};
 ghost use Rattle.building_table.specs.Built.{Built, IsBuilding, IsPart, build_code, built_of, end_code};
-ghost use Rattle.building_table.specs.Taking.{Takes, end_checks, holds_node, arc_checks, exit_checks, floor_checks, holds_floor, horizon_checks, period_checks, room_checks, title_checks, adding_arc, with_floor, adding_node};
+ghost use Rattle.building_table.specs.Taking.{Takes, end_checks, holds_node, arc_checks, close_checks, entrant_checks, exit_checks, floor_checks, holds_floor, horizon_checks, people_held, period_checks, room_checks, title_checks, window_checks, adding_arc, adding_entrant, adding_node, adding_window, with_floor};
 ghost use Rattle.model_text.specs.Grammar.{Said};
 ghost use Rattle.model_text.specs.Reads.{said};
-ghost use Rattle.model_text.specs.Taken.{AreTaken, description_of, end_fault, first_code, place_of_node, same_name, statement_fault};
+ghost use Rattle.model_text.specs.Taken.{AreTaken, closing, description_of, end_fault, entrant_of, first_code, is_coming, joins, place_of_arc, place_of_node, same_name, statement_fault, arc_windows, with_entrant};
 
 use crate::building::Building;
+use crate::entrants::EntrantTable;
 use crate::faults::{BuildFault, EndFault};
 use crate::name_index::NameIndex;
 use crate::names::Names;
-use evac_law::limits::{ARC_LIMIT, CELL_LIMIT, FLOOR_LIMIT, NODE_LIMIT, PEOPLE_LIMIT};
-use evac_law::{ArcRow, NodeName, NodeRow, Rows};
+use evac_law::limits::{
+    ARC_LIMIT, CELL_LIMIT, FLOOR_LIMIT, NODE_LIMIT, PEOPLE_LIMIT, WINDOW_LIMIT,
+};
+use evac_law::{ArcRow, NodeName, NodeRow, Rows, Window};
 use model_text::Statement;
 use std::alloc::{AllocError, Global};
 use std::marker::Model;
@@ -30,6 +34,7 @@ pub struct Builder {
     texts: Vec<Vec<u8>>,
     nodes: Vec<NodeRow>,
     arcs: Vec<ArcRow>,
+    entrants: EntrantTable,
     index: NameIndex,
     people: u32,
 }
@@ -50,9 +55,10 @@ impl Model for Builder {
       texts = map (λ t. t.items) b.texts.items;
       nodes = b.nodes.items;
       arcs = b.arcs.items;
+      entrants = b.entrants;
     } };
 
-    ghost invariant = { λ b. IsBuilder b.floors.items (length b.texts.items) b.nodes.items b.arcs.items b.index b.people };
+    ghost invariant = { λ b. IsBuilder b.floors.items (length b.texts.items) b.nodes.items b.arcs.items b.entrants b.index b.people };
 }
 
 // Whether there is an exit.
@@ -82,6 +88,7 @@ impl Builder {
             texts: Vec::new(alloc),
             nodes: Vec::new(alloc),
             arcs: Vec::new(alloc),
+            entrants: EntrantTable::new(alloc),
             index: NameIndex::new(alloc),
             people: 0,
         })
@@ -155,10 +162,16 @@ impl Builder {
         self.node_place(name).is_some()
     }
 
-    fn has_arc(&self, from: u32, to: u32) -> bool
-        ensures { result ≡ list_any (λ a. a.from == from && a.to == to) self.now.arcs }
+    fn arc_place(&self, from: u32, to: u32) -> Option<u32>
+        ensures { MatchOption result (list_any (joins from to) self.now.arcs ≡ false) (λ place. (list_any (joins from to) self.now.arcs ≡ true) × (place ≡ place_of_arc self.now.arcs from to)) }
     {
-        self.index.find_ends(from, to).is_some()
+        self.index.find_ends(from, to)
+    }
+
+    fn has_arc(&self, from: u32, to: u32) -> bool
+        ensures { result ≡ list_any (joins from to) self.now.arcs }
+    {
+        self.arc_place(from, to).is_some()
     }
 
     #[tactic(auto, unfolding(evac_law::specs::Limits::floor_limit))]
@@ -183,11 +196,11 @@ impl Builder {
     }
 
     #[tactic(auto, unfolding(evac_law::specs::Limits::people_limit))]
-    fn is_crowded(&self, start: u32) -> bool
-        requires { start ≤ 100000 }
-        ensures { result ≡ nat_lt people_limit (sum_by (λ n. n.start) self.now.nodes + start) }
+    fn is_crowded(&self, more: u32) -> bool
+        requires { more ≤ people_limit }
+        ensures { result ≡ nat_lt people_limit (people_held self.now.nodes self.now.entrants + more) }
     {
-        self.people + start > PEOPLE_LIMIT
+        self.people + more > PEOPLE_LIMIT
     }
 
     fn has_exit(&self) -> bool
@@ -201,7 +214,7 @@ impl Builder {
         ensures seconds { IfOk result (λ s. self.now.seconds ≡ Some s.0) }
         ensures horizon { IfOk result (λ s. self.now.horizon ≡ Some s.1) }
         ensures right { OnOk result (first_code (end_checks self.now) ≡ None) }
-        ensures fault { IfErr result (λ fault. first_code (end_checks self.now) ≡ Some (end_code fault)) }
+        ensures fault { IfErr result (λ fault. first_code (end_checks self.now) ≡ end_code fault) }
     {
         let (Some(seconds), Some(horizon)) = (self.seconds, self.horizon) else {
             return Err(EndFault::MissingSetting);
@@ -211,6 +224,9 @@ impl Builder {
         }
         if self.is_too_large(horizon) {
             return Err(EndFault::TooLarge);
+        }
+        if self.entrants.is_late(horizon) {
+            return Err(EndFault::EntrantLate);
         }
         Ok((seconds, horizon))
     }
@@ -243,17 +259,12 @@ impl Builder {
     fn push_node(&mut self, name: NodeName, capacity: u32, start: u32) -> Result<(), BuildFault>
         requires new { holds_node self.old name ≡ false }
         requires few { length self.old.nodes < node_limit }
-        requires fits { sum_by (λ n. n.start) self.old.nodes + start ≤ people_limit }
+        requires fits { people_held self.old.nodes self.old.entrants + start ≤ people_limit }
         ensures made { OnOk result (self.new ≡ adding_node self.old name capacity start) }
         ensures memory { IfErr result (λ f. f ≡ BuildFault.Memory) }
         ensures same { OnErr result (self.new ≡ self.old) }
     {
-        let row = NodeRow {
-            name,
-            capacity,
-            start,
-            shut: false,
-        };
+        let row = NodeRow::new(name, capacity, start);
         if self.nodes.push(row).is_err() {
             return Err(BuildFault::Memory);
         }
@@ -265,8 +276,9 @@ impl Builder {
         Ok(())
     }
 
+    #[tactic(auto, unfolding(evac_law::specs::Limits::capacity_limit, evac_law::specs::Limits::people_limit))]
     fn take_room(&mut self, name: NodeName, capacity: u32, start: u32) -> Result<(), BuildFault>
-        requires { start ≤ 100000 }
+        requires { start ≤ capacity_limit }
         ensures { Takes result (room_checks self.old name capacity start) self.old self.new (adding_node self.old name capacity start) }
     {
         if !self.has_floor(name.floor) {
@@ -302,16 +314,17 @@ impl Builder {
 
     // Puts one more arc behind the others.
     fn push_arc(&mut self, row: ArcRow) -> Result<(), BuildFault>
-        requires new { list_any (λ a. a.from == row.from && a.to == row.to) self.old.arcs ≡ false }
+        requires new { list_any (joins row.from row.to) self.old.arcs ≡ false }
         requires few { length self.old.arcs < arc_limit }
         ensures made { OnOk result (self.new ≡ record self.old { arcs = self.old.arcs ++ (row ∷ []) }) }
         ensures memory { IfErr result (λ f. f ≡ BuildFault.Memory) }
         ensures same { OnErr result (self.new ≡ self.old) }
     {
+        let (from, to) = (row.from, row.to);
         if self.arcs.push(row).is_err() {
             return Err(BuildFault::Memory);
         }
-        if self.index.insert_ends(row.from, row.to).is_err() {
+        if self.index.insert_ends(from, to).is_err() {
             self.arcs.pop();
             return Err(BuildFault::Memory);
         }
@@ -345,17 +358,104 @@ impl Builder {
         if self.is_full_of_arcs() {
             return Err(BuildFault::TooMany);
         }
-        self.push_arc(ArcRow {
-            from,
-            to,
-            travel,
-            rate,
-            shut: false,
-        })
+        self.push_arc(ArcRow::new(from, to, travel, rate))
     }
 
-    /// Takes one more statement: a title, a period, a horizon, a floor, a node, an exit or an arc.
-    #[tactic(auto, unfolding(evac_law::specs::Limits::capacity_limit))]
+    // Gives an arc one more window, where there is room.
+    fn add_window(&mut self, arc: u32, window: Window)
+        requires arc_in { arc < length self.old.arcs }
+        requires few { length (arc_windows self.old.arcs arc) < window_limit }
+        ensures { self.new ≡ record self.old { arcs = closing self.old.arcs arc window } }
+    {
+        self.arcs[arc as usize].add_window(window);
+    }
+
+    // Closes an arc in a window that begins before it ends.
+    #[tactic(auto, unfolding(evac_law::specs::Limits::window_limit))]
+    fn close(&mut self, arc: u32, window: Window) -> Result<(), BuildFault>
+        requires { arc < length self.old.arcs }
+        ensures { Takes result (close_checks (arc_windows self.old.arcs arc) window) self.old self.new (record self.old { arcs = closing self.old.arcs arc window }) }
+    {
+        let row = &self.arcs[arc as usize];
+        if row.overlaps(window) {
+            return Err(BuildFault::WindowOverlap);
+        }
+        if row.windows.len() >= WINDOW_LIMIT {
+            return Err(BuildFault::TooManyWindows);
+        }
+        self.add_window(arc, window);
+        Ok(())
+    }
+
+    #[tactic(auto, unfolding(evac_law::specs::Limits::horizon_limit))]
+    fn take_window(
+        &mut self,
+        start: NodeName,
+        finish: NodeName,
+        first: u32,
+        until: u32,
+    ) -> Result<(), BuildFault>
+        requires first_fits { first ≤ horizon_limit }
+        requires until_fits { until ≤ horizon_limit + 1 }
+        ensures { Takes result (window_checks self.old start finish first until) self.old self.new (adding_window self.old start finish first until) }
+    {
+        let Some(from) = self.node_place(start) else {
+            return Err(BuildFault::UnknownNode);
+        };
+        let Some(to) = self.node_place(finish) else {
+            return Err(BuildFault::UnknownNode);
+        };
+        let Some(arc) = self.arc_place(from, to) else {
+            return Err(BuildFault::NoArc);
+        };
+        if until <= first {
+            return Err(BuildFault::BadWindow);
+        }
+        self.close(
+            arc,
+            Window {
+                from: first as u16,
+                until: until as u16,
+            },
+        )
+    }
+
+    // Puts one more entrant among the others.
+    #[tactic(auto, unfolding(evac_law::specs::Limits::people_limit))]
+    fn push_entrant(&mut self, node: u32, moment: u16, people: u32) -> Result<(), BuildFault>
+        requires new { list_any (is_coming node moment) self.old.entrants ≡ false }
+        requires fits { people_held self.old.nodes self.old.entrants + people ≤ people_limit }
+        ensures made { OnOk result (self.new ≡ record self.old { entrants = with_entrant self.old.entrants (entrant_of node moment people) }) }
+        ensures memory { IfErr result (λ f. f ≡ BuildFault.Memory) }
+        ensures same { OnErr result (self.new ≡ self.old) }
+    {
+        if self.entrants.insert(node, moment, people).is_err() {
+            return Err(BuildFault::Memory);
+        }
+        self.people += people;
+        Ok(())
+    }
+
+    fn take_entrant(&mut self, name: NodeName, moment: u16, people: u32) -> Result<(), BuildFault>
+        requires { people ≤ people_limit }
+        ensures { Takes result (entrant_checks self.old name moment people) self.old self.new (adding_entrant self.old name moment people) }
+    {
+        let Some(node) = self.node_place(name) else {
+            return Err(BuildFault::UnknownNode);
+        };
+        if name.kind.is_exit() {
+            return Err(BuildFault::ExitNamed);
+        }
+        if self.entrants.contains(node, moment) {
+            return Err(BuildFault::RepeatedEntrant);
+        }
+        if self.is_crowded(people) {
+            return Err(BuildFault::TooMany);
+        }
+        self.push_entrant(node, moment, people)
+    }
+
+    /// Takes one more statement: a title, a period, a horizon, a floor, a node, an exit, an arc, a window or an entrant.
     pub fn take(&mut self, alloc: Global, statement: Statement<'_>) -> Result<(), BuildFault>
         requires { IsPart (said statement) }
         ensures taken { OnOk result ((before : List Said) → self.old ≡ built_of before → (statement_fault before (said statement.entry) ≡ None) × (self.new ≡ built_of (said statement.entry ∷ before))) }
@@ -379,19 +479,30 @@ impl Builder {
                 travel,
                 rate,
             } => self.take_arc(from, to, travel, rate),
+            Statement::Window {
+                from,
+                to,
+                first,
+                until,
+            } => self.take_window(from, to, first, until),
+            Statement::Entrant {
+                name,
+                moment,
+                people,
+            } => self.take_entrant(name, moment, people),
             Statement::Blank | Statement::Header { .. } | Statement::End => unreachable!(),
         }
     }
 
     /// The building of the statements that were taken.
-    pub fn finish(self) -> Result<Building, EndFault>
+    pub fn finish(self, alloc: Global) -> Result<Building, EndFault>
         ensures building { IfOk result (λ b. (taken : List Said) → AreTaken taken → self ≡ built_of taken → (end_fault taken ≡ None) × IsBuilding b (description_of taken)) }
         ensures valid { IfOk result (λ b. (taken : List Said) → AreTaken taken → self ≡ built_of taken → IsValid b.model) }
-        ensures fault { IfErr result (λ fault. (taken : List Said) → self ≡ built_of taken → end_fault taken ≡ Some (end_code fault)) }
+        ensures fault { IfErr result (λ fault. (taken : List Said) → self ≡ built_of taken → end_fault taken ≡ end_code fault) }
     {
-        let settings = match self.settings() {
-            Ok(settings) => settings,
-            Err(fault) => return Err(fault),
+        let (seconds, horizon) = self.settings()?;
+        let Ok(entrants) = self.entrants.rows(alloc) else {
+            return Err(EndFault::Memory);
         };
         let Builder {
             title,
@@ -404,10 +515,11 @@ impl Builder {
         } = self;
         let names = Names::from_index(index, floors, texts, title);
         let model = evac_law::Model {
-            seconds: settings.0,
-            horizon: settings.1,
+            seconds,
+            horizon,
             nodes: Rows::new(nodes),
             arcs: Rows::new(arcs),
+            entrants,
         };
         Ok(Building { model, names })
     }

@@ -1,5 +1,5 @@
 // The edit that a command names.
-ghost use Rattle.std.specs.Prelude.{◌≡◌, IfOk};
+ghost use Rattle.std.specs.Prelude.{◌≡◌, ◌<◌, IfOk, length};
 ghost use Rattle.evac_law.specs.Edits.{IsEditOf};
 ghost use Rattle.evac_law.specs.declared.model.Model.{Model};
 ghost use Rattle.building_table.specs.EditNames.{IsEdit, edit_named, named_arc, named_node, named_nodes};
@@ -27,8 +27,10 @@ fn nodes(names: &Names, from: NodeName, to: NodeName) -> Result<(u32, u32), Name
     Ok((from, to))
 }
 
-fn arc(names: &Names, from: NodeName, to: NodeName) -> Result<u32, NameFault>
-    ensures { result ≡ named_arc names.now from to }
+/// The place of the arc between two nodes, or the first name that has no place.
+pub fn arc_of(names: &Names, from: NodeName, to: NodeName) -> Result<u32, NameFault>
+    ensures arc { result ≡ named_arc names.now from to }
+    ensures within { IfOk result (λ arc. (m : Model) → NamesFit names.now m → arc < length m.arcs) }
 {
     let (from, to) = nodes(names, from, to)?;
     match names.find_arc(from, to) {
@@ -46,10 +48,10 @@ pub fn edit_of(names: &Names, command: Command) -> Result<Edit, NameFault>
 {
     match command {
         Command::Shut { from, to } => Ok(Edit::Shut {
-            arc: arc(names, from, to)?,
+            arc: arc_of(names, from, to)?,
         }),
         Command::Reopen { from, to } => Ok(Edit::Reopen {
-            arc: arc(names, from, to)?,
+            arc: arc_of(names, from, to)?,
         }),
         Command::ShutExit { node: name } => Ok(Edit::ShutExit {
             node: node(names, name)?,
@@ -58,7 +60,7 @@ pub fn edit_of(names: &Names, command: Command) -> Result<Edit, NameFault>
             node: node(names, name)?,
         }),
         Command::Rate { from, to, rate } => Ok(Edit::Rate {
-            arc: arc(names, from, to)?,
+            arc: arc_of(names, from, to)?,
             rate,
         }),
         Command::Room {
@@ -79,6 +81,26 @@ pub fn edit_of(names: &Names, command: Command) -> Result<Edit, NameFault>
         Command::Leave { node: name, people } => Ok(Edit::Leave {
             node: node(names, name)?,
             people,
+        }),
+        Command::Window {
+            from,
+            to,
+            first,
+            until,
+        } => Ok(Edit::Window {
+            arc: arc_of(names, from, to)?,
+            from: first,
+            until,
+        }),
+        Command::Unwindow {
+            from,
+            to,
+            first,
+            until,
+        } => Ok(Edit::Unwindow {
+            arc: arc_of(names, from, to)?,
+            from: first,
+            until,
         }),
         _ => unreachable!(),
     }

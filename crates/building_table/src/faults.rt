@@ -25,6 +25,18 @@ pub enum BuildFault {
     RepeatedArc,
     #[error("there are too many")]
     TooMany,
+    #[error("there is no such arc")]
+    NoArc,
+    #[error("the window doesn't begin before it ends")]
+    BadWindow,
+    #[error("the arc has a window at one of these moments")]
+    WindowOverlap,
+    #[error("the arc has too many windows")]
+    TooManyWindows,
+    #[error("the node is an exit")]
+    ExitNamed,
+    #[error("people come into the node at this moment already")]
+    RepeatedEntrant,
     #[error("there is no memory")]
     Memory,
 }
@@ -38,6 +50,10 @@ pub enum EndFault {
     NoExit,
     #[error("there are too many cells")]
     TooLarge,
+    #[error("people come in after the horizon")]
+    EntrantLate,
+    #[error("there is no memory")]
+    Memory,
 }
 
 /// Why lines give no building.
@@ -75,20 +91,28 @@ impl BuildFault {
             BuildFault::FromExit => Some(15),
             BuildFault::RepeatedArc => Some(16),
             BuildFault::TooMany => Some(17),
+            BuildFault::NoArc => Some(32),
+            BuildFault::BadWindow => Some(24),
+            BuildFault::WindowOverlap => Some(25),
+            BuildFault::TooManyWindows => Some(26),
+            BuildFault::ExitNamed => Some(37),
+            BuildFault::RepeatedEntrant => Some(29),
             BuildFault::Memory => None,
         }
     }
 }
 
 impl EndFault {
-    /// The number by which a refusal names the fault.
-    pub fn code(self) -> u8
+    /// The number by which a refusal names the fault; want of memory has none.
+    pub fn code(self) -> Option<u8>
         ensures { result ≡ end_code self }
     {
         match self {
-            EndFault::MissingSetting => 18,
-            EndFault::NoExit => 19,
-            EndFault::TooLarge => 20,
+            EndFault::MissingSetting => Some(18),
+            EndFault::NoExit => Some(19),
+            EndFault::TooLarge => Some(20),
+            EndFault::EntrantLate => Some(28),
+            EndFault::Memory => None,
         }
     }
 }

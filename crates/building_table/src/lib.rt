@@ -6,6 +6,7 @@
 mod builder;
 mod building;
 mod commands;
+mod entrants;
 mod faults;
 mod hear;
 mod name_index;
@@ -14,7 +15,7 @@ mod read;
 
 pub use builder::Builder;
 pub use building::Building;
-pub use commands::edit_of;
+pub use commands::{arc_of, edit_of};
 pub use faults::{BuildFault, EndFault, ModelFault, NameFault};
 pub use names::Names;
 pub use read::read_model;

@@ -16,11 +16,18 @@ use crate::hear::{finish, hear, hear_first};
 use line_io::{Ending, Heard, LineFault, Lines, Listener, Refusal, Source, listen};
 use std::alloc::Global;
 
+// The codes of the faults that only the end of the lines tells.
+const LINE_TOO_LONG: u8 = 2;
+
+const INPUT_TOO_LONG: u8 = 3;
+
+const MISSING_END: u8 = 21;
+
 // What takes the lines of a model.
 #[derive(Drop)]
 struct ModelReader {
     alloc: Global,
-    opened: bool,
+    version: Option<u32>,
     builder: Builder,
 }
 
@@ -38,11 +45,13 @@ impl Listener for ModelReader {
 
     fn hear(&mut self, text: &[u8], line: u32) -> Result<Heard, Refusal> {
         let _ = line;
-        if self.opened {
-            return hear(self.alloc, &mut self.builder, text);
+        match self.version {
+            Some(version) => hear(self.alloc, version, &mut self.builder, text),
+            None => {
+                self.version = hear_first(text)?;
+                Ok(Heard::More)
+            }
         }
-        self.opened = hear_first(text)?;
-        Ok(Heard::More)
     }
 }
 
@@ -59,14 +68,14 @@ fn conclude(
     ensures quiet { ending ≡ Ending.Fault LineFault.ReadFault → result ≡ Err ModelFault.ReadFault }
 {
     let code = match ending {
-        Ending::Finished => return finish(reader.builder, number),
+        Ending::Finished => return finish(reader.alloc, reader.builder, number),
         Ending::Failed(Refusal::Code(code)) => {
             return Err(ModelFault::Named { code, line: number });
         }
         Ending::Failed(Refusal::Memory) => return Err(ModelFault::Memory),
-        Ending::InputEnded => 21,
-        Ending::Fault(LineFault::LineTooLong) => 2,
-        Ending::Fault(LineFault::InputTooLong) => 3,
+        Ending::InputEnded => MISSING_END,
+        Ending::Fault(LineFault::LineTooLong) => LINE_TOO_LONG,
+        Ending::Fault(LineFault::InputTooLong) => INPUT_TOO_LONG,
         Ending::Fault(LineFault::ReadFault) => return Err(ModelFault::ReadFault),
     };
     Err(ModelFault::Named {
@@ -101,7 +110,7 @@ pub fn read_model<S: Source>(
     };
     let mut reader = ModelReader {
         alloc,
-        opened: false,
+        version: None,
         builder,
     };
     let ending = listen(lines, source, &mut reader);

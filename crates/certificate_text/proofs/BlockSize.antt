@@ -14,6 +14,7 @@ use Rattle.evac_law.specs.Limits.{cell_limit, horizon_limit, people_limit, rate_
 use Rattle.evac_law.specs.Names.{name_text}
 use Rattle.evac_law.specs.Plans.{moved, out_by}
 use Rattle.evac_law.specs.Sums.{below}
+use Rattle.evac_law.specs.Windows.{is_closed_at}
 use Rattle.evac_law.proofs.NameLemmas.{name_short}
 use Rattle.evac_law.proofs.Optimal.{certified_is_feasible, out_le_people}
 use Rattle.evac_law.proofs.PartLemmas.{flat_map-none, flat_map-suc}
@@ -30,7 +31,9 @@ rate-by false r = omega arith
 
 pub rate-most : (m : Model) (a t : ℕ) → IsValid m → a < length m.arcs → rate m a t ≤ rate_limit
 rate-most m a t valid h =
-    let fits = (arc_is m a valid h).rate_fits in let low = rate-by ((arc_at m a).shut || (node_at m (head m a)).shut) (arc_at m a).rate in omega (arith, fits, low)
+    let fits = (arc_is m a valid h).rate_fits in
+    let low = rate-by (((arc_at m a).shut || (node_at m (head m a)).shut) || is_closed_at (arc_at m a).windows.items t) (arc_at m a).rate in
+    omega (arith, fits, low)
 
 -- ---- lines
 
@@ -48,9 +51,9 @@ size-one f a h = let whole = length-append f (10 ∷ []) in omega (arith, whole,
 digits : (k n : ℕ) → 0 < k → n < 10 ^ k → n < 10 ^ 9 → length (decimal n) ≤ k
 digits k n pos h small = length-decimal-le k n pos h (omega (arith, small))
 
-digits-3 : (n : ℕ) → n ≤ horizon_limit → length (decimal n) ≤ 3
+digits-4 : (n : ℕ) → n ≤ horizon_limit → length (decimal n) ≤ 4
 unfolding horizon_limit
-digits-3 n h = digits 3 n (omega arith) (omega (arith, h)) (omega (arith, h))
+digits-4 n h = digits 4 n (omega arith) (omega (arith, h)) (omega (arith, h))
 
 digits-6 : (n : ℕ) → n ≤ people_limit → length (decimal n) ≤ 6
 unfolding people_limit
@@ -64,40 +67,40 @@ digits-9 : (n : ℕ) → n ≤ number_field_limit → length (decimal n) ≤ 9
 unfolding number_field_limit
 digits-9 n h = digits 9 n (omega arith) (omega (arith, h)) (omega (arith, h))
 
-index-size : (n : ℕ) → n ≤ number_field_limit → length (answer_line n) ≤ 37
+index-size : (n : ℕ) → n ≤ number_field_limit → length (answer_line n) ≤ 38
 unfolding answer_line
 index-size n h = let s = size-more (codes "answer") (decimal n) [] 6 10 (omega arith) (size-one (decimal n) 9 (digits-9 n h)) in omega (arith, s)
 
-people-size : (n : ℕ) → n ≤ people_limit → length (people_line n) ≤ 37
+people-size : (n : ℕ) → n ≤ people_limit → length (people_line n) ≤ 38
 unfolding people_line
 people-size n h = let s = size-more (codes "people") (decimal n) [] 6 7 (omega arith) (size-one (decimal n) 6 (digits-6 n h)) in omega (arith, s)
 
-cleared-size : (n : ℕ) → n ≤ horizon_limit → length (cleared_line n) ≤ 37
+cleared-size : (n : ℕ) → n ≤ horizon_limit → length (cleared_line n) ≤ 38
 unfolding cleared_line
-cleared-size n h = let s = size-more (codes "cleared") (decimal n) [] 7 4 (omega arith) (size-one (decimal n) 3 (digits-3 n h)) in omega (arith, s)
+cleared-size n h = let s = size-more (codes "cleared") (decimal n) [] 7 5 (omega arith) (size-one (decimal n) 4 (digits-4 n h)) in omega (arith, s)
 
-end-size : length end_line ≤ 37
+end-size : length end_line ≤ 38
 unfolding end_line
 end-size = let s = size-one (codes "end") 3 (omega arith) in omega (arith, s)
 
-out-size : (k n : ℕ) → k ≤ horizon_limit → n ≤ people_limit → length (out_line k n) ≤ 37
+out-size : (k n : ℕ) → k ≤ horizon_limit → n ≤ people_limit → length (out_line k n) ≤ 38
 unfolding out_line
 out-size k n h g =
-    let s = size-more (codes "out") (decimal k) (decimal n ∷ []) 3 11 (omega arith) (size-more (decimal k) (decimal n) [] 3 7 (digits-3 k h) (size-one (decimal n) 6 (digits-6 n g))) in
+    let s = size-more (codes "out") (decimal k) (decimal n ∷ []) 3 12 (omega arith) (size-more (decimal k) (decimal n) [] 4 7 (digits-4 k h) (size-one (decimal n) 6 (digits-6 n g))) in
     omega (arith, s)
 
-label-size : (name : List ℕ) (t v : ℕ) → length name ≤ 10 → t ≤ horizon_limit → v ≤ horizon_limit → length (label_line name t v) ≤ 37
+label-size : (name : List ℕ) (t v : ℕ) → length name ≤ 10 → t ≤ horizon_limit → v ≤ horizon_limit → length (label_line name t v) ≤ 38
 unfolding label_line
 label-size name t v a h g =
-    let s = size-more (codes "label") name (decimal t ∷ decimal v ∷ []) 5 19 (omega arith)
-    (size-more name (decimal t) (decimal v ∷ []) 10 8 a (size-more (decimal t) (decimal v) [] 3 4 (digits-3 t h) (size-one (decimal v) 3 (digits-3 v g)))) in
+    let s = size-more (codes "label") name (decimal t ∷ decimal v ∷ []) 5 21 (omega arith)
+    (size-more name (decimal t) (decimal v ∷ []) 10 10 a (size-more (decimal t) (decimal v) [] 4 5 (digits-4 t h) (size-one (decimal v) 4 (digits-4 v g)))) in
     omega (arith, s)
 
-move-size : (t : ℕ) (start finish : List ℕ) (n : ℕ) → t ≤ horizon_limit → length start ≤ 10 → length finish ≤ 10 → n ≤ rate_limit → length (move_line t start finish n) ≤ 37
+move-size : (t : ℕ) (start finish : List ℕ) (n : ℕ) → t ≤ horizon_limit → length start ≤ 10 → length finish ≤ 10 → n ≤ rate_limit → length (move_line t start finish n) ≤ 38
 unfolding move_line
 move-size t start finish n h a b g =
-    let s = size-more (codes "move") (decimal t) (start ∷ finish ∷ decimal n ∷ []) 4 32 (omega arith)
-    (size-more (decimal t) start (finish ∷ decimal n ∷ []) 3 28 (digits-3 t h)
+    let s = size-more (codes "move") (decimal t) (start ∷ finish ∷ decimal n ∷ []) 4 33 (omega arith)
+    (size-more (decimal t) start (finish ∷ decimal n ∷ []) 4 28 (digits-4 t h)
     (size-more start finish (decimal n ∷ []) 10 17 a (size-more finish (decimal n) [] 10 6 b (size-one (decimal n) 5 (digits-5 n g))))) in
     omega (arith, s)
 
@@ -123,26 +126,26 @@ neither-size : (w : Bool) (x : List ℕ) (b : ℕ) → length x ≤ b → length
 neither-size true x b h = omega arith
 neither-size false x b h = h
 
-outs-size : (m : Model) (p : List Move) (l : LabelTable) (c : ℕ) → IsValid m → IsCertified m p l c → length (out_lines m p c) ≤ 37 * (c + 1)
+outs-size : (m : Model) (p : List Move) (l : LabelTable) (c : ℕ) → IsValid m → IsCertified m p l c → length (out_lines m p c) ≤ 38 * (c + 1)
 outs-size m p l c valid cert =
-    all-size (λ k. out_line k (out_by m p k)) 37 (c + 1) (λ k h.
+    all-size (λ k. out_line k (out_by m p k)) 38 (c + 1) (λ k h.
     out-size k (out_by m p k) (omega (arith, h, cert.in_horizon, valid.horizon))
     (let a = out_le_people m p k valid (certified_is_feasible m p l c k valid cert) in let b = valid.people_fit in omega (arith, a, b)))
 
-labels-size : (m : Model) (p : List Move) (l : LabelTable) (c : ℕ) → IsValid m → IsCertified m p l c → length (label_lines m l c) ≤ 37 * c * length m.nodes
+labels-size : (m : Model) (p : List Move) (l : LabelTable) (c : ℕ) → IsValid m → IsCertified m p l c → length (label_lines m l c) ≤ 38 * c * length m.nodes
 labels-size m p l c valid cert =
-    all-size (node_labels m l c) (37 * c) (length m.nodes) (λ n a.
-    neither-size (is_exit_at m n) (flat_map (label_part m l c n) (below c)) (37 * c)
-    (all-size (label_part m l c n) 37 c (λ t h.
-    either-size (begins_run (shown_label l c n) t) (label_line (name_text (node_at m n).name) t (shown_label l c n t)) 37
+    all-size (node_labels m l c) (38 * c) (length m.nodes) (λ n a.
+    neither-size (is_exit_at m n) (flat_map (label_part m l c n) (below c)) (38 * c)
+    (all-size (label_part m l c n) 38 c (λ t h.
+    either-size (begins_run (shown_label l c n) t) (label_line (name_text (node_at m n).name) t (shown_label l c n t)) 38
     (label-size (name_text (node_at m n).name) t (shown_label l c n t) (name_short (node_at m n).name (name_is m n valid a))
     (omega (arith, h, cert.in_horizon, valid.horizon)) (omega (arith, cert.in_horizon, valid.horizon))))))
 
-moves-size : (m : Model) (p : List Move) (l : LabelTable) (c : ℕ) → IsValid m → IsCertified m p l c → length (move_lines m p) ≤ 37 * length m.arcs * (m.horizon + 1)
+moves-size : (m : Model) (p : List Move) (l : LabelTable) (c : ℕ) → IsValid m → IsCertified m p l c → length (move_lines m p) ≤ 38 * length m.arcs * (m.horizon + 1)
 moves-size m p l c valid cert =
-    all-size (moment_moves m p) (37 * length m.arcs) (m.horizon + 1) (λ t h.
-    all-size (move_part m p t) 37 (length m.arcs) (λ a k.
-    neither-size (nat_eq (moved p a t) 0) (move_line t (name_text (node_at m (tail m a)).name) (name_text (node_at m (head m a)).name) (moved p a t)) 37
+    all-size (moment_moves m p) (38 * length m.arcs) (m.horizon + 1) (λ t h.
+    all-size (move_part m p t) 38 (length m.arcs) (λ a k.
+    neither-size (nat_eq (moved p a t) 0) (move_line t (name_text (node_at m (tail m a)).name) (name_text (node_at m (head m a)).name) (moved p a t)) 38
     (move-size t (name_text (node_at m (tail m a)).name) (name_text (node_at m (head m a)).name) (moved p a t) (omega (arith, h, valid.horizon))
     (name_short (node_at m (tail m a)).name (name_is m (tail m a) valid (tail_in m a valid k))) (name_short (node_at m (head m a)).name (name_is m (head m a) valid (head_in m a valid k)))
     (let x = (certified_is_feasible m p l c m.horizon valid cert).rates a t k (omega (arith, h)) in let y = rate-most m a t valid k in omega (arith, x, y)))))
@@ -150,15 +153,15 @@ moves-size m p l c valid cert =
 -- ---- the whole
 
 -- the lines of labels and moves, one for a cell at most
-cells-size : (nodes arcs w c : ℕ) → c ≤ w → 37 * c * nodes + 37 * arcs * w ≤ 37 * ((nodes + arcs) * w)
+cells-size : (nodes arcs w c : ℕ) → c ≤ w → 38 * c * nodes + 38 * arcs * w ≤ 38 * ((nodes + arcs) * w)
 cells-size nodes arcs w c h =
-    let less = mul-le (37 * c) nodes (37 * w) nodes (omega (arith, h)) (le_refl nodes) in
-    let a : 37 * w * nodes ≡ 37 * (nodes * w) = mul_assoc 37 w nodes ∙ ap (λ x. 37 * x) (mul_comm w nodes) in
-    let b : 37 * arcs * w ≡ 37 * (arcs * w) = mul_assoc 37 arcs w in
+    let less = mul-le (38 * c) nodes (38 * w) nodes (omega (arith, h)) (le_refl nodes) in
+    let a : 38 * w * nodes ≡ 38 * (nodes * w) = mul_assoc 38 w nodes ∙ ap (λ x. 38 * x) (mul_comm w nodes) in
+    let b : 38 * arcs * w ≡ 38 * (arcs * w) = mul_assoc 38 arcs w in
     let d : (nodes + arcs) * w ≡ nodes * w + arcs * w = add-mul nodes arcs w in
     omega (arith, less, a, b, d)
 
-sum-size : (cells c total : ℕ) → cells ≤ cell_limit → c ≤ horizon_limit → total ≤ 37 * cells + 37 * (c + 1) + 148 → total ≤ block_limit
+sum-size : (cells c total : ℕ) → cells ≤ cell_limit → c ≤ horizon_limit → total ≤ 38 * cells + 38 * (c + 1) + 152 → total ≤ block_limit
 unfolding cell_limit horizon_limit block_limit
 sum-size cells c total h k s = omega (arith, h, k, s)
 

@@ -34,8 +34,8 @@ plain-by : (t : Bool) (o : Option ℕ) (n : ℕ) → cond t None o ≡ Some n �
 plain-by true o n e = cc
 plain-by false o n e = e
 
-number-back : (n : ℕ) → n < 10 ^ 9 → field_number (decimal n) ≡ Some n
-number-back n few = plain-by (has_leading_zero (decimal n)) (field_number (decimal n)) n (plain-reads n few (small-number n few))
+pub field_number-decimal : (n : ℕ) → n < 10 ^ 9 → field_number (decimal n) ≡ Some n
+field_number-decimal n few = plain-by (has_leading_zero (decimal n)) (field_number (decimal n)) n (plain-reads n few (small-number n few))
 
 -- the entry of fields
 entry-back : (f : List ℕ) (fs : List (List ℕ)) → IsField f → AreFields fs → entry_of (fields (f ∷ fs)) ≡ entry_by_word f fs
@@ -43,7 +43,7 @@ unfolding entry_of
 entry-back f fs h hs = ap entry_of_fields (fields-back f fs h hs)
 
 number-entry : (make : ℕ → Entry) (n : ℕ) → n < 10 ^ 9 → option_and_then (λ k. Some (make k)) (field_number (decimal n)) ≡ Some (make n)
-number-entry make n few = ap (λ o. option_and_then (λ k. Some (make k)) o) (number-back n few)
+number-entry make n few = ap (λ o. option_and_then (λ k. Some (make k)) o) (field_number-decimal n few)
 
 index-back : (n : ℕ) → n < 10 ^ 9 → entry_of (fields (codes "answer" ∷ decimal n ∷ [])) ≡ Some (Index n)
 index-back n few =
@@ -60,7 +60,7 @@ cleared-back n few =
 out-back : (k n : ℕ) → k < 10 ^ 9 → n < 10 ^ 9 → entry_of (fields (codes "out" ∷ decimal k ∷ decimal n ∷ [])) ≡ Some (Out k n)
 out-back k n a b =
     entry-back (codes "out") (decimal k ∷ decimal n ∷ []) (word-field (codes "out") (omega arith) (omega arith) refl) (decimal-field k a, (decimal-field n b, tt))
-    ∙ ap₂ (λ x y. option_and_then (λ i. option_and_then (λ j. Some (Out i j)) y) x) (number-back k a) (number-back n b)
+    ∙ ap₂ (λ x y. option_and_then (λ i. option_and_then (λ j. Some (Out i j)) y) x) (field_number-decimal k a) (field_number-decimal n b)
 
 label-back : (name : NodeName) (t v : ℕ) → IsName name → t < 10 ^ 9 → v < 10 ^ 9
     → entry_of (fields (codes "label" ∷ name_text name ∷ decimal t ∷ decimal v ∷ [])) ≡ Some (Label name t v)
@@ -68,7 +68,7 @@ label-back name t v is a b =
     entry-back (codes "label") (name_text name ∷ decimal t ∷ decimal v ∷ []) (word-field (codes "label") (omega arith) (omega arith) refl)
     (name-field name is, (decimal-field t a, (decimal-field v b, tt)))
     ∙ ap (λ o. option_and_then (λ n. option_and_then (λ i. option_and_then (λ j. Some (Label n i j)) (field_number (decimal v))) (field_number (decimal t))) o) (text-reads name is)
-    ∙ ap₂ (λ x y. option_and_then (λ i. option_and_then (λ j. Some (Label name i j)) y) x) (number-back t a) (number-back v b)
+    ∙ ap₂ (λ x y. option_and_then (λ i. option_and_then (λ j. Some (Label name i j)) y) x) (field_number-decimal t a) (field_number-decimal v b)
 
 move-back : (t : ℕ) (start finish : NodeName) (n : ℕ) → t < 10 ^ 9 → IsName start → IsName finish → n < 10 ^ 9
     → entry_of (fields (codes "move" ∷ decimal t ∷ name_text start ∷ name_text finish ∷ decimal n ∷ [])) ≡ Some (Move t start finish n)
@@ -76,8 +76,8 @@ move-back t start finish n a from to b =
     entry-back (codes "move") (decimal t ∷ name_text start ∷ name_text finish ∷ decimal n ∷ []) (word-field (codes "move") (omega arith) (omega arith) refl)
     (decimal-field t a, (name-field start from, (name-field finish to, (decimal-field n b, tt))))
     ∙ ap₂ (λ x y. option_and_then (λ i. option_and_then (λ f. option_and_then (λ g. option_and_then (λ j. Some (Move i f g j)) (field_number (decimal n))) (name_of (name_text finish))) y) x)
-    (number-back t a) (text-reads start from)
-    ∙ ap₂ (λ x y. option_and_then (λ g. option_and_then (λ j. Some (Move t start g j)) y) x) (text-reads finish to) (number-back n b)
+    (field_number-decimal t a) (text-reads start from)
+    ∙ ap₂ (λ x y. option_and_then (λ g. option_and_then (λ j. Some (Move t start g j)) y) x) (text-reads finish to) (field_number-decimal n b)
 
 end-back : entry_of (fields (codes "end" ∷ [])) ≡ Some End
 end-back = entry-back (codes "end") [] (word-field (codes "end") (omega arith) (omega arith) refl) tt

@@ -1,8 +1,8 @@
 -- Lines that are spelled by fields give their fields back.
 use Rattle.std.proofs.Common.{◌≡◌, ℕ, ◌+◌, ◌*◌, ◌%◌, ◌^◌, ◌<◌, ◌≤◌, zero, suc, Bool, true, false, ◌&&◌, ◌||◌, cond, nat_lt, List, [], ◌∷◌, ◌++◌, length, get_or, take, Ok, lit<, refl, sym, ap, ap₂, ◌∙◌, arith, append_assoc, length-append}
 use Rattle.std.specs.Prelude.{codes, decimal}
-use Rattle.std.specs.List.{flat_map, list_all}
-use Rattle.std.proofs.lemmas.Bool.{and_parts, and_from, lt-ltb, ltb-true, ne_eqb}
+use Rattle.std.specs.List.{flat_map, list_all, list_any}
+use Rattle.std.proofs.lemmas.Bool.{and_parts, and_from, or_parts, lt-ltb, ltb-true, ne_eqb}
 use Rattle.std.proofs.lemmas.Fmt.{decimal_by_steps, decimal_nonempty, length-decimal-le}
 use Rattle.std.proofs.Math.Seq.{take-append_seam}
 use Rattle.std.proofs.lemmas.List.{get_or_push}
@@ -35,7 +35,7 @@ abbrev pub AreFields : List (List ℕ) → Type 0
 AreFields [] = Unit {0}
 AreFields (f ∷ fs) = IsField f × AreFields fs
 
-seen-blank : (b : ℕ) → is_seen b ≡ true → is_blank b ≡ false
+pub seen-blank : (b : ℕ) → is_seen b ≡ true → is_blank b ≡ false
 seen-blank b e =
     let l = ltb-true 32 b e in
     ap₂ (λ x y. x || y) (ne_eqb b 32 (λ q. omega (arith, q, l))) (ne_eqb b 9 (λ q. omega (arith, q, l)))
@@ -48,7 +48,7 @@ fields-none : fields_of [] ≡ []
 unfolding fields_of
 fields-none = refl
 
-fields-blank : (rest : List ℕ) → fields_of (32 ∷ rest) ≡ fields_of rest
+pub fields-blank : (rest : List ℕ) → fields_of (32 ∷ rest) ≡ fields_of rest
 unfolding fields_of
 fields-blank rest = refl
 
@@ -76,7 +76,7 @@ field-alone : (f : List ℕ) → IsField f → fields_of f ≡ f ∷ []
 field-alone [] h = absurd (omega (arith, h.some))
 field-alone (b ∷ bs) h = word-alone b bs h.seen
 
-field-then : (f rest : List ℕ) → IsField f → fields_of (f ++ (32 ∷ rest)) ≡ f ∷ fields_of rest
+pub field-then : (f rest : List ℕ) → IsField f → fields_of (f ++ (32 ∷ rest)) ≡ f ∷ fields_of rest
 field-then [] rest h = absurd (omega (arith, h.some))
 field-then (b ∷ bs) rest h = word-then b bs rest h.seen
 
@@ -158,11 +158,17 @@ pieces-end : (rest : List ℕ) → pieces (10 ∷ rest) ≡ (10 ∷ []) ∷ piec
 unfolding pieces
 pieces-end rest = refl
 
-pieces-line : (x rest : List ℕ) → list_all is_kept x ≡ true → pieces (x ++ (10 ∷ rest)) ≡ ended x ∷ pieces rest
+pub kept-whole : (x : List ℕ) → list_all is_kept x ≡ true → list_any is_lf x ≡ false
+kept-whole [] h = refl
+kept-whole (b ∷ bs) h =
+    let p = and_parts (is_kept b) (list_all is_kept bs) h in
+    ap (λ t. t || list_any is_lf bs) (kept-lf b p.0) ∙ kept-whole bs p.1
+
+pub pieces-line : (x rest : List ℕ) → list_any is_lf x ≡ false → pieces (x ++ (10 ∷ rest)) ≡ ended x ∷ pieces rest
 pieces-line [] rest h = pieces-end rest
 pieces-line (b ∷ bs) rest h =
-    let p = and_parts (is_kept b) (list_all is_kept bs) h in
-    pieces-more b (bs ++ (10 ∷ rest)) (kept-lf b p.0) ∙ ap (lines.onto_first b) (pieces-line bs rest p.1)
+    let p = or_parts (is_lf b) (list_any is_lf bs) h in
+    pieces-more b (bs ++ (10 ∷ rest)) p.0 ∙ ap (lines.onto_first b) (pieces-line bs rest p.1)
 
 last-kept : (x : List ℕ) (n : ℕ) → list_all is_kept x ≡ true → length x ≡ suc n → get_or x n 0 ≡ 13 → ⊥
 last-kept x n h size e =
@@ -183,11 +189,11 @@ content-short : (x : List ℕ) → IsLine x → length (content (ended x)) ≤ l
 unfolding line_limit
 content-short x h = let e = ap (λ (y : List ℕ). length y) (content-line x h.kept) in omega (arith, e, h.short)
 
-lines-more : (before : ℕ) (p : List ℕ) (ps : List (List ℕ)) → lines_after before (p ∷ ps) ≡ then_lines (line_of (before + length p) p) (lines_after (before + length p) ps)
+pub lines-more : (before : ℕ) (p : List ℕ) (ps : List (List ℕ)) → lines_after before (p ∷ ps) ≡ then_lines (line_of (before + length p) p) (lines_after (before + length p) ps)
 unfolding lines_after
 lines-more before p ps = refl
 
-lines-none : (before : ℕ) → lines_after before (pieces []) ≡ []
+pub lines-none : (before : ℕ) → lines_after before (pieces []) ≡ []
 unfolding lines_after pieces
 lines-none before = refl
 
@@ -206,7 +212,7 @@ lines-back before (x ∷ xs) h l =
     let same = content-line x h.0.kept in
     let good : line_of after (ended x) ≡ Ok x = line-good after (ended x) (content-short x h.0) (omega (arith, l, size)) ∙ ap (λ y. Ok y) same in
     ap (λ y. lines_after before (pieces y)) spelled
-    ∙ ap (lines_after before) (pieces-line x rest h.0.kept)
+    ∙ ap (lines_after before) (pieces-line x rest (kept-whole x h.0.kept))
     ∙ lines-more before (ended x) (pieces rest)
     ∙ ap (λ y. then_lines y (lines_after after (pieces rest))) good
     ∙ ap (λ y. Ok x ∷ y) (lines-back after xs h.1 (omega (arith, l, size)))
@@ -216,7 +222,7 @@ lines-back before (x ∷ xs) h l =
 seen-kept : (b : ℕ) → is_seen b ≡ true → is_kept b ≡ true
 seen-kept b e = let l = ltb-true 32 b e in lt-ltb 31 b (omega arith)
 
-word-kept : (x : List ℕ) → list_all is_seen x ≡ true → list_all is_kept x ≡ true
+pub word-kept : (x : List ℕ) → list_all is_seen x ≡ true → list_all is_kept x ≡ true
 word-kept [] h = refl
 word-kept (b ∷ bs) h =
     let p = and_parts (is_seen b) (list_all is_seen bs) h in and_from (is_kept b) (list_all is_kept bs) (seen-kept b p.0) (word-kept bs p.1)

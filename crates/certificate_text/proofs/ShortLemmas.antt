@@ -16,10 +16,10 @@ use Rattle.evac_law.specs.Sums.{below, moments_to}
 use Rattle.certificate_text.specs.BlockText.{end_line, in_line, in_lines, most_line, not_cleared, opens_run, people_line, refusal_line, run_end, shortfall_text}
 use Rattle.certificate_text.specs.Short.{HasSameNames}
 
--- the cut of the last moment by labels, of nodes with these names, in lines
-abbrev named_lines : LabelTable → (ℕ → NodeName) → ℕ → ℕ → List ℕ
-named_lines l name nodes horizon = flat_map (λ n. if is_exit (name n).kind then [] else
-    let inside = λ (t : ℕ). nat_le t horizon && (not (is_exit (name n).kind) && nat_lt horizon (label_at l n t)) in
+-- the cut of moment k by labels, of nodes with these names, in lines
+abbrev named_lines : LabelTable → ℕ → (ℕ → NodeName) → ℕ → ℕ → List ℕ
+named_lines l k name nodes horizon = flat_map (λ n. if is_exit (name n).kind then [] else
+    let inside = λ (t : ℕ). nat_le t k && (not (is_exit (name n).kind) && nat_lt k (label_at l n t)) in
     flat_map (λ t. if opens_run inside t then in_line (name_text (name n)) t (run_end inside t (horizon - t)) else []) (moments_to horizon))
     (below nodes)
 
@@ -33,10 +33,10 @@ count-same m other same =
     let name = λ (row : NodeRow). row.name in
     sym (length-map m.nodes name) ∙ ap (λ (x : List NodeName). length x) (sym same.names) ∙ length-map other.nodes name
 
-lines-same : (m other : Model) (l : LabelTable) → HasSameNames m other → in_lines m (label_cut m l m.horizon) ≡ in_lines other (label_cut other l other.horizon)
-lines-same m other l same =
-    ap (λ (name : ℕ → NodeName). named_lines l name (length m.nodes) m.horizon) (fun_ext (name-same m other same))
-    ∙ ap₂ (λ (nodes horizon : ℕ). named_lines l (λ n. (node_at other n).name) nodes horizon) (count-same m other same) (sym same.horizon)
+pub lines-same : (m other : Model) (l : LabelTable) (k : ℕ) → HasSameNames m other → in_lines m (label_cut m l k) ≡ in_lines other (label_cut other l k)
+lines-same m other l k same =
+    ap (λ (name : ℕ → NodeName). named_lines l k name (length m.nodes) m.horizon) (fun_ext (name-same m other same))
+    ∙ ap₂ (λ (nodes horizon : ℕ). named_lines l k (λ n. (node_at other n).name) nodes horizon) (count-same m other same) (sym same.horizon)
 
 -- the short block of a model with so many people in the place of its own
 unfoldable pub short_text : ℕ → Model → ℕ → LabelTable → ℕ → List ℕ
@@ -46,7 +46,8 @@ pub short-same : (line : ℕ) (m other : Model) (all : ℕ) (l : LabelTable) (mo
     → short_text line m all l most ≡ shortfall_text line other (label_cut other l other.horizon) most
 unfolding short_text shortfall_text
 short-same line m other all l most same few =
-    ap₂ (λ (p : ℕ) (x : List ℕ). refusal_line not_cleared line ++ people_line p ++ most_line most ++ x ++ end_line) (sym few) (lines-same m other l same)
+    ap₂ (λ (p : ℕ) (x : List ℕ). refusal_line not_cleared line ++ people_line p ++ most_line most ++ x ++ end_line) (sym few)
+    (lines-same m other l m.horizon same ∙ ap (λ (k : ℕ). in_lines other (label_cut other l k)) (sym same.horizon))
 
 -- a model itself has its names
 pub own-names : (m : Model) → HasSameNames m m

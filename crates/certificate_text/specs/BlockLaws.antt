@@ -16,7 +16,7 @@ use Rattle.certificate_text.specs.BlockText.{answer_text, shown_label}
 
 -- the most bytes of an answer block
 unfoldable pub block_limit : ℕ
-block_limit = 15000000
+block_limit = 40000000
 
 -- the answer block of a certified plan is within its limit
 abbrev pub BlockIsSmall : Type 0

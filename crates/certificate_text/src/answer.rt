@@ -227,8 +227,9 @@ fn write_moment<K: Sink, F: Standing>(
     Ok(())
 }
 
+/// Puts the moves of a plan, by moment and then by arc.
 #[tactic(auto, unfolding(evac_law::specs::Limits::horizon_limit))]
-fn write_moves<K: Sink, F: Standing>(
+pub fn write_moves<K: Sink, F: Standing>(
     out: &mut Out,
     sink: &mut K,
     model: &Model,

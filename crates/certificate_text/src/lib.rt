@@ -13,9 +13,9 @@ mod laws;
 mod lines;
 mod short;
 
-pub use answer::write_answer;
+pub use answer::{write_answer, write_moves};
 pub use block::Block;
 pub use entry::Entry;
 pub use laws::{block_is_small, block_reads_back};
 pub use lines::{put_name, write_end, write_refusal};
-pub use short::write_short;
+pub use short::{write_ins, write_short};

@@ -17,37 +17,37 @@ use line_io::{Out, Sink, WriteFault};
 // The code of a refusal because not everybody can get out in time.
 const NOT_CLEARED: u8 = 22;
 
-// Whether a node is in the cut of the last moment.
-fn is_inside(model: &Model, labels: &Labels, node: u32, moment: u16) -> bool
+// Whether a node is in the cut of moment k.
+fn is_inside(model: &Model, labels: &Labels, k: u16, node: u32, moment: u16) -> bool
     requires table { IsTableOf model.now labels.now }
     requires node_in { node < length model.now.nodes }
     requires moment_in { moment ≤ model.now.horizon }
-    ensures { result ≡ label_cut model.now labels.now model.now.horizon node moment }
+    ensures { result ≡ label_cut model.now labels.now k node moment }
 {
-    !model.node(node).name.kind.is_exit() && model.horizon < labels.get(node, moment)
+    moment <= k && !model.node(node).name.kind.is_exit() && k < labels.get(node, moment)
 }
 
 // Whether a moment is the first of a run inside the cut.
-fn opens_run(model: &Model, labels: &Labels, node: u32, moment: u16) -> bool
+fn opens_run(model: &Model, labels: &Labels, k: u16, node: u32, moment: u16) -> bool
     requires table { IsTableOf model.now labels.now }
     requires node_in { node < length model.now.nodes }
     requires moment_in { moment ≤ model.now.horizon }
-    ensures { result ≡ opens_run (label_cut model.now labels.now model.now.horizon node) moment }
+    ensures { result ≡ opens_run (label_cut model.now labels.now k node) moment }
 {
-    is_inside(model, labels, node, moment)
-        && (moment == 0 || !is_inside(model, labels, node, moment - 1))
+    is_inside(model, labels, k, node, moment)
+        && (moment == 0 || !is_inside(model, labels, k, node, moment - 1))
 }
 
 // The last moment of the run that a moment is in.
-fn run_end(model: &Model, labels: &Labels, node: u32, moment: u16) -> u16
+fn run_end(model: &Model, labels: &Labels, k: u16, node: u32, moment: u16) -> u16
     requires table { IsTableOf model.now labels.now }
     requires node_in { node < length model.now.nodes }
     requires moment_in { moment ≤ model.now.horizon }
-    ensures { result ≡ run_end (label_cut model.now labels.now model.now.horizon node) moment (model.now.horizon - moment) }
+    ensures { result ≡ run_end (label_cut model.now labels.now k node) moment (model.now.horizon - moment) }
 {
     let horizon = model.horizon;
     let mut last = moment;
-    while last < horizon && is_inside(model, labels, node, last + 1) {
+    while last < horizon && is_inside(model, labels, k, node, last + 1) {
         last += 1;
     }
     last
@@ -59,6 +59,7 @@ fn write_run<K: Sink>(
     sink: &mut K,
     model: &Model,
     labels: &Labels,
+    k: u16,
     node: u32,
     moment: u16,
 ) -> Result<(), WriteFault>
@@ -66,11 +67,11 @@ fn write_run<K: Sink>(
     requires table { IsTableOf model.now labels.now }
     requires node_in { node < length model.now.nodes }
     requires moment_in { moment ≤ model.now.horizon }
-    ensures text { PutsText (K.held sink.old) out.old (in_part model.now (label_cut model.now labels.now model.now.horizon) node moment) (K.held sink.new) out.new result }
+    ensures text { PutsText (K.held sink.old) out.old (in_part model.now (label_cut model.now labels.now k) node moment) (K.held sink.new) out.new result }
     ensures cause { HasCause (K.faults sink.old) (K.faults sink.new) result }
 {
-    if opens_run(model, labels, node, moment) {
-        let last = run_end(model, labels, node, moment);
+    if opens_run(model, labels, k, node, moment) {
+        let last = run_end(model, labels, k, node, moment);
         return write_in(out, sink, model.node(node).name, moment, last);
     }
     Ok(())
@@ -83,16 +84,17 @@ fn write_runs<K: Sink>(
     sink: &mut K,
     model: &Model,
     labels: &Labels,
+    k: u16,
     node: u32,
 ) -> Result<(), WriteFault>
     requires valid { IsValid model.now }
     requires table { IsTableOf model.now labels.now }
     requires node_in { node < length model.now.nodes }
-    ensures text { PutsText (K.held sink.old) out.old (flat_map (in_part model.now (label_cut model.now labels.now model.now.horizon) node) (moments_to model.now.horizon)) (K.held sink.new) out.new result }
+    ensures text { PutsText (K.held sink.old) out.old (flat_map (in_part model.now (label_cut model.now labels.now k) node) (moments_to model.now.horizon)) (K.held sink.new) out.new result }
     ensures cause { HasCause (K.faults sink.old) (K.faults sink.new) result }
 {
     for moment in 0..model.horizon + 1 {
-        write_run(out, sink, model, labels, node, moment)?;
+        write_run(out, sink, model, labels, k, node, moment)?;
     }
     Ok(())
 }
@@ -103,33 +105,36 @@ fn write_node<K: Sink>(
     sink: &mut K,
     model: &Model,
     labels: &Labels,
+    k: u16,
     node: u32,
 ) -> Result<(), WriteFault>
     requires valid { IsValid model.now }
     requires table { IsTableOf model.now labels.now }
     requires node_in { node < length model.now.nodes }
-    ensures text { PutsText (K.held sink.old) out.old (node_in model.now (label_cut model.now labels.now model.now.horizon) node) (K.held sink.new) out.new result }
+    ensures text { PutsText (K.held sink.old) out.old (node_in model.now (label_cut model.now labels.now k) node) (K.held sink.new) out.new result }
     ensures cause { HasCause (K.faults sink.old) (K.faults sink.new) result }
 {
     if model.node(node).name.kind.is_exit() {
         return Ok(());
     }
-    write_runs(out, sink, model, labels, node)
+    write_runs(out, sink, model, labels, k, node)
 }
 
-fn write_ins<K: Sink>(
+/// Puts the nodes in the cut of labels at a moment, each with the moments at which it is in.
+pub fn write_ins<K: Sink>(
     out: &mut Out,
     sink: &mut K,
     model: &Model,
     labels: &Labels,
+    k: u16,
 ) -> Result<(), WriteFault>
     requires valid { IsValid model.now }
     requires table { IsTableOf model.now labels.now }
-    ensures text { PutsText (K.held sink.old) out.old (in_lines model.now (label_cut model.now labels.now model.now.horizon)) (K.held sink.new) out.new result }
+    ensures text { PutsText (K.held sink.old) out.old (in_lines model.now (label_cut model.now labels.now k)) (K.held sink.new) out.new result }
     ensures cause { HasCause (K.faults sink.old) (K.faults sink.new) result }
 {
     for node in 0..model.node_count() {
-        write_node(out, sink, model, labels, node)?;
+        write_node(out, sink, model, labels, k, node)?;
     }
     Ok(())
 }
@@ -154,6 +159,6 @@ pub fn write_short<K: Sink>(
     write_refusal(out, sink, NOT_CLEARED, line)?;
     write_people(out, sink, people)?;
     write_most(out, sink, most)?;
-    write_ins(out, sink, model, labels)?;
+    write_ins(out, sink, model, labels, model.horizon)?;
     write_end(out, sink)
 }

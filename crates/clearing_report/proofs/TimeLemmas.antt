@@ -4,9 +4,8 @@ use Rattle.std.proofs.Math.ListN.{set}
 use Rattle.std.proofs.lemmas.Bool.{cases_lt}
 use Rattle.std.proofs.lemmas.List.{get_or-set_other, get_or-set_same, get_or_past, length-set}
 use Rattle.std.proofs.lemmas.List.Sums.{sum_by-cons, sum_by-set}
-use Rattle.std.proofs.lemmas.List.Elements.{All-get_or}
 use Rattle.evac_law.specs.declared.model.Model.{Model}
-use Rattle.evac_law.specs.Building.{IsArc, IsValid, arc_at, head, is_exit_at, no_arc, tail}
+use Rattle.evac_law.specs.Building.{IsValid, arc_at, head, is_exit_at, tail}
 use Rattle.evac_law.specs.Limits.{travel_limit}
 use Rattle.evac_law.proofs.ValidLemmas.{arc_is}
 use Rattle.clearing_report.specs.declared.times.Way.{Way}

@@ -1,6 +1,7 @@
 // When somebody is in a node last.
 ghost use Rattle.std.specs.Prelude.{◌≡◌, ℕ, ◌<◌, ◌≤◌, ◌&&◌, ◌||◌, ◌==◌, if◌then◌else◌, None, length, map, nat_lt, slice_index_or};
 ghost use Rattle.evac_law.specs.Building.{IsValid, is_exit_at};
+ghost use Rattle.evac_law.specs.Limits.{horizon_limit};
 ghost use Rattle.evac_law.specs.Plans.{IsFeasible, moved};
 ghost use Rattle.evac_law.specs.Stands.{Fits};
 ghost use Rattle.evac_law.specs.Sums.{places};
@@ -20,11 +21,11 @@ pub fn later(first: Option<u16>, second: Option<u16>) -> Option<u16>
 }
 
 /// The last moment at which people enter an arc.
-#[tactic(auto, using(crate::proofs::MomentLemmas::last_steps))]
+#[tactic(auto, using(crate::proofs::MomentLemmas::last_steps), unfolding(evac_law::specs::Limits::horizon_limit))]
 fn last_moved<F: Standing>(standing: &F, arc: u32, horizon: u16) -> Option<u16>
     requires arc_in { arc < (F.stand standing.now).arcs }
     requires horizon { (F.stand standing.now).horizon ≡ horizon }
-    requires short { horizon < 1000 }
+    requires short { horizon ≤ horizon_limit }
     ensures { result ≡ last_that (λ t. nat_lt 0 (moved (F.stand standing.now).plan arc t)) horizon }
 {
     let mut last = None;
@@ -37,11 +38,11 @@ fn last_moved<F: Standing>(standing: &F, arc: u32, horizon: u16) -> Option<u16>
 }
 
 /// The last moment at which people stay in a node.
-#[tactic(auto, using(crate::proofs::MomentLemmas::last_steps))]
+#[tactic(auto, using(crate::proofs::MomentLemmas::last_steps), unfolding(evac_law::specs::Limits::horizon_limit))]
 fn last_held<F: Standing>(standing: &F, node: u32, horizon: u16) -> Option<u16>
     requires node_in { node < (F.stand standing.now).nodes }
     requires horizon { (F.stand standing.now).horizon ≡ horizon }
-    requires short { horizon < 1000 }
+    requires short { horizon ≤ horizon_limit }
     ensures { result ≡ last_that (λ t. nat_lt 0 ((F.stand standing.now).contents node t)) horizon }
 {
     let mut last = None;

@@ -2,6 +2,7 @@
 ghost use Rattle.std.specs.Prelude.{◌≡◌, ◌+◌, ◌*◌, ◌^◌, ◌<◌, ◌≤◌, ◌&&◌, if◌then◌else◌, nat_le, length};
 ghost use Rattle.std.specs.List.{sum_by};
 ghost use Rattle.evac_law.specs.Building.{IsValid, arrival, head, is_exit_at};
+ghost use Rattle.evac_law.specs.Limits.{horizon_limit};
 ghost use Rattle.evac_law.specs.Plans.{IsFeasible, moved, person_periods};
 ghost use Rattle.evac_law.specs.Stands.{Fits};
 ghost use Rattle.evac_law.specs.Sums.{moments_to};
@@ -17,7 +18,7 @@ fn part_of<F: Standing>(model: &Model, standing: &F, arc: u32, moment: u16) -> u
     requires moment_in { moment ≤ model.now.horizon }
     ensures part { result ≡ (if is_exit_at model.now (head model.now arc) && nat_le (arrival model.now arc moment) model.now.horizon
         then moved (F.stand standing.now).plan arc moment * arrival model.now arc moment else 0) }
-    ensures small { result ≤ 2 ^ 42 }
+    ensures small { result ≤ horizon_limit * 2 ^ 32 }
 {
     let row = model.arc(arc);
     let arrival = moment + row.travel;
@@ -36,7 +37,7 @@ fn periods_of<F: Standing>(model: &Model, standing: &F, arc: u32) -> u64
     requires arc_in { arc < length model.now.arcs }
     ensures sum { result ≡ sum_by (λ t. if is_exit_at model.now (head model.now arc) && nat_le (arrival model.now arc t) model.now.horizon
         then moved (F.stand standing.now).plan arc t * arrival model.now arc t else 0) (moments_to model.now.horizon) }
-    ensures small { result ≤ 2 ^ 52 }
+    ensures small { result ≤ (horizon_limit + 1) * (horizon_limit * 2 ^ 32) }
 {
     let mut all = 0u64;
     for moment in 0..model.horizon + 1 {
@@ -46,7 +47,7 @@ fn periods_of<F: Standing>(model: &Model, standing: &F, arc: u32) -> u64
 }
 
 /// The person-periods of a plan.
-#[tactic(auto, using(evac_law::proofs::SumLemmas::sum_steps), unfolding(evac_law::specs::Limits::arc_limit))]
+#[tactic(auto, using(evac_law::proofs::SumLemmas::sum_steps), unfolding(evac_law::specs::Limits::arc_limit, evac_law::specs::Limits::horizon_limit))]
 pub fn person_periods<F: Standing>(model: &Model, standing: &F) -> u64
     requires valid { IsValid model.now }
     requires fits { Fits model.now (F.stand standing.now) }

@@ -4,7 +4,8 @@ use Rattle.std.specs.List.{All, flat_map}
 use Rattle.std.proofs.lemmas.Bool.{ne_eqb}
 use Rattle.std.proofs.lemmas.List.Elements.{All-append, All-cons, All-nil}
 use Rattle.evac_law.specs.Building.{IsArc, arc_row, no_arc}
-use Rattle.evac_law.specs.Limits.{rate_limit, travel_limit}
+use Rattle.evac_law.specs.Limits.{rate_limit, travel_limit, window_limit}
+use Rattle.evac_law.specs.Windows.{IsWindow}
 use Rattle.evac_law.specs.declared.model.ArcRow.{ArcRow}
 use Rattle.drill_building.specs.Drill.{drill_arcs, drill_nodes, ground_arcs, hall_place, room_place, stair_place, storey_arcs, storeys}
 use Rattle.drill_building.proofs.NodeLemmas.{no-exit, node-count}
@@ -34,7 +35,7 @@ stair-below f = either (f == 0)
 
 arc-is : (n from to travel rate : ℕ) → from < 4 * n + 3 → to < 4 * n + 3 → from ≢ to → (1 ≤ from → from ≤ 2 → ⊥) → 1 ≤ travel → travel ≤ 2 → rate ≤ 6
     → IsArc (drill_nodes n) (arc_row from to travel rate)
-unfolding travel_limit rate_limit
+unfolding travel_limit rate_limit window_limit
 arc-is n from to travel rate from-in to-in apart behind takes few slow =
     let count = node-count n in
     let inside : from < length (drill_nodes n) = omega (arith, count, from-in) in
@@ -45,6 +46,7 @@ arc-is n from to travel rate from-in to-in apart behind takes few slow =
       from_no_exit = no-exit n from inside behind;
       travel_fits = (takes, omega (arith, few));
       rate_fits = omega (arith, slow);
+      windows = record { few = omega arith; each = All-nil IsWindow; apart = λ i j d before within. absurd (omega arith) };
     }
 
 storey-arcs-are : (n f : ℕ) → 1 ≤ f → f ≤ n → All (IsArc (drill_nodes n)) (storey_arcs f)

@@ -68,7 +68,7 @@ drill_arcs n = ground_arcs ++ flat_map storey_arcs (storeys n)
 
 -- the model of a number of storeys
 abbrev pub drill_model : ℕ → Model
-drill_model n = record { seconds = 5; horizon = 600; nodes = drill_nodes n; arcs = drill_arcs n }
+drill_model n = record { seconds = 5; horizon = 600; nodes = drill_nodes n; arcs = drill_arcs n; entrants = [] }
 
 -- the building with its floors 0 to n and no title
 abbrev pub drill_building : ℕ → Description

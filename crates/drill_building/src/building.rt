@@ -58,6 +58,7 @@ pub fn drill_model(alloc: Global, number: u32) -> Result<Building, AllocError>
         horizon: 600,
         nodes: Rows::new(nodes),
         arcs: Rows::new(arcs),
+        entrants: Rows::new(Vec::new(alloc)),
     };
     Ok(Building { model, names })
 }

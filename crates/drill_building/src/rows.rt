@@ -1,5 +1,5 @@
 // The nodes and arcs of a drill's building.
-ghost use Rattle.std.specs.Prelude.{◌≡◌, ◌≤◌, IfOk};
+ghost use Rattle.std.specs.Prelude.{◌≡◌, ◌≤◌, ◌++◌, IfOk, OnOk};
 ghost use Rattle.drill_building.specs.Drill.{drill_arcs, drill_nodes, ground_nodes, node_name, room_start, stair_place, storey_arcs, storey_nodes};
 
 use evac_law::{ArcRow, Kind, NodeName, NodeRow};
@@ -93,14 +93,30 @@ fn storey_arcs(storey: u16) -> [ArcRow; 4]
     ]
 }
 
+// Puts a storey's arcs behind others.
+fn push_storey(arcs: &mut Vec<ArcRow>, storey: u16) -> Result<(), AllocError>
+    requires positive { 1 ≤ storey }
+    requires few { storey ≤ STOREY_LIMIT }
+    ensures { OnOk result (arcs.new.items ≡ arcs.old.items ++ storey_arcs storey) }
+{
+    let [room, other, hall, stair] = storey_arcs(storey);
+    arcs.push(room)?;
+    arcs.push(other)?;
+    arcs.push(hall)?;
+    arcs.push(stair)?;
+    Ok(())
+}
+
 /// The arcs of a building with a number of storeys.
 pub(crate) fn drill_arcs(alloc: Global, storeys: u16) -> Result<Vec<ArcRow>, AllocError>
     requires { storeys ≤ STOREY_LIMIT }
     ensures { IfOk result (λ arcs. arcs.items ≡ drill_arcs storeys) }
 {
-    let mut arcs = Vec::from_slice(alloc, &[ArcRow::new(0, 1, 1, 3), ArcRow::new(0, 2, 2, 2)])?;
+    let mut arcs = Vec::new(alloc);
+    arcs.push(ArcRow::new(0, 1, 1, 3))?;
+    arcs.push(ArcRow::new(0, 2, 2, 2))?;
     for storey in 1..storeys + 1 {
-        arcs.extend_from_slice(&storey_arcs(storey))?;
+        push_storey(&mut arcs, storey)?;
     }
     Ok(arcs)
 }

@@ -56,7 +56,7 @@ session_begun m w u l refused ring room x moment valid net of limits within clea
         net = net;
         of = of_u;
         within = within;
-        sent = arrived_all_sent m u net of_u within cleared.arrived;
+        sent = arrived_all_sent m u valid net of_u within cleared.arrived;
         cleared = subst (λ (k : ℕ). IsCleared m u l k) cleared.last cleared;
         labels = in_site of_u.site l table;
         closed = subst (λ (k : ℕ). IsClosedBelow u l (k + 1)) cleared.last closed;

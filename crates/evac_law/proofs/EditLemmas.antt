@@ -1,19 +1,24 @@
 -- An edit keeps a model valid, and its inverse undoes it.
-use Rattle.std.proofs.Common.{◌≡◌, ◌≢◌, ℕ, zero, suc, ◌+◌, ◌-◌, ◌<◌, ◌≤◌, Bool, true, false, cond, not, ltb, List, [], ◌∷◌, length, get_or, set, refl, ap, ap₂, sym, ◌∙◌, arith, subst, Result, Ok, Err, IfOk, OnOk, IsTrue}
+use Rattle.std.proofs.Common.{◌≡◌, ◌≢◌, ℕ, zero, suc, ◌+◌, ◌-◌, ◌<◌, ◌≤◌, Bool, true, false, cond, not, ◌||◌, eqb, leb, ltb, List, [], ◌∷◌, length, get_or, set, refl, ap, ap₂, sym, ◌∙◌, arith, subst, Result, Ok, Err, Some, None, IfOk, OnOk, IsTrue}
+use Rattle.std.specs.List.{list_any, position, remove}
 use Rattle.std.proofs.lemmas.List.{length-set, get_or-set_same, get_or-set_other, set-set, set-get_or}
 use Rattle.std.proofs.lemmas.List.Sums.{sum_by-set}
 use Rattle.std.proofs.lemmas.List.Elements.{All-weaker, All-get_or, All-set}
-use Rattle.std.proofs.lemmas.Bool.{ltb-false, le-ltb, eqb-false, ne_eqb, not-false, both_ways, cond-false, or_parts, or_from}
+use Rattle.std.proofs.lemmas.Bool.{ltb-false, leb-false, le-ltb, lt-leb, eqb-false, ne_eqb, not-false, both_ways, cond-false, or_parts, or_from}
 use Rattle.evac_law.specs.declared.model.NodeRow.{NodeRow}
 use Rattle.evac_law.specs.declared.model.ArcRow.{ArcRow}
 use Rattle.evac_law.specs.declared.model.Model.{Model}
 use Rattle.evac_law.specs.declared.edit.Edit.{Edit}
-use Rattle.evac_law.specs.declared.edit.Edit.TheVariants.{Shut, Reopen, ShutExit, ReopenExit, Rate, Room, Shift, Enter, Leave}
+use Rattle.evac_law.specs.declared.edit.Edit.TheVariants.{Shut, Reopen, ShutExit, ReopenExit, Rate, Room, Shift, Enter, Leave, Window, Unwindow}
 use Rattle.evac_law.specs.declared.edit.EditFault.{EditFault}
-use Rattle.evac_law.specs.Limits.{rate_limit, capacity_limit, people_limit}
-use Rattle.evac_law.specs.Building.{start, IsValid, IsNode, IsArc, is_exit_at, node_at, arc_at, no_node, no_arc, tail, head, capacity, people}
+use Rattle.evac_law.specs.declared.edit.EditFault.TheVariants.{NoWindow}
+use Rattle.evac_law.specs.Limits.{horizon_limit, rate_limit, capacity_limit, people_limit, window_limit}
+use Rattle.evac_law.specs.Building.{start, IsValid, IsNode, IsArc, IsEntrant, is_exit_at, node_at, arc_at, no_node, no_arc, tail, head, capacity, people}
 use Rattle.evac_law.specs.Names.{is_exit}
-use Rattle.evac_law.specs.Edits.{IsEditOf, applied, unless, checks, edited, inverse_of, with_arc, with_node, with_start}
+use Rattle.evac_law.specs.Edits.{IsEditOf, applied, unless, checks, edited, inverse_of, windows_at, with_arc, with_node, with_start, with_windows}
+use Rattle.evac_law.specs.Windows.{AreWindows, IsWindow, is_same_window, overlaps, with_window, without_window, window_of}
+use Rattle.evac_law.proofs.WindowLemmas.{fewer_without, has_none, has_some, has_with, none_without, remove_some, window_among, windows_with, windows_without, with_without, without_with}
+use Rattle.evac_law.specs.declared.window.Window.{Window as ClosureWindow}
 use Rattle.evac_law.proofs.ValidLemmas.{node_is}
 
 -- no check holds
@@ -47,7 +52,7 @@ at-set f (x ∷ xs) (suc n) y d e (suc i) = at-set f xs n y d e i
 
 pub people-set : (m : Model) (n : ℕ) (row : NodeRow) → n < length m.nodes → people (with_node m n row) + start m n ≡ people m + row.start
 unfolding people
-people-set m n row l = sum_by-set (λ r. r.start) m.nodes n row no_node l
+people-set m n row l = omega (arith, sum_by-set (λ r. r.start) m.nodes n row no_node l)
 
 -- ---- valid after a write
 
@@ -73,14 +78,24 @@ valid_node m n row v l same node few =
             from_no_exit = ap (λ z. is_exit z.kind) (name_at a.from) ∙ h.from_no_exit;
             travel_fits = h.travel_fits;
             rate_fits = h.rate_fits;
+            windows = h.windows;
           }) m.arcs v.arcs;
       ends_differ = v.ends_differ;
+      entrants = All-weaker (IsEntrant m.nodes m.horizon) (IsEntrant (set m.nodes n row) m.horizon)
+          (λ e h. record {
+            node_in = omega (arith, long, h.node_in);
+            no_exit = ap (λ z. is_exit z.kind) (name_at e.node) ∙ h.no_exit;
+            later = h.later;
+            in_horizon = h.in_horizon;
+            somebody = h.somebody;
+          }) m.entrants v.entrants;
+      entrants_sorted = v.entrants_sorted;
     }
 
 pub valid_arc : (m : Model) (a : ℕ) (row : ArcRow) → IsValid m → a < length m.arcs → row.from ≡ tail m a → row.to ≡ head m a
-    → row.travel ≡ (arc_at m a).travel → row.rate ≤ rate_limit → IsValid (with_arc m a row)
+    → row.travel ≡ (arc_at m a).travel → row.rate ≤ rate_limit → AreWindows row.windows.items → IsValid (with_arc m a row)
 unfolding people
-valid_arc m a row v l from to travel few =
+valid_arc m a row v l from to travel few apart =
     let long = length-set m.arcs a row in
     let old = All-get_or (IsArc m.nodes) m.arcs a no_arc l v.arcs in
     let from_at = at-set (λ r. r.from) m.arcs a row no_arc from in
@@ -92,6 +107,7 @@ valid_arc m a row v l from to travel few =
       from_no_exit = rw from old.from_no_exit;
       travel_fits = rw travel old.travel_fits;
       rate_fits = few;
+      windows = apart;
     } in
     record {
       seconds = v.seconds;
@@ -104,10 +120,30 @@ valid_arc m a row v l from to travel few =
       names_differ = v.names_differ;
       arcs = All-set (IsArc m.nodes) m.arcs a row new v.arcs;
       ends_differ = λ i j p q e d. v.ends_differ i j p (omega (arith, long, q)) (sym (from_at i) ∙ e ∙ from_at j) (sym (to_at i) ∙ d ∙ to_at j);
+      entrants = v.entrants;
+      entrants_sorted = v.entrants_sorted;
     }
 
 rate_of : (m : Model) (a : ℕ) → IsValid m → a < length m.arcs → (arc_at m a).rate ≤ rate_limit
 rate_of m a v l = (All-get_or (IsArc m.nodes) m.arcs a no_arc l v.arcs).rate_fits
+
+windows_of : (m : Model) (a : ℕ) → IsValid m → a < length m.arcs → AreWindows (windows_at m a)
+windows_of m a v l = (All-get_or (IsArc m.nodes) m.arcs a no_arc l v.arcs).windows
+
+valid_windows : (m : Model) (a : ℕ) (ws : List ClosureWindow) → IsValid m → a < length m.arcs → AreWindows ws → IsValid (with_windows m a ws)
+valid_windows m a ws v l are = valid_arc m a (record (arc_at m a) { windows = record { items = ws } }) v l refl refl refl (rate_of m a v l) are
+
+-- the numbers that the checks let through are those of a window
+window_is : (p q : ℕ) → (ltb horizon_limit p || (eqb q 0 || ltb (horizon_limit + 1) q)) ≡ false → leb q p ≡ false → IsWindow (window_of p q)
+window_is p q range order =
+    let ends = or_parts (eqb q 0) (ltb (horizon_limit + 1) q) (or_parts (ltb horizon_limit p) (eqb q 0 || ltb (horizon_limit + 1) q) range).1 in
+    record { ordered = leb-false q p order; until_fits = ltb-false (horizon_limit + 1) q ends.1 }
+
+-- and the checks let the numbers of a window through
+in_range : (p q : ℕ) → IsWindow (window_of p q) → (ltb horizon_limit p || (eqb q 0 || ltb (horizon_limit + 1) q)) ≡ false
+in_range p q is =
+    or_from (ltb horizon_limit p) _ (le-ltb horizon_limit p (omega (arith, is.ordered, is.until_fits)))
+    (or_from (eqb q 0) _ (ne_eqb q 0 (λ e. omega (arith, is.ordered, e))) (le-ltb (horizon_limit + 1) q is.until_fits))
 
 pub valid_shut : (m : Model) (n : ℕ) (b : Bool) → IsValid m → n < length m.nodes → (IsTrue b → IsTrue (is_exit_at m n))
     → IsValid (with_node m n (record (node_at m n) { shut = b }))
@@ -140,12 +176,14 @@ valid_start m n s v l fits few =
 -- ---- valid after an edit
 
 pub valid_edited : (m : Model) (e : Edit) → IsValid m → IsEditOf m e → NoneHolds (checks m e) → IsValid (edited m e)
-valid_edited m (Shut a) v l h = valid_arc m a (record (arc_at m a) { shut = true }) v l refl refl refl (rate_of m a v l)
-valid_edited m (Reopen a) v l h = valid_arc m a (record (arc_at m a) { shut = false }) v l refl refl refl (rate_of m a v l)
+valid_edited m (Shut a) v l h =
+    valid_arc m a (record (arc_at m a) { shut = true }) v l refl refl refl (rate_of m a v l) (windows_of m a v l)
+valid_edited m (Reopen a) v l h =
+    valid_arc m a (record (arc_at m a) { shut = false }) v l refl refl refl (rate_of m a v l) (windows_of m a v l)
 valid_edited m (ShutExit n) v l h = valid_shut m n true v l (λ _. not-false _ h.0)
 valid_edited m (ReopenExit n) v l h = valid_shut m n false v l (λ _. not-false _ h.0)
 valid_edited m (Rate a r) v l h =
-    valid_arc m a (record (arc_at m a) { rate = r }) v l refl refl refl (omega (arith, ltb-false rate_limit r h.0))
+    valid_arc m a (record (arc_at m a) { rate = r }) v l refl refl refl (omega (arith, ltb-false rate_limit r h.0)) (windows_of m a v l)
 valid_edited m (Room n c) v l h =
     let old = node_is m n v l in
     valid_node m n (record (node_at m n) { capacity = c }) v l refl
@@ -179,6 +217,12 @@ valid_edited m (Enter n p) v l h =
 valid_edited m (Leave n p) v l h =
     let old = node_is m n v l in
     valid_start m n (start m n - p) v l (omega (arith, old.start_fits)) (omega (arith, v.people_fit))
+valid_edited m (Window a p q) v l h =
+    let ws = windows_at m a in
+    let are = windows_with ws (window_of p q) (windows_of m a v l) (window_is p q h.0 h.1.0) h.1.1.0 (leb-false window_limit (length ws) h.1.1.1.0) in
+    valid_windows m a (with_window ws (window_of p q)) v l are
+valid_edited m (Unwindow a p q) v l h =
+    valid_windows m a _ v l (windows_without (windows_at m a) (window_of p q) (windows_of m a v l))
 
 pub valid_applied : (m : Model) (e : Edit) (m' : Model) (r : Result Edit EditFault) → IsValid m → IsEditOf m e
     → IfOk r (λ e'. applied m e ≡ Ok (m', e')) → OnOk r (IsValid m')
@@ -186,6 +230,17 @@ valid_applied m e m' (Ok e') v l h =
     let done = unless-Ok (checks m e) (edited m e, inverse_of m e) (m', e') h in
     subst IsValid (ap (λ t. t.0) done.1) (valid_edited m e v l done.0)
 valid_applied m e m' (Err f) v l h = tt
+
+-- ---- a window that is taken away
+
+pub unwindow_some : (m : Model) (a p q i : ℕ) → position (λ v. is_same_window v (window_of p q)) (windows_at m a) ≡ Some i
+    → applied m (Unwindow a p q) ≡ Ok (with_windows m a (remove (windows_at m a) i), Window a p q)
+unwindow_some m a p q i e =
+    rw (has_some (windows_at m a) (window_of p q) i e, remove_some (windows_at m a) (window_of p q) i e) refl
+
+pub unwindow_none : (m : Model) (a p q : ℕ) → position (λ v. is_same_window v (window_of p q)) (windows_at m a) ≡ None
+    → applied m (Unwindow a p q) ≡ Err NoWindow
+unwindow_none m a p q e = rw (has_none (windows_at m a) (window_of p q) e) refl
 
 -- ---- the inverse undoes an edit
 
@@ -376,6 +431,52 @@ undoes m (Leave n p) v l h =
         ),
       );
       model = start_back m n less _ l (omega (arith, start_at m n less l));
+      edit = refl;
+    }
+undoes m (Window a p q) v l h =
+    let ws = windows_at m a in
+    let w = window_of p q in
+    let new = record (arc_at m a) { windows = record { items = with_window ws w } } in
+    let read = read_arc m a new l in
+    record {
+      in_range = omega (arith, l, length-set m.arcs a new);
+      accepted = (
+        ap (λ (r : ArcRow). not (list_any (λ v. is_same_window v w) r.windows.items)) read ∙ ap (λ b. not b) (has_with ws w),
+        tt,
+      );
+      model = arc_back m a new _
+          (ap (λ (r : ArcRow). record r { windows = record { items = without_window r.windows.items w } }) read
+          ∙ ap (λ (z : List ClosureWindow). record (arc_at m a) { windows = record { items = z } })
+          (without_with ws w (window_is p q h.0 h.1.0) h.1.1.0));
+      edit = refl;
+    }
+undoes m (Unwindow a p q) v l h =
+    let ws = windows_at m a in
+    let w = window_of p q in
+    let are = windows_of m a v l in
+    let has = not-false (list_any (λ v. is_same_window v w) ws) h.0 in
+    let is = window_among ws w are has in
+    let new = record (arc_at m a) { windows = record { items = without_window ws w } } in
+    let read = read_arc m a new l in
+    record {
+      in_range = omega (arith, l, length-set m.arcs a new);
+      accepted = (
+        in_range p q is,
+        (
+          lt-leb q p is.ordered,
+          (
+            ap (λ (r : ArcRow). list_any (λ v. overlaps v w) r.windows.items) read ∙ none_without ws w are.apart has,
+            (
+              ap (λ (r : ArcRow). leb window_limit (length r.windows.items)) read
+                  ∙ lt-leb window_limit (length (without_window ws w)) (omega (arith, fewer_without ws w has, are.few)),
+              tt,
+            ),
+          ),
+        ),
+      );
+      model = arc_back m a new _
+          (ap (λ (r : ArcRow). record r { windows = record { items = with_window r.windows.items w } }) read
+          ∙ ap (λ (z : List ClosureWindow). record (arc_at m a) { windows = record { items = z } }) (with_without ws w are.each are.apart has));
       edit = refl;
     }
 

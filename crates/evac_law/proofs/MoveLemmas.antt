@@ -56,7 +56,7 @@ pub moved-moves_of : (n k : ℕ) (f : ℕ → ℕ → ℕ) (a t : ℕ) → a < n
 unfolding moved
 moved-moves_of n k f a t i j = sum_moves n k f (λ x y. eqb x a && eqb y t) ∙ sum2-at n (k + 1) f a t i (omega arith)
 
-All-flat_map_at : {X Y : Type 0} (P : Y → Type 0) (h : X → List Y) (xs : List X) → All (λ x. All P (h x)) xs → All P (flat_map h xs)
+pub All-flat_map_at : {X Y : Type 0} (P : Y → Type 0) (h : X → List Y) (xs : List X) → All (λ x. All P (h x)) xs → All P (flat_map h xs)
 All-flat_map_at P h [] a = λ i d l. absurd (omega (arith, l))
 All-flat_map_at P h (x ∷ xs) a =
     All-append P (h x) (flat_map h xs) (All-head (λ x. All P (h x)) x xs a)

@@ -8,10 +8,11 @@ use Rattle.std.proofs.lemmas.Int.{ints}
 use Rattle.evac_law.specs.declared.model.Model.{Model}
 use Rattle.evac_law.specs.declared.plan.Move.{Move}
 use Rattle.evac_law.specs.Sums.{below, moments_to, places}
-use Rattle.evac_law.specs.Building.{IsValid, IsNode, node_at, no_node, is_exit_at, capacity, tail, head, arrival, rate, entry}
+use Rattle.evac_law.specs.Building.{IsValid, IsNode, no_node, is_exit_at, capacity, tail, head, arrival, rate, entry}
 use Rattle.evac_law.specs.Certificates.{IsTight}
 use Rattle.evac_law.specs.Cuts.{Cut, leaves_cut, cut_value}
 use Rattle.evac_law.specs.Plans.{IsFeasible, moved, came, coming, left, leaving, held, out_by}
+use Rattle.evac_law.proofs.Entries.{exit_entry}
 use Rattle.evac_law.proofs.SumLemmas.{sum_by-add, sum_by-same, sum_by-nothing, sum_by-le_all, sum_by-exchange, All-below, sum_moments-zero, sum_moments-suc, sum2, sum2-le, sum2-nothing, gather}
 use Rattle.evac_law.proofs.WeakDuality.{out_le_value, value_is, came-zero, came-suc, left-zero, left-suc, spent, entered, joined, stayed, stayed-suc, outside, node_spent, node_entered, node_joined, node_stayed, open_node, exit_node, to_outside, from_outside, from_cut, arc_of, spent_is, joined_is, crossed_is}
 
@@ -174,18 +175,12 @@ module _ (m : Model) (x : Cut) (q : List Move) (k : ℕ) (valid : IsValid m) (fe
   entry_ge : (e i z : Bool) (p : ℕ) → (e ≡ true → p ≡ 0) → cond (i || z) 0 p ≤ cond (not e && not i) p 0
   entry_ge e i z p h = grind arith
 
-  exit_entry : (n t : ℕ) → n < length m.nodes → is_exit_at m n ≡ true → entry m n t ≡ 0
-  exit_entry n t i e =
-      let node = All-get_or IsNode m.nodes n no_node i valid.nodes in
-      let none : (node_at m n).start ≡ 0 = omega (arith, node.start_fits, node.exit_is_empty e) in
-      when (eqb t 0) (node_at m n).start (λ _. none)
-
   entered_ge : sum_by (λ n. sum_by (λ t. cond (x n t || eqb (entry m n t) 0) 0 (entry m n t)) (moments_to k)) (places m.nodes)
       ≤ sum_by (node_entered m x q k) (places m.nodes)
   entered_ge =
       sum2-le (length m.nodes) (k + 1) (λ n t. cond (x n t || eqb (entry m n t) 0) 0 (entry m n t))
       (λ n t. cond (outside m x n t) (entry m n t) 0)
-      (λ n t i j. entry_ge (is_exit_at m n) (x n t) (eqb (entry m n t) 0) (entry m n t) (exit_entry n t i))
+      (λ n t i j. entry_ge (is_exit_at m n) (x n t) (eqb (entry m n t) 0) (entry m n t) (exit_entry m n t valid i))
 
   nodes_ge : (sum_by (node_entered m x q k) (places m.nodes) + sum_by (node_joined m x q k) (places m.nodes))
       + sum_by (node_stayed m x q k) (places m.nodes)

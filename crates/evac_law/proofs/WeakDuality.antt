@@ -11,7 +11,7 @@ use Rattle.evac_law.specs.declared.plan.Move.{Move}
 use Rattle.evac_law.specs.declared.cut.CutItem.{CutItem}
 use Rattle.evac_law.specs.declared.cut.CutItem.TheVariants.{Entry, Hold, Arc}
 use Rattle.evac_law.specs.Sums.{below, moments_to, places}
-use Rattle.evac_law.specs.Building.{IsValid, IsArc, node_at, arc_at, no_arc, is_exit_at, capacity, tail, head, arrival, rate, entry}
+use Rattle.evac_law.specs.Building.{IsValid, IsArc, arc_at, no_arc, is_exit_at, capacity, tail, head, arrival, rate, entry}
 use Rattle.evac_law.specs.Cuts.{Cut, leaves_cut, cut_items, entry_items, hold_items, arc_items, number_of, cut_value}
 use Rattle.evac_law.specs.Plans.{IsFeasible, moved, came, coming, left, leaving, held, out_by}
 use Rattle.evac_law.proofs.SumLemmas.{sum_by-add, sum_by-same, sum_by-nothing, sum_by-le_all, sum_by-exchange, sum_by-flat_map, All-below, sum_below-more, sum_moments-zero, sum_moments-suc, sum2, sum2-le, gather}
@@ -50,26 +50,6 @@ value_is m x k =
     (ap₂ (λ u v. u + v)
     (nested _ _ (places m.nodes) (below k) (λ n t. hold_part (x n t && not (x n (t + 1))) n t (capacity m n)))
     (nested _ _ (moments_to k) (places m.arcs) (λ t a. arc_part (leaves_cut m x k t a) a t (rate m a t))))
-
--- the entries of one node: its start, where it is outside the cut at moment 0
-entry_first : (b z : Bool) (p : ℕ) → (z ≡ true → p ≡ 0) → cond (b || z) 0 p ≡ cond b 0 p
-entry_first b z p h = grind arith
-
-entry_later : (b : Bool) (s t : ℕ) → cond (b || eqb (cond (eqb (suc t) 0) s 0) 0) 0 (cond (eqb (suc t) 0) s 0) ≡ 0
-entry_later b s t = grind (arith, nat_tests)
-
-pub entry_row : (m : Model) (x : Cut) (k n : ℕ)
-    → sum_by (λ t. cond (x n t || eqb (entry m n t) 0) 0 (entry m n t)) (moments_to k) ≡ cond (x n 0) 0 (node_at m n).start
-entry_row m x zero n =
-    sum_moments-zero (λ t. cond (x n t || eqb (entry m n t) 0) 0 (entry m n t))
-    ∙ entry_first (x n 0) (eqb (entry m n 0) 0) (entry m n 0) (eqb-true (entry m n 0) 0)
-entry_row m x (suc k) n =
-    omega (
-      arith,
-      sum_moments-suc (λ t. cond (x n t || eqb (entry m n t) 0) 0 (entry m n t)) k,
-      entry_row m x k n,
-      entry_later (x n (suc k)) (node_at m n).start k,
-    )
 
 -- ---- a node from moment to moment
 

@@ -1,14 +1,17 @@
 -- What an edit does to a model, when it is refused, and which edit undoes it.
-use Rattle.std.specs.Prelude.{ℕ, ◌+◌, ◌-◌, ◌<◌, Bool, true, false, not, ◌||◌, if◌then◌else◌, ◌==◌, nat_lt, List, [], ◌∷◌, length, slice_set, Result, Ok, Err}
+use Rattle.std.specs.Prelude.{ℕ, ◌+◌, ◌-◌, ◌<◌, Bool, true, false, not, ◌||◌, if◌then◌else◌, ◌==◌, nat_le, nat_lt, List, [], ◌∷◌, length, slice_set, Result, Ok, Err}
+use Rattle.std.specs.List.{list_any}
 use Rattle.evac_law.specs.declared.model.NodeRow.{NodeRow}
 use Rattle.evac_law.specs.declared.model.ArcRow.{ArcRow}
 use Rattle.evac_law.specs.declared.model.Model.{Model}
 use Rattle.evac_law.specs.declared.edit.Edit.{Edit}
-use Rattle.evac_law.specs.declared.edit.Edit.TheVariants.{Shut, Reopen, ShutExit, ReopenExit, Rate, Room, Shift, Enter, Leave}
+use Rattle.evac_law.specs.declared.edit.Edit.TheVariants.{Shut, Reopen, ShutExit, ReopenExit, Rate, Room, Shift, Enter, Leave, Window, Unwindow}
 use Rattle.evac_law.specs.declared.edit.EditFault.{EditFault}
-use Rattle.evac_law.specs.declared.edit.EditFault.TheVariants.{OutOfRange, OverFull, SameNode, TooMany, AlreadyShut, AlreadyOpen, NotExit, ExitNamed, TooFew}
+use Rattle.evac_law.specs.declared.window.Window.{Window as ClosureWindow}
+use Rattle.evac_law.specs.declared.edit.EditFault.TheVariants.{OutOfRange, OverFull, SameNode, TooMany, AlreadyShut, AlreadyOpen, NotExit, ExitNamed, TooFew, BadWindow, WindowOverlap, TooManyWindows, NoWindow}
 use Rattle.evac_law.specs.Building.{node_at, arc_at, is_exit_at, capacity, start, people}
-use Rattle.evac_law.specs.Limits.{rate_limit, capacity_limit, people_limit}
+use Rattle.evac_law.specs.Limits.{horizon_limit, rate_limit, capacity_limit, people_limit, window_limit}
+use Rattle.evac_law.specs.Windows.{window_of, overlaps, is_same_window, with_window, without_window}
 
 -- the places that an edit names are places of the model
 abbrev pub IsEditOf : Model → Edit → Type 0
@@ -21,10 +24,23 @@ IsEditOf m (Room n c) = n < length m.nodes
 IsEditOf m (Shift a b p) = (a < length m.nodes) × (b < length m.nodes)
 IsEditOf m (Enter n p) = n < length m.nodes
 IsEditOf m (Leave n p) = n < length m.nodes
+IsEditOf m (Window a p q) = a < length m.arcs
+IsEditOf m (Unwindow a p q) = a < length m.arcs
 
 -- whether a number can't be the people of an edit: 0, or above the limit of a node
 abbrev pub is_no_count : ℕ → Bool
 is_no_count p = (p == 0) || nat_lt capacity_limit p
+
+-- the windows of the arc at a place
+abbrev pub windows_at : Model → ℕ → List ClosureWindow
+windows_at m a = (arc_at m a).windows.items
+
+-- whether a number can't be the first moment of a window, or its end
+abbrev pub is_no_first : ℕ → Bool
+is_no_first p = nat_lt horizon_limit p
+
+abbrev pub is_no_end : ℕ → Bool
+is_no_end q = (q == 0) || nat_lt (horizon_limit + 1) q
 
 -- the checks of an edit in their order, each with its fault
 abbrev pub checks : Model → Edit → List (Bool × EditFault)
@@ -41,6 +57,12 @@ checks m (Enter n p) =
     (is_exit_at m n, ExitNamed) ∷ (is_no_count p, OutOfRange) ∷ (nat_lt people_limit (people m + p), TooMany)
     ∷ (nat_lt (capacity m n) (start m n + p), OverFull) ∷ []
 checks m (Leave n p) = (is_exit_at m n, ExitNamed) ∷ (is_no_count p, OutOfRange) ∷ (nat_lt (start m n) p, TooFew) ∷ []
+checks m (Window a p q) =
+    (is_no_first p || is_no_end q, OutOfRange) ∷ (nat_le q p, BadWindow)
+    ∷ (list_any (λ v. overlaps v (window_of p q)) (windows_at m a), WindowOverlap)
+    ∷ (nat_le window_limit (length (windows_at m a)), TooManyWindows) ∷ []
+checks m (Unwindow a p q) =
+    (not (list_any (λ v. is_same_window v (window_of p q)) (windows_at m a)), NoWindow) ∷ []
 
 -- x, or the fault of the first check that holds
 abbrev pub unless : {A : Type 0} → List (Bool × EditFault) → A → Result A EditFault
@@ -57,6 +79,10 @@ with_node m n row = record m { nodes = slice_set m.nodes n row }
 abbrev pub with_start : Model → ℕ → ℕ → Model
 with_start m n s = with_node m n (record (node_at m n) { start = s })
 
+-- the model with other windows of an arc
+abbrev pub with_windows : Model → ℕ → List ClosureWindow → Model
+with_windows m a ws = with_arc m a (record (arc_at m a) { windows = record { items = ws } })
+
 -- the model after an edit that is not refused
 abbrev pub edited : Model → Edit → Model
 edited m (Shut a) = with_arc m a (record (arc_at m a) { shut = true })
@@ -68,6 +94,8 @@ edited m (Room n c) = with_node m n (record (node_at m n) { capacity = c })
 edited m (Shift a b p) = with_start (with_start m a (start m a - p)) b (start m b + p)
 edited m (Enter n p) = with_start m n (start m n + p)
 edited m (Leave n p) = with_start m n (start m n - p)
+edited m (Window a p q) = with_windows m a (with_window (windows_at m a) (window_of p q))
+edited m (Unwindow a p q) = with_windows m a (without_window (windows_at m a) (window_of p q))
 
 -- the edit that gives the old model back
 abbrev pub inverse_of : Model → Edit → Edit
@@ -80,6 +108,8 @@ inverse_of m (Room n c) = Room n (capacity m n)
 inverse_of m (Shift a b p) = Shift b a p
 inverse_of m (Enter n p) = Leave n p
 inverse_of m (Leave n p) = Enter n p
+inverse_of m (Window a p q) = Unwindow a p q
+inverse_of m (Unwindow a p q) = Window a p q
 
 -- the edited model and the edit that undoes the edit, or the first fault
 abbrev pub applied : Model → Edit → Result (Model × Edit) EditFault
@@ -96,3 +126,7 @@ fault_code AlreadyOpen = 35
 fault_code NotExit = 36
 fault_code ExitNamed = 37
 fault_code TooFew = 38
+fault_code BadWindow = 24
+fault_code WindowOverlap = 25
+fault_code TooManyWindows = 26
+fault_code NoWindow = 27

@@ -1,6 +1,6 @@
--- The laws on plans, cuts, edits and tables of flows.
+-- The laws on plans, cuts, edits, and tables of flows and of entrants.
 use Rattle.std.specs.Prelude.{◌≡◌, ℕ, ◌<◌, ◌≤◌, List, false, Ok, IsTrue}
-use Rattle.std.specs.List.{Any}
+use Rattle.std.specs.List.{All, AllPairs, Any}
 use Rattle.evac_law.specs.declared.model.Model.{Model}
 use Rattle.evac_law.specs.declared.plan.Move.{Move}
 use Rattle.evac_law.specs.declared.edit.Edit.{Edit}
@@ -8,6 +8,7 @@ use Rattle.evac_law.specs.Building.{IsValid, is_exit_at, head, arrival, people, 
 use Rattle.evac_law.specs.Certificates.{IsCertified, IsShortfall, IsTight, IsClearable, stated_cut}
 use Rattle.evac_law.specs.Cuts.{Cut, IsCut, cut_value}
 use Rattle.evac_law.specs.Edits.{IsEditOf, applied}
+use Rattle.evac_law.specs.Entrants.{ComesBefore, entering, table_entrants}
 use Rattle.evac_law.specs.LabelTable.{LabelTable}
 use Rattle.evac_law.specs.Moves.{moves_of}
 use Rattle.evac_law.specs.Plans.{IsFeasible, NobodyIsLeft, moved, out_by, person_periods}
@@ -80,6 +81,11 @@ TightIsEqual =
 abbrev pub CertifiedIsClearable : Type 0
 CertifiedIsClearable = (m : Model) (p : List Move) (l : LabelTable) (c : ℕ) → IsValid m → IsCertified m p l c → IsClearable m
 
+-- a model is clearable where a feasible plan has everybody out by some moment, whatever it does later
+abbrev pub AllOutIsClearable : Type 0
+AllOutIsClearable =
+    (m : Model) (p : List Move) (k : ℕ) → IsValid m → k ≤ m.horizon → IsFeasible m p k → out_by m p k ≡ people m → IsClearable m
+
 -- what enters each arc by the moves of a table is what the table says, and the moves stand in their order
 pub record MovesAreTable (arcs horizon : ℕ) (table : ℕ → ℕ → ℕ) : Type 0 where
   pub same : (a t : ℕ) → a < arcs → t ≤ horizon → moved (moves_of arcs horizon table) a t ≡ table a t
@@ -87,3 +93,13 @@ pub record MovesAreTable (arcs horizon : ℕ) (table : ℕ → ℕ → ℕ) : Ty
 
 abbrev pub MovesOfTable : Type 0
 MovesOfTable = (arcs horizon : ℕ) (table : ℕ → ℕ → ℕ) → MovesAreTable arcs horizon table
+
+-- who comes in by the entrants of a table comes in by the table, and the entrants stand in their order
+pub record EntrantsAreTable (nodes horizon : ℕ) (table : ℕ → ℕ → ℕ) : Type 0 where
+  pub same : (n t : ℕ) → n < nodes → 1 ≤ t → t ≤ horizon → entering (table_entrants nodes horizon table) n t ≡ table n t
+  pub sorted : AllPairs ComesBefore (table_entrants nodes horizon table)
+  pub in_range : All (λ e. (e.node < nodes) × (1 ≤ e.moment) × (e.moment ≤ horizon)) (table_entrants nodes horizon table)
+  pub of_table : All (λ e. (1 ≤ e.people) × (e.people ≡ table e.node e.moment)) (table_entrants nodes horizon table)
+
+abbrev pub EntrantsOfTable : Type 0
+EntrantsOfTable = (nodes horizon : ℕ) (table : ℕ → ℕ → ℕ) → EntrantsAreTable nodes horizon table

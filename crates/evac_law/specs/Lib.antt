@@ -2,6 +2,7 @@ pub mod Building
 pub mod Certificates
 pub mod Cuts
 pub mod Edits
+pub mod Entrants
 pub mod LabelTable
 pub mod Laws
 pub mod Limits
@@ -11,3 +12,4 @@ pub mod Plans
 pub mod Shapes
 pub mod Stands
 pub mod Sums
+pub mod Windows

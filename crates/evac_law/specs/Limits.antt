@@ -7,7 +7,7 @@ seconds_limit = 600
 
 -- the last moment that a horizon may be
 unfoldable pub horizon_limit : ℕ
-horizon_limit = 600
+horizon_limit = 1200
 
 -- the most nodes, exits counted
 unfoldable pub node_limit : ℕ
@@ -39,7 +39,11 @@ people_limit = 100000
 
 -- the most cells: a node or an arc at a moment
 unfoldable pub cell_limit : ℕ
-cell_limit = 400000
+cell_limit = 1000000
+
+-- the most closure windows of an arc
+unfoldable pub window_limit : ℕ
+window_limit = 8
 
 -- the greatest number in a node's name, and the greatest floor
 unfoldable pub number_limit : ℕ

@@ -4,8 +4,9 @@ ghost use Rattle.evac_law.specs.Building.{IsValid};
 ghost use Rattle.evac_law.specs.Edits.{IsEditOf, applied, fault_code};
 ghost use Rattle.evac_law.specs.Shapes.{HasSameShape};
 
-use crate::limits::{CAPACITY_LIMIT, PEOPLE_LIMIT, RATE_LIMIT};
+use crate::limits::{CAPACITY_LIMIT, HORIZON_LIMIT, PEOPLE_LIMIT, RATE_LIMIT};
 use crate::model::Model;
+use crate::window::{Window, place_of};
 use thiserror::Error;
 
 /// A change of a model.
@@ -20,6 +21,8 @@ pub enum Edit {
     Shift { from: u32, to: u32, people: u32 },
     Enter { node: u32, people: u32 },
     Leave { node: u32, people: u32 },
+    Window { arc: u32, from: u32, until: u32 },
+    Unwindow { arc: u32, from: u32, until: u32 },
 }
 
 /// Why an edit is refused.
@@ -43,6 +46,14 @@ pub enum EditFault {
     ExitNamed,
     #[error("too few people start there")]
     TooFew,
+    #[error("the window ends before it begins")]
+    BadWindow,
+    #[error("a window is there already")]
+    WindowOverlap,
+    #[error("the arc has as many windows as may be")]
+    TooManyWindows,
+    #[error("there is no such window")]
+    NoWindow,
 }
 
 impl EditFault {
@@ -60,6 +71,10 @@ impl EditFault {
             EditFault::NotExit => 36,
             EditFault::ExitNamed => 37,
             EditFault::TooFew => 38,
+            EditFault::BadWindow => 24,
+            EditFault::WindowOverlap => 25,
+            EditFault::TooManyWindows => 26,
+            EditFault::NoWindow => 27,
         }
     }
 }
@@ -250,6 +265,52 @@ fn leave(model: &mut Model, node: u32, people: u32) -> Result<Edit, EditFault>
     Ok(Edit::Enter { node, people })
 }
 
+#[tactic(auto, unfolding(crate::specs::Limits::horizon_limit, crate::specs::Limits::window_limit))]
+fn add_window(model: &mut Model, arc: u32, from: u32, until: u32) -> Result<Edit, EditFault>
+    requires valid { IsValid model.old }
+    requires in_range { arc < length model.old.arcs }
+    ensures ok { IfOk result (λ inverse. applied model.old (Edit.Window arc from until) ≡ Ok (model.new, inverse)) }
+    ensures fault { IfErr result (λ fault. applied model.old (Edit.Window arc from until) ≡ Err fault) }
+    ensures unchanged { OnErr result (model.new ≡ model.old) }
+{
+    let last = u32::from(HORIZON_LIMIT);
+    if from > last || until == 0 || until > last + 1 {
+        return Err(EditFault::OutOfRange);
+    }
+    if from >= until {
+        return Err(EditFault::BadWindow);
+    }
+    let window = Window {
+        from: from as u16,
+        until: until as u16,
+    };
+    let row = model.arc(arc);
+    if row.overlaps(window) {
+        return Err(EditFault::WindowOverlap);
+    }
+    if row.windows.is_full() {
+        return Err(EditFault::TooManyWindows);
+    }
+    model.add_window(arc, window);
+    Ok(Edit::Unwindow { arc, from, until })
+}
+
+fn remove_window(model: &mut Model, arc: u32, from: u32, until: u32) -> Result<Edit, EditFault>
+    requires valid { IsValid model.old }
+    requires in_range { arc < length model.old.arcs }
+    ensures ok { IfOk result (λ inverse. applied model.old (Edit.Unwindow arc from until) ≡ Ok (model.new, inverse)) }
+    ensures fault { IfErr result (λ fault. applied model.old (Edit.Unwindow arc from until) ≡ Err fault) }
+    ensures unchanged { OnErr result (model.new ≡ model.old) }
+{
+    match place_of(model.arc(arc).windows.as_slice(), from, until) {
+        None => Err(EditFault::NoWindow),
+        Some(place) => {
+            model.remove_window(arc, place);
+            Ok(Edit::Window { arc, from, until })
+        }
+    }
+}
+
 fn dispatch(model: &mut Model, edit: Edit) -> Result<Edit, EditFault>
     requires valid { IsValid model.old }
     requires in_range { IsEditOf model.old edit }
@@ -267,6 +328,8 @@ fn dispatch(model: &mut Model, edit: Edit) -> Result<Edit, EditFault>
         Edit::Shift { from, to, people } => shift(model, from, to, people),
         Edit::Enter { node, people } => enter(model, node, people),
         Edit::Leave { node, people } => leave(model, node, people),
+        Edit::Window { arc, from, until } => add_window(model, arc, from, until),
+        Edit::Unwindow { arc, from, until } => remove_window(model, arc, from, until),
     }
 }
 

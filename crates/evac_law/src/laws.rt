@@ -1,5 +1,5 @@
 // The laws, each the contract of a function with nothing to do.
-ghost use Rattle.evac_law.specs.Laws.{AllOutLeavesNobody, CertifiedIsBest, CertifiedIsClearable, CertifiedIsQuickest, CertifiedPlansAgree, EditKeepsShape, EmptyCut, InverseUndoes, MovesOfTable, ShortfallBarsClearing, StatedCutIsWorth, TightIsEqual, WeakDuality};
+ghost use Rattle.evac_law.specs.Laws.{AllOutIsClearable, AllOutLeavesNobody, CertifiedIsBest, CertifiedIsClearable, CertifiedIsQuickest, CertifiedPlansAgree, EditKeepsShape, EmptyCut, EntrantsOfTable, InverseUndoes, MovesOfTable, ShortfallBarsClearing, StatedCutIsWorth, TightIsEqual, WeakDuality};
 
 /// No feasible plan has more people out by a moment than a cut is worth there.
 pub fn weak_duality()
@@ -61,7 +61,17 @@ pub fn certified_is_clearable()
     ensures { CertifiedIsClearable }
 {}
 
+/// A model from which a feasible plan takes everybody out by some moment can be cleared, whatever that plan does later.
+pub fn all_out_is_clearable()
+    ensures { AllOutIsClearable }
+{}
+
 /// What enters each arc by the moves of a table of flows is what the table says.
 pub fn moves_of_table()
     ensures { MovesOfTable }
+{}
+
+/// Who comes into a node at a moment by the entrants of a table is whom the table says.
+pub fn entrants_of_table()
+    ensures { EntrantsOfTable }
 {}

@@ -6,6 +6,7 @@
 
 mod cut;
 mod edit;
+mod entrant;
 mod labels;
 mod laws;
 pub mod limits;
@@ -15,14 +16,17 @@ mod plan;
 mod rows;
 mod standing;
 mod steps;
+mod window;
 
 pub use cut::CutItem;
 pub use edit::{Edit, EditFault, apply};
+pub use entrant::Entrant;
 pub use labels::Labels;
 pub use laws::{
-    all_out_leaves_nobody, certified_is_best, certified_is_clearable, certified_is_quickest,
-    certified_plans_agree, edit_keeps_shape, empty_cut, inverse_undoes, moves_of_table,
-    shortfall_bars_clearing, stated_cut_is_worth, tight_is_equal, weak_duality,
+    all_out_is_clearable, all_out_leaves_nobody, certified_is_best, certified_is_clearable,
+    certified_is_quickest, certified_plans_agree, edit_keeps_shape, empty_cut, entrants_of_table,
+    inverse_undoes, moves_of_table, shortfall_bars_clearing, stated_cut_is_worth, tight_is_equal,
+    weak_duality,
 };
 pub use model::{ArcRow, Model, NodeRow};
 pub use name::{Kind, NodeName};
@@ -30,3 +34,4 @@ pub use plan::Move;
 pub use rows::Rows;
 pub use standing::Standing;
 pub use steps::Steps;
+pub use window::Window;

@@ -3,7 +3,7 @@
 /// The most seconds of a period.
 pub const SECONDS_LIMIT: u16 = 600;
 /// The last moment that a horizon may be.
-pub const HORIZON_LIMIT: u16 = 600;
+pub const HORIZON_LIMIT: u16 = 1_200;
 /// The most nodes, exits counted.
 pub const NODE_LIMIT: usize = 400;
 /// The most arcs.
@@ -19,7 +19,9 @@ pub const CAPACITY_LIMIT: u32 = 100_000;
 /// The most people of a model.
 pub const PEOPLE_LIMIT: u32 = 100_000;
 /// The most cells: a node or an arc at a moment.
-pub const CELL_LIMIT: u32 = 400_000;
+pub const CELL_LIMIT: u32 = 1_000_000;
+/// The most closure windows of an arc.
+pub const WINDOW_LIMIT: usize = 8;
 /// The greatest number in a node's name.
 pub const NUMBER_LIMIT: u16 = 9_999;
 /// The greatest floor in a node's name.

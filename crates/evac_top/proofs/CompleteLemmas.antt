@@ -3,6 +3,7 @@ use Rattle.std.proofs.Common.{◌≡◌, ℕ, ◌+◌, ◌≤◌, List, [], ◌�
 use Rattle.std.specs.declared.option.Option.{Option}
 use Rattle.evac_law.specs.declared.model.Model.{Model}
 use Rattle.evac_law.specs.Building.{IsValid}
+use Rattle.evac_law.specs.Certificates.{IsClearable}
 use Rattle.line_io.specs.Line.{Line, lines_of, text_lines}
 use Rattle.model_text.specs.Readings.{Reading, Described, Refused, model_of}
 use Rattle.evac_top.specs.Accounts.{Account}
@@ -11,18 +12,21 @@ use Rattle.building_table.specs.Names.{NameTable, names_of}
 use Rattle.drill_building.specs.Drill.{drill_model}
 use Rattle.plan_checker.specs.Verdicts.{IsRight}
 use Rattle.evac_top.specs.Check.{Checks, IsChecked, verdict_status}
-use Rattle.evac_top.specs.Complete.{AnswersAll, ChecksAll, ChecksLines, PlansAll, RunsAnswer, SessionsAll, SolvesAll}
+use Rattle.evac_top.specs.Complete.{AnswersAll, ChecksAll, PlansAll, RunsAnswer, SolvesAll, TalksAll, UpgradesAll}
 use Rattle.evac_top.specs.Drill.{IsDrillSolved}
 use Rattle.evac_top.specs.Inputs.{Asked, Claimed, ClaimsBehind, IsClaimOf, claim_by, input_of}
-use Rattle.evac_top.specs.Session.{Sessions, spoken}
 use Rattle.evac_top.specs.Solve.{IsPlannedOrShort, Solves}
+use Rattle.evac_top.specs.Talking.{TalkOn, Talks, spoken}
+use Rattle.evac_top.specs.Upgrade.{Upgrades}
 use Rattle.evac_top.specs.Words.{reads}
 use Rattle.evac_top.specs.declared.words.Flags.{Flags}
 use Rattle.evac_top.specs.declared.words.Mode.{Mode}
-use Rattle.evac_top.specs.declared.words.Mode.TheVariants.{Solve, Check, Session, Drill}
+use Rattle.evac_top.specs.declared.words.Mode.TheVariants.{Solve, Check, Session, Study, Upgrade, Drill}
 use Rattle.model_text.specs.Taken.{Description}
-use Rattle.session_talk.specs.Sessions.{State, session}
-use Rattle.session_talk.specs.Talks.{EndsAt, Reply, Spoken, Talk}
+use Rattle.session_talk.specs.Sessions.{session}
+use Rattle.study_talk.specs.Studies.{study}
+use Rattle.talk.specs.Short.{OpensShort}
+use Rattle.talk.specs.Talks.{EndsAt, Reply, Spoken, Talk}
 use Rattle.model_text.proofs.ReadingLemmas.{opening-valid}
 use Rattle.block_reader.proofs.OneReading.{one-reading}
 use Rattle.evac_top.proofs.ClaimLemmas.{status-few}
@@ -71,28 +75,44 @@ never-fault [] (a ∷ more) code rest e = cc
 never-fault (t ∷ texts) [] code rest e = cc
 never-fault (t ∷ texts) (a ∷ more) code rest e = let tail : text_lines texts ≡ text_lines more ++ (Err code ∷ rest) = cc in never-fault texts more code rest tail
 
--- so a session over them is done
-ends-done : (talk : Talk State) (before : ℕ) (rest : List Line) (r : Reply State) (x : Spoken) (texts answered : List (List ℕ)) → text_lines texts ≡ text_lines answered ++ rest
-    → EndsAt talk before rest r x → x.status ≡ 0
+-- so a talk over them is done
+ends-done : {S : Type 0} (talk : Talk S) (before : ℕ) (rest : List Line) (r : Reply S) (x : Spoken) (texts answered : List (List ℕ))
+    → text_lines texts ≡ text_lines answered ++ rest → EndsAt talk before rest r x → x.status ≡ 0
 ends-done talk before [] r x texts answered e h = ap (λ (s : Spoken). s.status) h
 ends-done talk before (Ok line ∷ rest) r x texts answered e h = ap (λ (s : Spoken). s.status) h.1
 ends-done talk before (Err code ∷ rest) r x texts answered e h = absurd (never-fault texts answered code rest e)
 
-sessions-all : (r : Reading) (x : Account) → Sessions r x → SessionsAll r x
-sessions-all (Described d last rest) x (inl run) =
-    let opening = run.goes.opening.after.standing in (
-      λ can. run,
-      λ cannot. absurd (cannot (opening-clears d.model opening run.goes.opens.begins)),
-      λ can texts whole. ends-done (session (names_of d) d.model) (last + length run.answered) run.rest run.replies (spoken x) texts run.answered (sym whole ∙ run.parts) run.ends,
-    )
-sessions-all (Described d last rest) x (inr short) = (λ can. absurd (short.short.barred can), λ cannot. short, λ can texts whole. absurd (short.short.barred can))
-sessions-all (Refused code line) x h = h
+-- a talk that opens just where the building can be cleared
+talks-all : {S : Type 0} (talk : TalkOn S) → ((names : NameTable) (m : Model) (r : Reply S) → (talk names m).Opens r → IsClearable m)
+    → ((names : NameTable) (m : Model) (line : ℕ) (x : Spoken) → (talk names m).Refuses line x → OpensShort m line x) → (r : Reading) (x : Account)
+    → Talks talk r x → TalksAll talk r x
+talks-all talk clears short (Described d last rest) x (inl run) = (
+  λ can. run,
+  λ cannot. absurd (cannot (clears (names_of d) d.model run.goes.opening run.goes.opens)),
+  λ can texts whole. ends-done (talk (names_of d) d.model) (last + length run.answered) run.rest run.replies (spoken x) texts run.answered (sym whole ∙ run.parts) run.ends,
+)
+talks-all talk clears short (Described d last rest) x (inr refused) =
+    let barred = short (names_of d) d.model last (spoken x) refused in
+    (λ can. absurd (barred.short.barred can), λ cannot. barred, λ can texts whole. absurd (barred.short.barred can))
+talks-all talk clears short (Refused code line) x h = h
+
+sessions-all : (r : Reading) (x : Account) → Talks session r x → TalksAll session r x
+sessions-all r x h = talks-all session (λ names m reply opens. opening-clears m reply.after.standing opens.begins) (λ names m line y refused. refused) r x h
+
+studies-all : (r : Reading) (x : Account) → Talks study r x → TalksAll study r x
+studies-all r x h = talks-all study (λ names m reply opens. opens.clearable) (λ names m line y refused. refused) r x h
+
+upgrades-all : (input : List ℕ) (result : Result Asked (ℕ × ℕ)) (x : Account) → Upgrades input result x → UpgradesAll result x
+upgrades-all input (Ok asked) x h = h.1.over
+upgrades-all input (Err fault) x h = h
 
 answers-all : (mode : Option Mode) (input : List ℕ) (x : Account) → Answers mode input x → AnswersAll mode input x
 answers-all None input x h = h.1.over
 answers-all (Some (Solve flags)) input x h = solves-all flags input (input_of (lines_of input)) x h
 answers-all (Some Check) input x (claim, is, h) = record { claim = claim; of_lines = is; alone = λ other g. one-claim-of (lines_of input) claim other is g; answered = checks-all input claim x h }
 answers-all (Some Session) input x h = sessions-all (model_of (lines_of input)) x h.0
+answers-all (Some Study) input x h = studies-all (model_of (lines_of input)) x h.0
+answers-all (Some Upgrade) input x h = upgrades-all input (input_of (lines_of input)) x h
 answers-all (Some (Drill n)) input x h = drills-all n x h.1
 
 pub runs-answer : RunsAnswer

@@ -1,10 +1,12 @@
--- Every run of a session keeps the headline.
-use Rattle.std.proofs.Common.{◌≡◌, ℕ, ◌+◌, ◌≤◌, true, List, [], ◌∷◌, ◌++◌, length, Result, Ok, Err, refl, sym, ap, subst, ◌∙◌, arith, append-nil, inl, inr}
+-- Every run of a session and every plan that is written keeps the headline.
+use Rattle.std.specs.declared.option.Option.{Option}
+use Rattle.std.proofs.Common.{◌≡◌, ◌≢◌, Some, ℕ, ◌+◌, ◌≤◌, true, List, [], ◌∷◌, length, Result, Ok, Err, refl, sym, ap, subst, ◌∙◌, arith, inl, inr}
 use Rattle.evac_law.specs.declared.edit.Edit.{Edit}
 use Rattle.evac_law.specs.declared.edit.EditFault.{EditFault}
 use Rattle.evac_law.specs.declared.model.Model.{Model}
 use Rattle.evac_law.specs.Edits.{applied}
 use Rattle.evac_law.proofs.Optimal.{stated_cut_is_worth}
+use Rattle.line_io.specs.Causes.{Rose}
 use Rattle.line_io.specs.Line.{Line, lines_of}
 use Rattle.model_text.specs.declared.command.Command.{Command}
 use Rattle.model_text.specs.declared.command.Command.TheVariants as commands
@@ -15,15 +17,25 @@ use Rattle.model_text.specs.Taken.{Description}
 use Rattle.building_table.specs.declared.faults.NameFault.{NameFault}
 use Rattle.building_table.specs.EditNames.{edit_named}
 use Rattle.building_table.specs.Names.{NameTable, names_of}
-use Rattle.certificate_text.specs.BlockText.{refusal_line}
+use Rattle.certificate_text.proofs.AnswerBack.{reads_back}
 use Rattle.edit_session.specs.Sessions.{IsSolved, with_former}
 use Rattle.edit_session.specs.Thrift.{IsThrifty}
 use Rattle.session_talk.specs.Sessions.{Advances, AsksEdit, Edits, IsAnswerText, Replies, State, Undoes, session}
-use Rattle.session_talk.specs.Talks.{EndsAt, RepliesTo, Reply, Spoken, TalkRun, followed, says}
+use Rattle.talk.specs.Talks.{EndsAt, RepliesTo, Reply, TalkRun, says}
+use Rattle.session_talk.proofs.Bridge.{answer_of}
 use Rattle.session_talk.proofs.Same.{cut_stays}
-use Rattle.evac_top.specs.Accounts.{Account}
-use Rattle.evac_top.specs.Headline.{IsBestBlock, KeepsAll, KeepsPromise, KeepsSession, SessionsKeepPromise}
-use Rattle.evac_top.specs.Session.{Sessions, spoken}
+use Rattle.evac_top.specs.Accounts.{Account, Outside}
+use Rattle.evac_top.specs.Answers.{Answers}
+use Rattle.evac_top.specs.Headline.{IsBestBlock, KeepsAll, KeepsBlock, KeepsPlan, KeepsPromise, KeepsSession, PlansKeepPromise, SessionsKeepPromise}
+use Rattle.evac_top.specs.Inputs.{Asked, input_of}
+use Rattle.evac_top.specs.Runs.{OfInput, Runs}
+use Rattle.evac_top.specs.Solve.{IsPlanned, Solves}
+use Rattle.evac_top.specs.Talking.{Talks, spoken}
+use Rattle.evac_top.specs.Words.{reads}
+use Rattle.evac_top.specs.declared.words.Flags.{Flags}
+use Rattle.evac_top.specs.declared.words.Mode.{Mode}
+use Rattle.evac_top.specs.declared.words.Mode.TheVariants.{Session, Solve}
+use Rattle.session_text.specs.StateTexts.{block_text}
 use Rattle.session_text.proofs.Solved.{feasible_of}
 use Rattle.evac_top.proofs.TellLemmas.{of-input}
 
@@ -89,19 +101,8 @@ all_lines names m before s [] r h = h
 all_lines names m before s (line ∷ lines) r h =
     (h.0, (h.1, one_line names (before + 1) s (command_of line) h.0 h.1), (h.2.0, all_lines names m (before + 1) h.0.after lines h.2.0 h.2.1, h.2.2))
 
--- the text of a talk that ended is that of its replies, and maybe the refusal of a line
-ended : (names : NameTable) (m : Model) (before : ℕ) (rest : List Line) (r : Reply State) (x : Spoken) → EndsAt (session names m) before rest r x
-    → (ending : List ℕ) × (x.text ≡ r.text ++ ending)
-ended names m before [] r x h = ([], ap (λ (y : Spoken). y.text) h ∙ sym (append-nil r.text))
-ended names m before (Ok line ∷ rest) r x h = ([], ap (λ (y : Spoken). y.text) h.1 ∙ sym (append-nil r.text))
-ended names m before (Err code ∷ rest) r x h = (refusal_line code (before + 1), ap (λ (y : Spoken). y.text) h)
-
-all-written : (w ending : List ℕ) (r opening more : Reply State) → w ≡ r.text ++ ending → r ≡ followed opening more → w ≡ opening.text ++ more.text ++ ending
-all-written w ending r opening more e all = e ∙ ap (λ (a : Reply State). a.text ++ ending) all
-
-keep-all : (d : Description) (last : ℕ) (lines : List Line) (x : Account) (run : TalkRun (session (names_of d) d.model) last lines (spoken x)) (ending : List ℕ)
-    → x.written ≡ run.replies.text ++ ending → KeepsAll d last lines x
-keep-all d last lines x run ending e =
+runs-keep : (d : Description) (last : ℕ) (lines : List Line) (x : Account) → TalkRun (session (names_of d) d.model) last lines (spoken x) → KeepsAll d last lines x
+runs-keep d last lines x run =
     let goes = run.goes in
     record {
       answered = run.answered;
@@ -109,27 +110,49 @@ keep-all d last lines x run ending e =
       parts = run.parts;
       opening = goes.opening;
       more = goes.more;
-      ending = ending;
       of_model = goes.opens.begins.begun;
       first = best-block goes.opening.after goes.opening.text goes.opens.begins.solved goes.opens.answer;
       replies = all_lines (names_of d) d.model last goes.opening.after run.answered goes.more goes.replies;
-      written = all-written x.written ending run.replies goes.opening goes.more e goes.all;
+      ends = subst (λ (r : Reply State). EndsAt (session (names_of d) d.model) (last + length run.answered) run.rest r (spoken x)) goes.all run.ends;
     }
 
-runs-keep : (d : Description) (last : ℕ) (lines : List Line) (x : Account) → TalkRun (session (names_of d) d.model) last lines (spoken x) → KeepsAll d last lines x
-runs-keep d last lines x run =
-    let end = ended (names_of d) d.model (last + length run.answered) run.rest run.replies (spoken x) run.ends in
-    keep-all d last lines x run end.0 end.1
-
-keeps-session : (r : Reading) (x : Account) → Sessions r x → KeepsSession r x
+keeps-session : (r : Reading) (x : Account) → Talks session r x → KeepsSession r x
 keeps-session (Described d last rest) x (inl run) = λ can. runs-keep d last rest x run
 keeps-session (Described d last rest) x (inr short) = λ can. absurd (short.short.barred can)
 keeps-session (Refused code line) x h = tt
 
-pub sessions-keep-promise : SessionsKeepPromise
-sessions-keep-promise status before after r reads_kept writes_kept memory =
+-- a run in which neither count of faults rose, and there was memory, answered
+answered-all : (mode : Option Mode) (status : ℕ) (before after : Outside) (r : Runs mode status before after) → ¬ Rose before.source.faults after.source.faults
+    → ¬ Rose before.sink.faults after.sink.faults → status ≢ 5 → OfInput (reads mode) before.source.bytes (λ input. Answers mode input r.did)
+answered-all mode status before after r reads_kept writes_kept memory =
     let three : status ≡ 3 → ⊥ = λ e. reads_kept (r.causes.reads_rose e) in
     let four : status ≡ 4 → ⊥ = λ e. writes_kept (r.causes.writes_rose e) in
     let known : status ≤ 5 = r.causes.known in
+    r.answered (omega (arith, known, three, four, memory))
+
+pub sessions-keep-promise : SessionsKeepPromise
+sessions-keep-promise status before after r reads_kept writes_kept memory =
     of-input true before.source.bytes _ _ (λ input h. keeps-session (model_of (lines_of input)) r.did h.0)
-    (r.answered (omega (arith, known, three, four, memory)))
+    (answered-all (Some Session) status before after r reads_kept writes_kept memory)
+
+-- ---- a plan that is written
+
+keeps-block : (flags : Flags) (names : NameTable) (m : Model) (x : Account) → IsPlanned flags names m x → KeepsBlock flags names m x
+keeps-block flags names m x h =
+    let s : State = record { index = 0; standing = h.opening } in
+    record {
+      opening = h.opening;
+      of_model = h.begins.begun;
+      first = best-block s (block_text 0 h.opening) h.begins.solved (answer_of reads_back s (omega arith) h.begins.solved);
+      says = h.says;
+    }
+
+keeps-plan : (flags : Flags) (input : List ℕ) (result : Result Asked (ℕ × ℕ)) (x : Account) → Solves flags input result x → KeepsPlan flags result x
+keeps-plan flags input (Ok asked) x (all, inl h) = λ can. keeps-block flags (names_of asked.building) asked.building.model x h
+keeps-plan flags input (Ok asked) x (all, inr short) = λ can. absurd (short.barred can)
+keeps-plan flags input (Err fault) x h = tt
+
+pub plans-keep-promise : PlansKeepPromise
+plans-keep-promise flags status before after r reads_kept writes_kept memory =
+    of-input true before.source.bytes _ _ (λ input h. keeps-plan flags input (input_of (lines_of input)) r.did h)
+    (answered-all (Some (Solve flags)) status before after r reads_kept writes_kept memory)

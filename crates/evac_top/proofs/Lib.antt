@@ -6,8 +6,9 @@ pub mod InputLemmas
 pub mod OpenLemmas
 pub mod PlanLemmas
 pub mod SendLemmas
-pub mod SessionLemmas
 pub mod SolveLemmas
 pub mod TailLemmas
 pub mod TakeLemmas
+pub mod TalkLemmas
 pub mod TellLemmas
+pub mod UpgradeLemmas

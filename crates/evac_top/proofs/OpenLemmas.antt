@@ -1,5 +1,5 @@
 -- Where the source failed, no whole line of a model ended the run.
-use Rattle.std.proofs.Common.{◌≡◌, ℕ, ◌+◌, List, [], ◌∷◌, ◌++◌, length, Result, Ok, Err, None, refl, sym, ap, subst, ◌∙◌, append-nil}
+use Rattle.std.proofs.Common.{◌≡◌, ℕ, ◌+◌, List, [], ◌++◌, length, Result, Ok, Err, None, refl, sym, ap, subst, ◌∙◌, append-nil}
 use Rattle.std.specs.declared.option.Option.{Option}
 use Rattle.line_io.specs.Line.{Line, text_lines}
 use Rattle.line_io.specs.View.{Reader}
@@ -9,9 +9,9 @@ use Rattle.building_table.specs.declared.building.Building.{Building}
 use Rattle.building_table.specs.declared.faults.ModelFault.{ModelFault}
 use Rattle.building_table.specs.declared.faults.ModelFault.TheVariants.{ReadFault}
 use Rattle.model_text.specs.Codes.{missing_end}
-use Rattle.model_text.specs.Grammar.{Said}
-use Rattle.model_text.specs.Readings.{Described, Refused, Step, Passed, Took, Ended, Stopped, after_first_step, after_step, first_step, later_step, IsUndecided, opening_of, reading_of}
-use Rattle.model_text.specs.Taken.{Description, description_of}
+use Rattle.model_text.specs.Readings.{Described, Refused, AtStart, IsUndecided, opening_of}
+use Rattle.model_text.specs.Taken.{Description}
+use Rattle.model_text.proofs.ReadingLemmas.{reading-further}
 use Rattle.evac_top.specs.Inputs.{IsOpenClaim, IsOpenInput, NoneRefused, ClaimsBehind, input_by, tail_fault, unless_fault}
 use Rattle.evac_top.specs.Reads.{IsFresh, PassesTail}
 use Rattle.evac_top.proofs.TakeLemmas.{lines-count}
@@ -31,51 +31,10 @@ missing-claim lines e = (Err (missing_end, length lines + 1), subst (λ r. Claim
 
 -- ---- behind the model
 
--- what a reading described stays described, with the further lines behind it
-reading-further : (taken : List Said) (before : ℕ) (xs ys : List Line) (d : Description) (last : ℕ) (rest : List Line)
-    → reading_of taken before xs ≡ Described d last rest → reading_of taken before (xs ++ ys) ≡ Described d last (rest ++ ys)
-unfolding reading_of
-reading-further taken before [] ys d last rest h = absurd (differ h)
-  where
-    differ : Refused missing_end (before + 1) ≡ Described d last rest → ⊥
-    differ e = cc
-reading-further taken before (x ∷ xs) ys d last rest h =
-    by_step (later_step taken x) (λ more. reading-further more (before + 1) xs ys d last rest) h
-  where
-    by_step : (step : Step)
-        → ((more : List Said) → reading_of more (before + 1) xs ≡ Described d last rest → reading_of more (before + 1) (xs ++ ys) ≡ Described d last (rest ++ ys))
-        → after_step step taken (before + 1) xs (λ more. reading_of more (before + 1) xs) ≡ Described d last rest
-        → after_step step taken (before + 1) (xs ++ ys) (λ more. reading_of more (before + 1) (xs ++ ys)) ≡ Described d last (rest ++ ys)
-    by_step Passed more e = more taken e
-    by_step (Took s) more e = more (s ∷ taken) e
-    by_step Ended more e = ended e
-      where
-        ended : Described (description_of taken) (before + 1) xs ≡ Described d last rest → Described (description_of taken) (before + 1) (xs ++ ys) ≡ Described d last (rest ++ ys)
-        ended e = let a : description_of taken ≡ d = cc in let b : before + 1 ≡ last = cc in let c : xs ≡ rest = cc in cc
-    by_step (Stopped code) more e = absurd (differ e)
-      where
-        differ : Refused code (before + 1) ≡ Described d last rest → ⊥
-        differ e = cc
-
+-- what lines described they describe with further lines behind them
 pub opening-further : (before : ℕ) (xs ys : List Line) (d : Description) (last : ℕ) (rest : List Line)
     → opening_of before xs ≡ Described d last rest → opening_of before (xs ++ ys) ≡ Described d last (rest ++ ys)
-unfolding opening_of
-opening-further before [] ys d last rest h = absurd (differ h)
-  where
-    differ : Refused missing_end (before + 1) ≡ Described d last rest → ⊥
-    differ e = cc
-opening-further before (x ∷ xs) ys d last rest h = by_step (first_step x) (opening-further (before + 1) xs ys d last rest) h
-  where
-    refused : (code : ℕ) → Refused code (before + 1) ≡ Described d last rest → ⊥
-    refused code e = cc
-
-    by_step : (step : Step) → (opening_of (before + 1) xs ≡ Described d last rest → opening_of (before + 1) (xs ++ ys) ≡ Described d last (rest ++ ys))
-        → after_first_step step (before + 1) (opening_of (before + 1) xs) (reading_of [] (before + 1) xs) ≡ Described d last rest
-        → after_first_step step (before + 1) (opening_of (before + 1) (xs ++ ys)) (reading_of [] (before + 1) (xs ++ ys)) ≡ Described d last (rest ++ ys)
-    by_step Passed more e = more e
-    by_step (Took s) more e = reading-further [] (before + 1) xs ys d last rest e
-    by_step Ended more e = absurd (refused _ e)
-    by_step (Stopped code) more e = absurd (refused code e)
+opening-further before xs ys d last rest h = reading-further AtStart before xs ys d last rest h
 
 pub described-lines : (r0 r1 : Reader) (l0 l1 : Option (List ℕ)) (building : Building) → IsFresh r0 → (h : ReadsLines (Ok building) r0 r1 l0 l1)
     → opening_of 0 (text_lines h.texts) ≡ Described h.described.0 r1.number []

@@ -7,7 +7,8 @@ use Rattle.line_io.specs.Writer.{PutsText}
 use Rattle.line_io.proofs.TextLemmas.{front-more, text-failed, text-is, text-last}
 use Rattle.report_text.proofs.Parts.{text-err, text-ok}
 use Rattle.report_text.specs.Parts.{PutsOn}
-use Rattle.report_text.specs.ReportText.{routes_text, summary_text}
+use Rattle.report_text.specs.ReportText.{SaysCards, cards_text, routes_text, summary_text}
+use Rattle.cards.specs.Cards.{CardView, IsFairDeal}
 use Rattle.route_decompose.specs.Routes.{Covers, RouteView}
 use Rattle.session_text.specs.Spaces.{SpaceView}
 use Rattle.session_text.specs.StateTexts.{SaysReports, SaysRoutesOf, block_text, bottlenecks_of, clearing_of}
@@ -44,6 +45,10 @@ some-holds {A} o x P e h = subst (λ (z : Option A). IfSome z P) e h
 pub found-says : (s : SessionState) (found : List RouteView) → Covers s.model s.plan found → SaysRoutesOf 0 s (routes_text 0 s.model found)
 found-says s found cover = record { routes = found; cover = cover; says = refl }
 
+-- cards that were made have a text
+pub made-cards : (s : SessionState) (made : List CardView) → IsFairDeal s.model s.plan made → SaysCards 0 s.model s.plan (cards_text 0 s.model made)
+made-cards s made fair = record { cards = made; fair = fair; says = refl }
+
 -- the text of reports that are made
 abbrev pub made_text : NameTable → SessionState → SpaceView → List ℕ
 made_text names s t = clearing_of names 0 s ++ bottlenecks_of 0 s ++ summary_text 0 names.title s.model s.plan s.last t.clearing.time
@@ -51,18 +56,21 @@ made_text names s t = clearing_of names 0 s ++ bottlenecks_of 0 s ++ summary_tex
 pub made-says : (names : NameTable) (s : SessionState) (t : SpaceView) → IsMade names s t → SaysReports names 0 s (made_text names s t)
 made-says names s t h = (summary_text 0 names.title s.model s.plan s.last t.clearing.time, (t.clearing.time, h.plan.time_is, refl), refl)
 
-pub says-plan : (flags : Flags) (names : NameTable) (s : SessionState) (t : Tables) (r p : List ℕ) → HasTables flags names s t
-    → Where (is_some t.routes) (SaysRoutesOf 0 s) r → Where (is_some t.reports) (SaysReports names 0 s) p → SaysPlan flags names s (block_text 0 s ++ r ++ p)
-says-plan flags names s t r p has says_r says_p = record {
+pub says-plan : (flags : Flags) (names : NameTable) (s : SessionState) (t : Tables) (r q p : List ℕ) → HasTables flags names s t
+    → Where (is_some t.routes) (SaysRoutesOf 0 s) r → Where (is_some t.cards) (SaysCards 0 s.model s.plan) q → Where (is_some t.reports) (SaysReports names 0 s) p
+    → SaysPlan flags names s (block_text 0 s ++ r ++ q ++ p)
+says-plan flags names s t r q p has says_r says_q says_p = record {
   routes = r;
   says_routes = subst (λ b. Where b (SaysRoutesOf 0 s) r) has.routes_asked says_r;
+  cards = q;
+  says_cards = subst (λ b. Where b (SaysCards 0 s.model s.plan) q) has.cards_asked says_q;
   reports = p;
   says_reports = subst (λ b. Where b (SaysReports names 0 s) p) has.reports_asked says_p;
   parts = refl;
 }
 
--- three texts, one behind the other
-pub three-put : {T E : Type 0} (x y z : Result T E) (s t u : List ℕ) {a : Option (List ℕ)} {p : List ℕ} {b : Option (List ℕ)} {q : List ℕ} {c : Option (List ℕ)} {r : List ℕ} {d : Option (List ℕ)} {o : List ℕ}
-    → p ≡ [] → PutsText a p s b q x → PutsOn x b q t c r y → PutsOn y c r u d o z → PutsText a [] (s ++ t ++ u) d o z
-three-put x y z s t u {a} {p} {b} {q} {c} {r} {d} {o} fresh first second third =
-    third a [] (s ++ t) (second a [] s (subst (λ (l : List ℕ). PutsText a l s b q x) fresh first))
+-- four texts, one behind the other
+pub four-put : {T E : Type 0} (w x y z : Result T E) (s t u v : List ℕ) {a : Option (List ℕ)} {p : List ℕ} {b : Option (List ℕ)} {q : List ℕ} {c : Option (List ℕ)} {r : List ℕ} {d : Option (List ℕ)} {o : List ℕ} {e : Option (List ℕ)} {l : List ℕ}
+    → p ≡ [] → PutsText a p s b q w → PutsOn w b q t c r x → PutsOn x c r u d o y → PutsOn y d o v e l z → PutsText a [] (s ++ t ++ u ++ v) e l z
+four-put w x y z s t u v {a} {p} {b} {q} {c} {r} {d} {o} {e} {l} fresh first second third fourth =
+    fourth a [] (s ++ t ++ u) (third a [] (s ++ t) (second a [] s (subst (λ (k : List ℕ). PutsText a k s b q w) fresh first)))

@@ -12,7 +12,7 @@ use Rattle.line_io.proofs.PassLemmas.{passes-few}
 use Rattle.building_table.specs.declared.faults.ModelFault.{ModelFault}
 use Rattle.building_table.specs.declared.faults.ModelFault.TheVariants.{ReadFault}
 use Rattle.evac_top.specs.Reads.{IsFresh, Takes}
-use Rattle.session_talk.specs.Held.{IsReadOut}
+use Rattle.talk.specs.Held.{IsReadOut}
 
 true-false : {b : Bool} → b ≡ true → b ≡ false → ⊥
 true-false p q = cc

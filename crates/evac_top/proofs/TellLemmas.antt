@@ -16,12 +16,12 @@ use Rattle.evac_top.specs.Inputs.{IsOpenClaim, IsOpenInput}
 use Rattle.evac_top.specs.Reads.{Takes}
 use Rattle.evac_top.specs.Runs.{OfInput, Runs}
 use Rattle.evac_top.specs.Sends.{Sends}
-use Rattle.session_talk.specs.Held.{status_after}
+use Rattle.talk.specs.Held.{status_after}
 use Rattle.evac_top.specs.Tells.{Stops, Tells}
 use Rattle.evac_top.specs.Words.{reads}
 use Rattle.evac_top.specs.declared.words.Flags.{Flags}
 use Rattle.evac_top.specs.declared.words.Mode.{Mode}
-use Rattle.evac_top.specs.declared.words.Mode.TheVariants.{Solve, Check, Drill}
+use Rattle.evac_top.specs.declared.words.Mode.TheVariants.{Solve, Check, Upgrade, Drill}
 
 -- ---- telling
 
@@ -97,7 +97,7 @@ pub runs-told : (mode : Option Mode) (Holds : Account → Type 0) (status steps 
     → ((x : Account) → Holds x → x.status ≡ 2 → mode ≡ None)
     → OfInput (reads mode) before.source.bytes (λ input. (x : Account) → x.taken ≡ taken → Holds x → Answers mode input x)
     → ((input : List ℕ) (x : Account) → IsFront (Answers mode input) x → AnswersFront mode input x)
-    → ((x : Account) → x.taken ≡ taken → x.written ≡ [] → AnswersMemory mode before.source.bytes x) → Runs mode status before after
+    → ((x : Account) → x.taken ≡ taken → x.written ≡ [] → AnswersMemory mode x) → Runs mode status before after
 runs-told mode Holds status steps before after taken consumed few same counted tells words holds front memory =
     let x : Account = record { status = status; taken = taken; written = tells.written; steps = steps } in
     record {
@@ -125,15 +125,16 @@ pub record ReadsFirst (mode : Mode) (IsOpen : List Line → Type 0) : Type 0 whe
   pub input : reads (Some mode) ≡ true
   pub front : (input : List ℕ) (x : Account) → IsFront (Answers (Some mode) input) x → AnswersFront (Some mode) input x
   pub so_far : (lines : List Line) (x : Account) → IsOpen lines → WritesNothing x → AnswersSoFar (Some mode) lines x
-  pub memory : (left : Option (List ℕ)) (x : Account) → x.written ≡ [] → AnswersMemory (Some mode) left x
+  pub memory : (x : Account) → x.written ≡ [] → AnswersMemory (Some mode) x
 
-told-input : {IsOpen : List Line → Type 0} (mode : Mode) → ReadsFirst mode IsOpen → (left : Option (List ℕ)) (P : List ℕ → Type 0) → Told left P → OfInput (reads (Some mode)) left P
-told-input mode m left P t = subst (λ (b : Bool). OfInput b left P) (sym m.input) t
+-- who reads is told of the bytes left
+pub told-input : {b : Bool} → b ≡ true → (left : Option (List ℕ)) (P : List ℕ → Type 0) → Told left P → OfInput b left P
+told-input e left P t = subst (λ (b : Bool). OfInput b left P) (sym e) t
 
 -- there was no memory to read with
 pub no-memory : {IsOpen : List Line → Type 0} (mode : Mode) → ReadsFirst mode IsOpen → (at : Outside) → Runs (Some mode) 5 at at
 no-memory mode m at = runs-told (Some mode) (λ x. ⊥) 5 0 at at [] (Consumes-nil at.source.bytes) (omega arith) refl (omega arith)
-    (tells-nothing (λ x. ⊥) 0 at.sink) (λ x h. absurd h) (told-input mode m at.source.bytes _ (nothing at.source.bytes)) m.front (λ x e w. m.memory at.source.bytes x w)
+    (tells-nothing (λ x. ⊥) 0 at.sink) (λ x h. absurd h) (told-input m.input at.source.bytes _ (nothing at.source.bytes)) m.front (λ x e w. m.memory x w)
   where
     nothing : (left : Option (List ℕ)) → Told left (λ input. (x : Account) → x.taken ≡ [] → ⊥ → Answers (Some mode) input x)
     nothing None = tt
@@ -154,9 +155,9 @@ pub read-told : {T : Type 0} {IsOpen : List Line → Type 0} (mode : Mode) → R
     → Told before.source.bytes (λ input. (x : Account) → x.taken ≡ input → Holds x → Answers (Some mode) input x) → Runs (Some mode) status before after
 read-told mode m Holds value status steps before after t same counted tells few holds =
     runs-told (Some mode) Holds status steps before after t.taken t.consumed t.few same counted tells (λ x h e. absurd (omega (arith, few x h, e)))
-    (told-input mode m before.source.bytes _
+    (told-input m.input before.source.bytes _
     (all-taken before.source.bytes after.source.bytes t.taken (λ input x. Holds x → Answers (Some mode) input x) t.consumed t.all holds)) m.front
-    (λ x e w. m.memory before.source.bytes x w)
+    (λ x e w. m.memory x w)
 
 -- an input isn't read: what its fault says of it
 abbrev pub FaultIs : Mode → ModelFault → List ℕ → Type 0
@@ -173,7 +174,7 @@ pub stopped : {T : Type 0} {IsOpen : List Line → Type 0} (mode : Mode) → Rea
     → Told before.source.bytes (FaultIs mode fault) → Runs (Some mode) status before after
 stopped mode m (Named code line) status before after t rose quiet kept tells told =
     runs-told (Some mode) (IsRefusal (code, line)) status 0 before after t.taken t.consumed t.few (quiet (λ e. cc)) (omega (arith, kept)) tells
-    (λ x h e. absurd (omega (arith, h.over, e))) (told-input mode m before.source.bytes _ (told-map before.source.bytes (FaultIs mode (Named code line)) _ (λ input h x e. h x) told)) m.front (λ x e w. m.memory before.source.bytes x w)
+    (λ x h e. absurd (omega (arith, h.over, e))) (told-input m.input before.source.bytes _ (told-map before.source.bytes (FaultIs mode (Named code line)) _ (λ input h x e. h x) told)) m.front (λ x e w. m.memory x w)
 stopped mode m ReadFault status before after t rose quiet kept (three, same) told =
     let x : Account = record { status = status; taken = t.taken; written = []; steps = 0 } in
     record {
@@ -208,16 +209,19 @@ stopped mode m Memory status before after t rose quiet kept (five, same) told =
       answered = λ l. absurd (omega (arith, five, l));
       source = λ e. absurd (omega (arith, five, e));
       sink = λ e. absurd (omega (arith, five, e));
-      memory = λ e. m.memory before.source.bytes x refl;
+      memory = λ e. m.memory x refl;
     }
 
 -- ---- the modes
 
 pub solve-reads : (flags : Flags) → ReadsFirst (Solve flags) IsOpenInput
-solve-reads flags = record { input = refl; front = λ input x h. h; so_far = λ lines x is nothing. (is, nothing); memory = λ left x e. e }
+solve-reads flags = record { input = refl; front = λ input x h. h; so_far = λ lines x is nothing. (is, nothing); memory = λ x e. e }
+
+pub upgrade-reads : ReadsFirst Upgrade IsOpenInput
+upgrade-reads = record { input = refl; front = λ input x h. h; so_far = λ lines x is nothing. (is, nothing); memory = λ x e. e }
 
 pub check-reads : ReadsFirst Check IsOpenClaim
-check-reads = record { input = refl; front = λ input x h. h; so_far = λ lines x is nothing. (is, nothing); memory = λ left x e. e }
+check-reads = record { input = refl; front = λ input x h. h; so_far = λ lines x is nothing. (is, nothing); memory = λ x e. e }
 
 -- what is told of one account of a building is told of an account of it
 pub tells-as : (Holds Others : Account → Type 0) (status steps : ℕ) (before after : Side) → ((x : Account) → Holds x → Others x) → Tells Holds status steps before after

@@ -4,14 +4,17 @@ use Rattle.std.specs.declared.option.Option.{Option}
 use Rattle.line_io.specs.Line.{Line, lines_of}
 use Rattle.model_text.specs.Readings.{model_of}
 use Rattle.certificate_text.specs.BlockText.{refusal_line}
+use Rattle.session_talk.specs.Sessions.{session}
+use Rattle.study_talk.specs.Studies.{study}
 use Rattle.evac_top.specs.Accounts.{Account, Ends, IsFront}
 use Rattle.evac_top.specs.Check.{Checks}
 use Rattle.evac_top.specs.Drill.{Drills}
 use Rattle.evac_top.specs.Inputs.{Claimed, IsClaimOf, IsOpenClaim, IsOpenInput, input_of}
-use Rattle.evac_top.specs.Session.{ReadsOn, Sessions, SessionsFront, SessionsSoFar}
 use Rattle.evac_top.specs.Solve.{Solves}
+use Rattle.evac_top.specs.Talking.{ReadsOn, Talks, TalksFront, TalksSoFar}
+use Rattle.evac_top.specs.Upgrade.{Upgrades}
 use Rattle.evac_top.specs.declared.words.Mode.{Mode}
-use Rattle.evac_top.specs.declared.words.Mode.TheVariants.{Solve, Check, Session, Drill}
+use Rattle.evac_top.specs.declared.words.Mode.TheVariants.{Solve, Check, Session, Study, Upgrade, Drill}
 
 -- the text for words that ask for nothing
 abbrev pub words_text : List ℕ
@@ -26,7 +29,9 @@ abbrev pub Answers : Option Mode → List ℕ → Account → Type 0
 Answers None input x = RefusesWords x
 Answers (Some (Solve flags)) input x = Solves flags input (input_of (lines_of input)) x
 Answers (Some Check) input x = (claim : Result Claimed (ℕ × ℕ)) × IsClaimOf (lines_of input) claim × Checks input claim x
-Answers (Some Session) input x = Sessions (model_of (lines_of input)) x × ReadsOn input x
+Answers (Some Session) input x = Talks session (model_of (lines_of input)) x × ReadsOn session input x
+Answers (Some Study) input x = Talks study (model_of (lines_of input)) x × ReadsOn study input x
+Answers (Some Upgrade) input x = Upgrades input (input_of (lines_of input)) x
 Answers (Some (Drill number)) input x = Drills number x
 
 -- nothing was written, and no step counted
@@ -38,7 +43,9 @@ abbrev pub AnswersSoFar : Option Mode → List Line → Account → Type 0
 AnswersSoFar None lines x = ⊥
 AnswersSoFar (Some (Solve flags)) lines x = IsOpenInput lines × WritesNothing x
 AnswersSoFar (Some Check) lines x = IsOpenClaim lines × WritesNothing x
-AnswersSoFar (Some Session) lines x = SessionsSoFar (model_of lines) (length lines) x
+AnswersSoFar (Some Session) lines x = TalksSoFar session (model_of lines) (length lines) x
+AnswersSoFar (Some Study) lines x = TalksSoFar study (model_of lines) (length lines) x
+AnswersSoFar (Some Upgrade) lines x = IsOpenInput lines × WritesNothing x
 AnswersSoFar (Some (Drill number)) lines x = ⊥
 
 -- a run whose sink failed: the front of an answer
@@ -46,13 +53,17 @@ abbrev pub AnswersFront : Option Mode → List ℕ → Account → Type 0
 AnswersFront None input x = IsFront (Answers None input) x
 AnswersFront (Some (Solve flags)) input x = IsFront (Answers (Some (Solve flags)) input) x
 AnswersFront (Some Check) input x = IsFront (Answers (Some Check) input) x
-AnswersFront (Some Session) input x = SessionsFront (model_of (lines_of input)) x
+AnswersFront (Some Session) input x = TalksFront session (model_of (lines_of input)) x
+AnswersFront (Some Study) input x = TalksFront study (model_of (lines_of input)) x
+AnswersFront (Some Upgrade) input x = IsFront (Answers (Some Upgrade) input) x
 AnswersFront (Some (Drill number)) input x = IsFront (Answers (Some (Drill number)) input) x
 
--- a run without memory, by the bytes left before it, where they are told: nothing was written
-abbrev pub AnswersMemory : Option Mode → Option (List ℕ) → Account → Type 0
-AnswersMemory None left x = (x.taken ≡ []) × (x.written ≡ [])
-AnswersMemory (Some (Solve flags)) left x = x.written ≡ []
-AnswersMemory (Some Check) left x = x.written ≡ []
-AnswersMemory (Some Session) left x = x.written ≡ []
-AnswersMemory (Some (Drill number)) left x = (x.taken ≡ []) × (x.written ≡ [])
+-- a run without memory: nothing was written
+abbrev pub AnswersMemory : Option Mode → Account → Type 0
+AnswersMemory None x = (x.taken ≡ []) × (x.written ≡ [])
+AnswersMemory (Some (Solve flags)) x = x.written ≡ []
+AnswersMemory (Some Check) x = x.written ≡ []
+AnswersMemory (Some Session) x = x.written ≡ []
+AnswersMemory (Some Study) x = x.written ≡ []
+AnswersMemory (Some Upgrade) x = x.written ≡ []
+AnswersMemory (Some (Drill number)) x = (x.taken ≡ []) × (x.written ≡ [])

@@ -1,5 +1,6 @@
--- The headline: what every run of a session keeps, in the law's words.
-use Rattle.std.specs.Prelude.{◌≡◌, ◌≢◌, ℕ, ◌≤◌, List, ◌++◌, Some, ◌⊎◌, ⊤}
+-- The headline: what every run of a session and every plan that is written keeps, in the law's words.
+use Rattle.std.specs.Prelude.{◌≡◌, ◌≢◌, ℕ, ◌+◌, ◌≤◌, List, ◌++◌, length, Result, Ok, Err, Some, ◌⊎◌, ⊤}
+use Rattle.evac_law.specs.declared.model.Model.{Model}
 use Rattle.evac_law.specs.declared.plan.Move.{Move}
 use Rattle.evac_law.specs.Building.{people}
 use Rattle.evac_law.specs.Certificates.{IsClearable, stated_cut}
@@ -10,16 +11,21 @@ use Rattle.line_io.specs.Line.{Line, lines_of, text_lines}
 use Rattle.model_text.specs.Commands.{command_of}
 use Rattle.model_text.specs.Readings.{Reading, Described, Refused, model_of}
 use Rattle.model_text.specs.Taken.{Description}
-use Rattle.building_table.specs.Names.{names_of}
+use Rattle.building_table.specs.Names.{NameTable, names_of}
 use Rattle.certificate_text.specs.BlockLaws.{ReadsBack}
+use Rattle.edit_session.specs.Sessions.{SessionState}
 use Rattle.edit_session.specs.Thrift.{IsCounted, IsThrifty}
 use Rattle.session_text.specs.StateTexts.{block_text}
-use Rattle.session_talk.specs.Sessions.{Replies, State}
-use Rattle.session_talk.specs.Talks.{RepliesTo, Reply}
+use Rattle.session_talk.specs.Sessions.{Replies, State, session}
+use Rattle.talk.specs.Talks.{EndsAt, RepliesTo, Reply, followed}
 use Rattle.evac_top.specs.Accounts.{Account, Outside}
+use Rattle.evac_top.specs.Inputs.{Asked, input_of}
 use Rattle.evac_top.specs.Runs.{OfInput, Runs}
+use Rattle.evac_top.specs.Solve.{SaysPlan}
+use Rattle.evac_top.specs.Talking.{spoken}
 use Rattle.evac_top.specs.Words.{reads}
-use Rattle.evac_top.specs.declared.words.Mode.TheVariants.{Session}
+use Rattle.evac_top.specs.declared.words.Flags.{Flags}
+use Rattle.evac_top.specs.declared.words.Mode.TheVariants.{Session, Solve}
 
 -- an answer block that was written: it reads back as a feasible plan that takes everybody out, and for every period a stated cut is worth as many as
 -- are out by then, so no feasible plan has more people out by that period
@@ -43,18 +49,18 @@ pub record IsRepaired (s : State) (r : Reply State) : Type 0 where
 abbrev pub KeepsPromise : State → Reply State → Type 0
 KeepsPromise s r = IsRepaired s r ⊎ (r.after ≡ s)
 
--- what a session wrote on a building and some lines behind it: the block of a best plan, and what each line got, up to the end
+-- what a session wrote on a building and some lines behind it: the block of a best plan, and what each line got, up to the end. It ends with the
+-- input, with a line that quits, or with the refusal of a line that has a fault of its own
 pub record KeepsAll (d : Description) (last : ℕ) (lines : List Line) (x : Account) : Type 0 where
   pub answered : List (List ℕ)
   pub rest : List Line
   pub parts : lines ≡ text_lines answered ++ rest
   pub opening : Reply State
   pub more : Reply State
-  pub ending : List ℕ
   pub of_model : opening.after.standing.model ≡ d.model
   pub first : IsBestBlock opening.after opening.text
   pub replies : RepliesTo (λ line s text r. Replies (names_of d) line s (command_of text) r × KeepsPromise s r) last opening.after answered more
-  pub written : x.written ≡ opening.text ++ more.text ++ ending
+  pub ends : EndsAt (session (names_of d) d.model) (last + length answered) rest (followed opening more) (spoken x)
 
 -- a building that can be cleared, with any lines behind it
 abbrev pub KeepsSession : Reading → Account → Type 0
@@ -67,3 +73,22 @@ SessionsKeepPromise =
     (status : ℕ) (before after : Outside) (r : Runs (Some Session) status before after) → ¬ Rose before.source.faults after.source.faults
     → ¬ Rose before.sink.faults after.sink.faults → status ≢ 5
     → OfInput (reads (Some Session)) before.source.bytes (λ input. KeepsSession (model_of (lines_of input)) r.did)
+
+-- what was written on a building that is planned: the block of a best plan, and behind it what is asked for
+pub record KeepsBlock (flags : Flags) (names : NameTable) (m : Model) (x : Account) : Type 0 where
+  pub opening : SessionState
+  pub of_model : opening.model ≡ m
+  pub first : IsBestBlock (record { index = 0; standing = opening }) (block_text 0 opening)
+  pub says : SaysPlan flags names opening x.written
+
+-- a building that can be cleared, with nothing behind it
+abbrev pub KeepsPlan : Flags → Result Asked (ℕ × ℕ) → Account → Type 0
+KeepsPlan flags (Ok asked) x = IsClearable asked.building.model → KeepsBlock flags (names_of asked.building) asked.building.model x
+KeepsPlan flags (Err fault) x = ⊤
+
+-- a run that plans a building keeps that, where a run of a session keeps the other
+abbrev pub PlansKeepPromise : Type 0
+PlansKeepPromise =
+    (flags : Flags) (status : ℕ) (before after : Outside) (r : Runs (Some (Solve flags)) status before after) → ¬ Rose before.source.faults after.source.faults
+    → ¬ Rose before.sink.faults after.sink.faults → status ≢ 5
+    → OfInput (reads (Some (Solve flags))) before.source.bytes (λ input. KeepsPlan flags (input_of (lines_of input)) r.did)

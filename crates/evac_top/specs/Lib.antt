@@ -8,8 +8,9 @@ pub mod Inputs
 pub mod Reads
 pub mod Runs
 pub mod Sends
-pub mod Session
 pub mod Solve
 pub mod Tables
+pub mod Talking
 pub mod Tells
+pub mod Upgrade
 pub mod Words

@@ -40,4 +40,4 @@ pub record Runs (mode : Option Mode) (status : ℕ) (before after : Outside) : T
   pub answered : status ≤ 2 → OfInput (reads mode) before.source.bytes (λ input. Answers mode input did)
   pub source : status ≡ 3 → AnswersSoFar mode (lines_of (whole_part did.taken)) did
   pub sink : status ≡ 4 → OfInput (reads mode) before.source.bytes (λ input. AnswersFront mode input did)
-  pub memory : status ≡ 5 → AnswersMemory mode before.source.bytes did
+  pub memory : status ≡ 5 → AnswersMemory mode did

@@ -8,6 +8,7 @@ use Rattle.evac_law.specs.Plans.{IsFeasible, out_by}
 use Rattle.building_table.specs.Names.{NameTable, names_of}
 use Rattle.certificate_text.specs.BlockText.{shortfall_text}
 use Rattle.edit_session.specs.Sessions.{Begins, SessionState}
+use Rattle.report_text.specs.ReportText.{SaysCards}
 use Rattle.session_text.specs.StateTexts.{SaysReports, SaysRoutesOf, block_text}
 use Rattle.evac_top.specs.Accounts.{Account, IsRefusal}
 use Rattle.evac_top.specs.Inputs.{Asked}
@@ -18,13 +19,15 @@ abbrev pub Where : Bool → (List ℕ → Type 0) → List ℕ → Type 0
 Where true Says text = Says text
 Where false Says text = text ≡ []
 
--- the block of a state, and behind it its routes and the reports on it, where they are asked for
+-- the block of a state, and behind it its routes, its cards and the reports on it, where they are asked for
 pub record SaysPlan (flags : Flags) (names : NameTable) (s : SessionState) (text : List ℕ) : Type 0 where
   pub routes : List ℕ
   pub says_routes : Where flags.routes (SaysRoutesOf 0 s) routes
+  pub cards : List ℕ
+  pub says_cards : Where flags.cards (SaysCards 0 s.model s.plan) cards
   pub reports : List ℕ
   pub says_reports : Where flags.reports (SaysReports names 0 s) reports
-  pub parts : text ≡ block_text 0 s ++ routes ++ reports
+  pub parts : text ≡ block_text 0 s ++ routes ++ cards ++ reports
 
 -- a building is answered by the block of a plan that takes everybody out, with a cut for each period that is worth as many as are out by then;
 -- so no feasible plan has more people out by any period. Behind it stands what is asked for. As many steps are counted as people were sent on

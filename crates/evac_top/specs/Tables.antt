@@ -15,9 +15,11 @@ pub record IsMade (names : NameTable) (s : SessionState) (t : SpaceView) : Type 
   pub plan : IsReport s.model s.plan t.clearing
   pub labels : t.bottlenecks ≡ counts_of s.model s.labels s.last
 
--- there are tables exactly for what is asked for: room for the routes of a session's plan, and the reports on it
+-- there are tables exactly for what is asked for: room for the routes of a session's plan and for its cards, and the reports on it
 pub record HasTables (flags : Flags) (names : NameTable) (s : SessionState) (t : Tables) : Type 0 where
   pub routes_asked : is_some t.routes ≡ flags.routes
   pub site : IfSome t.routes (λ r. IsSameSite s.model r.model)
+  pub cards_asked : is_some t.cards ≡ flags.cards
+  pub cards_site : IfSome t.cards (λ c. IsSameSite s.model c.model)
   pub reports_asked : is_some t.reports ≡ flags.reports
   pub made : IfSome t.reports (IsMade names s)

@@ -6,11 +6,15 @@ use Rattle.drill_building.specs.declared.rows.TheConstants.{STOREY_LIMIT}
 use Rattle.model_text.specs.NameFields.{plain_within}
 use Rattle.evac_top.specs.declared.words.Flags.{Flags}
 use Rattle.evac_top.specs.declared.words.Mode.{Mode}
-use Rattle.evac_top.specs.declared.words.Mode.TheVariants.{Solve, Check, Session, Drill}
+use Rattle.evac_top.specs.declared.words.Mode.TheVariants.{Solve, Check, Session, Study, Upgrade, Drill}
 
 -- whether the routes are asked for, and the reports
 abbrev pub asking : Bool → Bool → Flags
-asking routes reports = record { routes = routes; reports = reports }
+asking routes reports = record { routes = routes; cards = false; reports = reports }
+
+-- what is put behind a plan where cards are asked for
+abbrev pub cards_alone : Flags
+cards_alone = record { routes = false; cards = true; reports = false }
 
 -- one word behind `solve`
 abbrev pub one_flag : List ℕ → Option Flags
@@ -45,8 +49,11 @@ abbrev pub mode_of : List (List ℕ) → Option Mode
 mode_of [] = None
 mode_of (v ∷ more) =
     if bytes_eq v (codes "solve") then option_map Solve (flags_of more)
+    else if bytes_eq v (codes "cards") then mode_alone (Solve cards_alone) more
     else if bytes_eq v (codes "check") then mode_alone Check more
     else if bytes_eq v (codes "session") then mode_alone Session more
+    else if bytes_eq v (codes "study") then mode_alone Study more
+    else if bytes_eq v (codes "upgrade") then mode_alone Upgrade more
     else if bytes_eq v (codes "drill") then option_map Drill (storeys_of more)
     else None
 
@@ -61,4 +68,6 @@ reads None = false
 reads (Some (Solve flags)) = true
 reads (Some Check) = true
 reads (Some Session) = true
+reads (Some Study) = true
+reads (Some Upgrade) = true
 reads (Some (Drill number)) = false

@@ -6,6 +6,7 @@
 
 mod check;
 mod claim;
+mod deal;
 mod drill;
 mod laws;
 mod plan;
@@ -15,10 +16,12 @@ mod session;
 mod solve;
 mod status;
 mod stop;
+mod study;
 mod tables;
 mod top;
+mod upgrade;
 mod verdict;
 mod words;
 
-pub use laws::{runs_answer, sessions_keep_promise};
+pub use laws::{plans_keep_promise, runs_answer, sessions_keep_promise};
 pub use top::run;

@@ -9,6 +9,7 @@ ghost use Rattle.evac_top.specs.Solve.{SaysPlan, Where};
 ghost use Rattle.evac_top.specs.Tables.{HasTables, IsMade};
 ghost use Rattle.evac_top.specs.declared.words.Flags.{Flags};
 
+use crate::deal::put_cards;
 use crate::reply::flush_behind;
 use crate::tables::Tables;
 use building_table::Names;
@@ -98,6 +99,7 @@ pub(crate) fn send_plan<K: Sink>(
 ) -> Result<(), WriteFault>
     requires fresh { out.old ≡ [] }
     requires site { IfSome tables.old.routes (λ r. IsSameSite session.now.state.model r.model) }
+    requires cards { IfSome tables.old.cards (λ c. IsSameSite session.now.state.model c.model) }
     requires made { IfSome tables.old.reports (IsMade names.now session.now.state) }
     ensures text { (flags : Flags) → HasTables flags names.now session.now.state tables.old
         → (text : List ℕ) × SaysPlan flags names.now session.now.state text × Sends (K.held sink.old) (K.held sink.new) text result }
@@ -105,6 +107,7 @@ pub(crate) fn send_plan<K: Sink>(
 {
     let block = write_block(out, sink, session, 0);
     let routes = put_routes(block, out, sink, session, &mut tables.routes);
-    let reports = put_made(routes, out, sink, session, names, &tables.reports);
+    let cards = put_cards(routes, out, sink, session, &mut tables.cards);
+    let reports = put_made(cards, out, sink, session, names, &tables.reports);
     flush_behind(reports, out, sink)
 }

@@ -4,7 +4,7 @@ ghost use Rattle.edit_session.specs.Sessions.{BeginEnds};
 ghost use Rattle.evac_law.specs.declared.model.Model.{Model};
 ghost use Rattle.evac_top.specs.Accounts.{side};
 ghost use Rattle.evac_top.specs.Solve.{IsShort};
-ghost use Rattle.session_talk.specs.Held.{status_after};
+ghost use Rattle.talk.specs.Held.{status_after};
 ghost use Rattle.evac_top.specs.Tells.{HasBegun, Stops, Tells};
 
 use crate::reply::{send_refusal, send_short};

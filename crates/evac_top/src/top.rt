@@ -11,6 +11,8 @@ use crate::session::session;
 use crate::solve::solve;
 use crate::status::{NO_MEMORY, WORDS_REFUSED};
 use crate::stop::status_after;
+use crate::study::study;
+use crate::upgrade::upgrade;
 use crate::words::{Mode, mode_of};
 use evac_law::Steps;
 use line_io::{Out, Sink, Source};
@@ -37,6 +39,8 @@ pub fn run<S: Source, K: Sink, L: Ledger>(
         Some(Mode::Solve(flags)) => solve(alloc, flags, source, sink, steps),
         Some(Mode::Check) => check(alloc, source, sink),
         Some(Mode::Session) => session(alloc, source, sink, steps),
+        Some(Mode::Study) => study(alloc, source, sink, steps),
+        Some(Mode::Upgrade) => upgrade(alloc, source, sink),
         Some(Mode::Drill(number)) => drill(alloc, number, sink, steps),
         None => refuse_words(alloc, sink),
     }

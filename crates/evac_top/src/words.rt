@@ -1,7 +1,7 @@
 // The modes of the program, and the words that ask for them.
 ghost use Rattle.std.specs.Prelude.{◌≡◌, ◌≤◌, IfSome, map, string_bytes};
 ghost use Rattle.model_text.specs.NameFields.{plain_within};
-ghost use Rattle.evac_top.specs.Words.{IsWithin, mode_alone, flags_of, mode_of, one_flag, storeys_of, two_flags};
+ghost use Rattle.evac_top.specs.Words.{IsWithin, cards_alone, mode_alone, flags_of, mode_of, one_flag, storeys_of, two_flags};
 
 use drill_building::STOREY_LIMIT;
 use model_text::read_number;
@@ -11,6 +11,8 @@ use model_text::read_number;
 pub struct Flags {
     /// Who goes which way.
     pub routes: bool,
+    /// One card for each person.
+    pub cards: bool,
     /// When each part is empty, what holds people up, and a summary.
     pub reports: bool,
 }
@@ -18,12 +20,16 @@ pub struct Flags {
 /// What the program does.
 #[derive(Clone, Copy)]
 pub enum Mode {
-    /// Plans the building of a model.
+    /// Plans the building of a model, with what is asked for behind the plan.
     Solve(Flags),
     /// Checks an answer block for the model before it.
     Check,
     /// Keeps the plan of a model while it is edited line by line.
     Session,
+    /// Says of a model, line by line, what it comes to without an exit or at another rate.
+    Study,
+    /// Writes a model as a text of version 2.
+    Upgrade,
     /// Plans the building of a drill with so many storeys.
     Drill(u32),
 }
@@ -35,11 +41,13 @@ fn one_flag(word: &str) -> Option<Flags>
     if word == "--routes" {
         Some(Flags {
             routes: true,
+            cards: false,
             reports: false,
         })
     } else if word == "--reports" {
         Some(Flags {
             routes: false,
+            cards: false,
             reports: true,
         })
     } else {
@@ -56,6 +64,7 @@ fn two_flags(first: &str, second: &str) -> Option<Flags>
     {
         Some(Flags {
             routes: true,
+            cards: false,
             reports: true,
         })
     } else {
@@ -70,6 +79,7 @@ fn flags_of(words: &[String]) -> Option<Flags>
     match words {
         [] => Some(Flags {
             routes: false,
+            cards: false,
             reports: false,
         }),
         [word] => one_flag(word.as_str()),
@@ -112,6 +122,17 @@ fn mode_alone(mode: Mode, words: &[String]) -> Option<Mode>
     if words.is_empty() { Some(mode) } else { None }
 }
 
+// What is put behind a plan where cards are asked for.
+fn cards_alone() -> Flags
+    ensures { result ≡ cards_alone }
+{
+    Flags {
+        routes: false,
+        cards: true,
+        reports: false,
+    }
+}
+
 /// The mode that words ask for.
 pub(crate) fn mode_of(words: &[String]) -> Option<Mode>
     ensures mode { result ≡ mode_of (map string_bytes words.now) }
@@ -122,8 +143,11 @@ pub(crate) fn mode_of(words: &[String]) -> Option<Mode>
     };
     match word.as_str() {
         "solve" => flags_of(more).map(Mode::Solve),
+        "cards" => mode_alone(Mode::Solve(cards_alone()), more),
         "check" => mode_alone(Mode::Check, more),
         "session" => mode_alone(Mode::Session, more),
+        "study" => mode_alone(Mode::Study, more),
+        "upgrade" => mode_alone(Mode::Upgrade, more),
         "drill" => storeys_of(more).map(Mode::Drill),
         _ => None,
     }

@@ -1,15 +1,20 @@
 -- What an edit leaves of the limits of a model.
-use Rattle.std.proofs.Common.{◌≡◌, ◌≢◌, ℕ, zero, suc, ◌+◌, ◌-◌, ◌<◌, Bool, true, false, cond, ◌&&◌, ◌||◌, eqb, ltb, List, [], ◌∷◌, length, map, get_or, set, refl, ap, ap₂, sym, ◌∙◌, arith, subst, Ok}
+use Rattle.std.proofs.Common.{◌≡◌, ◌≢◌, ℕ, ◌+◌, ◌-◌, ◌<◌, Bool, true, false, cond, ◌&&◌, ◌||◌, eqb, ltb, List, length, refl, ap, ap₂, sym, ◌∙◌, arith, subst, Ok}
+use Rattle.std.proofs.Math.Seq.{map-set_same}
 use Rattle.std.proofs.lemmas.List.{get_or-set_other, length-set, length-map}
 use Rattle.std.proofs.lemmas.Bool.{eqb-false}
+use Rattle.evac_law.specs.declared.entrant.Entrant.{Entrant}
 use Rattle.evac_law.specs.declared.model.NodeRow.{NodeRow}
 use Rattle.evac_law.specs.declared.model.ArcRow.{ArcRow}
 use Rattle.evac_law.specs.declared.model.Model.{Model}
+use Rattle.evac_law.specs.declared.window.Window.{Window as ClosureWindow}
 use Rattle.evac_law.specs.declared.edit.Edit.{Edit}
-use Rattle.evac_law.specs.declared.edit.Edit.TheVariants.{Shut, Reopen, ShutExit, ReopenExit, Rate, Room, Shift, Enter, Leave}
+use Rattle.evac_law.specs.declared.edit.Edit.TheVariants.{Shut, Reopen, ShutExit, ReopenExit, Rate, Room, Shift, Enter, Leave, Window, Unwindow}
 use Rattle.evac_law.specs.Building.{IsValid, arc_at, arrival, capacity, head, no_arc, no_node, node_at, rate, start}
+use Rattle.evac_law.specs.Entrants.{entering}
 use Rattle.evac_law.specs.Names.{is_exit}
-use Rattle.evac_law.specs.Edits.{IsEditOf, applied, checks, edited, inverse_of, with_arc, with_node, with_start}
+use Rattle.evac_law.specs.Windows.{is_closed_at, window_of, with_window, without_window}
+use Rattle.evac_law.specs.Edits.{IsEditOf, applied, checks, edited, inverse_of, windows_at, with_arc, with_node, with_start}
 use Rattle.evac_law.proofs.EditLemmas.{at-set, unless-Ok, valid_edited}
 use Rattle.time_expansion.specs.Expansion.{to_at}
 use Rattle.residual_net.specs.declared.place.Place.{Place}
@@ -23,11 +28,6 @@ use Rattle.residual_net.proofs.Held.{to_is}
 use Rattle.flow_repair.specs.Touched.{touches}
 
 -- ---- the network stays
-
-map-set_same : {X Y : Type 0} (f : X → Y) (xs : List X) (n : ℕ) (y d : X) → f y ≡ f (get_or xs n d) → map f (set xs n y) ≡ map f xs
-map-set_same f [] n y d e = refl
-map-set_same f (x ∷ xs) zero y d e = ap (λ z. z ∷ map f xs) e
-map-set_same f (x ∷ xs) (suc n) y d e = ap (λ z. f x ∷ z) (map-set_same f xs n y d e)
 
 abbrev with_parts : ℕ → List Rattle.time_expansion.specs.declared.ends.Ends.Ends → ℕ → List Bool → List ℕ → Site
 with_parts n ends horizon exits travels = record { shape = record { nodes = n; ends = ends; horizon = horizon }; exits = exits; travels = travels }
@@ -45,6 +45,10 @@ site_node m n row name =
     ∙ ap (λ z. with_parts (length m.nodes) (site_of m).shape.ends m.horizon z travels)
     (map-set_same (λ (r : NodeRow). is_exit r.name.kind) m.nodes n row no_node (ap (λ z. is_exit z.kind) name))
 
+-- an arc with other windows
+abbrev windowed : Model → ℕ → List ClosureWindow → ArcRow
+windowed m a ws = record (arc_at m a) { windows = record { items = ws } }
+
 pub site_edited : (m : Model) (e : Edit) → site_of (edited m e) ≡ site_of m
 site_edited m (Shut a) = site_arc m a (record (arc_at m a) { shut = true }) refl refl
 site_edited m (Reopen a) = site_arc m a (record (arc_at m a) { shut = false }) refl refl
@@ -57,6 +61,8 @@ site_edited m (Shift a b p) =
     site_node less b (record (node_at less b) { start = start m b + p }) refl ∙ site_node m a (record (node_at m a) { start = start m a - p }) refl
 site_edited m (Enter n p) = site_node m n (record (node_at m n) { start = start m n + p }) refl
 site_edited m (Leave n p) = site_node m n (record (node_at m n) { start = start m n - p }) refl
+site_edited m (Window a p q) = site_arc m a (windowed m a (with_window (windows_at m a) (window_of p q))) refl refl
+site_edited m (Unwindow a p q) = site_arc m a (windowed m a (without_window (windows_at m a) (window_of p q))) refl refl
 
 -- ---- limits that stay
 
@@ -68,15 +74,17 @@ arc_limit_kept : (m m' : Model) (a t : ℕ) → m'.horizon ≡ m.horizon → arc
     → model_limit m' (places.Arc a t) ≡ model_limit m (places.Arc a t)
 arc_limit_kept m m' a t h e s =
     let same : rate m' a t ≡ rate m a t =
-    ap (λ (r : ArcRow). cond (r.shut || (node_at m' r.to).shut) 0 r.rate) e ∙ ap (λ b. cond ((arc_at m a).shut || b) 0 (arc_at m a).rate) s in
+    ap (λ (r : ArcRow). cond ((r.shut || (node_at m' r.to).shut) || is_closed_at r.windows.items t) 0 r.rate) e
+    ∙ ap (λ b. cond (((arc_at m a).shut || b) || is_closed_at (windows_at m a) t) 0 (arc_at m a).rate) s in
     let late : ltb m'.horizon (arrival m' a t) ≡ ltb m.horizon (arrival m a t) = ap₂ ltb h (ap (λ (r : ArcRow). t + r.travel) e) in
     ap (λ b. cond b 0 (rate m' a t)) late ∙ ap (λ z. cond (ltb m.horizon (arrival m a t)) 0 z) same
 
 hold_limit_kept : (m m' : Model) (n t : ℕ) → m'.horizon ≡ m.horizon → capacity m' n ≡ capacity m n → model_limit m' (places.Hold n t) ≡ model_limit m (places.Hold n t)
 hold_limit_kept m m' n t h e = ap (λ z. cond (eqb t z) 0 (capacity m' n)) h ∙ ap (λ z. cond (eqb t m.horizon) 0 z) e
 
-entry_kept : (m m' : Model) (n t : ℕ) → start m' n ≡ start m n → model_limit m' (places.Supply n t) ≡ model_limit m (places.Supply n t)
-entry_kept m m' n t e = ap (λ z. cond (eqb t 0) z 0) e
+entry_kept : (m m' : Model) (n t : ℕ) → start m' n ≡ start m n → m'.entrants ≡ m.entrants → model_limit m' (places.Supply n t) ≡ model_limit m (places.Supply n t)
+entry_kept m m' n t e f =
+    ap (λ z. cond (eqb t 0) z (entering m'.entrants n t)) e ∙ ap (λ (es : List Entrant). cond (eqb t 0) (start m n) (entering es n t)) f
 
 -- another arc at a place
 after_arc : (m : Model) (a : ℕ) (row : ArcRow) (p : Place) → (is_kind kinds.Arc p && eqb (row_of p) a) ≡ false
@@ -99,7 +107,7 @@ after_exit m n b (places.Hold k t) i e =
     hold_limit_kept m (with_node m n row) k t refl (at-set (λ (r : NodeRow). r.capacity) m.nodes n row no_node refl k)
 after_exit m n b (places.Supply k t) i e =
     let row = record (node_at m n) { shut = b } in
-    entry_kept m (with_node m n row) k t (at-set (λ (r : NodeRow). r.start) m.nodes n row no_node refl k)
+    entry_kept m (with_node m n row) k t (at-set (λ (r : NodeRow). r.start) m.nodes n row no_node refl k) refl
 
 -- another capacity
 after_room : (m : Model) (n c : ℕ) (p : Place) → (is_kind kinds.Hold p && eqb (row_of p) n) ≡ false
@@ -112,7 +120,7 @@ after_room m n c (places.Hold k t) e =
     hold_limit_kept m (with_node m n row) k t refl (ap (λ (r : NodeRow). r.capacity) (get_or-set_other m.nodes n k row no_node (not_number k n e)))
 after_room m n c (places.Supply k t) e =
     let row = record (node_at m n) { capacity = c } in
-    entry_kept m (with_node m n row) k t (at-set (λ (r : NodeRow). r.start) m.nodes n row no_node refl k)
+    entry_kept m (with_node m n row) k t (at-set (λ (r : NodeRow). r.start) m.nodes n row no_node refl k) refl
 
 -- another start
 after_start : (m : Model) (n s : ℕ) (p : Place) → (is_kind kinds.Supply p && eqb (row_of p) n) ≡ false → model_limit (with_start m n s) p ≡ model_limit m p
@@ -124,7 +132,7 @@ after_start m n s (places.Hold k t) e =
     hold_limit_kept m (with_node m n row) k t refl (at-set (λ (r : NodeRow). r.capacity) m.nodes n row no_node refl k)
 after_start m n s (places.Supply k t) e =
     let row = record (node_at m n) { start = s } in
-    entry_kept m (with_node m n row) k t (ap (λ (r : NodeRow). r.start) (get_or-set_other m.nodes n k row no_node (not_number k n e)))
+    entry_kept m (with_node m n row) k t (ap (λ (r : NodeRow). r.start) (get_or-set_other m.nodes n k row no_node (not_number k n e))) refl
 
 neither : (b c : Bool) → (b || c) ≡ false → (b ≡ false) × (c ≡ false)
 neither b c e = (grind arith, grind arith)
@@ -141,6 +149,8 @@ untouched m (Shift a b x) p i t =
     after_start (with_start m a (start m a - x)) b (start m b + x) p none.0 ∙ after_start m a (start m a - x) p none.1
 untouched m (Enter n x) p i t = after_start m n (start m n + x) p t
 untouched m (Leave n x) p i t = after_start m n (start m n - x) p t
+untouched m (Window a f u) p i t = after_arc m a (windowed m a (with_window (windows_at m a) (window_of f u))) p t
+untouched m (Unwindow a f u) p i t = after_arc m a (windowed m a (without_window (windows_at m a) (window_of f u))) p t
 
 -- ---- places of the edit
 
@@ -161,6 +171,8 @@ still_edit m (Room n c) i = omega (arith, nodes_long m (Room n c), i)
 still_edit m (Shift a b x) i = (omega (arith, nodes_long m (Shift a b x), i.0), omega (arith, nodes_long m (Shift a b x), i.1))
 still_edit m (Enter n x) i = omega (arith, nodes_long m (Enter n x), i)
 still_edit m (Leave n x) i = omega (arith, nodes_long m (Leave n x), i)
+still_edit m (Window a f u) i = omega (arith, arcs_long m (Window a f u), i)
+still_edit m (Unwindow a f u) i = omega (arith, arcs_long m (Unwindow a f u), i)
 
 -- ---- an edit that is accepted
 

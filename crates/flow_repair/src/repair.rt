@@ -33,6 +33,10 @@ fn fit_edit<L: Ledger>(
         Edit::Shut { arc } => fit_row(net, model, labels, Kind::Arc, arc, path, steps, done),
         Edit::Reopen { arc } => fit_row(net, model, labels, Kind::Arc, arc, path, steps, done),
         Edit::Rate { arc, .. } => fit_row(net, model, labels, Kind::Arc, arc, path, steps, done),
+        Edit::Window { arc, .. } => fit_row(net, model, labels, Kind::Arc, arc, path, steps, done),
+        Edit::Unwindow { arc, .. } => {
+            fit_row(net, model, labels, Kind::Arc, arc, path, steps, done)
+        }
         Edit::ShutExit { node } => fit_arcs_into(net, model, labels, node, path, steps, done),
         Edit::ReopenExit { node } => fit_arcs_into(net, model, labels, node, path, steps, done),
         Edit::Room { node, .. } => fit_row(net, model, labels, Kind::Hold, node, path, steps, done),

@@ -2,8 +2,8 @@
 //!
 //! The bound of a pair is meant to be at most the number of backward steps on any residual path from unsent people to it.
 
-use crate::cells::{stretch, unsent};
-use crate::lists::{FAR, number, read, read_short, short, write, write_byte, write_short};
+use crate::cells::unsent;
+use crate::lists::{FAR, number, read, read_short, short, stretch, write, write_byte, write_short};
 use crate::sizes::Sizes;
 use crate::ways::{Way, Ways};
 use evac_law::Labels;
@@ -65,10 +65,14 @@ impl Bounds {
         write_byte(self.places.as_mut_slice(), pair as usize, 0);
     }
 
+    /// The moment after the last at which unsent people come into a node.
+    pub fn late(&self, node: u32) -> u32 {
+        read(self.lates.as_slice(), node as usize)
+    }
+
     /// Whether unsent people come into a node at a moment.
     pub fn is_source(&self, cells: &[Cell], sizes: Sizes, node: u32, moment: u32) -> bool {
-        moment < read(self.lates.as_slice(), node as usize)
-            && unsent(cells, sizes, node, moment) > 0
+        moment < self.late(node) && unsent(cells, sizes, node, moment) > 0
     }
 
     /// Counts the unsent people, and finds when the last of them come.

@@ -1,6 +1,6 @@
 //! Cells by their numbers: a cell past the last one has no room.
 
-use crate::lists::number;
+use crate::lists::{number, stretch};
 use crate::sizes::Sizes;
 use residual_net::Cell;
 
@@ -48,17 +48,6 @@ pub fn shift(cells: &mut [Cell], cell: u32, back: bool, people: u32) {
 /// How many people who come into a node at a moment aren't sent yet.
 pub fn unsent(cells: &[Cell], sizes: Sizes, node: u32, moment: u32) -> u32 {
     room(cells, sizes.cell(sizes.supplies(node), moment), false)
-}
-
-/// Some cells one after another.
-pub fn stretch(cells: &[Cell], first: u32, count: u32) -> &[Cell] {
-    let from = first as usize;
-    let to = from.wrapping_add(count as usize);
-    if from <= to && to <= cells.len() {
-        &cells[from..to]
-    } else {
-        &cells[..0]
-    }
 }
 
 /// Some cells one after another, to be changed.

@@ -37,6 +37,17 @@ pub fn write_byte(list: &mut [u8], at: usize, item: u8) {
     }
 }
 
+/// Some items of a list one after another, or none where it isn't as long.
+pub fn stretch<T>(list: &[T], first: u32, count: u32) -> &[T] {
+    let from = first as usize;
+    let to = from.wrapping_add(count as usize);
+    if from <= to && to <= list.len() {
+        &list[from..to]
+    } else {
+        &list[..0]
+    }
+}
+
 /// Adds to a list, as far as its memory reaches.
 pub fn add<T: Copy + Drop>(list: &mut Vec<T>, item: T) {
     if list.len() < list.capacity() {

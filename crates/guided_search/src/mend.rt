@@ -11,9 +11,6 @@ use crate::raised::Raised;
 use crate::sizes::Sizes;
 use std::alloc::{AllocError, Global};
 
-/// The most pairs that wait at once. Those past it are left with bounds that are too low.
-const ROOM: usize = 65_536;
-
 /// The pairs that have bounds by those around, each behind its bound, and the pairs of a level and of the next.
 #[derive(Drop)]
 pub struct Mender {
@@ -29,17 +26,39 @@ fn item(list: &[(u32, u32)], at: usize) -> (u32, u32) {
 impl Mender {
     /// Nothing to mend.
     pub fn new(alloc: Global, sizes: Sizes) -> Result<Mender, AllocError> {
-        let few = sizes.pairs().min(ROOM);
+        let pairs = sizes.pairs();
         Ok(Mender {
-            order: Vec::with_capacity(alloc, few)?,
-            now: Vec::with_capacity(alloc, few)?,
-            after: Vec::with_capacity(alloc, few)?,
+            order: Vec::with_capacity(alloc, pairs)?,
+            now: Vec::with_capacity(alloc, pairs)?,
+            after: Vec::with_capacity(alloc, pairs)?,
         })
     }
 
     /// Computes the bounds of the raised pairs anew, and leaves those raised that aren't dead.
     pub fn mend(&mut self, ground: Ground<'_>, bounds: &mut Bounds, raised: &mut Raised) {
         self.seed(ground, bounds, raised);
+        self.spread_all(ground, bounds, raised);
+        drop_dead(bounds, raised);
+    }
+
+    /// Raises also the pairs that lead to those raised, and computes the bounds of them all anew: no pair is left around them
+    /// but dead ones. The answer is how many they are.
+    pub fn mend_behind(
+        &mut self,
+        ground: Ground<'_>,
+        bounds: &mut Bounds,
+        raised: &mut Raised,
+    ) -> usize {
+        raise_behind(ground, bounds, raised);
+        let behind = raised.len();
+        self.seed_sources(ground, bounds, raised);
+        self.spread_all(ground, bounds, raised);
+        drop_dead(bounds, raised);
+        behind
+    }
+
+    /// Spreads from the sorted pairs, level by level.
+    fn spread_all(&mut self, ground: Ground<'_>, bounds: &mut Bounds, raised: &Raised) {
         self.now.clear();
         let mut seed = 0usize;
         let mut level = 0u32;
@@ -52,17 +71,10 @@ impl Mender {
             }
             seed = self.join(bounds, level, seed);
             self.after.clear();
-            self.spread_all(ground, bounds, raised, level);
+            self.spread_level(ground, bounds, raised, level);
             std::mem::swap(&mut self.now, &mut self.after);
             level = level.wrapping_add(1);
         }
-        for at in 0..raised.len() {
-            let pair = raised.get(at);
-            if bounds.get(pair) >= FAR {
-                raised.drop_stamp(pair);
-            }
-        }
-        raised.shrink();
     }
 
     /// Gives each raised pair the bound that the pairs around allow it.
@@ -80,6 +92,21 @@ impl Mender {
         self.order.as_mut_slice().sort_unstable();
     }
 
+    /// Gives each raised pair at which unsent people come in the bound 0, and lets the others be dead for now.
+    fn seed_sources(&mut self, ground: Ground<'_>, bounds: &mut Bounds, raised: &Raised) {
+        self.order.clear();
+        for at in 0..raised.len() {
+            let pair = raised.get(at);
+            let (node, moment) = ground.sizes.parts(pair);
+            let is_source = bounds.is_source(ground.cells, ground.sizes, node, moment);
+            bounds.set(pair, if is_source { 0 } else { FAR });
+            bounds.reset(pair);
+            if is_source {
+                add(&mut self.order, (0, pair));
+            }
+        }
+    }
+
     /// Adds the pairs whose bound is a level by those around. The answer is how many of the sorted pairs are done.
     fn join(&mut self, bounds: &Bounds, level: u32, from: usize) -> usize {
         for at in from..self.order.len() {
@@ -95,7 +122,13 @@ impl Mender {
     }
 
     /// Spreads from all pairs of a level, those that come to it meanwhile too.
-    fn spread_all(&mut self, ground: Ground<'_>, bounds: &mut Bounds, raised: &Raised, level: u32) {
+    fn spread_level(
+        &mut self,
+        ground: Ground<'_>,
+        bounds: &mut Bounds,
+        raised: &Raised,
+        level: u32,
+    ) {
         for at in 0..self.now.capacity() {
             if at >= self.now.len() {
                 return;
@@ -137,6 +170,17 @@ impl Mender {
     }
 }
 
+/// Leaves the pairs raised that aren't dead.
+fn drop_dead(bounds: &Bounds, raised: &mut Raised) {
+    for at in 0..raised.len() {
+        let pair = raised.get(at);
+        if bounds.get(pair) >= FAR {
+            raised.drop_stamp(pair);
+        }
+    }
+    raised.shrink();
+}
+
 /// The least bound that a pair may have by the ways from pairs that weren't raised.
 fn border(ground: Ground<'_>, bounds: &Bounds, raised: &Raised, pair: u32) -> u32 {
     let (node, moment) = ground.sizes.parts(pair);
@@ -157,4 +201,30 @@ fn border(ground: Ground<'_>, bounds: &Bounds, raised: &Raised, pair: u32) -> u3
         }
     }
     best
+}
+
+/// Raises also the pairs from which ways lead to those raised, and from which to these again, but for the dead ones.
+fn raise_behind(ground: Ground<'_>, bounds: &Bounds, raised: &mut Raised) {
+    for at in 0..ground.sizes.pairs() {
+        if at >= raised.len() {
+            return;
+        }
+        raise_into(ground, bounds, raised, raised.get(at));
+    }
+}
+
+/// Raises the pairs from which ways lead to a pair, but for the dead ones.
+fn raise_into(ground: Ground<'_>, bounds: &Bounds, raised: &mut Raised, pair: u32) {
+    let (node, moment) = ground.sizes.parts(pair);
+    let look = ground.look(node, moment);
+    for way in look.ways {
+        let other = look.pair(*way);
+        if look.is_within(*way)
+            && !raised.has(other)
+            && bounds.get(other) < FAR
+            && look.is_open(*way, way.back)
+        {
+            raised.add(other);
+        }
+    }
 }

@@ -1,7 +1,6 @@
 //! A stretch of a walk: waits in one node, and the step that leads on from there.
 
-use crate::cells::stretch;
-use crate::lists::short;
+use crate::lists::{short, stretch};
 use crate::sizes::Sizes;
 use residual_net::{Cell, Leg, PathStep};
 

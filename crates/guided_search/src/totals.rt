@@ -3,8 +3,7 @@
 //! Then as many people could go over an arc as it lets in all together at the moments at which somebody can have come to it, and can still
 //! get out behind it. Where not even these totals let everybody out, no plan does.
 
-use crate::cells::stretch;
-use crate::lists::{FUEL, add, read, write};
+use crate::lists::{FUEL, add, read, stretch, write};
 use crate::sizes::Sizes;
 use crate::ways::{Way, Ways};
 use residual_net::Cell;

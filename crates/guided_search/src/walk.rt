@@ -5,7 +5,7 @@
 
 use crate::bounds::Bounds;
 use crate::ground::Ground;
-use crate::lists::{FAR, FUEL, read_short};
+use crate::lists::{FAR, FUEL, stretch};
 use crate::raised::Raised;
 use crate::run::{Run, put_run, run_at};
 use crate::ways::Way;
@@ -74,23 +74,25 @@ impl Trail {
     }
 }
 
-/// The lowest moment down to which waits from a moment on are tight, first among their ways, and have room.
+/// The lowest moment down to which waits from a moment on are tight, first among their ways, and have room, and nobody comes in
+/// between who is unsent: whoever comes in last can wait for the fewest moments, and so goes first.
 fn slide(ground: Ground<'_>, bounds: &Bounds, node: u32, moment: u32, bound: u32) -> u32 {
-    let cells = ground.cells;
-    let list = bounds.list.as_slice();
-    let places = bounds.places.as_slice();
-    let first_pair = ground.sizes.pair(node, 0) as usize;
-    let first_wait = ground.sizes.cell(ground.sizes.waits(node), 0) as usize;
+    let sizes = ground.sizes;
+    let first = sizes.pair(node, 0);
+    let list = stretch(bounds.list.as_slice(), first, moment);
+    let places = stretch(bounds.places.as_slice(), first.wrapping_add(1), moment);
+    let waits = stretch(ground.cells, sizes.cell(sizes.waits(node), 0), moment);
+    let late = bounds.late(node);
     let mut low = moment;
     for _ in 0..moment {
         let before = low.wrapping_sub(1) as usize;
-        let pair = first_pair.wrapping_add(low as usize);
-        let wait = first_wait.wrapping_add(before);
-        if pair < places.len()
-            && places[pair] == 0
-            && read_short(list, pair.wrapping_sub(1)) == bound
-            && wait < cells.len()
-            && cells[wait].flow < cells[wait].limit
+        if before < list.len()
+            && list[before] as u32 == bound
+            && before < places.len()
+            && places[before] == 0
+            && before < waits.len()
+            && waits[before].flow < waits[before].limit
+            && (low >= late || !bounds.is_source(ground.cells, sizes, node, low))
         {
             low = low.wrapping_sub(1);
         } else {

@@ -103,7 +103,7 @@ settled_more w v u l m z from k p r before after h not_over in_time counted labe
 certified : (m : Model) (w : Network) (l : LabelTable) (c : ℕ) → IsValid m → IsNet w → IsNetOf m w → IsWithinLimits w → IsAllSent w
     → c ≡ last_move w.site (plan_of w) → IsClosedBelow w l (c + 1) → IsCertified m (plan_of w) l c
 certified m w l c valid net of within all last closed =
-    let everybody = all_sent_arrive m w net of within all in
+    let everybody = all_sent_arrive m w valid net of within all in
     let horizon = horizon_same m w net of valid in
     let in_time : c ≤ m.horizon = omega (arith, last, last_fits w net, horizon) in
     record {
@@ -120,11 +120,11 @@ certified m w l c valid net of within all last closed =
 shortfall : (m : Model) (w : Network) (l : LabelTable) → IsValid m → IsNet w → IsNetOf m w → IsWithinLimits w → (IsAllSent w → ⊥)
     → IsClosed w (labelled l m.horizon) m.horizon → IsShortfall m (label_cut m l m.horizon) (arrived_by w m.horizon)
 shortfall m w l valid net of within unsent closed =
-    let fewer : arrived_by w m.horizon ≢ people m = λ e. unsent (arrived_all_sent m w net of within e) in
+    let fewer : arrived_by w m.horizon ≢ people m = λ e. unsent (arrived_all_sent m w valid net of within e) in
     record {
       cut = label_cut_is_cut m l m.horizon (omega arith);
       worth = sym (closed_is_cut m w valid net of within l m.horizon (omega arith) closed);
-      below_people = omega (arith, few_arrive w net within, supplies_are_people m w of, ap (arrived_by w) (horizon_same m w net of valid), fewer);
+      below_people = omega (arith, few_arrive w net within, supplies_are_people m w valid of, ap (arrived_by w) (horizon_same m w net of valid), fewer);
     }
 
 module _ (w v : Network) (l m : LabelTable) (from k p : ℕ) (h : IsSettledThrough w v l m from k p) where
@@ -153,7 +153,7 @@ module _ (w v : Network) (l m : LabelTable) (from k p : ℕ) (h : IsSettledThrou
   answer_is b (Cleared moment pushes) outcome valid before =
       let of = net_of_kept b w v done.limits before in
       record {
-        arrived = all_sent_arrive b v done.net of done.within outcome.0;
+        arrived = all_sent_arrive b v valid done.net of done.within outcome.0;
         last = outcome.1;
         fits = fits b v valid done.net of done.within outcome.0;
         certified = certified b v m moment valid done.net of done.within outcome.0 outcome.1 (closed_to (Cleared moment pushes) outcome);

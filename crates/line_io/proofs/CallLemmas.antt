@@ -1,5 +1,5 @@
 -- Calls of a source or a sink, one after another.
-use Rattle.std.proofs.Common.{◌≡◌, ℕ, ◌≤◌, Bool, false, List, [], ◌∷◌, ◌++◌, Result, refl, sym, subst}
+use Rattle.std.proofs.Common.{◌≡◌, ℕ, ◌≤◌, Bool, false, List, [], ◌∷◌, ◌++◌, Result, refl, subst}
 use Rattle.line_io.specs.declared.limits.TheConstants.{LEAST_OFFER}
 use Rattle.line_io.specs.declared.outside.Failed.{Failed}
 use Rattle.line_io.specs.Calls.{Asks, Offers, Putting, PutsAll, Take, Taking, TakesAll, behind_put, gave_none}

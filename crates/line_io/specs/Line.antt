@@ -7,7 +7,7 @@ line_limit = 200
 
 -- the most bytes of an input
 unfoldable pub input_limit : ℕ
-input_limit = 20000000
+input_limit = 50000000
 
 -- a byte is LF
 abbrev pub is_lf : ℕ → Bool

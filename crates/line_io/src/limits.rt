@@ -4,7 +4,7 @@
 pub const LINE_LIMIT: usize = 200;
 
 /// The most bytes of an input.
-pub const INPUT_LIMIT: u32 = 20_000_000;
+pub const INPUT_LIMIT: u32 = 50_000_000;
 
 /// The bytes of a reader's buffer, and of a writer's.
 pub const BUFFER_SIZE: usize = 4096;

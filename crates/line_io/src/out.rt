@@ -2,7 +2,7 @@
 ghost use Rattle.std.specs.Prelude.{◌≡◌, ◌<◌, ◌≤◌, ◌+◌, ◌++◌, ◌^◌, ℕ, List, [], length, take, drop, decimal, IfOk, IsOk, OnOk, OnErr};
 ghost use Rattle.line_io.specs.Calls.{Offers};
 ghost use Rattle.line_io.specs.Causes.{HasCause};
-ghost use Rattle.line_io.specs.Writer.{Puts};
+ghost use Rattle.line_io.specs.Writer.{Puts, PutsText};
 
 use crate::buffer::{send, shift, write_at};
 use crate::limits::{BUFFER_SIZE, PUT_LIMIT};
@@ -87,6 +87,17 @@ impl Out {
             self.flush(sink)?;
         }
         self.append(bytes);
+        Ok(())
+    }
+
+    /// Puts bytes of any length, piece by piece. On `Err` some front of them was taken in.
+    pub fn put_all<K: Sink>(&mut self, sink: &mut K, bytes: &[u8]) -> Result<(), WriteFault>
+        ensures text { PutsText (K.held sink.old) self.old bytes.now (K.held sink.new) self.new result }
+        ensures cause { HasCause (K.faults sink.old) (K.faults sink.new) result }
+    {
+        for piece in bytes.chunks(PUT_LIMIT) {
+            self.put(sink, piece)?;
+        }
         Ok(())
     }
 

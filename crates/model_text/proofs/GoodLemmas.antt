@@ -1,18 +1,18 @@
 -- What lines say keeps its ranges, and which faults a line may have.
-use Rattle.std.proofs.Common.{◌≡◌, ◌≢◌, ℕ, ◌<◌, ◌≤◌, Bool, true, false, cond, ◌||◌, nat_lt, IfOk, IfErr, List, [], ◌∷◌, length, Result, Ok, Err, Some, None, refl, sym, subst, arith, codes}
+use Rattle.std.proofs.Common.{◌≡◌, ◌≢◌, ℕ, ◌+◌, ◌<◌, ◌≤◌, Bool, true, false, cond, ◌||◌, nat_lt, IfOk, IfErr, List, [], ◌∷◌, length, Result, Ok, Err, Some, None, refl, sym, subst, arith, codes}
 use Rattle.std.specs.declared.option.Option.{Option}
 use Rattle.std.specs.Str.{bytes_eq}
 use Rattle.std.proofs.lemmas.Bool.{ltb-false}
-use Rattle.evac_law.specs.Limits.{seconds_limit, horizon_limit, floor_number_limit, capacity_limit, travel_limit, rate_limit}
+use Rattle.evac_law.specs.Limits.{seconds_limit, horizon_limit, floor_number_limit, capacity_limit, people_limit, travel_limit, rate_limit}
 use Rattle.evac_law.specs.Names.{IsName, is_exit}
 use Rattle.evac_law.specs.declared.name.NodeName.{NodeName}
 use Rattle.model_text.specs.declared.command.Command.{Command}
 use Rattle.model_text.specs.declared.command.Command.TheVariants as commands
 use Rattle.model_text.specs.declared.fault.TextFault.{TextFault}
 use Rattle.model_text.specs.declared.fault.TextFault.TheVariants.{UnknownWord, FieldCount, BadNumber, OutOfRange, BadName, UnknownCommand}
-use Rattle.model_text.specs.Commands.{alone, with_number, with_name, two_names, with_names, name_number, with_name_number, names_number, with_names_number, edit_by_word, request_by_word, command_by_word}
+use Rattle.model_text.specs.Commands.{alone, with_number, with_name, two_names, with_names, name_number, with_name_number, names_number, with_names_number, names_numbers, with_names_numbers, edit_by_word, request_by_word, command_by_word}
 use Rattle.model_text.specs.Fields.{fields_of, behind_field, text_of}
-use Rattle.model_text.specs.Grammar.{◌>>=◌, or_fault, number_field, ranged, name_field, text_field, no_field, one_field, two_fields, three_fields, four_fields, Said, IsSaid, Blank, Exit, End, header, title, period, horizon, floor, exit_fields, node_fields, node, arc, end, is_comment, by_word, of_fields, statement_of}
+use Rattle.model_text.specs.Grammar.{◌>>=◌, or_fault, number_field, ranged, name_field, text_field, no_field, one_field, two_fields, three_fields, four_fields, Said, IsSaid, Blank, Exit, End, header, title, period, horizon, floor, exit_fields, node_fields, node, arc, window, entrant, end, is_comment, by_word, of_fields, statement_of}
 use Rattle.model_text.specs.Reads.{Reads, said}
 use Rattle.model_text.specs.declared.statement.Statement.{Statement}
 use Rattle.model_text.specs.NameFields.{name_of}
@@ -165,6 +165,23 @@ good-arc fields =
     good-bind NoCommand (IsWithin 0 rate_limit) IsSaid (ranged 0 rate_limit f.3) _ (good-ranged NoCommand 0 rate_limit f.3 number range) (λ r l.
     (i, j, k.0, k.1, l.1))))))
 
+good-window : (fields : List (List ℕ)) → GoodSaid (window fields)
+good-window fields =
+    good-bind NoCommand Any-value IsSaid (four_fields fields) _ (good-four NoCommand fields count) (λ f h.
+    good-bind NoCommand IsName IsSaid (name_field f.0) _ (good-name NoCommand f.0 name) (λ a i.
+    good-bind NoCommand IsName IsSaid (name_field f.1) _ (good-name NoCommand f.1 name) (λ b j.
+    good-bind NoCommand (IsWithin 0 horizon_limit) IsSaid (ranged 0 horizon_limit f.2) _ (good-ranged NoCommand 0 horizon_limit f.2 number range) (λ p k.
+    good-bind NoCommand (IsWithin 1 (horizon_limit + 1)) IsSaid (ranged 1 (horizon_limit + 1) f.3) _ (good-ranged NoCommand 1 (horizon_limit + 1) f.3 number range) (λ q l.
+    (i, j, k.1, l.0, l.1))))))
+
+good-entrant : (fields : List (List ℕ)) → GoodSaid (entrant fields)
+good-entrant fields =
+    good-bind NoCommand Any-value IsSaid (three_fields fields) _ (good-three NoCommand fields count) (λ f h.
+    good-bind NoCommand IsName IsSaid (name_field f.0) _ (good-name NoCommand f.0 name) (λ a i.
+    good-bind NoCommand (IsWithin 1 horizon_limit) IsSaid (ranged 1 horizon_limit f.1) _ (good-ranged NoCommand 1 horizon_limit f.1 number range) (λ t j.
+    good-bind NoCommand (IsWithin 1 people_limit) IsSaid (ranged 1 people_limit f.2) _ (good-ranged NoCommand 1 people_limit f.2 number range) (λ n k.
+    (i, j.0, j.1, k.0, k.1)))))
+
 good-end : (fields : List (List ℕ)) → GoodSaid (end fields)
 good-end fields = good-none NoCommand IsSaid End fields count tt
 
@@ -181,7 +198,9 @@ good-word word rest =
     (word-by (bytes_eq word (codes "floor")) (floor (fields_of rest) (text_of (behind_field rest))) _ (good-floor (fields_of rest) (text_of (behind_field rest)))
     (word-by (bytes_eq word (codes "node")) (node (fields_of rest)) _ (good-node (fields_of rest))
     (word-by (bytes_eq word (codes "arc")) (arc (fields_of rest)) _ (good-arc (fields_of rest))
-    (word-by (bytes_eq word (codes "end")) (end (fields_of rest)) (Err UnknownWord) (good-end (fields_of rest)) (λ e. cc)))))))))
+    (word-by (bytes_eq word (codes "window")) (window (fields_of rest)) _ (good-window (fields_of rest))
+    (word-by (bytes_eq word (codes "entrant")) (entrant (fields_of rest)) _ (good-entrant (fields_of rest))
+    (word-by (bytes_eq word (codes "end")) (end (fields_of rest)) (Err UnknownWord) (good-end (fields_of rest)) (λ e. cc)))))))))))
 
 good-fields : (fields : List (List ℕ)) (rest : List ℕ) → GoodSaid (of_fields fields rest)
 good-fields [] rest = tt
@@ -258,6 +277,11 @@ good-with_names_number c fields =
     then-any Any-value (names_number fields) _
     (then-any Any-value (three_fields fields) _ (good-three NoStatement fields count') (λ f. field-name f.0 _ (λ a. field-name f.1 _ (λ b. field-number f.2 _ (λ n. tt))))) (λ p. tt)
 
+good-with_names_numbers : (c : NodeName → NodeName → ℕ → ℕ → Command) (fields : List (List ℕ)) → GoodCommand (with_names_numbers c fields)
+good-with_names_numbers c fields =
+    then-any Any-value (names_numbers fields) _
+    (then-any Any-value (four_fields fields) _ (good-four NoStatement fields count') (λ f. field-name f.0 _ (λ a. field-name f.1 _ (λ b. field-number f.2 _ (λ p. field-number f.3 _ (λ q. tt)))))) (λ p. tt)
+
 or-else : (t : Bool) (a b : Result Command TextFault) → GoodCommand a → GoodCommand b → GoodCommand (cond t a b)
 or-else t a b h k = pick NoStatement Any-value t a b h k
 
@@ -282,7 +306,9 @@ good-edit word fields other h =
     (or-else (bytes_eq word (codes "room")) _ _ (good-with_name_number commands.Room fields)
     (or-else (bytes_eq word (codes "shift")) _ _ (good-with_names_number commands.Shift fields)
     (or-else (bytes_eq word (codes "enter")) _ _ (good-with_name_number commands.Enter fields)
-    (or-else (bytes_eq word (codes "leave")) _ _ (good-with_name_number commands.Leave fields) h))))))))
+    (or-else (bytes_eq word (codes "leave")) _ _ (good-with_name_number commands.Leave fields)
+    (or-else (bytes_eq word (codes "window")) _ _ (good-with_names_numbers commands.Window fields)
+    (or-else (bytes_eq word (codes "unwindow")) _ _ (good-with_names_numbers commands.Unwindow fields) h))))))))))
 
 -- the fault of a command is none of a statement's own
 pub good-command : (word : List ℕ) (fields : List (List ℕ)) → GoodCommand (command_by_word word fields)

@@ -1,9 +1,14 @@
+pub mod BehindLemmas
+pub mod EntrantLemmas
 pub mod FieldLemmas
+pub mod GoodLemmas
 pub mod GrammarLemmas
+pub mod InsertLemmas
+pub mod ListFacts
+pub mod NameLaws
 pub mod NumberLemmas
+pub mod PlainLemmas
 pub mod ReadingLemmas
 pub mod SoundLemmas
 pub mod TrimLemmas
-pub mod ListFacts
-pub mod NameLaws
-pub mod GoodLemmas
+pub mod TextLemmas

@@ -1,8 +1,8 @@
 -- Lists that grow at their end, and tests of names.
-use Rattle.std.proofs.Common.{◌≡◌, ℕ, ◌+◌, ◌<◌, Bool, true, false, cond, not, ◌||◌, ◌&&◌, ◌==◌, nat_lt, List, [], ◌∷◌, ◌++◌, length, get_or, refl, ap, ◌∙◌, arith, ◌⊎◌, inl, inr, eq-eqb}
+use Rattle.std.proofs.Common.{◌≡◌, ℕ, ◌+◌, ◌<◌, Bool, true, false, cond, not, ◌||◌, ◌==◌, nat_lt, List, [], ◌∷◌, ◌++◌, length, map, get_or, refl, ap, ◌∙◌, arith, ◌⊎◌, inl, inr, eq-eqb}
 use Rattle.std.specs.List.{list_any, position_or_len}
 use Rattle.std.proofs.Math.Seq.{get_or-append_seam}
-use Rattle.std.proofs.lemmas.Bool.{eqb-true, ltb-true, ltb-false}
+use Rattle.std.proofs.lemmas.Bool.{and_parts, eqb-true, ltb-true, ltb-false}
 use Rattle.std.proofs.lemmas.List.{get_or_append_left, length-append}
 use Rattle.std.proofs.lemmas.List.Folds.{list_any_at}
 use Rattle.evac_law.specs.declared.name.Kind.{Kind}
@@ -11,10 +11,6 @@ use Rattle.evac_law.specs.declared.name.NodeName.{NodeName}
 use Rattle.model_text.specs.Taken.{same_kind, same_name}
 
 -- ---- tests
-
-pub and-true : (a b : Bool) → a && b ≡ true → (a ≡ true) × (b ≡ true)
-and-true true b h = (refl, h)
-and-true false b h = cc
 
 pub not-false : (a : Bool) → not a ≡ false → a ≡ true
 not-false true h = refl
@@ -41,8 +37,8 @@ make-name k n f = record { kind = k; number = n; floor = f }
 -- the test of names tells whether they are equal
 pub same-name-is : (a b : NodeName) → same_name a b ≡ true → a ≡ b
 same-name-is a b h =
-    let k = and-true (same_kind a.kind b.kind) _ h in
-    let n = and-true (a.number == b.number) (a.floor == b.floor) k.1 in
+    let k = and_parts (same_kind a.kind b.kind) _ h in
+    let n = and_parts (a.number == b.number) (a.floor == b.floor) k.1 in
     ap (λ x. make-name x a.number a.floor) (same-kind-is a.kind b.kind k.0)
     ∙ ap (λ x. make-name b.kind x a.floor) (eqb-true a.number b.number n.0)
     ∙ ap (λ x. make-name b.kind b.number x) (eqb-true a.floor b.floor n.1)
@@ -65,6 +61,11 @@ found p (x ∷ xs) h = found-by p x xs (p x) refl (found p xs) h
 -- where none passes, one that passes has no place
 pub missing : {X : Type 0} (p : X → Bool) (xs : List X) (i : ℕ) (d : X) → list_any p xs ≡ false → i < length xs → p (get_or xs i d) ≡ true → ⊥
 missing p xs i d none within pass = let h = list_any_at p xs i d within pass in cc
+
+-- whether some image passes
+pub any-map : {X Y : Type 0} (p : Y → Bool) (f : X → Y) (xs : List X) → list_any p (map f xs) ≡ list_any (λ x. p (f x)) xs
+any-map p f [] = refl
+any-map p f (x ∷ xs) = ap (λ t. p (f x) || t) (any-map p f xs)
 
 -- ---- lists that grow
 
@@ -95,7 +96,3 @@ pub push-pairs : {X : Type 0} (P : X → X → Type 0) (xs : List X) (x d : X)
     → ((i j : ℕ) → i < j → j < length xs → P (get_or xs i d) (get_or xs j d)) → ((i : ℕ) → i < length xs → P (get_or xs i d) x)
     → (i j : ℕ) → i < j → j < length (xs ++ (x ∷ [])) → P (get_or (xs ++ (x ∷ [])) i d) (get_or (xs ++ (x ∷ [])) j d)
 push-pairs P xs x d pairs new i j before within = push-by P xs x d i j (pairs i j) (new i) before (split-last j (length xs) (let e = length-push xs x in omega arith))
-
-pub or-false : (a b : Bool) → a || b ≡ false → (a ≡ false) × (b ≡ false)
-or-false true b h = cc
-or-false false b h = (refl, h)

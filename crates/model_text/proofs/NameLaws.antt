@@ -1,5 +1,5 @@
 -- A field reads as a name exactly where it is the text of that name.
-use Rattle.std.proofs.Common.{◌≡◌, ℕ, ◌+◌, ◌-◌, ◌*◌, ◌^◌, ◌<◌, ◌≤◌, zero, suc, Bool, true, false, cond, ◌||◌, not, ◌&&◌, ◌==◌, nat_lt, List, [], ◌∷◌, ◌++◌, length, take, drop, get_or, Some, None, refl, sym, ap, ap₂, subst, ◌∙◌, arith, rules, codes, lit<, length-drop}
+use Rattle.std.proofs.Common.{◌≡◌, ℕ, ◌+◌, ◌-◌, ◌*◌, ◌^◌, ◌<◌, ◌≤◌, zero, suc, Bool, true, false, cond, ◌||◌, not, ◌&&◌, nat_lt, List, [], ◌∷◌, ◌++◌, length, take, drop, get_or, Some, None, refl, sym, ap, ap₂, subst, ◌∙◌, arith, rules, codes, lit<, length-drop}
 use Rattle.std.specs.Prelude.{decimal, option_and_then}
 use Rattle.std.specs.declared.option.Option.{Option}
 use Rattle.std.specs.Char.{is_ascii_digit}
@@ -7,7 +7,7 @@ use Rattle.std.specs.Str.{all_ascii_digits, bytes_eq}
 use Rattle.std.specs.List.{position_or_len, before_first, after_first}
 use Rattle.std.proofs.lemmas.Str.Parse.{IsNumeralModel, numerals_by_fold, tells_all_ascii_digits}
 use Rattle.std.proofs.lemmas.Fmt.{digits_decimal, digits_value-decimal, decimal-digits_value, decimal_nonempty, length-decimal-le, first_decimal, decimal_digit}
-use Rattle.std.proofs.lemmas.Bool.{eqb-false, eqb-true, ne_eqb, le-ltb, ltb-false}
+use Rattle.std.proofs.lemmas.Bool.{eqb-false, eqb-true, le-ltb, ltb-false, ne_eqb, or_parts}
 use Rattle.std.proofs.lemmas.List.{take-append-drop}
 use Rattle.std.proofs.lemmas.List.Sums.{split_at_first, passes_at_first}
 use Rattle.std.proofs.Math.Seq.{take-append_seam, drop-append-add}
@@ -19,7 +19,7 @@ use Rattle.evac_law.specs.declared.name.Kind.{Kind}
 use Rattle.evac_law.specs.declared.name.Kind.TheVariants.{Work, Hall, Stair, Lobby, Exit}
 use Rattle.model_text.specs.Numbers.{digits_from, field_number, has_leading_zero, plain_number_of}
 use Rattle.model_text.specs.NameFields.{kind_of, plain_within, is_dot, name_of, name_of_parts, number_part, floor_part}
-use Rattle.model_text.proofs.ListFacts.{or-false}
+use Rattle.model_text.proofs.NumberLemmas.{number-parts, some-by}
 
 -- ---- options
 
@@ -90,11 +90,6 @@ unfolding digits_from
 digits-give m [] h = refl
 digits-give m (b ∷ bs) h = give-by m b bs (is_ascii_digit b) refl (digits-give (m * 10 + (b - 48)) bs) h
 
--- a test that is false leaves the other value
-some-by : {A : Type 0} (t : Bool) (o : Option A) (y : A) → cond t None o ≡ Some y → (t ≡ false) × (o ≡ Some y)
-some-by true o y h = cc
-some-by false o y h = (refl, h)
-
 -- a field that begins with 0 and has no leading zero is `0`
 alone : (bs : List ℕ) → get_or bs 0 0 ≡ 48 → has_leading_zero bs ≡ false → 0 < length bs → length bs ≡ 1
 alone [] first none some = absurd (omega arith)
@@ -105,12 +100,10 @@ alone (b ∷ d ∷ ds) first none some = absurd (eqb-false b 48 none first)
 plain-is : (bs : List ℕ) (n : ℕ) → n < 2 ^ 64 → plain_number_of bs ≡ Some n → bs ≡ decimal n
 plain-is bs n small h =
     let a = some-by (has_leading_zero bs) (field_number bs) n h in
-    let b = some-by ((length bs == 0) || nat_lt 9 (length bs)) (digits_from 0 bs) n a.1 in
-    let c = or-false (length bs == 0) (nat_lt 9 (length bs)) b.0 in
-    let some : 0 < length bs = omega (arith, eqb-false (length bs) 0 c.0) in
-    let d = digits-are 0 bs n b.1 in
+    let number = number-parts bs n a.1 in
+    let d = digits-are 0 bs n number.digits in
     let value : read_on 0 bs ≡ n = d.1 in
-    sym (decimal-digits_value own bs d.0 some (λ first. alone bs first a.0 some) (let e : read_on 0 bs < 2 ^ 64 = omega arith in e)) ∙ ap decimal value
+    sym (decimal-digits_value own bs d.0 number.some (λ first. alone bs first a.0 number.some) (let e : read_on 0 bs < 2 ^ 64 = omega arith in e)) ∙ ap decimal value
 
 reads-by : (bs : List ℕ) (n : ℕ) → has_leading_zero bs ≡ false → 0 < length bs → length bs ≤ 9 → digits_from 0 bs ≡ Some n → plain_number_of bs ≡ Some n
 reads-by bs n plain some few h = rw (plain, ne_eqb (length bs) 0 (λ e. omega arith), le-ltb 9 (length bs) few) h
@@ -136,7 +129,7 @@ within-is low high bs n small h =
     let read = then-some (plain_number_of bs) (λ m. cond (nat_lt m low || nat_lt high m) None (Some m)) n h in
     let m : ℕ = read.0 in
     let tests = some-by (nat_lt m low || nat_lt high m) (Some m) n read.1.1 in
-    let both = or-false (nat_lt m low) (nat_lt high m) tests.0 in
+    let both = or_parts (nat_lt m low) (nat_lt high m) tests.0 in
     let inner : Some m ≡ Some n = tests.1 in
     let same : m ≡ n = cc in
     let above : low ≤ m = ltb-false m low both.0 in

@@ -1,105 +1,111 @@
--- The building of a reading is one of statements that were taken.
-use Rattle.std.proofs.Common.{◌≡◌, ℕ, ◌+◌, Bool, true, false, cond, List, [], ◌∷◌, Result, Ok, Err, Some, None, refl, subst}
+-- The building of a reading is one of statements that its lines say and that were taken.
+use Rattle.std.proofs.Common.{◌≡◌, ℕ, ◌+◌, ◌==◌, ◌||◌, List, [], ◌∷◌, ◌++◌, Result, Ok, Err, Some, None, refl, subst}
 use Rattle.std.specs.declared.option.Option.{Option}
+use Rattle.std.specs.List.{All}
+use Rattle.std.proofs.lemmas.Bool.{cond_both}
+use Rattle.std.proofs.lemmas.List.Elements.{All-cons, All-head, All-nil, All-tail}
 use Rattle.evac_law.specs.Building.{IsValid}
 use Rattle.model_text.specs.declared.fault.TextFault.{TextFault}
+use Rattle.model_text.specs.declared.fault.TextFault.TheVariants.{UnknownWord}
+use Rattle.model_text.specs.Codes.{first_line, text_fault_code}
 use Rattle.model_text.specs.Fields.{fields_of}
 use Rattle.model_text.specs.Grammar.{Said, IsSaid, Blank, Header, End, statement_of}
-use Rattle.model_text.specs.Readings.{Line, Reading, Described, Step, Passed, Took, Ended, Stopped, step_unless, first_step, begins_header, later_said, later_step, after_step, reading_of, after_first_step, opening_of}
-use Rattle.model_text.specs.Taken.{Description, statement_fault, end_fault, AreTaken}
+use Rattle.model_text.specs.Readings.{Line, Reading, Described, ReadingState, AtStart, InModel, Step, Moved, Ended, Stopped, step_unless, first_said, later_said, begins_unknown, step_at, after_step, reading_at}
+use Rattle.model_text.specs.Taken.{Description, description_of, statement_fault, end_fault, AreTaken}
 use Rattle.model_text.proofs.GoodLemmas.{GoodSaid, good-statement}
 use Rattle.model_text.proofs.SoundLemmas.{taken-valid}
 
--- a statement that is right and has no fault
-abbrev pub IsRight : List Said → Said → Type 0
-IsRight taken s = IsSaid s × (statement_fault taken s ≡ None)
+-- a line says a statement
+abbrev pub IsSaidIn : Line → Said → Type 0
+IsSaidIn (Ok content) s = statement_of content ≡ Ok s
+IsSaidIn (Err code) s = ⊥
 
-unless-took : (o : Option ℕ) (x s : Said) → step_unless o (Took x) ≡ Took s → (o ≡ None) × (x ≡ s)
-unless-took (Some code) x s h = cc
-unless-took None x s h = (refl, (let e : x ≡ s = cc in e))
+-- each statement that a line says is of one kind
+abbrev pub Says : (Said → Type 0) → Line → Type 0
+Says P line = (s : Said) → IsSaidIn line s → P s
 
-took-right : (taken : List Said) (x s : Said) → IsSaid x → step_unless (statement_fault taken x) (Took x) ≡ Took s → IsRight taken s
-took-right taken x s is h =
-    let u = unless-took (statement_fault taken x) x s h in
-    let P : Said → Type 0 = λ y. IsRight taken y in subst P u.1 (is, u.0)
+-- a building that statements of one kind describe, which were taken and may end
+pub record IsSaidBy (P : Said → Type 0) (d : Description) : Type 0 where
+  pub taken : List Said
+  pub are : AreTaken taken
+  pub each : All P taken
+  pub may_end : end_fault taken ≡ None
+  pub is : description_of taken ≡ d
 
-ended-took : (o : Option ℕ) (s : Said) → step_unless o Ended ≡ Took s → ⊥
-ended-took (Some code) s h = cc
-ended-took None s h = cc
+-- the statements of a state were taken, and are of one kind
+abbrev HasTaken : (Said → Type 0) → ReadingState → Type 0
+HasTaken P AtStart = Unit {0}
+HasTaken P (InModel version taken) = AreTaken taken × All P taken
 
-said-took : (taken : List Said) (r : Result Said TextFault) (s : Said) → GoodSaid r → later_said taken r ≡ Took s → IsRight taken s
-said-took taken (Err f) s good h = cc
-said-took taken (Ok Blank) s good h = cc
-said-took taken (Ok (Header v)) s good h = cc
-said-took taken (Ok End) s good h = absurd (ended-took (end_fault taken) s h)
-said-took taken (Ok x) s good h = took-right taken x s good h
+-- so are those to which a step leads
+abbrev LeadsToTaken : (Said → Type 0) → Step → Type 0
+LeadsToTaken P (Moved state) = HasTaken P state
+LeadsToTaken P (Ended building) = IsSaidBy P building
+LeadsToTaken P (Stopped code) = Unit {0}
 
-took-by : (taken : List Said) (t : Bool) (code : ℕ) (r : Result Said TextFault) (s : Said) → GoodSaid r → cond t (Stopped code) (later_said taken r) ≡ Took s → IsRight taken s
-took-by taken true code r s good h = cc
-took-by taken false code r s good h = said-took taken r s good h
+unless-taken : (P : Said → Type 0) (o : Option ℕ) (step : Step) → (o ≡ None → LeadsToTaken P step) → LeadsToTaken P (step_unless o step)
+unless-taken P (Some code) step h = tt
+unless-taken P None step h = h refl
 
--- a statement that a line says was right and had no fault
-pub later-took : (taken : List Said) (line : Line) (s : Said) → later_step taken line ≡ Took s → IsRight taken s
-later-took taken (Ok content) s h = took-by taken (begins_header (fields_of content)) _ (statement_of content) s (good-statement content) h
-later-took taken (Err code) s h = cc
+first-taken : (P : Said → Type 0) (r : Result Said TextFault) → LeadsToTaken P (first_said r)
+first-taken P (Ok Blank) = tt
+first-taken P (Ok (Header version)) =
+    cond_both (version == 1 || version == 2) (Moved (InModel version [])) (Stopped first_line) (LeadsToTaken P) (λ _. (tt, All-nil P)) (λ _. tt)
+first-taken P (Ok s) = tt
+first-taken P (Err fault) = tt
 
-unless-ended : (o : Option ℕ) → step_unless o Ended ≡ Ended → o ≡ None
-unless-ended (Some code) h = cc
-unless-ended None h = refl
+later-taken : (P : Said → Type 0) (version : ℕ) (taken : List Said) (r : Result Said TextFault) → ((s : Said) → r ≡ Ok s → IsSaid s × P s) → AreTaken taken → All P taken
+    → LeadsToTaken P (later_said version taken r)
+later-taken P version taken (Ok Blank) says are each = (are, each)
+later-taken P version taken (Ok (Header other)) says are each = tt
+later-taken P version taken (Ok End) says are each =
+    unless-taken P (end_fault taken) (Ended (description_of taken)) (λ none. record { taken = taken; are = are; each = each; may_end = none; is = refl })
+later-taken P version taken (Ok s) says are each =
+    let right = says s refl in
+    unless-taken P (statement_fault taken s) (Moved (InModel version (s ∷ taken))) (λ none. ((right.0, none, are), All-cons P s taken right.1 each))
+later-taken P version taken (Err fault) says are each = tt
 
-took-ended : (o : Option ℕ) (x : Said) → step_unless o (Took x) ≡ Ended → ⊥
-took-ended (Some code) x h = cc
-took-ended None x h = cc
-
-said-ended : (taken : List Said) (r : Result Said TextFault) → later_said taken r ≡ Ended → end_fault taken ≡ None
-said-ended taken (Err f) h = cc
-said-ended taken (Ok Blank) h = cc
-said-ended taken (Ok (Header v)) h = cc
-said-ended taken (Ok End) h = unless-ended (end_fault taken) h
-said-ended taken (Ok x) h = absurd (took-ended (statement_fault taken x) x h)
-
-ended-by : (taken : List Said) (t : Bool) (code : ℕ) (r : Result Said TextFault) → cond t (Stopped code) (later_said taken r) ≡ Ended → end_fault taken ≡ None
-ended-by taken true code r h = cc
-ended-by taken false code r h = said-ended taken r h
-
--- the end of a model had no fault
-pub later-ended : (taken : List Said) (line : Line) → later_step taken line ≡ Ended → end_fault taken ≡ None
-later-ended taken (Ok content) h = ended-by taken (begins_header (fields_of content)) _ (statement_of content) h
-later-ended taken (Err code) h = cc
+step-taken : (P : Said → Type 0) (state : ReadingState) (line : Line) → Says P line → HasTaken P state → LeadsToTaken P (step_at state line)
+step-taken P AtStart (Ok content) says has = first-taken P (statement_of content)
+step-taken P (InModel version taken) (Ok content) says has =
+    cond_both (begins_unknown version (fields_of content)) (Stopped (text_fault_code UnknownWord)) (later_said version taken (statement_of content)) (LeadsToTaken P) (λ _. tt)
+    (λ _. later-taken P version taken (statement_of content) (λ s h. (subst GoodSaid h (good-statement content), says s h)) has.0 has.1)
+step-taken P state (Err code) says has = tt
 
 described-is : (a b : Description) (m n : ℕ) (xs ys : List Line) → Described a m xs ≡ Described b n ys → a ≡ b
 described-is a b m n xs ys h = cc
 
-step-valid : (step : Step) (taken : List Said) (number : ℕ) (lines : List Line) (more : List Said → Reading) (d : Description) (last : ℕ) (rest : List Line)
-    → AreTaken taken → ((s : Said) → step ≡ Took s → IsRight taken s) → (step ≡ Ended → end_fault taken ≡ None)
-    → ((next : List Said) → AreTaken next → more next ≡ Described d last rest → IsValid d.model)
-    → after_step step taken number lines more ≡ Described d last rest → IsValid d.model
-step-valid Passed taken number lines more d last rest are took ended ih h = ih taken are h
-step-valid (Took s) taken number lines more d last rest are took ended ih h = let right = took s refl in ih (s ∷ taken) (right.0, right.1, are) h
-step-valid Ended taken number lines more d last rest are took ended ih h =
-    let P : Description → Type 0 = λ x. IsValid x.model in subst P (described-is _ d number last lines rest h) (taken-valid taken are (ended refl))
-step-valid (Stopped code) taken number lines more d last rest are took ended ih h = cc
+said-by-step : (P : Said → Type 0) (step : Step) (number : ℕ) (lines : List Line) (more : ReadingState → Reading) (d : Description) (last : ℕ) (rest : List Line) → LeadsToTaken P step
+    → ((state : ReadingState) → HasTaken P state → more state ≡ Described d last rest → IsSaidBy P d) → after_step step number lines more ≡ Described d last rest → IsSaidBy P d
+said-by-step P (Moved state) number lines more d last rest leads ih h = ih state leads h
+said-by-step P (Ended building) number lines more d last rest leads ih h = subst (IsSaidBy P) (described-is building d number last lines rest h) leads
+said-by-step P (Stopped code) number lines more d last rest leads ih h = cc
 
-reading-valid : (lines : List Line) (taken : List Said) (before : ℕ) (d : Description) (last : ℕ) (rest : List Line)
-    → AreTaken taken → reading_of taken before lines ≡ Described d last rest → IsValid d.model
-unfolding reading_of
-reading-valid [] taken before d last rest are h = cc
-reading-valid (line ∷ lines) taken before d last rest are h =
-    step-valid (later_step taken line) taken (before + 1) lines (λ next. reading_of next (before + 1) lines) d last rest are
-    (later-took taken line) (later-ended taken line) (λ next is. reading-valid lines next (before + 1) d last rest is) h
-
-first-valid : (step : Step) (number : ℕ) (opening statements : Reading) (d : Description) (last : ℕ) (rest : List Line)
-    → (opening ≡ Described d last rest → IsValid d.model) → (statements ≡ Described d last rest → IsValid d.model)
-    → after_first_step step number opening statements ≡ Described d last rest → IsValid d.model
-first-valid Passed number opening statements d last rest a b h = a h
-first-valid (Took s) number opening statements d last rest a b h = b h
-first-valid Ended number opening statements d last rest a b h = cc
-first-valid (Stopped code) number opening statements d last rest a b h = cc
+-- the building that lines describe from a state on
+pub reading-said : (P : Said → Type 0) (state : ReadingState) (lines : List Line) (before : ℕ) (d : Description) (last : ℕ) (rest : List Line) → All (Says P) lines → HasTaken P state
+    → reading_at state before lines ≡ Described d last rest → IsSaidBy P d
+unfolding reading_at
+reading-said P state [] before d last rest say has h = cc
+reading-said P state (line ∷ lines) before d last rest say has h =
+    said-by-step P (step_at state line) (before + 1) lines (λ next. reading_at next (before + 1) lines) d last rest (step-taken P state line (All-head (Says P) line lines say) has)
+    (λ next taken. reading-said P next lines (before + 1) d last rest (All-tail (Says P) line lines say) taken) h
 
 -- the model that lines describe is valid
-pub opening-valid : (lines : List Line) (before : ℕ) (d : Description) (last : ℕ) (rest : List Line) → opening_of before lines ≡ Described d last rest → IsValid d.model
-unfolding opening_of
-opening-valid [] before d last rest h = cc
-opening-valid (line ∷ lines) before d last rest h =
-    first-valid (first_step line) (before + 1) (opening_of (before + 1) lines) (reading_of [] (before + 1) lines) d last rest
-    (opening-valid lines (before + 1) d last rest) (reading-valid lines [] (before + 1) d last rest tt) h
+pub opening-valid : (lines : List Line) (before : ℕ) (d : Description) (last : ℕ) (rest : List Line) → reading_at AtStart before lines ≡ Described d last rest → IsValid d.model
+opening-valid lines before d last rest h =
+    let by = reading-said (λ s. Unit {0}) AtStart lines before d last rest (λ k line within s said. tt) tt h in
+    let P : Description → Type 0 = λ x. IsValid x.model in subst P by.is (taken-valid by.taken by.are by.may_end)
+
+-- what lines described they describe with further lines behind them
+pub reading-further : (state : ReadingState) (before : ℕ) (xs ys : List Line) (d : Description) (last : ℕ) (rest : List Line)
+    → reading_at state before xs ≡ Described d last rest → reading_at state before (xs ++ ys) ≡ Described d last (rest ++ ys)
+unfolding reading_at
+reading-further state before [] ys d last rest h = cc
+reading-further state before (x ∷ xs) ys d last rest h = by-step (step_at state x) (λ next. reading-further next (before + 1) xs ys d last rest) h
+  where
+    by-step : (step : Step) → ((next : ReadingState) → reading_at next (before + 1) xs ≡ Described d last rest → reading_at next (before + 1) (xs ++ ys) ≡ Described d last (rest ++ ys))
+        → after_step step (before + 1) xs (λ next. reading_at next (before + 1) xs) ≡ Described d last rest
+        → after_step step (before + 1) (xs ++ ys) (λ next. reading_at next (before + 1) (xs ++ ys)) ≡ Described d last (rest ++ ys)
+    by-step (Moved next) ih e = ih next e
+    by-step (Ended building) ih e = let a : building ≡ d = cc in let b : before + 1 ≡ last = cc in let c : xs ≡ rest = cc in cc
+    by-step (Stopped code) ih e = cc

@@ -12,7 +12,7 @@ text_fault_code OutOfRange = 7
 text_fault_code BadName = 8
 text_fault_code UnknownCommand = 31
 
--- the first line that isn't blank is no header of version 1
+-- the first line that isn't blank is no header of version 1 or 2
 abbrev pub first_line : ℕ
 first_line = 1
 
@@ -44,6 +44,24 @@ repeated_arc = 16
 abbrev pub too_many : ℕ
 too_many = 17
 
+abbrev pub bad_window : ℕ
+bad_window = 24
+
+abbrev pub window_overlap : ℕ
+window_overlap = 25
+
+abbrev pub too_many_windows : ℕ
+too_many_windows = 26
+
+abbrev pub repeated_entrant : ℕ
+repeated_entrant = 29
+
+abbrev pub unknown_arc : ℕ
+unknown_arc = 32
+
+abbrev pub exit_named : ℕ
+exit_named = 37
+
 -- the faults of a model as a whole
 abbrev pub missing_setting : ℕ
 missing_setting = 18
@@ -53,6 +71,9 @@ no_exit = 19
 
 abbrev pub too_large : ℕ
 too_large = 20
+
+abbrev pub entrant_late : ℕ
+entrant_late = 28
 
 -- the lines end before the model does
 abbrev pub missing_end : ℕ

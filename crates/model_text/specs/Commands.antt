@@ -3,11 +3,11 @@ use Rattle.std.specs.Prelude.{ℕ, if◌then◌else◌, List, [], ◌∷◌, Res
 use Rattle.std.specs.Str.{bytes_eq}
 use Rattle.evac_law.specs.declared.name.NodeName.{NodeName}
 use Rattle.model_text.specs.declared.command.Command.{Command}
-use Rattle.model_text.specs.declared.command.Command.TheVariants.{Blank, Shut, Reopen, ShutExit, OpenExit, Rate, Room, Shift, Enter, Leave, Undo, Cut, Routes, Clearing, Bottlenecks, Summary, Work, Quit}
+use Rattle.model_text.specs.declared.command.Command.TheVariants.{Blank, Shut, Reopen, ShutExit, OpenExit, Rate, Room, Shift, Enter, Leave, Window, Unwindow, Undo, Cut, Routes, Clearing, Bottlenecks, Summary, Work, Quit}
 use Rattle.model_text.specs.declared.fault.TextFault.{TextFault}
 use Rattle.model_text.specs.declared.fault.TextFault.TheVariants.{UnknownCommand}
 use Rattle.model_text.specs.Fields.{fields_of, behind_field}
-use Rattle.model_text.specs.Grammar.{◌>>=◌, is_comment, name_field, no_field, number_field, one_field, three_fields, two_fields}
+use Rattle.model_text.specs.Grammar.{◌>>=◌, is_comment, four_fields, name_field, no_field, number_field, one_field, three_fields, two_fields}
 
 -- no field
 abbrev pub alone : Command → List (List ℕ) → Result Command TextFault
@@ -42,6 +42,14 @@ names_number fields = three_fields fields >>= λ f. name_field f.0 >>= λ a. nam
 abbrev pub with_names_number : (NodeName → NodeName → ℕ → Command) → List (List ℕ) → Result Command TextFault
 with_names_number command fields = names_number fields >>= λ p. Ok (command p.0 p.1 p.2)
 
+-- two names and two numbers
+abbrev pub names_numbers : List (List ℕ) → Result (NodeName × NodeName × ℕ × ℕ) TextFault
+names_numbers fields =
+    four_fields fields >>= λ f. name_field f.0 >>= λ a. name_field f.1 >>= λ b. number_field f.2 >>= λ p. number_field f.3 >>= λ q. Ok (a, b, p, q)
+
+abbrev pub with_names_numbers : (NodeName → NodeName → ℕ → ℕ → Command) → List (List ℕ) → Result Command TextFault
+with_names_numbers command fields = names_numbers fields >>= λ p. Ok (command p.0 p.1 p.2 p.3)
+
 -- a word that edits the model; else what `other` says
 abbrev pub edit_by_word : List ℕ → List (List ℕ) → Result Command TextFault → Result Command TextFault
 edit_by_word word fields other =
@@ -54,6 +62,8 @@ edit_by_word word fields other =
     else if bytes_eq word (codes "shift") then with_names_number Shift fields
     else if bytes_eq word (codes "enter") then with_name_number Enter fields
     else if bytes_eq word (codes "leave") then with_name_number Leave fields
+    else if bytes_eq word (codes "window") then with_names_numbers Window fields
+    else if bytes_eq word (codes "unwindow") then with_names_numbers Unwindow fields
     else other
 
 -- a word that asks for something, or ends the session

@@ -1,8 +1,8 @@
 -- What a line of a model says, by its fields, or the first fault of the line.
-use Rattle.std.specs.Prelude.{ℕ, ◌≤◌, ◌<◌, Bool, true, ◌||◌, ◌==◌, nat_lt, if◌then◌else◌, List, [], ◌∷◌, length, Result, Ok, Err, Some, None, codes, IsTrue, IsFalse}
+use Rattle.std.specs.Prelude.{ℕ, ◌+◌, ◌≤◌, ◌<◌, Bool, true, ◌||◌, ◌==◌, nat_lt, if◌then◌else◌, List, [], ◌∷◌, length, Result, Ok, Err, Some, None, codes, IsTrue, IsFalse}
 use Rattle.std.specs.declared.option.Option.{Option}
 use Rattle.std.specs.Str.{bytes_eq}
-use Rattle.evac_law.specs.Limits.{seconds_limit, horizon_limit, floor_number_limit, capacity_limit, travel_limit, rate_limit}
+use Rattle.evac_law.specs.Limits.{seconds_limit, horizon_limit, floor_number_limit, capacity_limit, people_limit, travel_limit, rate_limit}
 use Rattle.evac_law.specs.Names.{IsName, is_exit}
 use Rattle.evac_law.specs.declared.name.NodeName.{NodeName}
 use Rattle.model_text.specs.declared.fault.TextFault.{TextFault}
@@ -22,6 +22,8 @@ pub data Said : Type 0 where
   Node : (name : NodeName) → (capacity : ℕ) → (start : ℕ) → Said
   Exit : (name : NodeName) → Said
   Arc : («from» : NodeName) → (to : NodeName) → (travel : ℕ) → (rate : ℕ) → Said
+  Window : («from» : NodeName) → (to : NodeName) → (first : ℕ) → (until : ℕ) → Said
+  Entrant : (name : NodeName) → (moment : ℕ) → (people : ℕ) → Said
   End : Said
 
 -- the first fault, or what follows from the value
@@ -109,6 +111,17 @@ arc fields =
     four_fields fields >>= λ f. name_field f.0 >>= λ a. name_field f.1 >>= λ b. ranged 1 travel_limit f.2
     >>= λ t. ranged 0 rate_limit f.3 >>= λ r. Ok (Arc a b t r)
 
+-- `window`, the two names of an arc's ends, the first moment at which it is closed and the moment until which it is
+abbrev pub window : List (List ℕ) → Result Said TextFault
+window fields =
+    four_fields fields >>= λ f. name_field f.0 >>= λ a. name_field f.1 >>= λ b. ranged 0 horizon_limit f.2
+    >>= λ p. ranged 1 (horizon_limit + 1) f.3 >>= λ q. Ok (Window a b p q)
+
+-- `entrant`, the name of a node, the moment at which people come into it and how many they are
+abbrev pub entrant : List (List ℕ) → Result Said TextFault
+entrant fields =
+    three_fields fields >>= λ f. name_field f.0 >>= λ a. ranged 1 horizon_limit f.1 >>= λ t. ranged 1 people_limit f.2 >>= λ n. Ok (Entrant a t n)
+
 -- `end` alone
 abbrev pub end : List (List ℕ) → Result Said TextFault
 end fields = no_field End fields
@@ -129,6 +142,8 @@ by_word word rest =
     else if bytes_eq word (codes "floor") then floor (fields_of rest) (text_of (behind_field rest))
     else if bytes_eq word (codes "node") then node (fields_of rest)
     else if bytes_eq word (codes "arc") then arc (fields_of rest)
+    else if bytes_eq word (codes "window") then window (fields_of rest)
+    else if bytes_eq word (codes "entrant") then entrant (fields_of rest)
     else if bytes_eq word (codes "end") then end (fields_of rest)
     else Err UnknownWord
 
@@ -151,4 +166,7 @@ IsSaid (Floor floor text) = (floor ≤ floor_number_limit) × (0 < length text)
 IsSaid (Node name capacity start) = IsName name × IsFalse (is_exit name.kind) × (capacity ≤ capacity_limit) × (start ≤ capacity_limit)
 IsSaid (Exit name) = IsName name × IsTrue (is_exit name.kind)
 IsSaid (Arc start finish travel rate) = IsName start × IsName finish × (1 ≤ travel) × (travel ≤ travel_limit) × (rate ≤ rate_limit)
+IsSaid (Window start finish first until) =
+    IsName start × IsName finish × (first ≤ horizon_limit) × (1 ≤ until) × (until ≤ horizon_limit + 1)
+IsSaid (Entrant name moment people) = IsName name × (1 ≤ moment) × (moment ≤ horizon_limit) × (1 ≤ people) × (people ≤ people_limit)
 IsSaid End = Unit {0}

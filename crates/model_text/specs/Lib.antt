@@ -1,10 +1,12 @@
 pub mod Codes
 pub mod Commands
+pub mod StudyCommands
 pub mod Fields
 pub mod Grammar
 pub mod Laws
 pub mod NameFields
 pub mod Numbers
+pub mod Plain
 pub mod Readings
 pub mod Reads
 pub mod Taken

@@ -1,5 +1,5 @@
 -- The building that lines describe, or the first fault of the lines.
-use Rattle.std.specs.Prelude.{◌≡◌, ℕ, ◌+◌, Bool, false, ◌==◌, if◌then◌else◌, List, [], ◌∷◌, length, Result, Ok, Err, Some, None, codes}
+use Rattle.std.specs.Prelude.{◌≡◌, ℕ, ◌+◌, Bool, false, ◌&&◌, ◌||◌, ◌==◌, if◌then◌else◌, List, [], ◌∷◌, length, Result, Ok, Err, Some, None, codes}
 use Rattle.std.specs.declared.option.Option.{Option}
 use Rattle.std.specs.Str.{bytes_eq}
 use Rattle.model_text.specs.declared.fault.TextFault.{TextFault}
@@ -18,11 +18,15 @@ pub data Reading : Type 0 where
   Described : (building : Description) → (last : ℕ) → (rest : List Line) → Reading
   Refused : (code : ℕ) → (line : ℕ) → Reading
 
--- what one line does: it is passed over, it says one more statement, it ends the model, or it is refused
+-- the state of a reading: before the header, or behind that of a version with some statements, the last one first
+pub data ReadingState : Type 0 where
+  AtStart : ReadingState
+  InModel : (version : ℕ) → (taken : List Said) → ReadingState
+
+-- what one line does: the reading moves on to a state, a building ends, or the line is refused
 pub data Step : Type 0 where
-  Passed : Step
-  Took : (statement : Said) → Step
-  Ended : Step
+  Moved : (state : ReadingState) → Step
+  Ended : (building : Description) → Step
   Stopped : (code : ℕ) → Step
 
 -- a step, unless there is a fault
@@ -30,59 +34,58 @@ abbrev pub step_unless : Option ℕ → Step → Step
 step_unless (Some code) step = Stopped code
 step_unless None step = step
 
--- ---- the first line that isn't blank, which is the header of version 1
-
+-- the first line that isn't blank is the header of version 1 or 2
 abbrev pub first_said : Result Said TextFault → Step
-first_said (Ok Blank) = Passed
-first_said (Ok (Header version)) = if version == 1 then Took (Header version) else Stopped first_line
+first_said (Ok Blank) = Moved AtStart
+first_said (Ok (Header version)) = if version == 1 || version == 2 then Moved (InModel version []) else Stopped first_line
 first_said _ = Stopped first_line
 
-abbrev pub first_step : Line → Step
-first_step (Ok line) = first_said (statement_of line)
-first_step (Err code) = Stopped code
+-- the end of a model of some statements
+abbrev pub end_step : List Said → Step
+end_step taken = step_unless (end_fault taken) (Ended (description_of taken))
 
--- ---- the lines behind it
+-- a line behind the header says one more statement, or ends the model
+abbrev pub later_said : ℕ → List Said → Result Said TextFault → Step
+later_said version taken (Ok Blank) = Moved (InModel version taken)
+later_said version taken (Ok (Header other)) = Stopped (text_fault_code UnknownWord)
+later_said version taken (Ok End) = end_step taken
+later_said version taken (Ok statement) = step_unless (statement_fault taken statement) (Moved (InModel version (statement ∷ taken)))
+later_said version taken (Err fault) = Stopped (text_fault_code fault)
 
--- whether the first word is that of the header, which is no word of a later line
-abbrev pub begins_header : List (List ℕ) → Bool
-begins_header [] = false
-begins_header (word ∷ more) = bytes_eq word (codes "evacplan")
+-- whether a first word is unknown behind the header: the header's own word, and in version 1 the words that only version 2 has
+abbrev pub is_unknown : ℕ → List ℕ → Bool
+is_unknown version word =
+    bytes_eq word (codes "evacplan") || (version == 1 && (bytes_eq word (codes "window") || bytes_eq word (codes "entrant")))
 
-abbrev pub later_said : List Said → Result Said TextFault → Step
-later_said taken (Ok Blank) = Passed
-later_said taken (Ok (Header version)) = Stopped (text_fault_code UnknownWord)
-later_said taken (Ok End) = step_unless (end_fault taken) Ended
-later_said taken (Ok statement) = step_unless (statement_fault taken statement) (Took statement)
-later_said taken (Err fault) = Stopped (text_fault_code fault)
+abbrev pub begins_unknown : ℕ → List (List ℕ) → Bool
+begins_unknown version [] = false
+begins_unknown version (word ∷ more) = is_unknown version word
 
-abbrev pub later_step : List Said → Line → Step
-later_step taken (Ok line) = if begins_header (fields_of line) then Stopped (text_fault_code UnknownWord) else later_said taken (statement_of line)
-later_step taken (Err code) = Stopped code
+-- what a line of some content does; an unknown word is refused before the fields behind it are looked at
+abbrev pub content_step : ReadingState → List ℕ → Step
+content_step AtStart content = first_said (statement_of content)
+content_step (InModel version taken) content =
+    if begins_unknown version (fields_of content) then Stopped (text_fault_code UnknownWord)
+    else later_said version taken (statement_of content)
 
--- what a step of line `number` makes of the lines, with `more` the reading that goes on with some statements
-abbrev pub after_step : Step → List Said → ℕ → List Line → (List Said → Reading) → Reading
-after_step Passed taken number rest more = more taken
-after_step (Took statement) taken number rest more = more (statement ∷ taken)
-after_step Ended taken number rest more = Described (description_of taken) number rest
-after_step (Stopped code) taken number rest more = Refused code number
+abbrev pub step_at : ReadingState → Line → Step
+step_at state (Ok content) = content_step state content
+step_at state (Err code) = Stopped code
 
--- the reading of lines, behind a header and some statements, the last one first, and `before` lines in all
-unfoldable pub reading_of : List Said → ℕ → List Line → Reading
-reading_of taken before [] = Refused missing_end (before + 1)
-reading_of taken before (line ∷ rest) =
-    after_step (later_step taken line) taken (before + 1) rest (λ more. reading_of more (before + 1) rest)
+-- what a step of line `number` makes of the lines, with `more` the reading from a state on
+abbrev pub after_step : Step → ℕ → List Line → (ReadingState → Reading) → Reading
+after_step (Moved state) number rest more = more state
+after_step (Ended building) number rest more = Described building number rest
+after_step (Stopped code) number rest more = Refused code number
 
--- what the first step makes of the lines: a blank line leaves the opening, the header leads to the statements
-abbrev pub after_first_step : Step → ℕ → Reading → Reading → Reading
-after_first_step Passed number opening statements = opening
-after_first_step (Took header) number opening statements = statements
-after_first_step Ended number opening statements = Refused first_line number
-after_first_step (Stopped code) number opening statements = Refused code number
+-- the reading of lines from a state on, behind `before` lines
+unfoldable pub reading_at : ReadingState → ℕ → List Line → Reading
+reading_at state before [] = Refused missing_end (before + 1)
+reading_at state before (line ∷ rest) = after_step (step_at state line) (before + 1) rest (λ next. reading_at next (before + 1) rest)
 
 -- the reading of lines behind `before` lines that said nothing
-unfoldable pub opening_of : ℕ → List Line → Reading
-opening_of before [] = Refused missing_end (before + 1)
-opening_of before (line ∷ rest) = after_first_step (first_step line) (before + 1) (opening_of (before + 1) rest) (reading_of [] (before + 1) rest)
+abbrev pub opening_of : ℕ → List Line → Reading
+opening_of before lines = reading_at AtStart before lines
 
 -- the building that lines describe, with the line that ends it and the lines behind that; or the first fault
 abbrev pub model_of : List Line → Reading

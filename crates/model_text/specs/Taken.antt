@@ -1,17 +1,21 @@
 -- What statements have described so far, and when one more is refused. They stand in a list with the last one first.
-use Rattle.std.specs.Prelude.{◌≡◌, ℕ, ◌+◌, ◌*◌, Bool, true, false, not, ◌&&◌, ◌||◌, ◌==◌, nat_lt, nat_le, if◌then◌else◌, List, [], ◌∷◌, ◌++◌, length, is_some, is_none, unwrap_or, map, Some, None}
+use Rattle.std.specs.Prelude.{◌≡◌, ℕ, ◌+◌, ◌*◌, Bool, true, false, not, ◌&&◌, ◌||◌, ◌==◌, nat_lt, nat_le, if◌then◌else◌, List, [], ◌∷◌, ◌++◌, length, slice_index_or, slice_set, is_some, is_none, unwrap_or, map, Some, None}
 use Rattle.std.specs.declared.option.Option.{Option}
 use Rattle.std.specs.List.{list_any, position_or_len, sum_by}
-use Rattle.evac_law.specs.Limits.{floor_limit, node_limit, arc_limit, people_limit, cell_limit}
+use Rattle.evac_law.specs.Building.{arc_row, no_arc, node_row}
+use Rattle.evac_law.specs.Limits.{floor_limit, node_limit, arc_limit, people_limit, cell_limit, window_limit}
 use Rattle.evac_law.specs.Names.{is_exit}
+use Rattle.evac_law.specs.Windows.{overlaps, window_of, with_window}
+use Rattle.evac_law.specs.declared.entrant.Entrant.{Entrant as Coming}
 use Rattle.evac_law.specs.declared.name.Kind.{Kind}
 use Rattle.evac_law.specs.declared.name.Kind.TheVariants as kinds
 use Rattle.evac_law.specs.declared.name.NodeName.{NodeName}
 use Rattle.evac_law.specs.declared.model.NodeRow.{NodeRow}
 use Rattle.evac_law.specs.declared.model.ArcRow.{ArcRow}
 use Rattle.evac_law.specs.declared.model.Model.{Model}
-use Rattle.model_text.specs.Codes.{repeated_setting, unknown_floor, repeated_node, over_full, unknown_node, self_arc, from_exit, repeated_arc, too_many, missing_setting, no_exit, too_large}
-use Rattle.model_text.specs.Grammar.{Said, IsSaid, Title, Period, Horizon, Floor, Node, Exit, Arc}
+use Rattle.evac_law.specs.declared.window.Window.{Window as ClosureWindow}
+use Rattle.model_text.specs.Codes.{repeated_setting, unknown_floor, repeated_node, over_full, unknown_node, self_arc, from_exit, repeated_arc, too_many, missing_setting, no_exit, too_large, bad_window, window_overlap, too_many_windows, repeated_entrant, entrant_late, exit_named, unknown_arc}
+use Rattle.model_text.specs.Grammar.{Said, IsSaid, Title, Period, Horizon, Floor, Node, Exit, Arc, Window, Entrant}
 
 -- ---- names
 
@@ -56,30 +60,62 @@ floors_of (_ ∷ before) = floors_of before
 -- the nodes in their order, none shut; an exit has no capacity and no start
 abbrev pub nodes_of : List Said → List NodeRow
 nodes_of [] = []
-nodes_of (Node name capacity start ∷ before) = nodes_of before ++ (record { name = name; capacity = capacity; start = start; shut = false } ∷ [])
-nodes_of (Exit name ∷ before) = nodes_of before ++ (record { name = name; capacity = 0; start = 0; shut = false } ∷ [])
+nodes_of (Node name capacity start ∷ before) = nodes_of before ++ (node_row name capacity start ∷ [])
+nodes_of (Exit name ∷ before) = nodes_of before ++ (node_row name 0 0 ∷ [])
 nodes_of (_ ∷ before) = nodes_of before
 
 -- the place of the first node of a name, or the number of nodes
 abbrev pub place_of_node : List NodeRow → NodeName → ℕ
 place_of_node nodes name = position_or_len (λ n. same_name n.name name) nodes
 
--- the arcs in their order, none shut, between the places of their names
+-- whether an arc joins the places of two nodes, and the place of the first that does, or the number of arcs
+abbrev pub joins : ℕ → ℕ → ArcRow → Bool
+joins start finish a = a.from == start && a.to == finish
+
+abbrev pub place_of_arc : List ArcRow → ℕ → ℕ → ℕ
+place_of_arc arcs start finish = position_or_len (joins start finish) arcs
+
+-- the windows of the arc at a place, and the arcs with one more window of it
+abbrev pub arc_windows : List ArcRow → ℕ → List ClosureWindow
+arc_windows arcs place = (slice_index_or arcs place no_arc).windows.items
+
+abbrev pub closing : List ArcRow → ℕ → ClosureWindow → List ArcRow
+closing arcs place window =
+    slice_set arcs place (record (slice_index_or arcs place no_arc) { windows = record { items = with_window (arc_windows arcs place) window } })
+
+-- the arcs in their order, none shut, between the places of their names, each with the windows said of it
 abbrev pub arcs_of : List Said → List ArcRow
 arcs_of [] = []
 arcs_of (Arc start finish travel rate ∷ before) =
-    arcs_of before ++ (record {
-      from = place_of_node (nodes_of before) start;
-      to = place_of_node (nodes_of before) finish;
-      travel = travel;
-      rate = rate;
-      shut = false;
-    } ∷ [])
+    arcs_of before ++ (arc_row (place_of_node (nodes_of before) start) (place_of_node (nodes_of before) finish) travel rate ∷ [])
+arcs_of (Window start finish first until ∷ before) =
+    closing (arcs_of before) (place_of_arc (arcs_of before) (place_of_node (nodes_of before) start) (place_of_node (nodes_of before) finish))
+    (window_of first until)
 arcs_of (_ ∷ before) = arcs_of before
+
+-- whether one entrant comes before another: at a node with a smaller place, or at the same node and earlier
+abbrev pub comes_before : Coming → Coming → Bool
+comes_before e f = nat_lt e.node f.node || (e.node == f.node && nat_lt e.moment f.moment)
+
+-- the entrants with one more, before the first that it comes before
+abbrev pub with_entrant : List Coming → Coming → List Coming
+with_entrant [] e = e ∷ []
+with_entrant (f ∷ fs) e = if comes_before e f then e ∷ f ∷ fs else f ∷ with_entrant fs e
+
+-- the entrant of three numbers
+abbrev pub entrant_of : ℕ → ℕ → ℕ → Coming
+entrant_of node moment people = record { node = node; moment = moment; people = people }
+
+-- the entrants by node and then by moment
+abbrev pub entrants_of : List Said → List Coming
+entrants_of [] = []
+entrants_of (Entrant name moment people ∷ before) =
+    with_entrant (entrants_of before) (entrant_of (place_of_node (nodes_of before) name) moment people)
+entrants_of (_ ∷ before) = entrants_of before
 
 -- ---- when one more is refused
 
--- whether there is a floor of a number, a node of a name, an arc between two names
+-- whether there is a floor of a number, a node of a name, an arc between two names, an entrant at a node and a moment
 abbrev pub has_floor : List Said → ℕ → Bool
 has_floor before floor = list_any (λ f. f == floor) (map (λ f. f.0) (floors_of before))
 
@@ -87,12 +123,22 @@ abbrev pub has_node : List Said → NodeName → Bool
 has_node before name = list_any (λ n. same_name n.name name) (nodes_of before)
 
 abbrev pub has_arc : List Said → NodeName → NodeName → Bool
-has_arc before start finish =
-    list_any (λ a. a.from == place_of_node (nodes_of before) start && a.to == place_of_node (nodes_of before) finish) (arcs_of before)
+has_arc before start finish = list_any (joins (place_of_node (nodes_of before) start) (place_of_node (nodes_of before) finish)) (arcs_of before)
 
--- the people who start somewhere
+abbrev pub is_coming : ℕ → ℕ → Coming → Bool
+is_coming node moment e = e.node == node && e.moment == moment
+
+abbrev pub has_entrant : List Said → NodeName → ℕ → Bool
+has_entrant before name moment = list_any (is_coming (place_of_node (nodes_of before) name) moment) (entrants_of before)
+
+-- the windows of the arc between two names
+abbrev pub windows_of : List Said → NodeName → NodeName → List ClosureWindow
+windows_of before start finish =
+    arc_windows (arcs_of before) (place_of_arc (arcs_of before) (place_of_node (nodes_of before) start) (place_of_node (nodes_of before) finish))
+
+-- the people who start somewhere or come in later
 abbrev pub people_of : List Said → ℕ
-people_of before = sum_by (λ n. n.start) (nodes_of before)
+people_of before = sum_by (λ n. n.start) (nodes_of before) + sum_by (λ e. e.people) (entrants_of before)
 
 -- the code of the first check that holds
 abbrev pub first_code : List (Bool × ℕ) → Option ℕ
@@ -116,6 +162,14 @@ statement_checks before (Arc start finish travel rate) =
     (not (has_node before start), unknown_node) ∷ (not (has_node before finish), unknown_node) ∷ (same_name start finish, self_arc)
     ∷ (is_exit start.kind, from_exit) ∷ (has_arc before start finish, repeated_arc)
     ∷ (nat_le arc_limit (length (arcs_of before)), too_many) ∷ []
+statement_checks before (Window start finish first until) =
+    (not (has_node before start), unknown_node) ∷ (not (has_node before finish), unknown_node)
+    ∷ (not (has_arc before start finish), unknown_arc) ∷ (nat_le until first, bad_window)
+    ∷ (list_any (λ v. overlaps v (window_of first until)) (windows_of before start finish), window_overlap)
+    ∷ (nat_le window_limit (length (windows_of before start finish)), too_many_windows) ∷ []
+statement_checks before (Entrant name moment people) =
+    (not (has_node before name), unknown_node) ∷ (is_exit name.kind, exit_named) ∷ (has_entrant before name moment, repeated_entrant)
+    ∷ (nat_lt people_limit (people_of before + people), too_many) ∷ []
 statement_checks before _ = []
 
 -- the fault of a statement, said of those before it
@@ -131,7 +185,8 @@ unfoldable pub end_fault : List Said → Option ℕ
 end_fault taken =
     first_code ((is_none (seconds_of taken) || is_none (horizon_of taken), missing_setting)
     ∷ (not (list_any (λ n. is_exit n.name.kind) (nodes_of taken)), no_exit)
-    ∷ (nat_lt cell_limit (cells_of taken), too_large) ∷ [])
+    ∷ (nat_lt cell_limit (cells_of taken), too_large)
+    ∷ (list_any (λ e. nat_lt (unwrap_or (horizon_of taken) 0) e.moment) (entrants_of taken), entrant_late) ∷ [])
 
 -- ---- the building that they describe
 
@@ -143,7 +198,13 @@ pub record Description : Type 0 where
 
 unfoldable pub model_taken : List Said → Model
 model_taken taken =
-    record { seconds = unwrap_or (seconds_of taken) 0; horizon = unwrap_or (horizon_of taken) 0; nodes = nodes_of taken; arcs = arcs_of taken }
+    record {
+      seconds = unwrap_or (seconds_of taken) 0;
+      horizon = unwrap_or (horizon_of taken) 0;
+      nodes = nodes_of taken;
+      arcs = arcs_of taken;
+      entrants = entrants_of taken;
+    }
 
 abbrev pub description_of : List Said → Description
 description_of taken = record { model = model_taken taken; title = title_of taken; floors = floors_of taken }

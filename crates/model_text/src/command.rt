@@ -1,11 +1,11 @@
 // What a line of a session commands.
 ghost use Rattle.std.specs.Prelude.{◌≡◌, ◌≢◌, IfErr};
-ghost use Rattle.model_text.specs.Commands.{alone, command_by_word, command_of, edit_by_word, name_number, names_number, request_by_word, two_names, with_name, with_name_number, with_names, with_names_number, with_number};
+ghost use Rattle.model_text.specs.Commands.{alone, command_by_word, command_of, edit_by_word, name_number, names_number, names_numbers, request_by_word, two_names, with_name, with_name_number, with_names, with_names_number, with_names_numbers, with_number};
 ghost use Rattle.model_text.specs.Fields.{fields_of};
 
 use crate::fault::TextFault;
 use crate::fields::{Fields, is_word};
-use crate::parts::{name, number, one, three, two};
+use crate::parts::{four, name, number, one, three, two};
 use crate::statement::is_comment;
 use evac_law::NodeName;
 
@@ -49,6 +49,18 @@ pub enum Command {
         node: NodeName,
         people: u32,
     },
+    Window {
+        from: NodeName,
+        to: NodeName,
+        first: u32,
+        until: u32,
+    },
+    Unwindow {
+        from: NodeName,
+        to: NodeName,
+        first: u32,
+        until: u32,
+    },
     Undo,
     Cut {
         period: u32,
@@ -88,7 +100,9 @@ fn name_and_number<'a>(fields: Fields<'a>) -> Result<(NodeName, u32), TextFault>
     Ok((node, count))
 }
 
-fn names_and_number<'a>(fields: Fields<'a>) -> Result<(NodeName, NodeName, u32), TextFault>
+pub(crate) fn names_and_number<'a>(
+    fields: Fields<'a>,
+) -> Result<(NodeName, NodeName, u32), TextFault>
     ensures { result ≡ names_number (fields_of fields.entry) }
 {
     let (from, to, count) = three(fields)?;
@@ -96,6 +110,17 @@ fn names_and_number<'a>(fields: Fields<'a>) -> Result<(NodeName, NodeName, u32),
     let to = name(to)?;
     let count = number(count)?;
     Ok((from, to, count))
+}
+
+fn names_and_numbers<'a>(fields: Fields<'a>) -> Result<(NodeName, NodeName, u32, u32), TextFault>
+    ensures { result ≡ names_numbers (fields_of fields.entry) }
+{
+    let (from, to, first, until) = four(fields)?;
+    let from = name(from)?;
+    let to = name(to)?;
+    let first = number(first)?;
+    let until = number(until)?;
+    Ok((from, to, first, until))
 }
 
 fn shut<'a>(fields: Fields<'a>) -> Result<Command, TextFault>
@@ -161,6 +186,30 @@ fn leave<'a>(fields: Fields<'a>) -> Result<Command, TextFault>
     Ok(Command::Leave { node, people })
 }
 
+fn window<'a>(fields: Fields<'a>) -> Result<Command, TextFault>
+    ensures { result ≡ with_names_numbers Command.Window (fields_of fields.entry) }
+{
+    let (from, to, first, until) = names_and_numbers(fields)?;
+    Ok(Command::Window {
+        from,
+        to,
+        first,
+        until,
+    })
+}
+
+fn unwindow<'a>(fields: Fields<'a>) -> Result<Command, TextFault>
+    ensures { result ≡ with_names_numbers Command.Unwindow (fields_of fields.entry) }
+{
+    let (from, to, first, until) = names_and_numbers(fields)?;
+    Ok(Command::Unwindow {
+        from,
+        to,
+        first,
+        until,
+    })
+}
+
 fn cut<'a>(fields: Fields<'a>) -> Result<Command, TextFault>
     ensures { result ≡ with_number Command.Cut (fields_of fields.entry) }
 {
@@ -215,6 +264,10 @@ fn edit_or_request<'a>(word: &[u8], fields: Fields<'a>) -> Result<Command, TextF
         enter(fields)
     } else if is_word(word, b"leave") {
         leave(fields)
+    } else if is_word(word, b"window") {
+        window(fields)
+    } else if is_word(word, b"unwindow") {
+        unwindow(fields)
     } else {
         request(word, fields)
     }

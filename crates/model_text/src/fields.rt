@@ -34,7 +34,7 @@ fn skipped(bytes: &[u8]) -> &[u8]
 }
 
 /// Whether a field is a word.
-pub(crate) fn is_word(field: &[u8], word: &[u8]) -> bool
+pub fn is_word(field: &[u8], word: &[u8]) -> bool
     ensures { result ≡ bytes_eq field.now word.now }
 {
     field == word

@@ -1,4 +1,4 @@
-//! What the lines of a model and of a session say.
+//! What the lines of a model, of a session and of a study say.
 //!
 //! `specs/` has the grammar by cases on the bytes, and the building that the lines of a model describe or their first fault, blind to any
 //! reader. The readers here answer exactly by it.
@@ -12,11 +12,13 @@ mod name;
 mod number;
 mod parts;
 mod statement;
+mod study;
 
 pub use command::{Command, read_command};
 pub use fault::TextFault;
-pub use fields::Fields;
-pub use laws::{described_is_valid, names_read_back};
+pub use fields::{Fields, is_word};
+pub use laws::{described_is_plain, described_is_valid, names_read_back};
 pub use name::read_name;
 pub use number::read_number;
 pub use statement::{Statement, read_line};
+pub use study::{StudyCommand, read_study_command};

@@ -1,16 +1,17 @@
 // What a line of a model says.
 ghost use Rattle.std.specs.Prelude.{◌≡◌, ◌≢◌, IfErr, IfOk};
-ghost use Rattle.evac_law.specs.Limits.{capacity_limit, floor_number_limit, horizon_limit, rate_limit, seconds_limit, travel_limit};
+ghost use Rattle.evac_law.specs.Limits.{capacity_limit, floor_number_limit, horizon_limit, people_limit, rate_limit, seconds_limit, travel_limit};
 ghost use Rattle.model_text.specs.Fields.{behind_field, fields_of, text_of};
-ghost use Rattle.model_text.specs.Grammar.{IsSaid, arc, by_word, end, exit_fields, floor, header, horizon, is_comment, node, node_fields, period, statement_of, title};
+ghost use Rattle.model_text.specs.Grammar.{IsSaid, arc, by_word, end, entrant, exit_fields, floor, header, horizon, is_comment, node, node_fields, period, statement_of, title, window};
 ghost use Rattle.model_text.specs.Reads.{Reads, said};
 
 use crate::fault::TextFault;
 use crate::fields::{Fields, is_word};
-use crate::parts::{four, name, number, one, ranged, ranged_short, text, two};
+use crate::parts::{four, name, number, one, ranged, ranged_short, text, three, two};
 use evac_law::NodeName;
 use evac_law::limits::{
-    CAPACITY_LIMIT, FLOOR_NUMBER_LIMIT, HORIZON_LIMIT, RATE_LIMIT, SECONDS_LIMIT, TRAVEL_LIMIT,
+    CAPACITY_LIMIT, FLOOR_NUMBER_LIMIT, HORIZON_LIMIT, PEOPLE_LIMIT, RATE_LIMIT, SECONDS_LIMIT,
+    TRAVEL_LIMIT,
 };
 
 /// What a line of a model says.
@@ -46,6 +47,17 @@ pub enum Statement<'a> {
         to: NodeName,
         travel: u16,
         rate: u32,
+    },
+    Window {
+        from: NodeName,
+        to: NodeName,
+        first: u32,
+        until: u32,
+    },
+    Entrant {
+        name: NodeName,
+        moment: u16,
+        people: u32,
     },
     End,
 }
@@ -146,6 +158,38 @@ fn arc<'a>(fields: Fields<'a>) -> Result<Statement<'a>, TextFault>
     })
 }
 
+#[tactic(auto, unfolding(evac_law::specs::Limits::horizon_limit))]
+fn window<'a>(fields: Fields<'a>) -> Result<Statement<'a>, TextFault>
+    ensures { Reads result (window (fields_of fields.entry)) }
+{
+    let (from, to, first, until) = four(fields)?;
+    let from = name(from)?;
+    let to = name(to)?;
+    let first = ranged(first, 0, u32::from(HORIZON_LIMIT))?;
+    let until = ranged(until, 1, u32::from(HORIZON_LIMIT) + 1)?;
+    Ok(Statement::Window {
+        from,
+        to,
+        first,
+        until,
+    })
+}
+
+#[tactic(auto, unfolding(evac_law::specs::Limits::horizon_limit, evac_law::specs::Limits::people_limit))]
+fn entrant<'a>(fields: Fields<'a>) -> Result<Statement<'a>, TextFault>
+    ensures { Reads result (entrant (fields_of fields.entry)) }
+{
+    let (node, moment, people) = three(fields)?;
+    let name = name(node)?;
+    let moment = ranged_short(moment, 1, HORIZON_LIMIT)?;
+    let people = ranged(people, 1, PEOPLE_LIMIT)?;
+    Ok(Statement::Entrant {
+        name,
+        moment,
+        people,
+    })
+}
+
 fn end<'a>(mut fields: Fields<'a>) -> Result<Statement<'a>, TextFault>
     ensures { Reads result (end (fields_of fields.entry)) }
 {
@@ -185,6 +229,10 @@ fn by_word<'a>(word: &[u8], fields: Fields<'a>) -> Result<Statement<'a>, TextFau
         node(fields)
     } else if is_word(word, b"arc") {
         arc(fields)
+    } else if is_word(word, b"window") {
+        window(fields)
+    } else if is_word(word, b"entrant") {
+        entrant(fields)
     } else if is_word(word, b"end") {
         end(fields)
     } else {

@@ -6,7 +6,7 @@ ghost use Rattle.evac_law.specs.Cuts.{arc_part, cut_items, entry_part, hold_part
 ghost use Rattle.plain_plan.specs.Sizes.{IsSmall};
 ghost use Rattle.evac_law.specs.Sums.{below, moments_to, places};
 
-use crate::parts::{arc_at, entry, node_at, rate};
+use crate::parts::{arrival, entry, head, node_at, rate, tail};
 use evac_law::{CutItem, Labels, Model};
 use std::alloc::{AllocError, Global};
 
@@ -87,12 +87,11 @@ fn leaves_cut(model: &Model, labels: &Labels, k: u16, moment: u16, arc: u32) -> 
     requires arc_in { arc < length model.now.arcs }
     ensures { result ≡ leaves_cut model.now (label_cut model.now labels.now k) k moment arc }
 {
-    let row = arc_at(model, arc);
-    let arrival = u64::from(moment) + u64::from(row.travel);
-    in_cut(model, labels, k, row.from, u64::from(moment))
+    let to = head(model, arc);
+    let arrival = arrival(model, arc, moment);
+    in_cut(model, labels, k, tail(model, arc), u64::from(moment))
         && arrival <= u64::from(k)
-        && (node_at(model, row.to).name.kind.is_exit()
-            || !in_cut(model, labels, k, row.to, arrival))
+        && (node_at(model, to).name.kind.is_exit() || !in_cut(model, labels, k, to, arrival))
 }
 
 // The arcs that lead out of the cut when they are entered at a moment.

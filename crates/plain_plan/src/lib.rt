@@ -9,5 +9,5 @@ mod parts;
 mod plans;
 
 pub use cuts::{cut_items, sum_of_items};
-pub use parts::{arc_at, entry, node_at, rate};
+pub use parts::{arrival, entry, head, node_at, rate, tail};
 pub use plans::{held, moved, out_by};

@@ -1,17 +1,13 @@
 // What a plan does.
 ghost use Rattle.std.specs.Prelude.{◌≡◌, ◌+◌, ◌*◌, ◌<◌, ◌≤◌, ◌^◌, length};
-ghost use Rattle.evac_law.specs.Building.{arrival};
+ghost use Rattle.std.specs.List.{sum_by};
+ghost use Rattle.evac_law.specs.Building.{entry};
 ghost use Rattle.evac_law.specs.Plans.{came, held, left, moved, out_by};
+ghost use Rattle.evac_law.specs.Sums.{moments_to};
+ghost use Rattle.plain_plan.specs.Sizes.{IsSmall};
 
-use crate::parts::{arc_at, node_at};
+use crate::parts::{arrival, entry, head, node_at, tail};
 use evac_law::{Model, Move};
-
-// The moment at which a move arrives.
-fn arrival(model: &Model, step: Move) -> u64
-    ensures { result ≡ arrival model.now step.arc step.moment }
-{
-    u64::from(step.moment) + u64::from(arc_at(model, step.arc).travel)
-}
 
 /// The people who enter an arc at a moment.
 #[tactic(auto, unfolding(evac_law::specs::Plans::moved))]
@@ -36,27 +32,41 @@ pub fn out_by(model: &Model, moves: &[Move], moment: u16) -> u64
 {
     let mut people = 0u64;
     for step in moves {
-        let exit = node_at(model, arc_at(model, step.arc).to)
-            .name
-            .kind
-            .is_exit();
-        if exit && arrival(model, *step) <= u64::from(moment) {
+        let exit = node_at(model, head(model, step.arc)).name.kind.is_exit();
+        if exit && arrival(model, step.arc, step.moment) <= u64::from(moment) {
             people += u64::from(step.people);
         }
     }
     people
 }
 
-// The people who came into a node by a moment: its start, and those who arrived.
-#[tactic(auto, unfolding(evac_law::specs::Plans::came), using(evac_law::proofs::Entries::start_only))]
+// The people who came into a node by a moment from nowhere.
+#[tactic(auto, using(evac_law::proofs::SumLemmas::sum_steps))]
+fn entered(model: &Model, node: u32, moment: u16) -> u64
+    requires { IsSmall model.now }
+    ensures value { result ≡ sum_by (entry model.now node) (moments_to moment) }
+    ensures small { result ≤ 2 ^ 48 }
+{
+    let mut people = 0u64;
+    for t in 0..u32::from(moment) + 1 {
+        people += u64::from(entry(model, node, u64::from(t)));
+    }
+    people
+}
+
+// The people who came into a node by a moment, from nowhere or along arcs.
+#[tactic(auto, unfolding(evac_law::specs::Plans::came))]
 fn came(model: &Model, moves: &[Move], node: u32, moment: u16) -> u64
-    requires { length moves.now < 2 ^ 16 }
+    requires sizes { IsSmall model.now }
+    requires moves { length moves.now < 2 ^ 16 }
     ensures value { result ≡ came model.now moves.now node moment }
     ensures small { result ≤ 2 ^ 49 }
 {
-    let mut people = u64::from(node_at(model, node).start);
+    let mut people = entered(model, node, moment);
     for step in moves {
-        if arc_at(model, step.arc).to == node && arrival(model, *step) <= u64::from(moment) {
+        if head(model, step.arc) == node
+            && arrival(model, step.arc, step.moment) <= u64::from(moment)
+        {
             people += u64::from(step.people);
         }
     }
@@ -72,7 +82,7 @@ fn left(model: &Model, moves: &[Move], node: u32, moment: u16) -> u64
 {
     let mut people = 0u64;
     for step in moves {
-        if arc_at(model, step.arc).from == node && step.moment <= moment {
+        if tail(model, step.arc) == node && step.moment <= moment {
             people += u64::from(step.people);
         }
     }
@@ -82,7 +92,8 @@ fn left(model: &Model, moves: &[Move], node: u32, moment: u16) -> u64
 /// The people in a node at a moment; below 0 where more leave than come.
 #[tactic(auto, unfolding(evac_law::specs::Plans::held))]
 pub fn held(model: &Model, moves: &[Move], node: u32, moment: u16) -> i64
-    requires { length moves.now < 2 ^ 16 }
+    requires sizes { IsSmall model.now }
+    requires moves { length moves.now < 2 ^ 16 }
     ensures { result ≡ held model.now moves.now node moment }
 {
     came(model, moves, node, moment) as i64 - left(model, moves, node, moment) as i64

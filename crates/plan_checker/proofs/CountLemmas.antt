@@ -11,13 +11,12 @@ use Rattle.std.proofs.lemmas.Nat.{same_from_place}
 use Rattle.evac_law.specs.declared.model.Model.{Model}
 use Rattle.evac_law.specs.declared.plan.Move.{Move}
 use Rattle.evac_law.specs.Building.{IsValid, arrival, entry, head, is_exit_at, tail}
-use Rattle.evac_law.specs.Limits.{capacity_limit}
+use Rattle.evac_law.specs.Limits.{people_limit}
 use Rattle.evac_law.specs.Plans.{came, coming, held, leaving, left, out_by}
 use Rattle.evac_law.specs.Sums.{moments_to}
 use Rattle.evac_law.proofs.Curve.{arriving, out_is_sum}
-use Rattle.evac_law.proofs.Entries.{start_only}
+use Rattle.evac_law.proofs.Entries.{entries_le}
 use Rattle.evac_law.proofs.SumLemmas.{All-below, sum_by-le_all, sum_by-same_all, sum_moments-suc, sum_moments-zero}
-use Rattle.evac_law.proofs.ValidLemmas.{node_is}
 use Rattle.evac_law.proofs.WeakDuality.{came-suc, came-zero, left-suc, left-zero}
 use Rattle.plan_checker.specs.Counts.{Counts, IsCountedWell, all_moved, arriving_at, came_by, coming_at, count, leaving_at, left_by}
 use Rattle.plan_checker.specs.Parts.{IsHeldWell}
@@ -105,14 +104,12 @@ if_le : (b : Bool) (p : ℕ) → cond b p 0 ≤ p
 if_le b p = grind arith
 
 pub came_fits : (m : Model) (p : List Move) (n t : ℕ) → IsValid m → n < length m.nodes → all_moved p < 2 ^ 62 → came m p n t < 2 ^ 63
-unfolding came capacity_limit
+unfolding came people_limit
 came_fits m p n t valid l few =
-    let node = node_is m n valid l in
     omega (
       arith,
-      start_only m n t,
-      node.start_fits,
-      node.capacity_fits,
+      entries_le m n t l,
+      valid.people_fit,
       sum_by-le_all (λ (v : Move). cond (eqb (head m v.arc) n && leb (arrival m v.arc v.moment) t) v.people 0) (λ (v : Move). v.people) p
           (λ i d h. let v = get_or p i d in if_le (eqb (head m v.arc) n && leb (arrival m v.arc v.moment) t) v.people),
     )

@@ -1,7 +1,7 @@
 -- A report on a plan has the moments of the plan.
-use Rattle.std.proofs.Common.{◌≡◌, ℕ, suc, ◌<◌, Bool, true, false, cond, eqb, List, [], ◌∷◌, length, map, get_or, refl, ap, ap₂, sym, ◌∙◌, arith, None}
+use Rattle.std.proofs.Common.{◌≡◌, ℕ, suc, ◌<◌, Bool, true, false, cond, eqb, List, [], ◌∷◌, length, get_or, refl, ap, ap₂, ◌∙◌, arith, None}
 use Rattle.std.specs.declared.option.Option.{Option}
-use Rattle.std.specs.List.{All, flat_map, list_any}
+use Rattle.std.specs.List.{All, flat_map}
 use Rattle.std.proofs.lemmas.Bool.Decides.{nat_tests}
 use Rattle.std.proofs.lemmas.List.Elements.{All-filter}
 use Rattle.std.proofs.lemmas.List.Folds.{list_any_at}
@@ -9,7 +9,7 @@ use Rattle.std.proofs.lemmas.List.FromFn.{get_or-map-range_with_len}
 use Rattle.evac_law.specs.declared.model.Model.{Model}
 use Rattle.evac_law.specs.declared.plan.Move.{Move}
 use Rattle.evac_law.specs.Building.{is_exit_at}
-use Rattle.evac_law.specs.Sums.{below, places}
+use Rattle.evac_law.specs.Sums.{places}
 use Rattle.evac_law.proofs.SumLemmas.{All-below}
 use Rattle.evac_law.proofs.PartLemmas.{flat_map-same}
 use Rattle.certificate_text.specs.BlockText.{name_of_node}

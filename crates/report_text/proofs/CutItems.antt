@@ -1,5 +1,5 @@
 -- The items of a cut, and those of the cut of no pair.
-use Rattle.std.proofs.Common.{◌≡◌, ℕ, zero, suc, ◌+◌, ◌<◌, Bool, true, false, cond, eqb, List, [], ◌∷◌, ◌++◌, length, refl, ap, ap₂, sym, ◌∙◌, subst, arith, append-nil}
+use Rattle.std.proofs.Common.{◌≡◌, ℕ, suc, ◌+◌, Bool, true, false, cond, eqb, List, [], ◌∷◌, ◌++◌, length, refl, ap, ap₂, sym, ◌∙◌, subst, arith, append-nil}
 use Rattle.std.specs.List.{All, flat_map}
 use Rattle.std.proofs.lemmas.Grind.{flat_map-append}
 use Rattle.std.proofs.lemmas.List.Elements.{All-append, All-cons, All-nil}
@@ -7,9 +7,8 @@ use Rattle.evac_law.specs.declared.cut.CutItem.{CutItem}
 use Rattle.evac_law.specs.declared.cut.CutItem.TheVariants.{Arc, Entry, Hold}
 use Rattle.evac_law.specs.declared.model.Model.{Model}
 use Rattle.evac_law.specs.Building.{capacity, entry, rate}
-use Rattle.evac_law.specs.Cuts.{Cut, arc_items, arc_part, cut_items, entry_items, entry_part, hold_items, hold_part}
+use Rattle.evac_law.specs.Cuts.{Cut, arc_items, cut_items, entry_items, entry_part, hold_items}
 use Rattle.evac_law.specs.Sums.{below, moments_to, places}
-use Rattle.evac_law.proofs.PartLemmas.{flat_map-suc}
 use Rattle.certificate_text.specs.BlockText.{name_of_node}
 use Rattle.certificate_text.proofs.OrderedMoves.{all-below}
 use Rattle.report_text.specs.Parts.{IsItemOf, entry_text, no_pair}

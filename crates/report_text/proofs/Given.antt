@@ -1,12 +1,13 @@
 -- What is known of a route that is handed out, and that fewer people wait after each.
-use Rattle.std.proofs.Common.{◌≡◌, ℕ, zero, ◌+◌, ◌<◌, ◌≤◌, ◌&&◌, Bool, true, cond, eqb, ltb, List, [], ◌∷◌, length, ap, sym, ◌∙◌, arith, subst}
+use Rattle.std.proofs.Common.{◌≡◌, ℕ, ◌+◌, ◌<◌, ◌≤◌, ◌&&◌, Bool, true, cond, eqb, ltb, List, [], ◌∷◌, length, ◌∙◌, arith, subst, inl, inr}
 use Rattle.std.specs.List.{All}
 use Rattle.std.proofs.lemmas.List.Elements.{All-cons, All-nil}
-use Rattle.std.proofs.lemmas.Bool.{lt-ltb}
+use Rattle.std.proofs.lemmas.Bool.{cases_lt, lt-ltb}
 use Rattle.std.proofs.lemmas.Bool.Decides.{nat_tests}
 use Rattle.evac_law.specs.declared.model.Model.{Model}
 use Rattle.evac_law.specs.declared.plan.Move.{Move}
-use Rattle.evac_law.specs.Building.{IsValid, arrival, entry, head, start, tail}
+use Rattle.evac_law.specs.Building.{IsValid, arrival, entry, head}
+use Rattle.evac_law.proofs.Entries.{none_late}
 use Rattle.evac_law.proofs.SumLemmas.{gather_one, sum2, sum2-add, sum2-same}
 use Rattle.evac_law.proofs.ValidLemmas.{tail_in}
 use Rattle.route_decompose.specs.declared.route.RouteStep.{RouteStep}
@@ -27,8 +28,11 @@ leads_in m n t (s ∷ steps) valid some h = let inside = tail_in m s.arc valid h
 pub start_in : (m : Model) (r : RouteView) → IsValid m → IsRoute m r → r.start < length m.nodes
 start_in m r valid h = leads_in m r.start r.entered r.steps valid h.some_step h.leads_out
 
-came_first : (t s : ℕ) → 1 ≤ cond (eqb t 0) s 0 → t ≡ 0
-came_first t s h = grind (arith, nat_tests)
+entry_by : (m : Model) (n t : ℕ) → IsValid m → 0 < entry m n t → t ≤ m.horizon
+entry_by m n t valid some = elim (cases_lt m.horizon t) [
+  | inl late ↦ absurd (omega (arith, some, none_late m n t valid late))
+  | inr less ↦ less
+]
 
 -- the people who wait
 abbrev pub all_waiting : Model → RoutesView → ℕ
@@ -45,10 +49,10 @@ fewer_waiting m p routes w v valid given out =
     let k = m.horizon + 1 in
     let right : IsRoute m r = let P : Model → Type 0 = λ x. IsRoute x r in subst P given.same_model out.right in
     let here : waiting_at v r.start r.entered + cond (begins r r.start r.entered) r.people 0 ≡ waiting_at w r.start r.entered = out.fewer_wait r.start r.entered in
-    let first : r.entered ≡ 0 =
-    came_first r.entered (start m r.start) (omega (arith, right.somebody, here, here_begins r.start r.entered r.people, given.starts r.start r.entered)) in
+    let some : 0 < entry m r.start r.entered = omega (arith, right.somebody, here, here_begins r.start r.entered r.people, given.starts r.start r.entered) in
+    let in_horizon : r.entered ≤ m.horizon = entry_by m r.start r.entered valid some in
     let those : sum2 n k (λ i j. cond (begins r i j) r.people 0) ≡ r.people =
-    gather_one (λ _ _. true) r.people r.start r.entered n k (start_in m r valid right) ∙ in_time (ltb r.entered k) r.people (lt-ltb r.entered k (omega (arith, first))) in
+    gather_one (λ _ _. true) r.people r.start r.entered n k (start_in m r valid right) ∙ in_time (ltb r.entered k) r.people (lt-ltb r.entered k (omega (arith, in_horizon))) in
     let all : sum2 n k (λ i j. waiting_at v i j + cond (begins r i j) r.people 0) ≡ all_waiting m w = sum2-same n k _ _ out.fewer_wait in
     omega (arith, those, all, sum2-add n k (waiting_at v) (λ i j. cond (begins r i j) r.people 0), right.somebody)
   where

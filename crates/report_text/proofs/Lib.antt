@@ -3,3 +3,4 @@ pub mod CutItems
 pub mod Given
 pub mod Clears
 pub mod Periods
+pub mod CardParts

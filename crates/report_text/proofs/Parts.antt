@@ -1,11 +1,10 @@
 -- Texts of parts: the same parts spelled otherwise, and parts of parts.
-use Rattle.std.proofs.Common.{◌≡◌, ℕ, zero, suc, ◌+◌, ◌<◌, List, [], ◌∷◌, ◌++◌, length, take, drop, get_or, refl, ap, sym, subst, ◌∙◌, arith, Result, Ok, Err, append_assoc, append-nil, take-append-drop}
-use Rattle.std.specs.List.{All, flat_map}
+use Rattle.std.proofs.Common.{◌≡◌, ℕ, zero, suc, ◌<◌, List, [], ◌∷◌, ◌++◌, refl, ap, sym, subst, ◌∙◌, arith, Result, Ok, Err, append-nil}
+use Rattle.std.specs.List.{flat_map}
 use Rattle.std.specs.declared.option.Option.{Option}
 use Rattle.std.proofs.lemmas.Grind.{flat_map-append}
-use Rattle.std.proofs.lemmas.List.{take_more}
 use Rattle.line_io.specs.Writer.{Puts, PutsFront, PutsText}
-use Rattle.line_io.proofs.TextLemmas.{front-is, front-whole, puts-is, puts-then}
+use Rattle.line_io.proofs.TextLemmas.{front-is, puts-is}
 use Rattle.evac_law.specs.Sums.{below}
 use Rattle.evac_law.proofs.PartLemmas.{flat_map-suc}
 
@@ -30,16 +29,6 @@ parts-nothing (x ∷ xs) = parts-nothing xs
 pub parts-flat : {X Y Z : Type 0} (f : Y → List Z) (g : X → List Y) (xs : List X) → flat_map f (flat_map g xs) ≡ flat_map (λ x. flat_map f (g x)) xs
 parts-flat f g [] = refl
 parts-flat f g (x ∷ xs) = flat_map-append f (g x) (flat_map g xs) ∙ ap (λ l. flat_map f (g x) ++ l) (parts-flat f g xs)
-
--- bytes up to one, and that one
-pub puts-byte : (xs : List ℕ) (i : ℕ) {a : Option (List ℕ)} {p : List ℕ} {b : Option (List ℕ)} {q : List ℕ} {c : Option (List ℕ)} {r : List ℕ}
-    → i < length xs → Puts a p (take i xs) b q → Puts b q (get_or xs i 0 ∷ []) c r → Puts a p (take (i + 1) xs) c r
-puts-byte xs i l before this = puts-is (sym (take_more xs i 0 l)) (puts-then before this)
-
--- where no further byte was put
-pub front-bytes : (xs : List ℕ) (i : ℕ) {a : Option (List ℕ)} {p : List ℕ} {b : Option (List ℕ)} {q : List ℕ} {c : Option (List ℕ)} {r : List ℕ}
-    → Puts a p (take i xs) b q → Puts b q [] c r → PutsFront a p xs c r
-front-bytes xs i before none = front-is (take-append-drop i xs) (front-whole (drop i xs) (puts-is (append-nil (take i xs)) (puts-then before none)))
 
 -- a text that was put, spelled as it is wanted
 pub puts-as : (u : List ℕ) {t : List ℕ} {a : Option (List ℕ)} {p : List ℕ} {b : Option (List ℕ)} {q : List ℕ} → t ≡ u → Puts a p t b q → Puts a p u b q

@@ -8,6 +8,7 @@ pub use Rattle.line_io.specs.Writer
 pub use Rattle.floor_index.specs.Floors
 pub use Rattle.building_table.specs.Names
 pub use Rattle.route_decompose.specs.Routes
+pub use Rattle.cards.specs.Cards
 pub use Rattle.clearing_report.specs.Clearing
 pub use Rattle.bottleneck_report.specs.Crossings
 pub mod ReportText

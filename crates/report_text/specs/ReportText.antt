@@ -1,4 +1,4 @@
--- The texts of the reports on an answer: its cuts, routes, clearing, bottlenecks and summary, and the work of an edit.
+-- The texts of the reports on an answer: its cuts, routes, cards, clearing, bottlenecks and summary, and the work of an edit.
 use Rattle.std.specs.Prelude.{◌≡◌, ℕ, ◌+◌, ◌*◌, ◌==◌, if◌then◌else◌, List, [], ◌∷◌, ◌++◌, codes, decimal, Some, None}
 use Rattle.std.specs.declared.option.Option.{Option}
 use Rattle.std.specs.List.{flat_map}
@@ -15,6 +15,7 @@ use Rattle.evac_law.specs.Sums.{places}
 use Rattle.certificate_text.specs.BlockText.{end_line, name_of_node}
 use Rattle.bottleneck_report.specs.Crossings.{arc_periods, hold_periods}
 use Rattle.clearing_report.specs.Clearing.{floor_occupied, last_occupied}
+use Rattle.cards.specs.Cards.{CardView, IsFairDeal}
 use Rattle.route_decompose.specs.declared.route.RouteStep.{RouteStep}
 use Rattle.route_decompose.specs.Routes.{Covers, RouteView}
 
@@ -77,6 +78,32 @@ pub record SaysRoutes (index : ℕ) (m : Model) (p : List Move) (text : List ℕ
   pub routes : List RouteView
   pub cover : Covers m p routes
   pub says : text ≡ routes_text index m routes
+
+-- ---- cards
+
+-- a card's number, and the node where its person comes in, with the moment where it isn't 0
+unfoldable pub card_line : ℕ → List ℕ → ℕ → List ℕ
+card_line number name moment =
+    line_text (codes "card" ∷ decimal number ∷ name ∷ (if moment == 0 then [] else (decimal moment ∷ [])))
+
+-- a card and its steps
+abbrev pub card_lines : Model → ℕ → CardView → List ℕ
+card_lines m number c = card_line number (name_of_node m c.start) c.entered ++ flat_map (step_part m) c.steps
+
+-- cards one after another, the first with a number
+abbrev pub cards_from : Model → ℕ → List CardView → List ℕ
+cards_from m number [] = []
+cards_from m number (c ∷ cards) = card_lines m number c ++ cards_from m (number + 1) cards
+
+-- all cards, numbered from 1
+unfoldable pub cards_text : ℕ → Model → List CardView → List ℕ
+cards_text index m cards = number_line (codes "cards") index ++ cards_from m 1 cards ++ end_line
+
+-- the text lists the cards of a first in first out deal of the plan
+pub record SaysCards (index : ℕ) (m : Model) (p : List Move) (text : List ℕ) : Type 0 where
+  pub cards : List CardView
+  pub fair : IsFairDeal m p cards
+  pub says : text ≡ cards_text index m cards
 
 -- ---- clearing
 

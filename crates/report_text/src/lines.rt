@@ -3,7 +3,7 @@ ghost use Rattle.std.specs.Prelude.{◌≡◌, ◌≤◌, ◌==◌, if◌then◌
 ghost use Rattle.evac_law.specs.Names.{IsName, name_text};
 ghost use Rattle.line_io.specs.Causes.{HasCause};
 ghost use Rattle.line_io.specs.Writer.{PutsText};
-ghost use Rattle.report_text.specs.ReportText.{arc_line, arc_periods_line, cut_line, entry_line, floor_clear_line, hold_line, hold_periods_line, moment_field, node_clear_line, number_line, route_line, step_line, work_text};
+ghost use Rattle.report_text.specs.ReportText.{arc_line, arc_periods_line, card_line, cut_line, entry_line, floor_clear_line, hold_line, hold_periods_line, moment_field, node_clear_line, number_line, route_line, step_line, work_text};
 
 use certificate_text::put_name;
 use evac_law::NodeName;
@@ -25,7 +25,8 @@ pub fn write_number<K: Sink>(
     line.put(out, sink)
 }
 
-pub(crate) fn write_cut_line<K: Sink>(
+/// Puts the line of a cut: its moment and its value.
+pub fn write_cut_line<K: Sink>(
     out: &mut Out,
     sink: &mut K,
     moment: u16,
@@ -118,6 +119,24 @@ pub(crate) fn write_route_line<K: Sink>(
 {
     let mut line = TextLine::new(b"route");
     line.number(u64::from(people));
+    put_name(&mut line, name);
+    put_entered(&mut line, moment);
+    line.put(out, sink)
+}
+
+pub(crate) fn write_card_line<K: Sink>(
+    out: &mut Out,
+    sink: &mut K,
+    number: u32,
+    name: NodeName,
+    moment: u16,
+) -> Result<(), WriteFault>
+    requires { IsName name }
+    ensures text { PutsText (K.held sink.old) out.old (card_line number (name_text name) moment) (K.held sink.new) out.new result }
+    ensures cause { HasCause (K.faults sink.old) (K.faults sink.new) result }
+{
+    let mut line = TextLine::new(b"card");
+    line.number(u64::from(number));
     put_name(&mut line, name);
     put_entered(&mut line, moment);
     line.put(out, sink)

@@ -16,7 +16,7 @@ use evac_law::{Model, Standing};
 use line_io::{Out, Sink, WriteFault};
 use route_decompose::{Route, RouteStep, Routes};
 
-fn write_steps<K: Sink>(
+pub(crate) fn write_steps<K: Sink>(
     out: &mut Out,
     sink: &mut K,
     model: &Model,

@@ -13,24 +13,13 @@ use clearing_report::Clearing;
 use evac_law::{Model, Standing};
 use line_io::{Out, Sink, WriteFault};
 
-/// Puts bytes, one after another.
-fn write_bytes<K: Sink>(out: &mut Out, sink: &mut K, bytes: &[u8]) -> Result<(), WriteFault>
-    ensures text { PutsText (K.held sink.old) out.old bytes.now (K.held sink.new) out.new result }
-    ensures cause { HasCause (K.faults sink.old) (K.faults sink.new) result }
-{
-    for byte in bytes {
-        out.put(sink, &[*byte])?;
-    }
-    Ok(())
-}
-
 fn write_text<K: Sink>(out: &mut Out, sink: &mut K, text: &[u8]) -> Result<(), WriteFault>
     ensures text { PutsText (K.held sink.old) out.old (title_line (Some text.now)) (K.held sink.new) out.new result }
     ensures cause { HasCause (K.faults sink.old) (K.faults sink.new) result }
 {
-    write_bytes(out, sink, b"title ")?;
-    write_bytes(out, sink, text)?;
-    write_bytes(out, sink, b"\n")
+    out.put_all(sink, b"title ")?;
+    out.put_all(sink, text)?;
+    out.put_all(sink, b"\n")
 }
 
 /// Puts the title, where there is one.

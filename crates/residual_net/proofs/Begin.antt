@@ -1,19 +1,19 @@
 -- A net of a model begins with no flow and the model's limits.
 use Rattle.std.proofs.Common.{◌≡◌, ℕ, zero, suc, ◌+◌, ◌*◌, ◌<◌, ◌≤◌, Bool, true, false, cond, ◌&&◌, ◌||◌, eqb, ltb, List, [], ◌∷◌, ◌++◌, length, length-append, map, get_or, replicate, append_assoc, add-one, refl, ap, ap₂, sym, ◌∙◌, arith, inl, inr, subst}
-use Rattle.std.specs.List.{sum_by}
 use Rattle.std.proofs.lemmas.List.{get_or-append-add, get_or_append_left, get_or-map, get_or-replicate, length-map, length-replicate, map-append}
 use Rattle.std.proofs.lemmas.List.FromFn.{get_or-range_with_len, length-map-range_with_len, length-range_with_len, map-range_with_len_more}
 use Rattle.std.proofs.lemmas.Nat.{mul-add-lt}
 use Rattle.std.proofs.Math.Nat.{mul_comm}
-use Rattle.std.proofs.lemmas.Bool.{cases_lt, lt-ltb}
+use Rattle.std.proofs.lemmas.Bool.{cases_lt}
 use Rattle.std.proofs.lemmas.Bool.Decides.{nat_tests}
 use Rattle.evac_law.specs.declared.model.Model.{Model}
 use Rattle.evac_law.specs.declared.model.NodeRow.{NodeRow}
 use Rattle.evac_law.specs.declared.model.ArcRow.{ArcRow}
 use Rattle.evac_law.specs.Limits as evac
-use Rattle.evac_law.specs.Building.{IsValid, no_arc, no_node, arrival, capacity, rate, tail, start, entry, people}
+use Rattle.evac_law.specs.Building.{IsValid, no_arc, no_node, arrival, capacity, rate, tail, entered_by, entry, people}
 use Rattle.evac_law.specs.Names.{is_exit}
-use Rattle.evac_law.specs.Sums.{below, places}
+use Rattle.evac_law.specs.Sums.{below}
+use Rattle.evac_law.proofs.Entries.{entered_all, exit_entry}
 use Rattle.evac_law.proofs.SumLemmas as sums
 use Rattle.time_expansion.specs.Limits as expansion
 use Rattle.time_expansion.specs.Expansion.{Expansion, arc_cell, cells, hold_cell}
@@ -245,44 +245,39 @@ out_none : (w : Network) → ((p : Place) → IsPlace w.site p → flow_at w p �
 unfolding flow_out
 out_none w h e = sums_none w h (λ p. e (tail_of w.site p))
 
-entry_turned : (t s : ℕ) → cond (eqb t 0) s 0 ≡ cond (eqb 0 t) s 0
-entry_turned t s = grind (arith, nat_tests)
-
--- the entries add up to the people
-pub entries_are_people : (m : Model) (k : ℕ) → sums.sum2 (length m.nodes) (k + 1) (entry m) ≡ people m
-unfolding people
-entries_are_people m k =
-    sums.sum_by-same (λ n. sum_by (λ t. entry m n t) (below (k + 1))) (start m) (places m.nodes)
-    (λ n. sums.sum_by-same (λ t. entry m n t) (λ t. cond (eqb 0 t) (start m n) 0) (below (k + 1)) (λ t. entry_turned t (start m n))
-    ∙ sums.sum_below-pick (λ _. start m n) (k + 1) 0
-    ∙ ap (λ b. cond b (start m n) 0) (lt-ltb 0 (k + 1) (omega arith)))
-    ∙ sums.sum_places (λ (r : NodeRow). r.start) m.nodes no_node
+-- the entries up to the horizon add up to the people
+pub entries_are_people : (m : Model) → IsValid m → sums.sum2 (length m.nodes) (m.horizon + 1) (entry m) ≡ people m
+unfolding entered_by
+entries_are_people m valid = entered_all m valid
 
 people_fit : (n : ℕ) → n ≤ evac.people_limit → n ≤ supply_limit
 unfolding evac.people_limit supply_limit
 people_fit n l = omega (arith, l)
 
 -- the supplies of a model's net are its people
-pub supplies_are_people : (m : Model) (w : Network) → IsNetOf m w → supply_limits w ≡ people m
+pub supplies_are_people : (m : Model) (w : Network) → IsValid m → IsNetOf m w → supply_limits w ≡ people m
 unfolding supply_limits sum_places
-supplies_are_people m w of =
+supplies_are_people m w valid of =
     let k = w.site.shape.horizon + 1 in
     let nodes : w.site.shape.nodes ≡ length m.nodes = ap (λ (s : Site). s.shape.nodes) of.site in
     let same = same_in w.site.shape.nodes k (λ n t. limit_at w (Supply n t)) (entry m) (λ n t i j. of.limits (Supply n t) (i, omega (arith, j))) in
-    let count : sums.sum2 w.site.shape.nodes k (entry m) ≡ sums.sum2 (length m.nodes) k (entry m) = ap (λ z. sums.sum2 z k (entry m)) nodes in
+    let horizon : w.site.shape.horizon ≡ m.horizon = ap (λ (s : Site). s.shape.horizon) of.site in
+    let count : sums.sum2 w.site.shape.nodes k (entry m) ≡ sums.sum2 (length m.nodes) (m.horizon + 1) (entry m) =
+    ap₂ (λ y z. sums.sum2 y (z + 1) (entry m)) nodes horizon in
     omega (
       arith,
       sums.sum2-nothing (arc_count w.site) k,
       sums.sum2-nothing w.site.shape.nodes k,
       same,
       count,
-      entries_are_people m w.site.shape.horizon,
+      entries_are_people m valid,
     )
 
 pub supplies_fit : (m : Model) (w : Network) → IsValid m → IsNetOf m w → supply_limits w ≤ supply_limit
-supplies_fit m w valid of = people_fit _ (omega (arith, supplies_are_people m w of, valid.people_fit))
+supplies_fit m w valid of = people_fit _ (omega (arith, supplies_are_people m w valid of, valid.people_fit))
 
-barred_limit : (m : Model) (p : Place) → IsValid m → IsPlace (site_of m) p → is_barred (site_of m) p ≡ true → model_limit m p ≡ 0
+-- a barred place has the limit 0
+pub barred_limit : (m : Model) (p : Place) → IsValid m → IsPlace (site_of m) p → is_barred (site_of m) p ≡ true → model_limit m p ≡ 0
 barred_limit m (Arc a t) valid i b =
     let in_arcs : a < length m.arcs = omega (arith, length-map m.arcs (λ (r : ArcRow). joined r), i.0) in
     let late : ltb m.horizon (arrival m a t) ≡ true = ap (λ z. ltb m.horizon z) (sym (arrival_is m a t in_arcs)) ∙ b in
@@ -296,9 +291,7 @@ barred_limit m (Hold n t) valid i b =
     by_last false true c e h = h refl
     by_last false false c e h = absurd (cc)
 barred_limit m (Supply n t) valid i b =
-    let node = valid.nodes n no_node i.0 in
-    let none : start m n ≡ 0 = omega (arith, node.start_fits, node.exit_is_empty (sym (exit_is m n i.0) ∙ b)) in
-    ap (λ z. cond (eqb t 0) z 0) none ∙ sums.cond_nothing (eqb t 0)
+    exit_entry m n t valid i.0 (sym (exit_is m n i.0) ∙ b)
 
 pub empty_stored : (m : Model) (w : Network) (arrivals : List ℕ) → IsValid m → StartsAs m w → arrivals ≡ replicate (m.horizon + 1) 0 → IsStored w arrivals
 empty_stored m w arrivals valid h e =
@@ -328,6 +321,6 @@ pub empty_kept : (m : Model) (w : Network) (arrivals saved : List ℕ) → IsVal
 empty_kept m w arrivals saved valid h e f = record {
   stored = empty_stored m w arrivals valid h e;
   saved = subst (λ (z : Network). IsStored z saved) (sym h.saved) (empty_stored m w saved valid h f);
-  counted = sym (supplies_are_people m w h.of);
-  saved_counted = sym (ap supply_limits h.saved ∙ supplies_are_people m w h.of);
+  counted = sym (supplies_are_people m w valid h.of);
+  saved_counted = sym (ap supply_limits h.saved ∙ supplies_are_people m w valid h.of);
 }

@@ -1,5 +1,5 @@
 -- Arrivals after pushes and cancels, and supplies within their limit.
-use Rattle.std.proofs.Common.{◌≡◌, ℕ, ◌+◌, ◌≤◌, true, false, cond, leb, List, length, get_or, ap, sym, ◌∙◌, arith, inl, inr, ◌⊎◌, subst}
+use Rattle.std.proofs.Common.{◌≡◌, ℕ, ◌+◌, ◌≤◌, true, false, cond, leb, List, length, get_or, ap, ap₂, sym, ◌∙◌, arith, inl, inr, ◌⊎◌, subst}
 use Rattle.std.specs.List.{All}
 use Rattle.std.proofs.lemmas.Bool.{cases_Bool}
 use Rattle.evac_law.specs.declared.model.Model.{Model}
@@ -64,8 +64,11 @@ supplies_between m n w p x valid other site nodes horizon each here =
     let le = sums.sum2-le w.site.shape.nodes k (λ i t. cond (same_place p (Supply i t)) x (limit_at w (Supply i t))) (λ i t. entry m i t + entry n i t)
     (λ i t a b. at_place i t (a, omega (arith, b)) (cases_Bool (same_place p (Supply i t)))) in
     let add = sums.sum2-add w.site.shape.nodes k (entry m) (entry n) in
-    let first : sums.sum2 w.site.shape.nodes k (entry m) ≡ sums.sum2 (length m.nodes) k (entry m) = ap (λ z. sums.sum2 z k (entry m)) count in
-    let second : sums.sum2 w.site.shape.nodes k (entry n) ≡ sums.sum2 (length n.nodes) k (entry n) = ap (λ z. sums.sum2 z k (entry n)) (count ∙ sym nodes) in
+    let moments : w.site.shape.horizon ≡ m.horizon = ap (λ (s : Site). s.shape.horizon) site in
+    let first : sums.sum2 w.site.shape.nodes k (entry m) ≡ sums.sum2 (length m.nodes) (m.horizon + 1) (entry m) =
+    ap₂ (λ y z. sums.sum2 y (z + 1) (entry m)) count moments in
+    let second : sums.sum2 w.site.shape.nodes k (entry n) ≡ sums.sum2 (length n.nodes) (n.horizon + 1) (entry n) =
+    ap₂ (λ y z. sums.sum2 y (z + 1) (entry n)) (count ∙ sym nodes) (moments ∙ sym horizon) in
     let fits = twice_fits (people m) (people n) valid.people_fit other.people_fit in
     omega (
       arith,
@@ -75,8 +78,8 @@ supplies_between m n w p x valid other site nodes horizon each here =
       add,
       first,
       second,
-      entries_are_people m w.site.shape.horizon,
-      entries_are_people n w.site.shape.horizon,
+      entries_are_people m valid,
+      entries_are_people n other,
       fits,
     )
   where

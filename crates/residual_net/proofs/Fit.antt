@@ -28,7 +28,7 @@ module _ (m : Model) (w : Network) (valid : IsValid m) (net : IsNet w) (of : IsN
   held_is : (n t : ℕ) → n < length m.nodes → is_exit_at m n ≡ false → t ≤ m.horizon → held m (plan_of w) n t ≡ pos (flow_at w (Hold n t))
   unfolding held
   held_is n t i e l =
-      let c = came_left m w net of valid m.nodes n t i e l (λ s h. entry_sent n s i (omega arith)) in
+      let c = came_left m w net of valid m.nodes m.entrants n t i e l (λ s h. entry_sent n s i (omega arith)) in
       omega (arith, ints, c)
 
   pub feasible : IsFeasible m (plan_of w) m.horizon

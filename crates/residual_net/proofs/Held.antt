@@ -3,6 +3,7 @@ use Rattle.std.proofs.Common.{◌≡◌, ◌≢◌, ℕ, zero, suc, ◌+◌, ◌
 use Rattle.std.proofs.lemmas.List.{get_or-map, length-map}
 use Rattle.std.proofs.lemmas.Bool.{ne_eqb}
 use Rattle.std.proofs.lemmas.Bool.Decides.{nat_tests}
+use Rattle.evac_law.specs.declared.entrant.Entrant.{Entrant}
 use Rattle.evac_law.specs.declared.model.Model.{Model}
 use Rattle.evac_law.specs.declared.plan.Move.{Move}
 use Rattle.std.proofs.lemmas.List.Elements.{All-get_or}
@@ -155,16 +156,16 @@ module _ (m : Model) (w : Network) (net : IsNet w) (of : IsNetOf m w) (valid : I
       → coming m plan n t + (before n t + flow_at w (Supply n t)) ≡ leaving m plan n t + flow_at w (Hold n t)
   step n t i e l = omega (arith, into_pair n t i e l, out_pair n t i e l, net.conserved.pairs n t)
 
-  -- who came and hasn't left is in the node, where the starts are what the supplies send
-  pub came_left : (ns : List NodeRow) → (n t : ℕ) → n < length m.nodes → is_exit_at m n ≡ false → t ≤ m.horizon
-      → ((s : ℕ) → s ≤ t → entry (record m { nodes = ns }) n s ≡ flow_at w (Supply n s))
-      → came (record m { nodes = ns }) plan n t ≡ left (record m { nodes = ns }) plan n t + flow_at w (Hold n t)
+  -- who came and hasn't left is in the node, where those come in whom the supplies send
+  pub came_left : (ns : List NodeRow) (es : List Entrant) → (n t : ℕ) → n < length m.nodes → is_exit_at m n ≡ false → t ≤ m.horizon
+      → ((s : ℕ) → s ≤ t → entry (record m { nodes = ns; entrants = es }) n s ≡ flow_at w (Supply n s))
+      → came (record m { nodes = ns; entrants = es }) plan n t ≡ left (record m { nodes = ns; entrants = es }) plan n t + flow_at w (Hold n t)
   unfolding leaving coming
-  came_left ns n zero i e l sent =
-      let o = record m { nodes = ns } in
+  came_left ns es n zero i e l sent =
+      let o = record m { nodes = ns; entrants = es } in
       omega (arith, came-zero o plan n, left-zero o plan n, step n 0 i e l, sent 0 (omega arith))
-  came_left ns n (suc t) i e l sent =
-      let o = record m { nodes = ns } in
+  came_left ns es n (suc t) i e l sent =
+      let o = record m { nodes = ns; entrants = es } in
       let low : t ≤ m.horizon = omega arith in
       omega (
         arith,
@@ -172,5 +173,5 @@ module _ (m : Model) (w : Network) (net : IsNet w) (of : IsNetOf m w) (valid : I
         left-suc o plan n t,
         step n (suc t) i e l,
         sent (suc t) (omega arith),
-        came_left ns n t i e low (λ s h. sent s (omega arith)),
+        came_left ns es n t i e low (λ s h. sent s (omega arith)),
       )

@@ -2,14 +2,18 @@
 use Rattle.std.proofs.Common.{◌≡◌, ℕ, zero, suc, ◌+◌, ◌<◌, ◌≤◌, Bool, true, false, cond, not, ◌&&◌, ◌||◌, eqb, ltb, leb, List, [], ◌∷◌, length, get_or, refl, ap, sym, ◌∙◌, arith, inl, inr, ◌⊎◌, subst, pos, ◌≤ℤ◌}
 use Rattle.std.specs.List.{sum_by, All}
 use Rattle.std.proofs.lemmas.List.Elements.{All-get_or}
-use Rattle.std.proofs.lemmas.Bool.{cases_Bool, cases_lt, eqb-true, ltb-false, le-leb, lt-leb, leb-true, not-true, and_parts}
+use Rattle.std.proofs.lemmas.Bool.{cases_Bool, cases_lt, cond-false, eqb-true, false_from_ne_true, ne_eqb, ltb-false, le-leb, lt-leb, leb-true, not-true, and_parts}
 use Rattle.std.proofs.lemmas.Bool.Decides.{nat_tests}
 use Rattle.std.proofs.lemmas.Int.{ints}
+use Rattle.evac_law.specs.Entrants.{entering}
+use Rattle.evac_law.specs.Laws.{EntrantsAreTable}
+use Rattle.evac_law.specs.Windows.{is_closed_at}
+use Rattle.evac_law.specs.declared.entrant.Entrant.{Entrant}
 use Rattle.evac_law.specs.declared.model.Model.{Model}
 use Rattle.evac_law.specs.declared.plan.Move.{Move}
 use Rattle.evac_law.specs.declared.model.NodeRow.{NodeRow}
 use Rattle.evac_law.specs.Sums.{below, moments_to, places}
-use Rattle.evac_law.specs.Building.{IsValid, IsNode, IsArc, is_exit_at, node_at, arc_at, no_node, no_arc, tail, head, arrival, rate, entry, people, capacity}
+use Rattle.evac_law.specs.Building.{IsValid, IsNode, IsArc, IsEntrant, is_exit_at, node_at, arc_at, no_node, no_arc, tail, head, arrival, rate, entered_by, entry, people, capacity}
 use Rattle.evac_law.specs.Certificates.{IsTight, label_cut}
 use Rattle.evac_law.specs.Cuts.{Cut, leaves_cut, cut_value}
 use Rattle.evac_law.specs.Names.{is_exit}
@@ -17,6 +21,8 @@ use Rattle.evac_law.specs.Plans.{IsFeasible, moved, held, out_by}
 use Rattle.evac_law.specs.LabelTable.{LabelTable, label_at}
 use Rattle.evac_law.proofs.SumLemmas.{All-below, sum2, sum2-le, sum2-nothing, sum_by-le_all, sum_by-same}
 use Rattle.evac_law.proofs.SumLemmas as sums
+use Rattle.evac_law.proofs.Entries.{entered_le, exit_entry}
+use Rattle.evac_law.proofs.EntrantTable.{all_of_table, entering-table_entrants, entrants_are_table}
 use Rattle.evac_law.proofs.WeakDuality.{value_is, out_le_value}
 use Rattle.evac_law.proofs.Tight.{tight_is_equal}
 use Rattle.residual_net.specs.declared.place.Place.TheVariants.{Arc, Hold, Supply}
@@ -67,7 +73,7 @@ module _ (m : Model) (w : Network) (valid : IsValid m) (net : IsNet w) (of : IsN
   shut_same n = restart-keeps (λ (r : NodeRow). r.shut) (λ r s. refl) (λ n. flow_at w (Supply n 0)) 0 m.nodes n no_node
 
   rate_same : (a t : ℕ) → rate sent a t ≡ rate m a t
-  rate_same a t = ap (λ b. cond ((arc_at m a).shut || b) 0 (arc_at m a).rate) (shut_same (head m a))
+  rate_same a t = ap (λ b. cond (((arc_at m a).shut || b) || is_closed_at (arc_at m a).windows.items t) 0 (arc_at m a).rate) (shut_same (head m a))
 
   count_same : length sent.nodes ≡ length m.nodes
   count_same = length-restart (λ n. flow_at w (Supply n 0)) 0 m.nodes
@@ -119,41 +125,56 @@ module _ (m : Model) (w : Network) (valid : IsValid m) (net : IsNet w) (of : IsN
     entry_sent : (n t : ℕ) → n < length m.nodes → t ≤ m.horizon → entry sent n t ≡ flow_at w (Supply n t)
     entry_sent n zero i l = ap (λ (r : NodeRow). r.start) (node_sent n no_node i)
     entry_sent n (suc t) i l =
-        let none : entry m n (suc t) ≡ 0 = later t (node_at m n).start in
-        let here : entry sent n (suc t) ≡ 0 = later t (node_at sent n).start in
-        omega (arith, supply_le n (suc t) i l, none, here)
-      where
-        later : (t s : ℕ) → cond (eqb (suc t) 0) s 0 ≡ 0
-        later t s = grind (arith, nat_tests)
+        cond-false (eqb (suc t) 0) (node_at sent n).start (entering sent.entrants n (suc t)) (ne_eqb (suc t) 0 (λ e. omega (arith, e)))
+        ∙ entering-table_entrants (length m.nodes) m.horizon (λ n t. flow_at w (Supply n t)) n (suc t) i (omega arith) l
 
-    fewer_start : sum_by (λ (r : NodeRow). r.start) sent.nodes ≤ sum_by (λ (r : NodeRow). r.start) m.nodes
-    fewer_start =
-        let le = sum_by-le_all (λ i. (node_at sent i).start) (λ i. (node_at m i).start) (below (length m.nodes))
-        (All-below (λ i. (node_at sent i).start ≤ (node_at m i).start) (length m.nodes)
-        (λ i l. omega (arith, ap (λ (r : NodeRow). r.start) (node_sent i no_node l), start_le i l))) in
+    fewer_people : people sent ≤ people m
+    unfolding people entered_by
+    fewer_people =
+        let flow = λ (n t : ℕ). flow_at w (Supply n t) in
+        let starts : sum_by (λ i. (node_at sent i).start) (below (length m.nodes)) ≡ sum_by (λ i. flow i 0) (below (length m.nodes)) =
+        sums.sum_by-same_all (λ i. (node_at sent i).start) (λ i. flow i 0) (below (length m.nodes))
+        (All-below (λ i. (node_at sent i).start ≡ flow i 0) (length m.nodes) (λ i l. ap (λ (r : NodeRow). r.start) (node_sent i no_node l))) in
         omega (
           arith,
-          le,
+          starts,
           ap (λ c. sum_by (λ i. (node_at sent i).start) (below c)) count_same,
           sums.sum_places (λ (r : NodeRow). r.start) sent.nodes no_node,
-          sums.sum_places (λ (r : NodeRow). r.start) m.nodes no_node,
+          all_of_table (length m.nodes) m.horizon flow,
+          sum2-le (length m.nodes) (m.horizon + 1) flow (entry m) (λ n t i j. supply_le n t i (omega (arith, j))),
+          entered_le m m.horizon,
         )
 
     valid_sent : IsValid sent
-    unfolding people
     valid_sent = record {
       seconds = valid.seconds;
       horizon = valid.horizon;
       nodes_fit = omega (arith, count_same, valid.nodes_fit);
       arcs_fit = valid.arcs_fit;
       cells_fit = rw count_same valid.cells_fit;
-      people_fit = omega (arith, valid.people_fit, fewer_start);
+      people_fit = omega (arith, valid.people_fit, fewer_people);
       nodes = λ n d l. node_ok n d (omega (arith, count_same, l));
       names_differ = λ i j a b e. valid.names_differ i j a (omega (arith, count_same, b)) (sym (name_at i) ∙ e ∙ name_at j);
       arcs = λ a d l. arc_ok a d (valid.arcs a d l);
       ends_differ = valid.ends_differ;
+      entrants = λ i d l. entrant_ok (get_or sent.entrants i d) (table.in_range i d l) (table.of_table i d l);
+      entrants_sorted = table.sorted;
     }
       where
+        table : EntrantsAreTable (length m.nodes) m.horizon (λ n t. flow_at w (Supply n t))
+        table = entrants_are_table (length m.nodes) m.horizon (λ n t. flow_at w (Supply n t))
+
+        entrant_ok : (e : Entrant) → (e.node < length m.nodes) × (1 ≤ e.moment) × (e.moment ≤ m.horizon)
+            → (1 ≤ e.people) × (e.people ≡ flow_at w (Supply e.node e.moment)) → IsEntrant sent.nodes m.horizon e
+        entrant_ok e range people = record {
+          node_in = omega (arith, count_same, range.0);
+          no_exit = exit_same e.node ∙ false_from_ne_true (is_exit_at m e.node)
+              (λ exit. omega (arith, people.0, people.1, supply_le e.node e.moment range.0 range.2, exit_entry m e.node e.moment valid range.0 exit));
+          later = range.1;
+          in_horizon = range.2;
+          somebody = people.0;
+        }
+
         name_at : (i : ℕ) → (node_at sent i).name ≡ (node_at m i).name
         name_at i = restart-keeps (λ (r : NodeRow). r.name) (λ r s. refl) (λ n. flow_at w (Supply n 0)) 0 m.nodes i no_node
 
@@ -178,6 +199,7 @@ module _ (m : Model) (w : Network) (valid : IsValid m) (net : IsNet w) (of : IsN
           from_no_exit = exit_same (get_or m.arcs a d).from ∙ h.from_no_exit;
           travel_fits = h.travel_fits;
           rate_fits = h.rate_fits;
+          windows = h.windows;
         }
 
     -- ---- the plan
@@ -190,7 +212,7 @@ module _ (m : Model) (w : Network) (valid : IsValid m) (net : IsNet w) (of : IsN
     held_is : (n t : ℕ) → n < length m.nodes → is_exit_at m n ≡ false → t ≤ m.horizon → held sent plan n t ≡ pos (flow_at w (Hold n t))
     unfolding held
     held_is n t i e l =
-        let c = came_left m w net of valid sent.nodes n t i e l (λ s h. entry_sent n s i (omega arith)) in
+        let c = came_left m w net of valid sent.nodes sent.entrants n t i e l (λ s h. entry_sent n s i (omega arith)) in
         omega (arith, ints, c)
 
     at_most : (b : Bool) (r : ℕ) → cond b 0 r ≤ r
@@ -417,10 +439,7 @@ module _ (m : Model) (w : Network) (valid : IsValid m) (net : IsNet w) (of : IsN
           omega (arith, entering_full w s k closed (Supply n t) p to refl, of.limits (Supply n t) p, entry_sent n t i (omega arith))
 
       no_entry : (n t : ℕ) → n < length m.nodes → is_exit_at m n ≡ true → entry m n t ≡ 0
-      no_entry n t i e =
-          let node = All-get_or IsNode m.nodes n no_node i valid.nodes in
-          let none : (node_at m n).start ≡ 0 = omega (arith, node.start_fits, node.exit_is_empty e) in
-          ap (λ z. cond (eqb t 0) z 0) none ∙ sums.cond_nothing (eqb t 0)
+      no_entry n t i e = exit_entry m n t valid i e
 
       entry_ge : (n t : ℕ) → n < length m.nodes → t < k + 1
           → cond (x n t || eqb (entry m n t) 0) 0 (entry m n t) ≤ cond (x n t || eqb (entry sent n t) 0) 0 (entry sent n t)

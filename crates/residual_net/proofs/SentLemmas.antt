@@ -7,7 +7,7 @@ use Rattle.residual_net.specs.Network.{Network, IsAllSent, IsNet, IsWithinLimits
 use Rattle.residual_net.specs.Site.{IsPlace, Site, is_source, same_place, tail_of}
 use Rattle.residual_net.specs.OfModel.{IsNetOf}
 use Rattle.evac_law.specs.declared.model.Model.{Model}
-use Rattle.evac_law.specs.Building.{people}
+use Rattle.evac_law.specs.Building.{IsValid, people}
 use Rattle.residual_net.proofs.Begin.{supplies_are_people}
 use Rattle.residual_net.proofs.LastArrival.{all_arrive}
 use Rattle.residual_net.proofs.Places.{cond_le, same-place, sum_places-le, sum_places-pick, sum_places-same, sum_places-split}
@@ -67,9 +67,10 @@ sent_counted w net within arrived supplies e f = (
 
 -- ---- of a model
 
-pub all_sent_arrive : (m : Model) (w : Network) → IsNet w → IsNetOf m w → IsWithinLimits w → IsAllSent w → arrived_by w m.horizon ≡ people m
-all_sent_arrive m w net of within all = ap (λ (s : Site). arrived_by w s.shape.horizon) (sym of.site) ∙ sent_arrive w net within all ∙ supplies_are_people m w of
+pub all_sent_arrive : (m : Model) (w : Network) → IsValid m → IsNet w → IsNetOf m w → IsWithinLimits w → IsAllSent w → arrived_by w m.horizon ≡ people m
+all_sent_arrive m w valid net of within all =
+    ap (λ (s : Site). arrived_by w s.shape.horizon) (sym of.site) ∙ sent_arrive w net within all ∙ supplies_are_people m w valid of
 
-pub arrived_all_sent : (m : Model) (w : Network) → IsNet w → IsNetOf m w → IsWithinLimits w → arrived_by w m.horizon ≡ people m → IsAllSent w
-arrived_all_sent m w net of within e =
-    arrived_sent w net within (ap (λ (s : Site). arrived_by w s.shape.horizon) of.site ∙ e ∙ sym (supplies_are_people m w of))
+pub arrived_all_sent : (m : Model) (w : Network) → IsValid m → IsNet w → IsNetOf m w → IsWithinLimits w → arrived_by w m.horizon ≡ people m → IsAllSent w
+arrived_all_sent m w valid net of within e =
+    arrived_sent w net within (ap (λ (s : Site). arrived_by w s.shape.horizon) of.site ∙ e ∙ sym (supplies_are_people m w valid of))

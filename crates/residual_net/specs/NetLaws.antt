@@ -73,10 +73,10 @@ CancelLowersArrivals =
     (w v : Network) (p : Place) (path : List PathStep) (x k : ℕ) → IsCancelled w v p path x → IsFlowPath w.site path k
     → ((j : ℕ) → arrived_by v j + (if nat_le k j then x else 0) ≡ arrived_by w j) × (flow_out v is_source + x ≡ flow_out w is_source)
 
--- everybody arrives by the horizon exactly where everybody is sent
+-- everybody arrives by the horizon exactly where everybody is sent, in a valid model
 abbrev pub SentIsArrived : Type 0
 SentIsArrived =
-    (m : Model) (w : Network) → IsNet w → IsNetOf m w → IsWithinLimits w → IsAllSent w ↔ (arrived_by w m.horizon ≡ people m)
+    (m : Model) (w : Network) → IsValid m → IsNet w → IsNetOf m w → IsWithinLimits w → IsAllSent w ↔ (arrived_by w m.horizon ≡ people m)
 
 -- supplies whose limits are each at most those of two models together may be sent
 abbrev pub SuppliesBetween : Type 0

@@ -46,7 +46,7 @@ pub fn cancel_lowers_arrivals()
     ensures { CancelLowersArrivals }
 {}
 
-/// Everybody arrives by the horizon exactly where everybody is sent.
+/// Everybody arrives by the horizon exactly where everybody is sent, in a valid model.
 pub fn sent_is_arrived()
     ensures { SentIsArrived }
 {}

@@ -8,7 +8,7 @@ use Rattle.evac_law.specs.Building.{arc_at, arrival, head, is_exit_at, tail}
 use Rattle.evac_law.specs.Sums.{places}
 use Rattle.evac_law.proofs.SumLemmas.{All-below, pick_le, sum_by-add, sum_by-le_all, sum_by-nothing, sum_by-same, sum_below-pick}
 use Rattle.route_decompose.specs.Tables.{IsLess, PeopleTable, people_at}
-use Rattle.route_decompose.specs.Stocks.{IsBalancedBut, Stock, before, left_coming, going}
+use Rattle.route_decompose.specs.Stocks.{IsBalancedBut, Stock, before, left_coming, going, stayed}
 
 -- ---- the sums
 
@@ -120,8 +120,7 @@ module _ (s v : Stock) (same : v.model ≡ s.model) where
       f n t l' e' h' (b n t l' e' h')
 
 before_same : (s v : Stock) → v.holds ≡ s.holds → v.waiting ≡ s.waiting → (n t : ℕ) → before v n t ≡ before s n t
-before_same s v e f n zero = ap (λ (c : PeopleTable). people_at c n 0) f
-before_same s v e f n (suc t) = ap (λ (c : PeopleTable). people_at c n t) e
+before_same s v e f n t = ap₂ (λ (c d : PeopleTable). stayed c n t + people_at d n t) e f
 
 -- some people are taken off an arc: they are gone from its tail, and no more from its head
 module _ (s v : Stock) (a t p : ℕ) (same : v.model ≡ s.model) (less : IsLess s.left v.left a t p) (here : a < length s.model.arcs) (holds : v.holds ≡ s.holds) (waiting : v.waiting ≡ s.waiting) where
@@ -183,33 +182,35 @@ hold_step s v n t p same left waiting less b =
         tests : (x y : ℕ) → eqb (x + 1) (suc y) ≡ eqb x y
         tests x y = grind (arith, nat_tests)
 
+    wait : (i u : ℕ) → people_at v.waiting i u ≡ people_at s.waiting i u
+    wait i u = ap (λ (c : PeopleTable). people_at c i u) waiting
+
     step : (i u : ℕ) → before s i u + left_coming s i u ≡ people_at s.holds i u + going s i u + cond (eqb n i && eqb (t + 1) u) p 0
         → before v i u + left_coming s i u ≡ people_at v.holds i u + going s i u + cond (eqb n i && eqb t u) p 0
     step i zero j =
-        let w : before v i 0 ≡ before s i 0 = ap (λ (c : PeopleTable). people_at c i 0) waiting in
+        let w : before v i 0 ≡ before s i 0 = ap (λ z. 0 + z) (wait i 0) in
         rw w (first (before s i 0) (left_coming s i 0) (going s i 0) (people_at s.holds i 0) (people_at v.holds i 0) i (less.cells i 0) j)
     step i (suc u) j =
-        later (people_at s.holds i u) (people_at v.holds i u) (left_coming s i (suc u)) (going s i (suc u)) (people_at s.holds i (suc u)) (people_at v.holds i (suc u)) i u
-        (less.cells i u) (less.cells i (suc u)) j
+        later (before s i (suc u)) (before v i (suc u)) (left_coming s i (suc u)) (going s i (suc u)) (people_at s.holds i (suc u)) (people_at v.holds i (suc u)) i u
+        (omega (arith, less.cells i u, wait i (suc u))) (less.cells i (suc u)) j
 
--- some people who are gone from a node at moment 0 didn't start there
-pub wait_step : (s v : Stock) (n p : ℕ) → v.model ≡ s.model → v.left ≡ s.left → v.holds ≡ s.holds → IsLess s.waiting v.waiting n 0 p
-    → IsBalancedBut s n 0 p → IsBalancedBut v 0 0 0
-wait_step s v n p same left holds less b =
-    balanced_with s v same n 0 p 0 0 0
-    (λ i u l e h j. omega (arith, step i u j, coming_same s v same left i u, going_same s v same left i u, ap (λ (c : PeopleTable). people_at c i u) holds))
+-- some people who are gone from a node at a moment don't come there from nowhere
+pub wait_step : (s v : Stock) (n t p : ℕ) → v.model ≡ s.model → v.left ≡ s.left → v.holds ≡ s.holds → IsLess s.waiting v.waiting n t p
+    → IsBalancedBut s n t p → IsBalancedBut v 0 0 0
+wait_step s v n t p same left holds less b =
+    balanced_with s v same n t p 0 0 0
+    (λ i u l e h j. omega (
+      arith,
+      j,
+      less.cells i u,
+      ap (λ (c : PeopleTable). stayed c i u) holds,
+      nothing (eqb 0 i && eqb 0 u),
+      coming_same s v same left i u,
+      going_same s v same left i u,
+      ap (λ (c : PeopleTable). people_at c i u) holds,
+    ))
     b
   where
-    first : (b b' c g h i : ℕ) → b' + cond (eqb n i && eqb 0 0) p 0 ≡ b → b + c ≡ h + g + cond (eqb n i && eqb 0 0) p 0
-        → b' + c ≡ h + g + cond (eqb 0 i && eqb 0 0) 0 0
-    first b b' c g h i d f = grind (arith, nat_tests)
-
-    later : (b c g h i u : ℕ) → b + c ≡ h + g + cond (eqb n i && eqb 0 (suc u)) p 0 → b + c ≡ h + g + cond (eqb 0 i && eqb 0 (suc u)) 0 0
-    later b c g h i u f = grind (arith, nat_tests)
-
-    step : (i u : ℕ) → before s i u + left_coming s i u ≡ people_at s.holds i u + going s i u + cond (eqb n i && eqb 0 u) p 0
-        → before v i u + left_coming s i u ≡ people_at s.holds i u + going s i u + cond (eqb 0 i && eqb 0 u) 0 0
-    step i zero j = first (before s i 0) (before v i 0) (left_coming s i 0) (going s i 0) (people_at s.holds i 0) i (less.cells i 0) j
-    step i (suc u) j =
-        let w : before v i (suc u) ≡ before s i (suc u) = ap (λ (c : PeopleTable). people_at c i u) holds in
-        rw w (later (before s i (suc u)) (left_coming s i (suc u)) (going s i (suc u)) (people_at s.holds i (suc u)) i u j)
+    nothing : (b : Bool) → ◌≡◌ {A = ℕ} (cond b 0 0) 0
+    nothing true = refl
+    nothing false = refl

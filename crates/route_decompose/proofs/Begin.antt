@@ -1,20 +1,22 @@
 -- A plan that has everybody out, as a stock: it is balanced, nobody stays, and everybody arrives in time.
-use Rattle.std.proofs.Common.{◌≡◌, ℕ, zero, suc, ◌+◌, ◌-◌, ◌<◌, ◌≤◌, ◌⊎◌, inl, inr, Bool, true, false, cond, ◌&&◌, eqb, leb, List, length, get_or, ap, sym, ◌∙◌, arith, subst, pos}
+use Rattle.std.proofs.Common.{◌≡◌, ℕ, zero, suc, ◌+◌, ◌-◌, ◌<◌, ◌≤◌, ◌⊎◌, inl, inr, Bool, true, false, cond, ◌&&◌, eqb, leb, List, length, ap, sym, ◌∙◌, arith, subst, pos}
 use Rattle.std.specs.List.{sum_by, All}
-use Rattle.std.proofs.lemmas.Bool.{cases_Bool, cases_lt}
+use Rattle.std.proofs.lemmas.Bool.{cases_Bool}
 use Rattle.std.proofs.lemmas.Bool.Decides.{nat_tests}
 use Rattle.std.proofs.lemmas.Int.{ints}
+use Rattle.std.proofs.lemmas.List.Elements.{All-weaker}
 use Rattle.evac_law.specs.declared.model.Model.{Model}
 use Rattle.evac_law.specs.declared.plan.Move.{Move}
-use Rattle.evac_law.specs.Building.{IsValid, arc_at, arrival, entry, head, is_exit_at, people, start, tail}
+use Rattle.evac_law.specs.Building.{IsValid, arc_at, arrival, entry, head, is_exit_at, people, tail}
 use Rattle.evac_law.specs.Plans.{IsFeasible, NobodyIsLeft, came, held, left, moved, out_by}
 use Rattle.evac_law.specs.Stands.{Fits, Stand}
 use Rattle.evac_law.specs.Sums.{places}
 use Rattle.evac_law.proofs.Conserved.{all_out_leaves_nobody}
-use Rattle.evac_law.proofs.SumLemmas.{by_place, sum_by-le_all, sum_by-nothing, sum_by-same}
-use Rattle.evac_law.proofs.ValidLemmas.{node_is}
+use Rattle.evac_law.proofs.SumLemmas.{by_place, sum_by-same}
+use Rattle.evac_law.proofs.Entries.{exit_entry}
 use Rattle.evac_law.specs.Plans as plans
 use Rattle.evac_law.proofs.WeakDuality.{came-suc, came-zero, left-suc, left-zero}
+use Rattle.route_decompose.proofs.Arrivals.{arrives}
 use Rattle.route_decompose.specs.Tables.{people_at}
 use Rattle.route_decompose.specs.Stocks.{IsBalancedBut, IsClosing, IsOpen, IsStock, Stock, before, left_coming, going}
 
@@ -46,31 +48,16 @@ nothing b = grind arith
 nobody_there : (x : ℕ) → pos x ≡ pos 0 → x ≡ 0
 nobody_there x e = omega (arith, ints, e)
 
--- a move past its arrival has nobody
-late_move : (b a s t k d r w : ℕ) → (b ≡ a → r ≡ s + d) → k < t + d → (0 < w → s ≤ k → r ≤ k) → s ≤ k → cond (eqb b a && eqb s t) w 0 ≤ 0
-late_move b a s t k d r w e late way early = split (cases_Bool (eqb b a && eqb s t)) (cases_lt 0 w)
-  where
-    same_arc : (eqb b a && eqb s t) ≡ true → b ≡ a
-    same_arc x = grind (arith, nat_tests)
-
-    same_moment : (eqb b a && eqb s t) ≡ true → s ≡ t
-    same_moment x = grind (arith, nat_tests)
-
-    split : ((eqb b a && eqb s t) ≡ true) ⊎ ((eqb b a && eqb s t) ≡ false) → (0 < w) ⊎ (w ≤ 0) → cond (eqb b a && eqb s t) w 0 ≤ 0
-    split (inl x) (inl some) = absurd (omega (arith, e (same_arc x), same_moment x, late, way some early))
-    split (inl x) (inr none) = rw x none
-    split (inr x) some = rw x (omega arith)
-
 came_is : (m : Model) (p : List Move) (n t x : ℕ) → pos x ≡ held m p n t → came m p n t ≡ left m p n t + x
 unfolding held
 came_is m p n t x e = omega (arith, ints, e)
 
 -- the contents of a node from moment to moment
-first_moment : (cm lv en co le x w : ℕ) → cm ≡ en + co → lv ≡ le → cm ≡ lv + x → w ≡ en → w + co ≡ x + le
+first_moment : (cm lv en co le x w : ℕ) → cm ≡ en + co → lv ≡ le → cm ≡ lv + x → w ≡ en → (0 + w) + co ≡ x + le
 first_moment cm lv en co le x w a b c d = omega (arith, a, b, c, d)
 
-next_moment : (cm lv cm' lv' en co le x y : ℕ) → cm' ≡ cm + (en + co) → lv' ≡ lv + le → en ≡ 0 → cm ≡ lv + x → cm' ≡ lv' + y → x + co ≡ y + le
-next_moment cm lv cm' lv' en co le x y a b c d e = omega (arith, a, b, c, d, e)
+next_moment : (cm lv cm' lv' en co le x y w : ℕ) → cm' ≡ cm + (en + co) → lv' ≡ lv + le → w ≡ en → cm ≡ lv + x → cm' ≡ lv' + y → (x + w) + co ≡ y + le
+next_moment cm lv cm' lv' en co le x y w a b c d e = omega (arith, a, b, c, d, e)
 
 -- what is known of a plan that is handed out, by a stand that fits
 pub record IsTaken (m : Model) (f : Stand) (s : Stock) : Type 0 where
@@ -81,7 +68,7 @@ pub record IsTaken (m : Model) (f : Stand) (s : Stock) : Type 0 where
   pub same : s.model ≡ m
   pub moves : (a t : ℕ) → people_at s.left a t ≡ moved f.plan a t
   pub stays : (n t : ℕ) → n < length m.nodes → t ≤ m.horizon → people_at s.holds n t ≡ f.contents n t
-  pub starts : (n : ℕ) → n < length m.nodes → people_at s.waiting n 0 ≡ start m n
+  pub starts : (n t : ℕ) → people_at s.waiting n t ≡ entry m n t
 
 module _ (m : Model) (f : Stand) (s : Stock) (h : IsTaken m f s) where
   abbrev p : List Move
@@ -101,19 +88,13 @@ module _ (m : Model) (f : Stand) (s : Stock) (h : IsTaken m f s) where
       first_moment (came m p n 0) (left m p n 0) (entry m n 0) (left_coming s n 0) (going s n 0) (people_at s.holds n 0) (people_at s.waiting n 0)
       (came-zero m p n ∙ ap (λ z. entry m n 0 + z) (sym (coming_of m p s h.same h.feasible.arcs h.moves n 0)))
       (left-zero m p n ∙ sym (going_of m p s h.same h.feasible.arcs h.moves n 0))
-      (in_node n 0 l e k) (h.starts n l)
+      (in_node n 0 l e k) (h.starts n 0)
   at_node n (suc t) l e k =
       next_moment (came m p n t) (left m p n t) (came m p n (suc t)) (left m p n (suc t)) (entry m n (suc t)) (left_coming s n (suc t)) (going s n (suc t))
-      (people_at s.holds n t) (people_at s.holds n (suc t))
+      (people_at s.holds n t) (people_at s.holds n (suc t)) (people_at s.waiting n (suc t))
       (came-suc m p n t ∙ ap (λ z. came m p n t + (entry m n (suc t) + z)) (sym (coming_of m p s h.same h.feasible.arcs h.moves n (suc t))))
       (left-suc m p n t ∙ ap (λ z. left m p n t + z) (sym (going_of m p s h.same h.feasible.arcs h.moves n (suc t))))
-      (no_entry t) (in_node n t l e (omega (arith, k))) (in_node n (suc t) l e k)
-    where
-      no_entry : (u : ℕ) → entry m n (suc u) ≡ 0
-      no_entry u = later (start m n) u
-        where
-          later : (x u : ℕ) → cond (eqb (suc u) 0) x 0 ≡ 0
-          later x u = grind (arith, nat_tests)
+      (h.starts n (suc t)) (in_node n t l e (omega (arith, k))) (in_node n (suc t) l e k)
 
   pub balanced_of : IsBalancedBut s 0 0 0
   balanced_of n t l e k =
@@ -135,36 +116,27 @@ module _ (m : Model) (f : Stand) (s : Stock) (h : IsTaken m f s) where
       let here = h.fits.inside n k (omega (arith, l, h.fits.nodes_same)) (omega (arith, h.fits.horizon_same)) e in
       h.stays n k l (omega arith) ∙ nobody_there (f.contents n k) (here ∙ nobody.nobody_inside n l e)
 
-  nobody_late : (a t : ℕ) → k < arrival m a t → moved p a t ≤ sum_by {X = Move} (λ _. 0) p
-  unfolding moved
-  nobody_late a t l =
-      sum_by-le_all (λ (v : Move). cond (eqb v.arc a && eqb v.moment t) v.people 0) (λ _. 0) p
-      (λ i d b. let v = get_or p i d in
-      late_move v.arc a v.moment t k (arc_at m a).travel (arrival m v.arc v.moment) v.people (λ e. ap (λ z. v.moment + (arc_at m z).travel) e) l
-      (nobody.nobody_on_way i d b) (let range = h.fits.ordered.in_range i d b in omega (arith, range.1, h.fits.horizon_same)))
+  in_time : (a t : ℕ) → 0 < people_at s.left a t → arrival m a t ≤ k
+  in_time a t some =
+      arrives m p nobody
+      (All-weaker (λ (v : Move). (v.arc < f.arcs) × (v.moment ≤ f.horizon)) (λ v. v.moment ≤ k) (λ v b. omega (arith, b.1, h.fits.horizon_same)) p h.fits.ordered.in_range) a t
+      (omega (arith, h.moves a t, some))
 
-  arrives : (a t : ℕ) → 0 < people_at s.left a t → arrival m a t ≤ k
-  arrives a t some = split (cases_lt k (arrival m a t))
-    where
-      split : (k < arrival m a t) ⊎ (arrival m a t ≤ k) → arrival m a t ≤ k
-      split (inl l) = absurd (omega (arith, nobody_late a t l, sum_by-nothing p, h.moves a t, some))
-      split (inr l) = l
-
-  starts_inside : (n : ℕ) → n < length m.nodes → 0 < people_at s.waiting n 0 → is_exit_at m n ≡ false
-  starts_inside n l some = split (cases_Bool (is_exit_at m n))
+  starts_inside : (n t : ℕ) → n < length m.nodes → 0 < people_at s.waiting n t → is_exit_at m n ≡ false
+  starts_inside n t l some = split (cases_Bool (is_exit_at m n))
     where
       split : (is_exit_at m n ≡ true) ⊎ (is_exit_at m n ≡ false) → is_exit_at m n ≡ false
-      split (inl e) = let node = node_is m n h.valid l in absurd (omega (arith, node.exit_is_empty e, node.start_fits, h.starts n l, some))
+      split (inl e) = absurd (omega (arith, exit_entry m n t h.valid l e, h.starts n t, some))
       split (inr e) = e
 
   closing_of : IsClosing s
   closing_of =
       let P : Model → Type 0 = λ w. (n : ℕ) → n < length w.nodes → is_exit_at w n ≡ false → people_at s.holds n w.horizon ≡ 0 in
       let Q : Model → Type 0 = λ w. (a t : ℕ) → a < length w.arcs → 0 < people_at s.left a t → arrival w a t ≤ w.horizon in
-      let R : Model → Type 0 = λ w. (n : ℕ) → n < length w.nodes → 0 < people_at s.waiting n 0 → is_exit_at w n ≡ false in
+      let R : Model → Type 0 = λ w. (n t : ℕ) → n < length w.nodes → 0 < people_at s.waiting n t → is_exit_at w n ≡ false in
       record {
         none_stay = subst P (sym h.same) stays_none;
-        in_time = subst Q (sym h.same) (λ a t l. arrives a t);
+        in_time = subst Q (sym h.same) (λ a t l. in_time a t);
         from_inside = subst R (sym h.same) starts_inside;
       }
 

@@ -1,5 +1,5 @@
 -- How people go on from a node at a moment.
-use Rattle.std.proofs.Common.{◌≡◌, ℕ, ◌+◌, ◌<◌, ◌≤◌, ◌⊎◌, inl, inr, Bool, true, false, cond, List, [], ◌∷◌, ◌++◌, length, refl, ap, ◌∙◌, arith, add-one}
+use Rattle.std.proofs.Common.{◌≡◌, ℕ, suc, ◌+◌, ◌<◌, ◌≤◌, ◌⊎◌, inl, inr, Bool, true, false, cond, List, [], ◌∷◌, ◌++◌, length, refl, ap, ◌∙◌, arith, add-one}
 use Rattle.std.proofs.lemmas.List.{append_assoc}
 use Rattle.std.proofs.lemmas.List.Elements.{All-get_or}
 use Rattle.std.proofs.lemmas.Bool.{cases_lt}
@@ -29,7 +29,7 @@ module _ (s : Stock) (n t : ℕ) (here : IsLeadable s n t) where
 
   pub stays : 0 < people_at s.holds n t → IsLeadable s n (t + 1)
   stays some =
-      let next : before s n (t + 1) ≡ people_at s.holds n t = ap (before s n) (add-one t) in
+      let next : before s n (t + 1) ≡ people_at s.holds n t + people_at s.waiting n (suc t) = ap (before s n) (add-one t) in
       record { left = here.left; node_in = here.node_in; inside = here.inside; moment_in = stays_before some; someone = omega (arith, next, some) }
 
 -- whoever enters an arc comes to its head in time

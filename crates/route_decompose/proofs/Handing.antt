@@ -2,13 +2,13 @@
 use Rattle.std.proofs.Common.{◌≡◌, ℕ, zero, suc, ◌+◌, ◌<◌, ◌≤◌, ◌⊎◌, inl, inr, Bool, true, false, cond, ◌&&◌, eqb, List, [], ◌∷◌, length, get_or, ap, sym, ◌∙◌, arith, subst}
 use Rattle.std.specs.List.{All}
 use Rattle.std.proofs.lemmas.Bool.{cases_lt}
-use Rattle.std.proofs.lemmas.List.{get_or_past}
 use Rattle.std.proofs.lemmas.Bool.Decides.{nat_tests}
 use Rattle.evac_law.specs.declared.model.Model.{Model}
 use Rattle.evac_law.specs.declared.plan.Move.{Move}
-use Rattle.evac_law.specs.Building.{IsValid, entry, is_exit_at, no_node, people, start}
+use Rattle.evac_law.specs.Building.{IsValid, entry, is_exit_at, people}
 use Rattle.evac_law.specs.Plans.{IsFeasible, moved, out_by}
 use Rattle.evac_law.specs.Stands.{Fits, Stand}
+use Rattle.evac_law.proofs.Entries.{none_late, none_past}
 use Rattle.evac_law.proofs.SumLemmas.{sum_by-le_all, sum_by-nothing}
 use Rattle.route_decompose.specs.declared.route.RouteStep.{RouteStep}
 use Rattle.route_decompose.specs.Routes.{HandsOut, IsAllLeft, LeadsOut, RouteView}
@@ -31,21 +31,18 @@ empty_is_open s stock e = record {
   closing = record {
     none_stay = λ n l f. e.1 n s.model.horizon;
     in_time = λ a t l some. absurd (omega (arith, e.0 a t, some));
-    from_inside = λ n l some. absurd (omega (arith, e.2 n 0, some));
+    from_inside = λ n t l some. absurd (omega (arith, e.2 n t, some));
   };
 }
   where
     none_before : (n t : ℕ) → before s n t ≡ 0
-    none_before n zero = e.2 n 0
-    none_before n (suc t) = e.1 n t
+    none_before n zero = omega (arith, e.2 n 0)
+    none_before n (suc t) = omega (arith, e.1 n t, e.2 n (suc t))
 
 -- ---- the whole of a plan
 
 none_there : (va a vm t w : ℕ) → ((va ≡ a → vm ≡ t → ⊥)) → cond (eqb va a && eqb vm t) w 0 ≤ 0
 none_there va a vm t w e = grind (arith, nat_tests)
-
-none_later : (t v : ℕ) → cond (eqb (suc t) 0) v 0 ≡ 0
-none_later t v = grind (arith, nat_tests)
 
 pub moved_none : (p : List Move) (arcs horizon a t : ℕ) → All (λ (v : Move). (v.arc < arcs) × (v.moment ≤ horizon)) p
     → (arcs ≤ a) ⊎ (horizon < t) → moved p a t ≡ 0
@@ -80,22 +77,14 @@ module _ (m : Model) (f : Stand) (s : Stock) (valid : IsValid m) (fits : Fits m 
           past_last s.left a t h ∙ sym (moved_none f.plan f.arcs f.horizon a t fits.ordered.in_range (inr (omega (arith, h, horizon_same, fits.horizon_same))))
       split (inl l) (inr h) = of.moves a t l h
 
-  start_same : (n : ℕ) → start s.model n ≡ start m n
-  start_same n = ap (λ (w : Model). start w n) same
-
-  starts_wait : (n : ℕ) → people_at s.waiting n 0 ≡ start m n
-  starts_wait n = split (cases_lt n s.waiting.rows)
-    where
-      split : (n < s.waiting.rows) ⊎ (s.waiting.rows ≤ n) → people_at s.waiting n 0 ≡ start m n
-      split (inl l) = of.starts n l ∙ start_same n
-      split (inr l) = past_rows s.waiting n 0 l ∙ sym (no_start n (omega (arith, l, stock.wait_rows, nodes_same)))
-        where
-          no_start : (i : ℕ) → length m.nodes ≤ i → start m i ≡ 0
-          no_start i k = ap (λ z. z.start) (get_or_past m.nodes i no_node k)
-
   all_wait : (n t : ℕ) → people_at s.waiting n t ≡ entry m n t
-  all_wait n zero = starts_wait n
-  all_wait n (suc t) = past_last s.waiting n (suc t) (omega (arith, stock.wait_last)) ∙ sym (none_later t (start m n))
+  all_wait n t = split (cases_lt n s.waiting.rows) (cases_lt s.waiting.last t)
+    where
+      split : (n < s.waiting.rows) ⊎ (s.waiting.rows ≤ n) → (s.waiting.last < t) ⊎ (t ≤ s.waiting.last) → people_at s.waiting n t ≡ entry m n t
+      split (inr l) h = past_rows s.waiting n t l ∙ sym (none_past m n t valid (omega (arith, l, stock.wait_rows, nodes_same)))
+      split (inl l) (inl h) =
+          past_last s.waiting n t h ∙ sym (none_late m n t valid (omega (arith, h, stock.wait_last, ap (λ (w : Model). w.horizon) same)))
+      split (inl l) (inr h) = of.starts n t l h ∙ ap (λ (w : Model). entry w n t) same
 
   taken : IsTaken m f s
   taken = record {
@@ -106,7 +95,7 @@ module _ (m : Model) (f : Stand) (s : Stock) (valid : IsValid m) (fits : Fits m 
     same = same;
     moves = all_left;
     stays = λ n t l k. of.stays n t (omega (arith, l, stock.hold_rows, nodes_same)) (omega (arith, k, stock.hold_last, ap (λ (w : Model). w.horizon) same));
-    starts = λ n l. starts_wait n;
+    starts = all_wait;
   }
 
   pub opens : IsOpen s
@@ -123,51 +112,48 @@ clash b e f = apart (sym e ∙ f)
     apart : true ≡ false → ⊥
     apart x = cc
 
-some_step : (m : Model) (n : ℕ) (steps : List RouteStep) → LeadsOut m n 0 steps → is_exit_at m n ≡ false → 1 ≤ length steps
-some_step m n [] leads e = absurd (clash (is_exit_at m n) leads e)
-some_step m n (x ∷ xs) leads e = omega arith
+some_step : (m : Model) (n t : ℕ) (steps : List RouteStep) → LeadsOut m n t steps → is_exit_at m n ≡ false → 1 ≤ length steps
+some_step m n t [] leads e = absurd (clash (is_exit_at m n) leads e)
+some_step m n t (x ∷ xs) leads e = omega arith
 
-module _ (s v w : Stock) (n p : ℕ) (t u : TrailView) (before : IsRoutes s t) (l : n < length s.model.nodes) (some : 0 < people_at s.waiting n 0)
-    (on : IsLedOn s v n 0 p (record { steps = []; room = t.room }) u) (one : 1 ≤ p)
-    (same : w.model ≡ v.model) (left : w.left ≡ v.left) (holds : w.holds ≡ v.holds) (less : IsLess v.waiting w.waiting n 0 p) where
+module _ (s v w : Stock) (n k p : ℕ) (t u : TrailView) (before : IsRoutes s t) (l : n < length s.model.nodes) (some : 0 < people_at s.waiting n k)
+    (on : IsLedOn s v n k p (record { steps = []; room = t.room }) u) (one : 1 ≤ p)
+    (same : w.model ≡ v.model) (left : w.left ≡ v.left) (holds : w.holds ≡ v.holds) (less : IsLess v.waiting w.waiting n k p) where
   trail_is : u ≡ record { steps = on.more; room = t.room }
   trail_is = on.trail
 
   inside : is_exit_at s.model n ≡ false
-  inside = before.left.closing.from_inside n l some
+  inside = before.left.closing.from_inside n k l some
 
-  fewer_wait : (i k : ℕ) → people_at w.waiting i k + cond (eqb n i && eqb 0 k) p 0 ≡ people_at s.waiting i k
-  fewer_wait i k = less.cells i k ∙ ap (λ (c : PeopleTable). people_at c i k) on.led.same_waiting
+  fewer_wait : (i j : ℕ) → people_at w.waiting i j + cond (eqb n i && eqb k j) p 0 ≡ people_at s.waiting i j
+  fewer_wait i j = less.cells i j ∙ ap (λ (c : PeopleTable). people_at c i j) on.led.same_waiting
 
   pub hands_out : (r : RouteView) → HandsOut (record { model = s.model; left = s.left; waiting = s.waiting; route = r })
-      (record { model = w.model; left = w.left; waiting = w.waiting; route = record { people = p; start = n; entered = 0; steps = u.steps } })
+      (record { model = w.model; left = w.left; waiting = w.waiting; route = record { people = p; start = n; entered = k; steps = u.steps } })
   hands_out r =
       let steps : u.steps ≡ on.more = ap (λ (x : TrailView). x.steps) trail_is in
       subst (λ (x : List RouteStep). HandsOut (record { model = s.model; left = s.left; waiting = s.waiting; route = r })
-      (record { model = w.model; left = w.left; waiting = w.waiting; route = record { people = p; start = n; entered = 0; steps = x } })) (sym steps)
+      (record { model = w.model; left = w.left; waiting = w.waiting; route = record { people = p; start = n; entered = k; steps = x } })) (sym steps)
       (record {
         same_model = same ∙ on.led.same_model;
-        right = record { somebody = one; some_step = some_step s.model n on.more on.led.leads inside; leads_out = on.led.leads };
-        fewer = λ a k. let e = ap (λ (c : PeopleTable). people_at c a k) left in omega (arith, e, on.led.left a k);
+        right = record { somebody = one; some_step = some_step s.model n k on.more on.led.leads inside; leads_out = on.led.leads };
+        fewer = λ a j. let e = ap (λ (c : PeopleTable). people_at c a j) left in omega (arith, e, on.led.left a j);
         fewer_wait = fewer_wait;
       })
-
-  wait_le : (i k : ℕ) → people_at w.waiting i k ≤ people_at s.waiting i k
-  wait_le i k = omega (arith, less.cells i k, ap (λ (c : PeopleTable). people_at c i k) on.led.same_waiting)
 
   pub routes_on : IsRoutes w u
   routes_on =
       let stock = stock_on v w same (ap (λ (c : PeopleTable). c.rows) left) (ap (λ (c : PeopleTable). c.last) left) (ap (λ (c : PeopleTable). c.rows) holds)
       (ap (λ (c : PeopleTable). c.last) holds) less.rows less.last on.led.stock in
-      let led = led_closing s v n 0 p on.more on.led before.left.closing in
+      let led = led_closing s v n k p on.more on.led before.left.closing in
       let room : u.room ≡ t.room = ap (λ (x : TrailView). x.room) trail_is in
       let horizon : w.model.horizon ≡ s.model.horizon = ap (λ (x : Model). x.horizon) (same ∙ on.led.same_model) in
       record {
         left = record {
           stock = stock;
-          balanced = wait_step v w n p same left holds less on.led.balanced;
-          closing = closing_less v w same (λ a k. omega (arith, ap (λ (c : PeopleTable). people_at c a k) left)) (λ i k. omega (arith, ap (λ (c : PeopleTable). people_at c i k) holds))
-              (λ i. omega (arith, less.cells i 0)) led;
+          balanced = wait_step v w n k p same left holds less on.led.balanced;
+          closing = closing_less v w same (λ a j. omega (arith, ap (λ (c : PeopleTable). people_at c a j) left)) (λ i j. omega (arith, ap (λ (c : PeopleTable). people_at c i j) holds))
+              (λ i j. omega (arith, less.cells i j)) led;
         };
         room = omega (arith, before.room, room, horizon);
       }

@@ -37,19 +37,19 @@ takes_time m a valid l = (All-get_or (IsArc m.nodes) m.arcs a no_arc l valid.arc
 
 pub closing_less : (s v : Stock) → v.model ≡ s.model
     → ((a k : ℕ) → people_at v.left a k ≤ people_at s.left a k) → ((i k : ℕ) → people_at v.holds i k ≤ people_at s.holds i k)
-    → ((i : ℕ) → people_at v.waiting i 0 ≤ people_at s.waiting i 0) → IsClosing s → IsClosing v
+    → ((i k : ℕ) → people_at v.waiting i k ≤ people_at s.waiting i k) → IsClosing s → IsClosing v
 closing_less s v same left holds waiting h =
     let P : Model → Type 0 = λ w. (n : ℕ) → n < length w.nodes → is_exit_at w n ≡ false → people_at v.holds n w.horizon ≡ 0 in
     let Q : Model → Type 0 = λ w. (a t : ℕ) → a < length w.arcs → 0 < people_at v.left a t → arrival w a t ≤ w.horizon in
-    let R : Model → Type 0 = λ w. (n : ℕ) → n < length w.nodes → 0 < people_at v.waiting n 0 → is_exit_at w n ≡ false in
+    let R : Model → Type 0 = λ w. (n t : ℕ) → n < length w.nodes → 0 < people_at v.waiting n t → is_exit_at w n ≡ false in
     record {
       none_stay = subst P (sym same) (λ n l e. omega (arith, holds n s.model.horizon, h.none_stay n l e));
       in_time = subst Q (sym same) (λ a t l e. h.in_time a t l (omega (arith, e, left a t)));
-      from_inside = subst R (sym same) (λ n l e. h.from_inside n l (omega (arith, e, waiting n)));
+      from_inside = subst R (sym same) (λ n t l e. h.from_inside n t l (omega (arith, e, waiting n t)));
     }
 
 pub led_closing : (s v : Stock) (n t p : ℕ) (steps : List RouteStep) → IsLedOut s v n t p steps → IsClosing s → IsClosing v
-led_closing s v n t p steps h c = closing_less s v h.same_model (λ a k. omega (arith, h.left a k)) h.holds (λ i. omega (arith, ap (λ (x : PeopleTable). people_at x i 0) h.same_waiting)) c
+led_closing s v n t p steps h c = closing_less s v h.same_model (λ a k. omega (arith, h.left a k)) h.holds (λ i k. omega (arith, ap (λ (x : PeopleTable). people_at x i k) h.same_waiting)) c
 
 pub stock_on : (s v : Stock) → v.model ≡ s.model → v.left.rows ≡ s.left.rows → v.left.last ≡ s.left.last → v.holds.rows ≡ s.holds.rows → v.holds.last ≡ s.holds.last
     → v.waiting.rows ≡ s.waiting.rows → v.waiting.last ≡ s.waiting.last → IsStock s → IsStock v
@@ -64,7 +64,7 @@ stock_on s v same a b c d e f h =
       hold_rows = omega (arith, c, h.hold_rows, nodes);
       hold_last = omega (arith, d, h.hold_last, horizon);
       wait_rows = omega (arith, e, h.wait_rows, nodes);
-      wait_last = omega (arith, f, h.wait_last);
+      wait_last = omega (arith, f, h.wait_last, horizon);
     }
 
 less_le : (c d : PeopleTable) (n t p : ℕ) → IsLess c d n t p → (i k : ℕ) → people_at d i k ≤ people_at c i k

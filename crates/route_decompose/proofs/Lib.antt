@@ -5,5 +5,6 @@ pub mod Leading
 pub mod Going
 pub mod ShapeLemmas
 pub mod UsedUp
+pub mod Arrivals
 pub mod Begin
 pub mod Handing

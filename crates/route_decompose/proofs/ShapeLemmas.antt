@@ -1,18 +1,22 @@
 -- The arcs that leave a node, in the network of a model, and models of one site.
-use Rattle.std.proofs.Common.{◌≡◌, ℕ, ◌<◌, ◌≤◌, ap₂, subst, map, ◌∙◌, List, [], ◌∷◌, length, get_or, refl, ap, sym, arith}
+use Rattle.std.proofs.Common.{◌≡◌, ℕ, ◌^◌, ◌<◌, ◌≤◌, Bool, eqb, ap₂, subst, map, ◌∙◌, List, [], ◌∷◌, length, get_or, refl, ap, sym, arith}
+use Rattle.std.specs.List.{filter}
 use Rattle.std.proofs.lemmas.List.{get_or-map, length-map}
+use Rattle.std.proofs.lemmas.List.FromFn.{length-range_with_len}
+use Rattle.std.proofs.lemmas.List.Sums.{count_by-le-length, length-filter}
 use Rattle.evac_law.specs.declared.model.Model.{Model}
 use Rattle.evac_law.specs.declared.model.ArcRow.{ArcRow}
-use Rattle.evac_law.specs.declared.model.NodeRow.{NodeRow}
 use Rattle.evac_law.specs.Building.{IsValid, no_arc, tail}
+use Rattle.evac_law.specs.Limits.{arc_limit}
 use Rattle.evac_law.specs.Shapes.{HasSameShape, name_of_row, way_of_row}
+use Rattle.evac_law.specs.Sums.{below}
 use Rattle.evac_law.specs.Limits as evac
 use Rattle.time_expansion.specs.Limits as time
 use Rattle.time_expansion.specs.declared.ends.Ends.{Ends}
-use Rattle.time_expansion.specs.Expansion.{Expansion, IsExpansion, arcs_from, cells, from_at, no_ends}
+use Rattle.time_expansion.specs.Expansion.{Expansion, IsExpansion, arcs_from, arcs_to, cells, from_at, no_ends, to_at}
 use Rattle.time_expansion.proofs.Lists as lists
-use Rattle.route_decompose.specs.Routes.{IsSameSite, ends_of}
-use Rattle.route_decompose.specs.Stocks.{IsStock, Stock, shape_of}
+use Rattle.route_decompose.specs.Routes.{IsSameSite, ends_of, shape_of}
+use Rattle.route_decompose.specs.Stocks.{IsStock, Stock}
 use Rattle.route_decompose.specs.Tables.{PeopleTable}
 
 arcs_same : (m : Model) → length (shape_of m).ends ≡ length m.arcs
@@ -27,6 +31,9 @@ listed_arc m n i l =
     let here = lists.arc_out (shape_of m) n i 0 l in
     let inside : get_or (arcs_from (shape_of m) n) i 0 < length m.arcs = omega (arith, here.0, arcs_same m) in
     (inside, sym (from_is m (get_or (arcs_from (shape_of m) n) i 0) inside) ∙ here.1)
+
+pub listed_arc_to : (m : Model) (n i : ℕ) → i < length (arcs_to (shape_of m) n) → get_or (arcs_to (shape_of m) n) i 0 < length m.arcs
+listed_arc_to m n i l = let here = lists.arc_into (shape_of m) n i 0 l in omega (arith, here.0, arcs_same m)
 
 pub arc_listed : (m : Model) (n a : ℕ) → a < length m.arcs → tail m a ≡ n
     → (i : ℕ) × (i < length (arcs_from (shape_of m) n)) × (get_or (arcs_from (shape_of m) n) i 0 ≡ a)
@@ -64,37 +71,46 @@ valid_shape m valid = record {
   cells_fit = cells_fit _ (rw (arcs_same m) valid.cells_fit);
 }
 
--- a model put together from the parts of another
-pub same_model : (m : Model) (nodes : List NodeRow) (arcs : List ArcRow) → nodes ≡ m.nodes → arcs ≡ m.arcs
-    → ◌≡◌ {A = Model} (record { seconds = m.seconds; horizon = m.horizon; nodes = nodes; arcs = arcs }) m
-same_model m nodes arcs e f = ap₂ (λ (x : List NodeRow) (y : List ArcRow). record { seconds = m.seconds; horizon = m.horizon; nodes = x; arcs = y }) e f
-
-abbrev pub stock_with : Model → List NodeRow → List ArcRow → PeopleTable → PeopleTable → PeopleTable → Stock
-stock_with m nodes arcs left holds waiting =
-    record { model = record { seconds = m.seconds; horizon = m.horizon; nodes = nodes; arcs = arcs }; left = left; holds = holds; waiting = waiting }
-
-pub stock_made : (m : Model) (nodes : List NodeRow) (arcs : List ArcRow) (left holds waiting : PeopleTable) → IsValid m → nodes ≡ m.nodes → arcs ≡ m.arcs
-    → left.rows ≡ length m.arcs → left.last ≡ m.horizon → holds.rows ≡ length m.nodes → holds.last ≡ m.horizon → waiting.rows ≡ length m.nodes → waiting.last ≡ 0
-    → IsStock (stock_with m nodes arcs left holds waiting)
-stock_made m nodes arcs left holds waiting valid e f a b c d g h =
-    let n = ap length e in
-    let k = ap length f in
-    record {
-      valid = subst IsValid (sym (same_model m nodes arcs e f)) valid;
-      left_rows = omega (arith, a, k);
-      left_last = b;
-      hold_rows = omega (arith, c, n);
-      hold_last = d;
-      wait_rows = omega (arith, g, n);
-      wait_last = h;
-    }
-
 abbrev pub shape_with : ℕ → List Ends → ℕ → Expansion
 shape_with n ends horizon = record { nodes = n; ends = ends; horizon = horizon }
 
 pub shape_made : (m : Model) (n : ℕ) (ends : List Ends) (arcs : List ArcRow) → n ≡ length m.nodes → arcs ≡ m.arcs → ends ≡ map ends_of arcs
     → shape_with n ends m.horizon ≡ shape_of m
 shape_made m n ends arcs a b c = ap₂ (λ x y. shape_with x y m.horizon) a (c ∙ ap (map ends_of) b)
+
+-- few arcs leave a node, and few enter it
+few_arcs : (m : Model) (test : ℕ → Bool) → IsValid m → length (filter test (below (length (shape_of m).ends))) < 2 ^ 11
+unfolding arc_limit
+few_arcs m test valid =
+    let arcs = below (length (shape_of m).ends) in
+    omega (
+      arith,
+      length-filter test arcs,
+      count_by-le-length test arcs,
+      length-range_with_len 0 (length (shape_of m).ends),
+      arcs_same m,
+      valid.arcs_fit,
+    )
+
+pub few_from : (m : Model) (n : ℕ) → IsValid m → length (arcs_from (shape_of m) n) < 2 ^ 11
+unfolding arcs_from
+few_from m n valid = few_arcs m (λ a. eqb (from_at (shape_of m) a) n) valid
+
+pub few_to : (m : Model) (n : ℕ) → IsValid m → length (arcs_to (shape_of m) n) < 2 ^ 11
+unfolding arcs_to
+few_to m n valid = few_arcs m (λ a. eqb (to_at (shape_of m) a) n) valid
+
+-- ---- tables of a model's sizes
+
+abbrev pub stock_with : Model → PeopleTable → PeopleTable → PeopleTable → Stock
+stock_with m left holds waiting = record { model = m; left = left; holds = holds; waiting = waiting }
+
+pub stock_made : (m w : Model) (left holds waiting : PeopleTable) → IsValid m → w ≡ m → left.rows ≡ length m.arcs → left.last ≡ m.horizon
+    → holds.rows ≡ length m.nodes → holds.last ≡ m.horizon → waiting.rows ≡ length m.nodes → waiting.last ≡ m.horizon
+    → IsStock (stock_with w left holds waiting)
+stock_made m w left holds waiting valid e a b c d f g =
+    let P : Model → Type 0 = λ x. IsStock (stock_with x left holds waiting) in
+    subst P (sym e) (record { valid = valid; left_rows = a; left_last = b; hold_rows = c; hold_last = d; wait_rows = f; wait_last = g })
 
 -- ---- models of one shape are of one site
 
@@ -111,7 +127,8 @@ site_of_shape m o h = record {
   horizon = h.horizon;
   nodes = sym (length-map m.nodes name_of_row) ∙ ap length h.names ∙ length-map o.nodes name_of_row;
   ends = ends_by_way m.arcs ∙ ap (map end_of_way) h.ways ∙ sym (ends_by_way o.arcs);
+  entrants = h.entrants;
 }
 
 pub same_site-refl : (m : Model) → IsSameSite m m
-same_site-refl m = record { horizon = refl; nodes = refl; ends = refl }
+same_site-refl m = record { horizon = refl; nodes = refl; ends = refl; entrants = refl }

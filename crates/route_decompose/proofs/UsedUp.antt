@@ -1,4 +1,4 @@
--- Where nobody starts any more, nobody is left.
+-- Where nobody comes from nowhere any more, nobody is left.
 use Rattle.std.proofs.Common.{◌≡◌, ℕ, zero, suc, ◌+◌, ◌-◌, ◌<◌, ◌≤◌, ◌⊎◌, inl, inr, Bool, true, false, cond, ◌&&◌, eqb, leb, length, refl, arith}
 use Rattle.std.proofs.lemmas.Bool.{cases_lt}
 use Rattle.std.proofs.lemmas.Bool.Decides.{nat_tests}
@@ -11,7 +11,7 @@ use Rattle.route_decompose.specs.Stocks.{IsOpen, Stock, before, left_coming, goi
 use Rattle.route_decompose.proofs.Balance.{going_some}
 use Rattle.route_decompose.proofs.TableLemmas.{past_last, past_rows}
 
-module _ (s : Stock) (whole : IsOpen s) (none : (n : ℕ) → people_at s.waiting n 0 ≡ 0) where
+module _ (s : Stock) (whole : IsOpen s) (none : (n t : ℕ) → people_at s.waiting n t ≡ 0) where
   -- nobody is left at a moment
   record IsEmptyAt (t : ℕ) : Type 0 where
     arcs : (a : ℕ) → a < length s.model.arcs → people_at s.left a t ≡ 0
@@ -34,8 +34,8 @@ module _ (s : Stock) (whole : IsOpen s) (none : (n : ℕ) → people_at s.waitin
       omega (arith, le, sum_by-nothing (places m.arcs))
 
   nobody_before : (n t : ℕ) → n < length s.model.nodes → is_exit_at s.model n ≡ false → ((u : ℕ) → u < t → IsEmptyAt u) → before s n t ≡ 0
-  nobody_before n zero l e h = none n
-  nobody_before n (suc t) l e h = (h t (omega arith)).nodes n l e
+  nobody_before n zero l e h = omega (arith, none n 0)
+  nobody_before n (suc t) l e h = omega (arith, none n (suc t), (h t (omega arith)).nodes n l e)
 
   nothing : (b : Bool) → ◌≡◌ {A = ℕ} (cond b 0 0) 0
   nothing true = refl

@@ -7,6 +7,7 @@ use Rattle.evac_law.specs.declared.plan.Move.{Move}
 use Rattle.evac_law.specs.Building.{arrival, entry, head, is_exit_at, tail}
 use Rattle.evac_law.specs.Plans.{moved}
 use Rattle.time_expansion.specs.declared.ends.Ends.{Ends}
+use Rattle.time_expansion.specs.Expansion.{Expansion}
 use Rattle.route_decompose.specs.Tables.{PeopleTable, people_at}
 use Rattle.route_decompose.specs.declared.route.RouteStep.{RouteStep}
 
@@ -87,8 +88,13 @@ pub record IsUsedUp (w : RoutesView) : Type 0 where
 abbrev pub ends_of : ArcRow → Ends
 ends_of a = record { from = a.from; to = a.to }
 
--- another model of the same building: only capacities, starts, rates and marks may differ
+-- the network of a model
+abbrev pub shape_of : Model → Expansion
+shape_of m = record { nodes = length m.nodes; ends = map ends_of m.arcs; horizon = m.horizon }
+
+-- another model of the same building: only capacities, starts, rates, windows and marks may differ
 pub record IsSameSite (m o : Model) : Type 0 where
   pub horizon : m.horizon ≡ o.horizon
   pub nodes : length m.nodes ≡ length o.nodes
   pub ends : map ends_of m.arcs ≡ map ends_of o.arcs
+  pub entrants : m.entrants ≡ o.entrants

@@ -1,17 +1,17 @@
 -- What is left of a plan while it is handed out, and its balance.
-use Rattle.std.specs.Prelude.{◌≡◌, ℕ, zero, suc, ◌+◌, ◌-◌, ◌<◌, ◌≤◌, ◌&&◌, if◌then◌else◌, ◌==◌, nat_le, List, ◌++◌, length, map, IsFalse}
+use Rattle.std.specs.Prelude.{◌≡◌, ℕ, zero, suc, ◌+◌, ◌-◌, ◌<◌, ◌≤◌, ◌&&◌, if◌then◌else◌, ◌==◌, nat_le, List, ◌++◌, length, IsFalse}
 use Rattle.std.specs.List.{sum_by}
 use Rattle.evac_law.specs.declared.model.Model.{Model}
-use Rattle.evac_law.specs.Building.{IsValid, arc_at, arrival, head, is_exit_at, start, tail}
+use Rattle.evac_law.specs.Building.{IsValid, arc_at, arrival, entry, head, is_exit_at, tail}
 use Rattle.evac_law.specs.Plans.{moved}
 use Rattle.evac_law.specs.Stands.{Stand}
 use Rattle.evac_law.specs.Sums.{places}
-use Rattle.time_expansion.specs.Expansion.{Expansion}
 use Rattle.route_decompose.specs.declared.route.RouteStep.{RouteStep}
-use Rattle.route_decompose.specs.Routes.{LeadsOut, ends_of, enters}
+use Rattle.route_decompose.specs.Routes.{LeadsOut, enters}
 use Rattle.route_decompose.specs.Tables.{IsLess, PeopleTable, people_at}
 
--- of a model: the people left on each arc at each moment, those who stay in each node from a moment to the next, and those who start
+-- of a model: the people left on each arc at each moment, those who stay in each node from a moment to the next, and those who come into
+-- each node at each moment from nowhere
 pub record Stock : Type 0 where
   pub model : Model
   pub left : PeopleTable
@@ -26,11 +26,7 @@ pub record IsStock (s : Stock) : Type 0 where
   pub hold_rows : s.holds.rows ≡ length s.model.nodes
   pub hold_last : s.holds.last ≡ s.model.horizon
   pub wait_rows : s.waiting.rows ≡ length s.model.nodes
-  pub wait_last : s.waiting.last ≡ 0
-
--- the network of a model
-abbrev pub shape_of : Model → Expansion
-shape_of m = record { nodes = length m.nodes; ends = map ends_of m.arcs; horizon = m.horizon }
+  pub wait_last : s.waiting.last ≡ s.model.horizon
 
 -- the people who come to a node at a moment along arcs
 unfoldable pub left_coming : Stock → ℕ → ℕ → ℕ
@@ -41,10 +37,14 @@ left_coming s n t =
 unfoldable pub going : Stock → ℕ → ℕ → ℕ
 going s n t = sum_by (λ a. if tail s.model a == n then people_at s.left a t else 0) (places s.model.arcs)
 
--- the people who are in a node before those of a moment come
+-- the people who stay in a node until a moment
+abbrev pub stayed : PeopleTable → ℕ → ℕ → ℕ
+stayed holds n zero = 0
+stayed holds n (suc t) = people_at holds n t
+
+-- the people who are in a node at a moment before those come who come along arcs: who stayed, and who come from nowhere
 abbrev pub before : Stock → ℕ → ℕ → ℕ
-before s n zero = people_at s.waiting n 0
-before s n (suc t) = people_at s.holds n t
+before s n t = stayed s.holds n t + people_at s.waiting n t
 
 -- whoever comes to a node leaves it or stays; but for some people, who are gone from one node at one moment
 abbrev pub IsBalancedBut : Stock → ℕ → ℕ → ℕ → Type 0
@@ -56,7 +56,7 @@ IsBalancedBut s c u p =
 pub record IsClosing (s : Stock) : Type 0 where
   pub none_stay : (n : ℕ) → n < length s.model.nodes → IsFalse (is_exit_at s.model n) → people_at s.holds n s.model.horizon ≡ 0
   pub in_time : (a t : ℕ) → a < length s.model.arcs → 0 < people_at s.left a t → arrival s.model a t ≤ s.model.horizon
-  pub from_inside : (n : ℕ) → n < length s.model.nodes → 0 < people_at s.waiting n 0 → IsFalse (is_exit_at s.model n)
+  pub from_inside : (n t : ℕ) → n < length s.model.nodes → 0 < people_at s.waiting n t → IsFalse (is_exit_at s.model n)
 
 -- what is left is itself a plan that has everybody out
 pub record IsOpen (s : Stock) : Type 0 where
@@ -101,7 +101,11 @@ pub record IsLedOut (s v : Stock) (n t p : ℕ) (steps : List RouteStep) : Type 
 pub record IsStockOf (f : Stand) (s : Stock) : Type 0 where
   pub moves : (a t : ℕ) → a < s.left.rows → t ≤ s.left.last → people_at s.left a t ≡ moved f.plan a t
   pub stays : (n t : ℕ) → n < s.holds.rows → t ≤ s.holds.last → people_at s.holds n t ≡ f.contents n t
-  pub starts : (n : ℕ) → n < s.waiting.rows → people_at s.waiting n 0 ≡ start s.model n
+  pub starts : (n t : ℕ) → n < s.waiting.rows → t ≤ s.waiting.last → people_at s.waiting n t ≡ entry s.model n t
+
+-- nobody waits in the first rows of a table
+abbrev pub IsPassed : PeopleTable → ℕ → Type 0
+IsPassed c first = (n t : ℕ) → n < first → people_at c n t ≡ 0
 
 -- nobody is in the stock
 abbrev pub IsEmpty : Stock → Type 0

@@ -1,18 +1,20 @@
 // How tables take the people of a plan.
-ghost use Rattle.std.specs.Prelude.{◌≡◌, ℕ, ◌<◌, ◌≤◌, length, slice_index_or};
-ghost use Rattle.evac_law.specs.Building.{no_node};
+ghost use Rattle.std.specs.Prelude.{◌≡◌, ℕ, ◌<◌, ◌≤◌, length};
+ghost use Rattle.evac_law.specs.Building.{IsValid, entry};
+ghost use Rattle.evac_law.specs.Limits.{horizon_limit};
 ghost use Rattle.evac_law.specs.Plans.{moved};
 ghost use Rattle.route_decompose.specs.Tables.{IsRowFilled, people_at};
 
 use crate::table::Table;
-use evac_law::{NodeRow, Standing};
+use evac_law::{Model, Standing};
 
 /// Puts the people who enter an arc.
-fn fill_left_row<F: Standing>(table: &mut Table, standing: &F, arc: u32)
+#[tactic(auto, unfolding(evac_law::specs::Limits::horizon_limit))]
+fn fill_moves_row<F: Standing>(table: &mut Table, standing: &F, arc: u32)
     requires arc_in { arc < table.old.rows }
     requires arcs { table.old.rows ≡ (F.stand standing.now).arcs }
     requires horizon { table.old.last ≡ (F.stand standing.now).horizon }
-    requires short { table.old.last < 1000 }
+    requires short { table.old.last ≤ horizon_limit }
     ensures filled { IsRowFilled table.old table.new arc (moved (F.stand standing.now).plan arc) }
 {
     for moment in 0..table.last() + 1 {
@@ -21,25 +23,26 @@ fn fill_left_row<F: Standing>(table: &mut Table, standing: &F, arc: u32)
 }
 
 /// Puts the people who enter the arcs.
-pub fn fill_left<F: Standing>(table: &mut Table, standing: &F)
+pub fn fill_moves<F: Standing>(table: &mut Table, standing: &F)
     requires arcs { table.old.rows ≡ (F.stand standing.now).arcs }
     requires horizon { table.old.last ≡ (F.stand standing.now).horizon }
-    requires short { table.old.last < 1000 }
+    requires short { table.old.last ≤ horizon_limit }
     ensures rows { table.new.rows ≡ table.old.rows }
     ensures last { table.new.last ≡ table.old.last }
     ensures cells { (a t : ℕ) → a < table.old.rows → t ≤ table.old.last → people_at table.new a t ≡ moved (F.stand standing.now).plan a t }
 {
     for arc in 0..table.rows() {
-        fill_left_row(table, standing, arc);
+        fill_moves_row(table, standing, arc);
     }
 }
 
 /// Puts the people who stay in a node.
+#[tactic(auto, unfolding(evac_law::specs::Limits::horizon_limit))]
 fn fill_holds_row<F: Standing>(table: &mut Table, standing: &F, node: u32)
     requires node_in { node < table.old.rows }
     requires nodes { table.old.rows ≡ (F.stand standing.now).nodes }
     requires horizon { table.old.last ≡ (F.stand standing.now).horizon }
-    requires short { table.old.last < 1000 }
+    requires short { table.old.last ≤ horizon_limit }
     ensures filled { IsRowFilled table.old table.new node ((F.stand standing.now).contents node) }
 {
     for moment in 0..table.last() + 1 {
@@ -51,7 +54,7 @@ fn fill_holds_row<F: Standing>(table: &mut Table, standing: &F, node: u32)
 pub fn fill_holds<F: Standing>(table: &mut Table, standing: &F)
     requires nodes { table.old.rows ≡ (F.stand standing.now).nodes }
     requires horizon { table.old.last ≡ (F.stand standing.now).horizon }
-    requires short { table.old.last < 1000 }
+    requires short { table.old.last ≤ horizon_limit }
     ensures rows { table.new.rows ≡ table.old.rows }
     ensures last { table.new.last ≡ table.old.last }
     ensures cells { (n t : ℕ) → n < table.old.rows → t ≤ table.old.last → people_at table.new n t ≡ (F.stand standing.now).contents n t }
@@ -61,14 +64,30 @@ pub fn fill_holds<F: Standing>(table: &mut Table, standing: &F)
     }
 }
 
-/// Puts the people who start in the nodes.
-pub fn fill_starts(table: &mut Table, nodes: &[NodeRow])
-    requires rows { table.old.rows ≡ length nodes.now }
+/// Puts the people who come into a node from nowhere.
+#[tactic(auto, unfolding(evac_law::specs::Limits::horizon_limit))]
+fn fill_entries_row(table: &mut Table, model: &Model, node: u32)
+    requires valid { IsValid model.now }
+    requires node_in { node < table.old.rows }
+    requires nodes { table.old.rows ≡ length model.now.nodes }
+    requires horizon { table.old.last ≡ model.now.horizon }
+    ensures filled { IsRowFilled table.old table.new node (entry model.now node) }
+{
+    for moment in 0..table.last() + 1 {
+        table.put(node, moment, model.entry(node, moment));
+    }
+}
+
+/// Puts the people who come into the nodes from nowhere.
+pub fn fill_entries(table: &mut Table, model: &Model)
+    requires valid { IsValid model.now }
+    requires nodes { table.old.rows ≡ length model.now.nodes }
+    requires horizon { table.old.last ≡ model.now.horizon }
     ensures rows { table.new.rows ≡ table.old.rows }
     ensures last { table.new.last ≡ table.old.last }
-    ensures cells { (n : ℕ) → n < table.old.rows → people_at table.new n 0 ≡ (slice_index_or nodes.now n no_node).start }
+    ensures cells { (n t : ℕ) → n < table.old.rows → t ≤ table.old.last → people_at table.new n t ≡ entry model.now n t }
 {
     for node in 0..table.rows() {
-        table.put(node, 0, nodes[node as usize].start);
+        fill_entries_row(table, model, node);
     }
 }

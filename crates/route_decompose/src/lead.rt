@@ -25,14 +25,15 @@ pub fn lead_out(store: &mut Store, trail: &mut Trail, node: u32, moment: u16, mo
         return 0;
     };
     let left = store.left(arc, moment);
-    let row = store.arc(arc);
+    let next = store.head(arc);
+    let time = store.travel(arc);
     trail.add(RouteStep { moment, arc });
-    if store.is_exit(row.to) {
+    if store.is_exit(next) {
         let people = most.min(left);
         store.take_left(arc, moment, people);
         return people;
     }
-    let people = lead_out(store, trail, row.to, moment + row.travel, most.min(left));
+    let people = lead_out(store, trail, next, moment + time, most.min(left));
     store.take_left(arc, moment, people);
     people
 }

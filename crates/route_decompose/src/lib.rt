@@ -1,7 +1,11 @@
 //! Routes that make up a plan, lent one after another.
+//!
+//! What a list of people's ways needs besides stands here too: a model that is kept with its arcs listed, people by place and moment, and
+//! steps in memory that is reserved once.
 #![tactic(auto)]
 
 mod fill;
+mod layout;
 mod lead;
 mod route;
 mod routes;
@@ -9,5 +13,9 @@ mod store;
 mod table;
 mod trail;
 
+pub use fill::fill_moves;
+pub use layout::Layout;
 pub use route::{Route, RouteStep};
 pub use routes::Routes;
+pub use table::Table;
+pub use trail::Trail;

@@ -76,16 +76,16 @@ impl Routes {
         ensures none { IsFalse result → IsUsedUp self.old }
         ensures same { IsFalse result → self.new ≡ self.old }
     {
-        let Some(node) = self.store.starting() else {
+        let Some((node, moment)) = self.store.starting() else {
             return false;
         };
-        let most = self.store.start(node);
+        let most = self.store.start(node, moment);
         self.trail.clear();
-        let people = lead_out(&mut self.store, &mut self.trail, node, 0, most);
-        self.store.take_start(node, people);
+        let people = lead_out(&mut self.store, &mut self.trail, node, moment, most);
+        self.store.take_start(node, moment, people);
         self.people = people;
         self.start = node;
-        self.entered = 0;
+        self.entered = moment;
         true
     }
 

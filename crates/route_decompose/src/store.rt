@@ -1,64 +1,37 @@
 // What is left of a plan while it is handed out.
-ghost use Rattle.std.specs.Prelude.{◌≡◌, ℕ, ◌<◌, ◌≤◌, IfNone, IfOk, IfSome, length, map};
-ghost use Rattle.evac_law.specs.Building.{IsValid, arc_at, is_exit_at, tail};
+ghost use Rattle.std.specs.Prelude.{◌≡◌, ℕ, ◌<◌, ◌≤◌, IfNone, IfOk, IfSome, length};
+ghost use Rattle.evac_law.specs.Building.{IsValid, arc_at, head, is_exit_at, tail};
 ghost use Rattle.route_decompose.specs.Tables.{IsLess, people_at};
-ghost use Rattle.route_decompose.specs.Stocks.{IsEmpty, IsLessHeld, IsLessLeft, IsStock, IsStockOf, going, shape_of};
-ghost use Rattle.route_decompose.specs.Routes.{IsSameSite, ends_of};
+ghost use Rattle.route_decompose.specs.Stocks.{IsEmpty, IsLessHeld, IsLessLeft, IsPassed, IsStock, IsStockOf, going};
+ghost use Rattle.route_decompose.specs.Routes.{IsSameSite, shape_of};
 ghost use Rattle.time_expansion.specs.Expansion.{arcs_from};
 
-use crate::fill::{fill_holds, fill_left, fill_starts};
+use crate::fill::{fill_entries, fill_holds, fill_moves};
+use crate::layout::Layout;
 use crate::table::Table;
-use evac_law::{ArcRow, NodeRow, Standing};
+use evac_law::Standing;
 use std::alloc::{AllocError, Global};
 use std::marker::Model;
-use time_expansion::{Ends, Shape};
 
-/// A copy of a model's rows, and the people left by arc and moment, by node and moment, and by node.
+/// A model and the people left of a plan: by arc and moment, those who stay and those who come from nowhere by node and moment. In the nodes
+/// before `first` nobody comes from nowhere any more.
 #[derive(Drop)]
 pub struct Store {
-    pub(crate) seconds: u16,
-    pub(crate) horizon: u16,
-    pub(crate) nodes: Vec<NodeRow>,
-    pub(crate) arcs: Vec<ArcRow>,
-    pub(crate) shape: Shape,
+    pub(crate) layout: Layout,
     pub(crate) left: Table,
     pub(crate) holds: Table,
     pub(crate) waiting: Table,
+    pub(crate) first: u32,
 }
 
 impl Model for Store {
-    ghost use Rattle.std.specs.Prelude.{◌≡◌};
-    ghost use Rattle.route_decompose.specs.Stocks.{IsStock, Stock, shape_of};
+    ghost use Rattle.route_decompose.specs.Stocks.{IsPassed, IsStock, Stock};
 
     ghost Value = { Stock };
 
-    ghost view = { λ s. record {
-      model = record { seconds = s.seconds; horizon = s.horizon; nodes = s.nodes.items; arcs = s.arcs.items };
-      left = s.left;
-      holds = s.holds;
-      waiting = s.waiting;
-    } };
+    ghost view = { λ s. record { model = s.layout; left = s.left; holds = s.holds; waiting = s.waiting } };
 
-    ghost invariant = { λ s. IsStock (record {
-      model = record { seconds = s.seconds; horizon = s.horizon; nodes = s.nodes.items; arcs = s.arcs.items };
-      left = s.left;
-      holds = s.holds;
-      waiting = s.waiting;
-    }) × (s.shape ≡ shape_of (record { seconds = s.seconds; horizon = s.horizon; nodes = s.nodes.items; arcs = s.arcs.items })) };
-}
-
-/// The ends of the arcs.
-fn ends_of(alloc: Global, arcs: &[ArcRow]) -> Result<Vec<Ends>, AllocError>
-    ensures { IfOk result (λ r. r.items ≡ map ends_of arcs.now) }
-{
-    let mut ends = Vec::new(alloc);
-    for arc in arcs {
-        ends.push(Ends {
-            from: arc.from,
-            to: arc.to,
-        })?;
-    }
-    Ok(ends)
+    ghost invariant = { λ s. IsStock (record { model = s.layout; left = s.left; holds = s.holds; waiting = s.waiting }) × IsPassed s.waiting s.first };
 }
 
 impl Store {
@@ -69,22 +42,16 @@ impl Store {
         ensures stock { IfOk result IsStock }
         ensures empty { IfOk result IsEmpty }
     {
-        let nodes = Vec::from_slice(alloc, model.nodes.as_slice())?;
-        let arcs = Vec::from_slice(alloc, model.arcs.as_slice())?;
-        let ends = ends_of(alloc, arcs.as_slice())?;
-        let shape = Shape::new(alloc, model.node_count(), ends.as_slice(), model.horizon)?;
+        let layout = Layout::new(alloc, model)?;
         let left = Table::new(alloc, model.arc_count(), model.horizon)?;
         let holds = Table::new(alloc, model.node_count(), model.horizon)?;
-        let waiting = Table::new(alloc, model.node_count(), 0)?;
+        let waiting = Table::new(alloc, model.node_count(), model.horizon)?;
         Ok(Store {
-            seconds: model.seconds,
-            horizon: model.horizon,
-            nodes,
-            arcs,
-            shape,
+            layout,
             left,
             holds,
             waiting,
+            first: 0,
         })
     }
 
@@ -97,16 +64,10 @@ impl Store {
         ensures holds { self.new.holds ≡ self.old.holds }
         ensures waiting { self.new.waiting ≡ self.old.waiting }
     {
-        self.seconds = model.seconds;
-        self.nodes
-            .as_mut_slice()
-            .copy_from_slice(model.nodes.as_slice());
-        self.arcs
-            .as_mut_slice()
-            .copy_from_slice(model.arcs.as_slice());
+        self.layout.set_model(model);
     }
 
-    /// Takes the people of a plan.
+    /// Takes the people of a plan of its model.
     pub fn fill<F: Standing>(&mut self, standing: &F)
         requires nodes { (F.stand standing.now).nodes ≡ length self.old.model.nodes }
         requires arcs { (F.stand standing.now).arcs ≡ length self.old.model.arcs }
@@ -115,30 +76,53 @@ impl Store {
         ensures stock { IsStock self.new }
         ensures of { IsStockOf (F.stand standing.now) self.new }
     {
-        fill_left(&mut self.left, standing);
+        fill_moves(&mut self.left, standing);
         fill_holds(&mut self.holds, standing);
-        fill_starts(&mut self.waiting, self.nodes.as_slice());
+        fill_entries(&mut self.waiting, self.layout.model());
+        self.first = 0;
     }
 
-    /// A node where somebody starts who is left.
-    pub fn starting(&self) -> Option<u32>
-        ensures some { IfSome result (λ n. (n < length self.now.model.nodes) × (0 < people_at self.now.waiting n 0)) }
+    /// The first node, and there the first moment, at which somebody comes from nowhere who is left.
+    fn find(&self) -> Option<(u32, u16)>
+        ensures some { IfSome result (λ p. (p.0 < length self.now.model.nodes) × (p.1 ≤ self.now.model.horizon) × (0 < people_at self.now.waiting p.0 p.1)) }
+        ensures passed { IfSome result (λ p. IsPassed self.now.waiting p.0) }
         ensures none { IfNone result ((n t : ℕ) → people_at self.now.waiting n t ≡ 0) }
     {
-        for node in 0..self.waiting.rows() {
-            if self.waiting.get(node, 0) > 0 {
-                return Some(node);
+        for node in self.first..self.waiting.rows() {
+            if let Some(moment) = self.waiting.first_in(node) {
+                return Some((node, moment));
             }
         }
         None
     }
 
-    /// The arc at a place.
-    pub fn arc(&self, arc: u32) -> ArcRow
-        requires { arc < length self.now.model.arcs }
-        ensures { result ≡ arc_at self.now.model arc }
+    /// A node, and a moment at which somebody comes into it from nowhere who is left.
+    pub fn starting(&mut self) -> Option<(u32, u16)>
+        ensures same { self.new ≡ self.old }
+        ensures some { IfSome result (λ p. (p.0 < length self.old.model.nodes) × (p.1 ≤ self.old.model.horizon) × (0 < people_at self.old.waiting p.0 p.1)) }
+        ensures none { IfNone result ((n t : ℕ) → people_at self.old.waiting n t ≡ 0) }
     {
-        self.arcs[arc as usize]
+        let Some((node, moment)) = self.find() else {
+            return None;
+        };
+        self.first = node;
+        Some((node, moment))
+    }
+
+    /// The node that an arc enters.
+    pub fn head(&self, arc: u32) -> u32
+        requires { arc < length self.now.model.arcs }
+        ensures { result ≡ head self.now.model arc }
+    {
+        self.layout.model().arc(arc).to
+    }
+
+    /// The traversal time of an arc.
+    pub fn travel(&self, arc: u32) -> u16
+        requires { arc < length self.now.model.arcs }
+        ensures { result ≡ (arc_at self.now.model arc).travel }
+    {
+        self.layout.model().arc(arc).travel
     }
 
     /// Whether a node is an exit.
@@ -146,7 +130,7 @@ impl Store {
         requires { node < length self.now.model.nodes }
         ensures { result ≡ is_exit_at self.now.model node }
     {
-        self.nodes[node as usize].name.kind.is_exit()
+        self.layout.is_exit(node)
     }
 
     /// The people left on an arc at a moment.
@@ -167,12 +151,13 @@ impl Store {
         self.holds.get(node, moment)
     }
 
-    /// The people left who start in a node.
-    pub fn start(&self, node: u32) -> u32
-        requires { node < length self.now.model.nodes }
-        ensures { result ≡ people_at self.now.waiting node 0 }
+    /// The people left who come into a node at a moment from nowhere.
+    pub fn start(&self, node: u32, moment: u16) -> u32
+        requires node_in { node < length self.now.model.nodes }
+        requires moment_in { moment ≤ self.now.model.horizon }
+        ensures { result ≡ people_at self.now.waiting node moment }
     {
-        self.waiting.get(node, 0)
+        self.waiting.get(node, moment)
     }
 
     /// The arcs that leave a node, in file order.
@@ -180,7 +165,7 @@ impl Store {
         requires { node < length self.now.model.nodes }
         ensures { result.now ≡ arcs_from (shape_of self.now.model) node }
     {
-        self.shape.leaving(node)
+        self.layout.arcs_from(node)
     }
 
     /// An arc that leaves a node, with people left at a moment.
@@ -219,15 +204,16 @@ impl Store {
         self.holds.take(node, moment, people);
     }
 
-    /// Takes people off those who start in a node.
-    pub fn take_start(&mut self, node: u32, people: u32)
+    /// Takes people off those who come into a node at a moment from nowhere.
+    pub fn take_start(&mut self, node: u32, moment: u16, people: u32)
         requires node_in { node < length self.old.model.nodes }
-        requires enough { people ≤ people_at self.old.waiting node 0 }
+        requires moment_in { moment ≤ self.old.model.horizon }
+        requires enough { people ≤ people_at self.old.waiting node moment }
         ensures model { self.new.model ≡ self.old.model }
         ensures left { self.new.left ≡ self.old.left }
         ensures holds { self.new.holds ≡ self.old.holds }
-        ensures less { IsLess self.old.waiting self.new.waiting node 0 people }
+        ensures less { IsLess self.old.waiting self.new.waiting node moment people }
     {
-        self.waiting.take(node, 0, people);
+        self.waiting.take(node, moment, people);
     }
 }

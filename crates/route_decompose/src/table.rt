@@ -1,5 +1,5 @@
 // People by place and moment.
-ghost use Rattle.std.specs.Prelude.{◌≡◌, ℕ, ◌<◌, ◌≤◌, IfOk, replicate};
+ghost use Rattle.std.specs.Prelude.{◌≡◌, ℕ, ◌<◌, ◌≤◌, IfNone, IfOk, IfSome, replicate};
 ghost use Rattle.route_decompose.specs.Tables.{IsFull, IsLess, IsPut, people_at};
 
 use std::alloc::{AllocError, Global};
@@ -64,6 +64,20 @@ impl Table {
         ensures { result ≡ people_at self.now row moment }
     {
         self.cells[row as usize * (self.last as usize + 1) + moment as usize]
+    }
+
+    /// The first moment at which a row has somebody.
+    pub fn first_in(&self, row: u32) -> Option<u16>
+        requires { row < self.now.rows }
+        ensures some { IfSome result (λ t. (t ≤ self.now.last) × (0 < people_at self.now row t)) }
+        ensures none { IfNone result ((t : ℕ) → people_at self.now row t ≡ 0) }
+    {
+        for moment in 0..u32::from(self.last) + 1 {
+            if self.get(row, moment as u16) > 0 {
+                return Some(moment as u16);
+            }
+        }
+        None
     }
 
     /// Takes people off the number of a row at a moment.

@@ -1,24 +1,22 @@
 -- What the calls of a session come to is what its lines get.
-use Rattle.std.proofs.Common.{◌≡◌, ℕ, ◌+◌, ◌≤◌, List, [], ◌∷◌, Ok, Err, Result, refl, sym, ap, ◌∙◌, subst, inl, inr, arith}
+use Rattle.std.proofs.Common.{◌≡◌, ℕ, ◌+◌, ◌≤◌, List, Ok, Err, Result, refl, sym, ap, ◌∙◌, subst, inl, inr, arith}
 use Rattle.evac_law.specs.declared.edit.Edit.{Edit}
 use Rattle.evac_law.specs.declared.edit.EditFault.{EditFault}
 use Rattle.evac_law.specs.declared.model.Model.{Model}
-use Rattle.evac_law.specs.Building.{IsValid, people}
 use Rattle.evac_law.specs.Certificates.{label_cut}
 use Rattle.evac_law.specs.Edits.{applied, fault_code}
 use Rattle.evac_law.proofs.Optimal.{certified_is_best}
 use Rattle.certificate_text.specs.Block.{number_field_limit}
 use Rattle.certificate_text.specs.BlockLaws.{BlockReadsBack}
 use Rattle.certificate_text.specs.BlockText.{shortfall_text}
-use Rattle.edit_session.specs.declared.faults.BeginFault.{BeginFault}
 use Rattle.edit_session.specs.declared.faults.EditRefusal.TheVariants.{Fault, NotCleared}
 use Rattle.edit_session.specs.declared.faults.UndoRefusal.TheVariants.{NothingToUndo}
 use Rattle.edit_session.specs.declared.work.Work.{Work}
-use Rattle.edit_session.specs.Sessions.{BeginEnds, EditEnds, IsBarred, IsEdited, IsSolved, IsUndone, SessionState, SessionView, UndoEnds}
+use Rattle.edit_session.specs.Sessions.{BeginEnds, EditEnds, IsEdited, IsSolved, IsUndone, SessionState, SessionView, UndoEnds}
 use Rattle.edit_session.specs.Thrift.{IsSpent}
 use Rattle.session_text.specs.StateTexts.{block_text}
-use Rattle.session_talk.specs.Sessions.{Advances, Edits, IsAnswerText, Opens, State, StaysBefore, Undoes, no_undo_code}
-use Rattle.session_talk.specs.Talks.{Reply, refuses}
+use Rattle.session_talk.specs.Sessions.{Edits, IsAnswerText, Opens, State, Undoes, no_undo_code}
+use Rattle.talk.specs.Talks.{Reply, refuses}
 
 -- the block of a state
 abbrev pub block_of_state : State → List ℕ

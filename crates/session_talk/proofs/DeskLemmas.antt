@@ -20,7 +20,13 @@ use Rattle.session_talk.specs.Desks.{IsDesk}
 -- ---- models of one shape
 
 shape-back : (m m' : Model) → HasSameShape m m' → HasSameShape m' m
-shape-back m m' h = record { names = sym h.names; ways = sym h.ways; horizon = sym h.horizon; seconds = sym h.seconds }
+shape-back m m' h = record {
+  names = sym h.names;
+  ways = sym h.ways;
+  horizon = sym h.horizon;
+  seconds = sym h.seconds;
+  entrants = sym h.entrants;
+}
 
 -- ---- at the model that stands
 
@@ -81,6 +87,6 @@ desk_opened names m v routes tables fit site space begins = record {
   building = m;
   of_building = begins_of_building m v.state begins;
   names_fit = fit;
-  site = subst (IsSameSite m) (sym site) (record { horizon = refl; nodes = refl; ends = refl });
+  site = subst (IsSameSite m) (sym site) (record { horizon = refl; nodes = refl; ends = refl; entrants = refl });
   space = space;
 }

@@ -1,10 +1,7 @@
-pub mod TalkLemmas
 pub mod Same
 pub mod Bridge
 pub mod DeskLemmas
 pub mod Saying
 pub mod Replying
-pub mod Holding
-pub mod Going
 pub mod Back
 pub mod Sending

@@ -1,6 +1,6 @@
 -- Whatever plans, labels, routes and cuts are chosen: sessions over the same lines have the same models, indexes, last moments and people out.
 use Rattle.std.specs.Prelude.{Bool, true, false, if◌then◌else◌, nat_lt}
-use Rattle.std.proofs.Common.{◌≡◌, ℕ, ◌+◌, List, [], ◌∷◌, Ok, Err, Some, Result, refl, sym, ap, ◌∙◌, subst, ◌⊎◌, inl, inr, take, arith}
+use Rattle.std.proofs.Common.{◌≡◌, ℕ, ◌+◌, List, [], ◌∷◌, Ok, Err, Result, refl, sym, ap, ◌∙◌, subst, inl, inr, take}
 use Rattle.evac_law.specs.declared.edit.Edit.{Edit}
 use Rattle.evac_law.specs.declared.edit.EditFault.{EditFault}
 use Rattle.evac_law.specs.declared.model.Model.{Model}
@@ -17,7 +17,7 @@ use Rattle.model_text.specs.declared.command.Command.TheVariants as commands
 use Rattle.model_text.specs.declared.fault.TextFault.{TextFault}
 use Rattle.model_text.specs.Commands.{command_of}
 use Rattle.session_talk.specs.Sessions.{Advances, AsksEdit, Edits, Opens, Replies, State, StaysBefore, Undoes, cut_reply, session}
-use Rattle.session_talk.specs.Talks.{RepliesTo, Reply, says}
+use Rattle.talk.specs.Talks.{RepliesTo, Reply, says}
 use Rattle.session_talk.specs.SessionLaws.{AreAlike, EditsApart, SessionsAgree}
 use Rattle.evac_law.proofs.Optimal.{certified_plans_agree, certified_is_clearable}
 

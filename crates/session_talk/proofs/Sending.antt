@@ -1,60 +1,24 @@
--- A text that is put and flushed, and the refusal of a model that can't be cleared.
-use Rattle.std.specs.Prelude.{OnOk}
-use Rattle.std.proofs.Common.{◌≡◌, ℕ, ◌+◌, List, [], ◌++◌, Result, Ok, Err, refl, sym, ap, subst, ◌∙◌, append-nil}
-use Rattle.std.specs.declared.option.Option.{Option}
+-- A session that was opened.
+use Rattle.std.proofs.Common.{ℕ, Ok, subst}
 use Rattle.evac_law.specs.declared.model.Model.{Model}
-use Rattle.evac_law.specs.Certificates.{label_cut}
-use Rattle.line_io.specs.Causes.{Count, HasCause, Rose}
-use Rattle.line_io.specs.Writer.{Puts, PutsText}
-use Rattle.line_io.specs.View.{Reader}
-use Rattle.line_io.specs.declared.out.WriteFault.{WriteFault}
 use Rattle.building_table.specs.Names.{NameTable}
-use Rattle.certificate_text.specs.BlockText.{shortfall_text}
-use Rattle.edit_session.specs.declared.faults.BeginFault.{BeginFault}
-use Rattle.edit_session.specs.declared.faults.BeginFault.TheVariants.{NotCleared}
-use Rattle.edit_session.specs.declared.faults.Short.{Short}
-use Rattle.edit_session.specs.Sessions.{BeginEnds}
-use Rattle.session_talk.specs.Held.{HoldsSession, SendsBy, around, status_after}
-use Rattle.session_talk.specs.Sessions.{OpensShort}
-use Rattle.session_talk.specs.Talks.{Spoken}
-use Rattle.session_talk.proofs.Holding.{held_short}
-use Rattle.session_talk.proofs.Replying.{puts-flushed}
+use Rattle.certificate_text.specs.BlockLaws.{BlockReadsBack}
+use Rattle.session_text.specs.StateTexts.{block_text}
+use Rattle.session_talk.specs.Desks.{DeskBegins, DeskView, Quits, desk_state, gets}
+use Rattle.session_talk.specs.Held.{HoldsSession}
+use Rattle.session_talk.specs.Sessions.{State, session}
+use Rattle.session_talk.proofs.Bridge.{begin_opens, block_reply}
+use Rattle.talk.specs.Held.{Around, HoldsTalk}
+use Rattle.talk.specs.Speaking.{opened, talk_from}
+use Rattle.talk.specs.Talks.{WantsNone}
+use Rattle.talk.proofs.Widening.{held_widens}
 
-pub unsent : {T : Type 0} (fault : WriteFault) (text : List ℕ) (a b : Option (List ℕ)) (p q : List ℕ) (f g : Count) → PutsText {T = T} a p text b q (Err fault) → HasCause {T = T} f g (Err fault)
-    → SendsBy {T = T} (Err fault) text a p f b q g
-unsent fault text a b p q f g put cause = record { put = put; flushed = tt; cause = cause }
-
-pub sent : {T U : Type 0} (result : Result T WriteFault) (done : U) (text : List ℕ) (a b c : Option (List ℕ)) (p q r : List ℕ) (f g h : Count) → PutsText {E = WriteFault} a p text b q (Ok done)
-    → HasCause {E = WriteFault} f g (Ok done) → Puts b q [] c r → OnOk result (r ≡ []) → HasCause g h result → SendsBy result text a p f c r h
-sent (Ok done) first text a b c p q r f g h put quiet flush gone cause = record {
-  put = record { ok = puts-flushed a b c p q r text put.ok flush; err = tt };
-  flushed = gone;
-  cause = record { same = cause.same ∙ quiet.same; failed = tt };
-}
-sent (Err fault) first text a b c p q r f g h put quiet flush gone cause = record {
-  put = record { ok = tt; err = record { front = text; rest = []; parts = sym (append-nil text); put = puts-flushed a b c p q r text put.ok flush } };
-  flushed = tt;
-  cause = record { same = tt; failed = subst (λ (x : Count). Rose x h) quiet.same cause.failed };
-}
-
--- the refusal of a model that can't be cleared
-short_opens : (m : Model) (s : Short) (line n : ℕ) → BeginEnds m (Err (NotCleared s)) n
-    → OpensShort m line (record { status = 1; text = shortfall_text line m (label_cut m s.labels m.horizon) s.most; steps = n })
-short_opens m s line n h = record {
-  most = s.most;
-  refused = refl;
-  short = record { cut = label_cut m s.labels m.horizon; shortfall = h.2.shortfall; barred = h.2.barred; block = refl };
-  spent = h.3;
-}
-
-pub short_held : {T : Type 0} (result : Result T WriteFault) (names : NameTable) (m : Model) (why : BeginFault) (s : Short) (status line n k j : ℕ) (r : Reader) (left : Option (List ℕ)) (reads : Count) (held held' : Option (List ℕ))
-    (pending pending' : List ℕ) (writes writes' : Count) → why ≡ NotCleared s → BeginEnds m (Err why) n → line ≡ r.number → j ≡ k + n → pending ≡ [] → status ≡ status_after result 1
-    → SendsBy result (shortfall_text line s.model (label_cut s.model s.labels s.model.horizon) s.most) held pending writes held' pending' writes'
-    → HoldsSession names m status (around r left reads held writes k) (around r left reads held' writes' j)
-short_held result names m why s status line n k j r left reads held held' pending pending' writes writes' named refused at counted none is sends =
-    let h = subst (λ (w : BeginFault). BeginEnds m (Err w) n) named refused in
-    let text = shortfall_text r.number m (label_cut m s.labels m.horizon) s.most in
-    let here = subst (λ (x : Model). SendsBy result (shortfall_text line x (label_cut x s.labels x.horizon) s.most) held pending writes held' pending' writes') h.0 sends in
-    let there = subst (λ (x : ℕ). SendsBy result (shortfall_text x m (label_cut m s.labels m.horizon) s.most) held pending writes held' pending' writes') at here in
-    let all = held_short result names m s.most text r left reads held held' pending pending' writes writes' k j n counted none there (short_opens m s r.number n h) in
-    subst (λ (x : ℕ). HoldsSession names m x (around r left reads held writes k) (around r left reads held' writes' j)) (sym is) all
+-- a talk that was opened by a desk's block 0 is a session
+pub opened_held : BlockReadsBack → (names : NameTable) (m : Model) (d : DeskView) (n status : ℕ) (a b : Around) → DeskBegins names m (Ok d) n
+    → HoldsTalk (talk_from (opened (block_text d.index d.session.state) (desk_state d) n) (gets d.names) Quits WantsNone) status a b → HoldsSession names m status a b
+opened_held back names m d n status a b h held =
+    let first : State = record { index = 0; standing = d.session.state } in
+    let P : ℕ → Type 0 = λ i. let s : State = record { index = i; standing = d.session.state } in
+    HoldsTalk (talk_from (opened (block_text i d.session.state) s n) (gets d.names) Quits WantsNone) status a b in
+    let Q : NameTable → Type 0 = λ x. HoldsTalk (talk_from (opened (block_text 0 d.session.state) first n) (gets x) Quits WantsNone) status a b in
+    held_widens (session names m) (block_reply first n) (begin_opens back m d.session n h.2) status a b (subst Q h.0 (subst P h.1 held))

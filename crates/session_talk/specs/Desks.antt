@@ -1,12 +1,8 @@
 -- What a session works with, and what it does at a line.
-use Rattle.std.specs.Prelude.{◌≡◌, ℕ, ◌+◌, ◌<◌, List, [], Result, Ok, Err}
+use Rattle.std.specs.Prelude.{◌≡◌, ℕ, ◌≤◌, List, Result, Ok, Err}
 use Rattle.std.specs.declared.option.Option.{Option}
 use Rattle.evac_law.specs.declared.model.Model.{Model}
-use Rattle.line_io.specs.Causes.{Count, Rose}
-use Rattle.line_io.specs.Writer.{Puts, PutsFront}
-use Rattle.line_io.specs.declared.hearing.Heard.{Heard}
-use Rattle.line_io.specs.declared.hearing.Heard.TheVariants.{More, Last}
-use Rattle.line_io.specs.declared.out.WriteFault.{WriteFault}
+use Rattle.line_io.specs.Causes.{Count}
 use Rattle.model_text.specs.declared.command.Command.TheVariants.{Quit}
 use Rattle.model_text.specs.Commands.{command_of}
 use Rattle.building_table.specs.Names.{NameTable, NamesFit}
@@ -16,7 +12,8 @@ use Rattle.route_decompose.specs.Routes.{IsSameSite, RoutesView}
 use Rattle.session_text.specs.Laws.{IsOfBuilding}
 use Rattle.session_text.specs.Spaces.{IsSpace, SpaceView}
 use Rattle.session_talk.specs.Sessions.{Replies, State}
-use Rattle.session_talk.specs.Talks.{Reply}
+use Rattle.talk.specs.Speaking.{Shown, shown}
+use Rattle.talk.specs.Talks.{Replying}
 
 -- a desk as contracts see it: the names of a building, the index of the block written last, and the session
 pub record DeskView : Type 0 where
@@ -36,51 +33,20 @@ pub record IsDesk (names : NameTable) (session : SessionView) (routes : RoutesVi
   pub site : IsSameSite building routes.model
   pub space : IsSpace building names tables
 
--- what a session shows: its names, where it is, what the sink holds and what is pending, how often the sink failed, and the steps counted
-pub record Shown : Type 0 where
-  pub names : NameTable
-  pub state : State
-  pub held : Option (List ℕ)
-  pub pending : List ℕ
-  pub faults : Count
-  pub steps : ℕ
+-- what is shown of a desk
+abbrev pub shown_of : DeskView → Option (List ℕ) → List ℕ → Count → ℕ → Shown NameTable State
+shown_of d held pending faults steps = shown d.names (desk_state d) held pending faults steps
 
-abbrev pub shown : DeskView → Option (List ℕ) → List ℕ → Count → ℕ → Shown
-shown d held pending faults steps =
-    record { names = d.names; state = desk_state d; held = held; pending = pending; faults = faults; steps = steps }
+-- what a line gets in a session with these names, and which line quits
+abbrev pub gets : NameTable → Replying State
+gets names = λ line s text r. Replies names line s (command_of text) r
 
--- it said a reply, whole
-pub record Says (s : Shown) (r : Reply State) (s' : Shown) : Type 0 where
-  pub names : s'.names ≡ s.names
-  pub state : s'.state ≡ r.after
-  pub put : Puts s.held s.pending r.text s'.held s'.pending
-  pub faults : s'.faults ≡ s.faults
-  pub steps : s'.steps ≡ s.steps + r.steps
+abbrev pub Quits : List ℕ → Type 0
+Quits text = command_of text ≡ Ok Quit
 
--- it said a front of a reply, since the sink failed
-pub record SaysFront (s : Shown) (r : Reply State) (s' : Shown) : Type 0 where
-  pub put : PutsFront s.held s.pending r.text s'.held s'.pending
-  pub rose : Rose s.faults s'.faults
-  pub steps : s'.steps ≡ s.steps + r.steps
-
--- it said a reply, whole at `Ok`, and a front of it at `Err`
-abbrev pub SaysBy : {T : Type 0} → Result T WriteFault → Shown → Reply State → Shown → Type 0
-SaysBy (Ok done) s r s' = Says s r s'
-SaysBy (Err fault) s r s' = SaysFront s r s'
-
--- it says one of these replies
-abbrev pub SaysSome : {T : Type 0} → (Reply State → Type 0) → Result T WriteFault → Shown → Shown → Type 0
-SaysSome Gets result s s' = (r : Reply State) × Gets r × SaysBy result s r s'
-
--- what it does at a line: it replies and flushes, or it quits
-abbrev pub HearsCommand : Shown → ℕ → List ℕ → Result Heard WriteFault → Shown → Type 0
-HearsCommand s line text (Ok More) s' = (r : Reply State) × Replies s.names line s.state (command_of text) r × Says s r s' × (s'.pending ≡ [])
-HearsCommand s line text (Ok Last) s' = (command_of text ≡ Ok Quit) × (s' ≡ s)
-HearsCommand s line text (Err fault) s' = (r : Reply State) × Replies s.names line s.state (command_of text) r × SaysFront s r s'
-
--- the same, where no more blocks than lines were written
-abbrev pub HearsLine : Shown → ℕ → List ℕ → Result Heard WriteFault → Shown → Type 0
-HearsLine s line text result s' = s.state.index < line → HearsCommand s line text result s'
+-- no more blocks are written than lines are answered
+abbrev pub Behind : ℕ → State → Type 0
+Behind before s = s.index ≤ before
 
 -- a desk begins with a building's model, at block 0; or the model can't be cleared
 abbrev pub DeskBegins : NameTable → Model → Result DeskView BeginFault → ℕ → Type 0

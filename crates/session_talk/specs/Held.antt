@@ -1,110 +1,16 @@
 -- What holding a session over the lines of a source comes to.
-use Rattle.std.specs.Prelude.{◌≡◌, ◌≢◌, ℕ, ◌+◌, ◌≤◌, true, false, List, [], ◌∷◌, ◌++◌, Result, Ok, Err, OnOk, None, Some, ⊤, ◌⊎◌}
-use Rattle.std.specs.declared.option.Option.{Option}
-use Rattle.std.specs.Io.KnownBytes.{Appends}
+use Rattle.std.specs.Prelude.{ℕ, List}
 use Rattle.evac_law.specs.declared.model.Model.{Model}
-use Rattle.line_io.specs.Causes.{Count, HasCause, Rose}
-use Rattle.line_io.specs.Line.{Line, input_too_long, line_too_long}
-use Rattle.line_io.specs.Passes.{Passes}
-use Rattle.line_io.specs.Reader.{is_settled, lines_left}
-use Rattle.line_io.specs.View.{Reader}
-use Rattle.line_io.specs.Writer.{PutsText}
-use Rattle.line_io.specs.declared.hearing.Ending.{Ending}
-use Rattle.line_io.specs.declared.hearing.Ending.TheVariants.{Finished, Failed, InputEnded, Fault}
-use Rattle.line_io.specs.declared.lines.LineFault.TheVariants.{ReadFault, LineTooLong, InputTooLong}
-use Rattle.line_io.specs.declared.out.WriteFault.{WriteFault}
-use Rattle.certificate_text.specs.BlockText.{refusal_line}
-use Rattle.model_text.specs.declared.command.Command.TheVariants.{Quit}
-use Rattle.model_text.specs.Commands.{command_of}
+use Rattle.line_io.specs.Line.{Line}
 use Rattle.building_table.specs.Names.{NameTable}
-use Rattle.session_talk.specs.Sessions.{SessionAnswers, session}
-use Rattle.session_talk.specs.Talks.{IsTalkFront, Spoken, TalkGoesOn, TalkGoesWithin}
-
--- what a session meets outside: a reader with the bytes that its source has left, the bytes that the sink holds, where they are told, how often
--- each failed, and the steps counted
-pub record Around : Type 0 where
-  pub reader : Reader
-  pub left : Option (List ℕ)
-  pub held : Option (List ℕ)
-  pub reads : Count
-  pub writes : Count
-  pub steps : ℕ
-
-abbrev pub around : Reader → Option (List ℕ) → Count → Option (List ℕ) → Count → ℕ → Around
-around reader left reads held writes steps = record { reader = reader; left = left; held = held; reads = reads; writes = writes; steps = steps }
-
--- what holds of the lines that aren't given yet, where the source tells its bytes
-abbrev pub OfLines : Option (List Line) → (List Line → Type 0) → Type 0
-OfLines None Holds = ⊤
-OfLines (Some lines) Holds = Holds lines
-
--- nothing is left to read: the source has ended, and nothing is pending
-abbrev pub IsReadOut : Reader → Type 0
-IsReadOut r = (r.ended ≡ true) × (r.pending ≡ [])
-
--- the last of some lines quits
-abbrev pub EndsByQuit : List (List ℕ) → Type 0
-EndsByQuit texts = (first : List (List ℕ)) × (line : List ℕ) × (texts ≡ first ++ (line ∷ [])) × (command_of line ≡ Ok Quit)
+use Rattle.session_talk.specs.Sessions.{session}
+use Rattle.talk.specs.Held.{Around, HoldsTalk}
+use Rattle.talk.specs.Talks.{Spoken, TalkFront}
 
 -- the front of a session, up to its end or over the first of the lines
 abbrev pub SessionFront : NameTable → Model → ℕ → List Line → Spoken → Type 0
-SessionFront names m before lines x =
-    IsTalkFront (SessionAnswers names m before lines) x ⊎ IsTalkFront (TalkGoesWithin (session names m) before lines) x
-
--- a count of faults rose where its object ended the session, and is the same else
-pub record RoseAt (status end : ℕ) (before after : Count) : Type 0 where
-  pub rose : status ≡ end → Rose before after
-  pub same : status ≢ end → after ≡ before
+SessionFront names m before lines x = TalkFront (session names m) before lines x
 
 -- a session was held on a model, by its status: 0 done, 1 refused, 3 the source failed, 4 the sink failed, 5 there was no memory
-pub record HoldsSession (names : NameTable) (m : Model) (status : ℕ) (a b : Around) : Type 0 where
-  pub did : Spoken
-  -- the lines that it heard
-  pub heard : List (List ℕ)
-  pub passes : Passes a.reader b.reader a.left b.left heard
-  pub over : did.status ≡ status
-  pub known : (status ≤ 5) × (status ≢ 2)
-  pub written : Appends a.held b.held did.text
-  pub counted : b.steps ≡ a.steps + did.steps
-  pub reads : RoseAt status 3 a.reads b.reads
-  pub writes : RoseAt status 4 a.writes b.writes
-  -- at statuses 0 and 1 it is the whole session over the lines that were left, or the refusal of the model
-  pub whole : status ≤ 1 → OfLines (lines_left a.reader a.left) (λ lines. SessionAnswers names m a.reader.number lines did)
-  -- at status 0 all is read, or a line that quits
-  pub read_on : status ≡ 0 → IsReadOut b.reader ⊎ EndsByQuit heard
-  -- at status 3 it is the session over just the lines that it heard, and the next line wasn't there whole
-  pub so_far : status ≡ 3 → TalkGoesOn (session names m) a.reader.number heard did × (is_settled b.reader ≡ false)
-  -- at status 4 a front
-  pub front : status ≡ 4 → OfLines (lines_left a.reader a.left) (λ lines. SessionFront names m a.reader.number lines did)
-  -- without memory nothing is written, and no line is heard
-  pub nothing : status ≡ 5 → (did.text ≡ []) × (heard ≡ [])
-
--- the status behind a text that was sent
-abbrev pub status_after : {T E : Type 0} → Result T E → ℕ → ℕ
-status_after (Ok done) status = status
-status_after (Err fault) status = 4
-
--- a text was put and flushed, whole at `Ok`, and a front of it at `Err`
-pub record SendsBy {T : Type 0} (result : Result T WriteFault) (text : List ℕ) (held : Option (List ℕ)) (pending : List ℕ) (faults : Count)
-    (held' : Option (List ℕ)) (pending' : List ℕ) (faults' : Count) : Type 0 where
-  pub put : PutsText held pending text held' pending' result
-  pub flushed : OnOk result (pending' ≡ [])
-  pub cause : HasCause faults faults' result
-
--- the refusal of a line was sent, and the session is over
-pub record RefusesLine (code line status : ℕ) (held : Option (List ℕ)) (pending : List ℕ) (faults : Count) (held' : Option (List ℕ))
-    (pending' : List ℕ) (faults' : Count) : Type 0 where
-  pub sent : Result (Unit {0}) WriteFault
-  pub over : status ≡ status_after sent 1
-  pub sends : SendsBy sent (refusal_line code line) held pending faults held' pending' faults'
-
--- a session over so many lines is over, by how listening ended
-abbrev pub ConcludesSession : Ending WriteFault → ℕ → ℕ → Option (List ℕ) → List ℕ → Count → Option (List ℕ) → List ℕ → Count → Type 0
-ConcludesSession Finished number status held pending faults held' pending' faults' = (status ≡ 0) × (held' ≡ held) × (faults' ≡ faults)
-ConcludesSession InputEnded number status held pending faults held' pending' faults' = (status ≡ 0) × (held' ≡ held) × (faults' ≡ faults)
-ConcludesSession (Failed fault) number status held pending faults held' pending' faults' = (status ≡ 4) × (held' ≡ held) × (faults' ≡ faults)
-ConcludesSession (Fault ReadFault) number status held pending faults held' pending' faults' = (status ≡ 3) × (held' ≡ held) × (faults' ≡ faults)
-ConcludesSession (Fault LineTooLong) number status held pending faults held' pending' faults' =
-    RefusesLine line_too_long (number + 1) status held pending faults held' pending' faults'
-ConcludesSession (Fault InputTooLong) number status held pending faults held' pending' faults' =
-    RefusesLine input_too_long (number + 1) status held pending faults held' pending' faults'
+abbrev pub HoldsSession : NameTable → Model → ℕ → Around → Around → Type 0
+HoldsSession names m status a b = HoldsTalk (session names m) status a b

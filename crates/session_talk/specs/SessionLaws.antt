@@ -1,25 +1,18 @@
 -- The laws on sessions.
-use Rattle.std.specs.Prelude.{◌≡◌, ℕ, ◌+◌, List, ◌++◌, length}
+use Rattle.std.specs.Prelude.{◌≡◌, ℕ, List, ◌++◌}
 use Rattle.evac_law.specs.declared.model.Model.{Model}
 use Rattle.evac_law.specs.Plans.{out_by}
 use Rattle.building_table.specs.Names.{NameTable}
 use Rattle.session_talk.specs.Sessions.{Advances, SessionGoes, State, StaysBefore, session}
-use Rattle.session_talk.specs.Talks.{RepliesTo, Reply, Talk, TalkGoes, followed}
+use Rattle.talk.specs.Parts.{IsParted}
+use Rattle.talk.specs.Talks.{Reply}
 
 -- an edited model that a session goes on to isn't refused as well
 abbrev pub EditsApart : Type 0
 EditsApart =
     (s : State) (m : Model) (earlier : List Model) (line : ℕ) (r q : Reply State) → Advances s m earlier r → StaysBefore s m line q → ⊥
 
--- a talk over lines is one over the first of them, with the replies to the others behind it
-pub record IsParted {S : Type 0} (talk : Talk S) (before : ℕ) (xs ys : List (List ℕ)) (r : Reply S) : Type 0 where
-  pub first : Reply S
-  pub more : Reply S
-  pub goes : TalkGoes talk before xs first
-  pub replies : RepliesTo talk.Gets (before + length xs) first.after ys more
-  pub all : r ≡ followed first more
-
--- so is a session
+-- a session over lines is one over the first of them, with the replies to the others behind it
 abbrev pub SessionsPart : Type 0
 SessionsPart =
     (names : NameTable) (m : Model) (before : ℕ) (xs ys : List (List ℕ)) (r : Reply State) → SessionGoes names m before (xs ++ ys) r

@@ -4,48 +4,33 @@ use Rattle.evac_law.specs.declared.edit.Edit.{Edit}
 use Rattle.evac_law.specs.declared.edit.EditFault.{EditFault}
 use Rattle.evac_law.specs.declared.model.Model.{Model}
 use Rattle.evac_law.specs.declared.plan.Move.{Move}
-use Rattle.evac_law.specs.Certificates.{IsClearable, IsShortfall}
-use Rattle.evac_law.specs.Cuts.{Cut}
 use Rattle.evac_law.specs.Edits.{applied, fault_code}
 use Rattle.evac_law.specs.Plans.{IsFeasible, out_by}
 use Rattle.line_io.specs.Line.{Line}
 use Rattle.model_text.specs.declared.command.Command.{Command}
 use Rattle.model_text.specs.declared.command.Command.TheVariants.{Blank, Undo, Cut as CutAt, Routes, Clearing, Bottlenecks, Summary, Work, Quit}
 use Rattle.model_text.specs.declared.fault.TextFault.{TextFault}
-use Rattle.model_text.specs.Codes.{text_fault_code, unknown_node}
+use Rattle.model_text.specs.Codes.{text_fault_code}
 use Rattle.model_text.specs.Commands.{command_of}
 use Rattle.building_table.specs.declared.faults.NameFault.{NameFault}
-use Rattle.building_table.specs.declared.faults.NameFault.TheVariants.{UnknownNode, NoArc}
 use Rattle.building_table.specs.EditNames.{edit_named}
 use Rattle.building_table.specs.Names.{NameTable}
 use Rattle.certificate_text.specs.BlockLaws.{ReadsBack}
-use Rattle.certificate_text.specs.BlockText.{shortfall_text}
 use Rattle.edit_session.specs.Sessions.{Begins, GoesOn, SessionState, with_former}
-use Rattle.edit_session.specs.Thrift.{IsCounted, IsSpent, IsSpentOpening}
+use Rattle.edit_session.specs.Thrift.{IsCounted, IsSpent}
 use Rattle.session_text.specs.StateTexts.{SaysRoutesOf, SaysSummary, block_text, bottlenecks_of, clearing_of, cut_of, work_of}
-use Rattle.session_talk.specs.Talks.{Reply, Spoken, Talk, TalkGoes, TalkRun, refuses, says}
+use Rattle.talk.specs.Codes.{name_code, no_period_code}
+use Rattle.talk.specs.Short.{IsShortText, OpensShort}
+use Rattle.talk.specs.Talks.{Reply, Spoken, Talk, TalkAnswers, TalkGoes, TalkRun, WantsNone, refuses, says}
 
 -- where a session is between two lines: the index of the block written last, and what stands since then
 pub record State : Type 0 where
   pub index : ℕ
   pub standing : SessionState
 
--- ---- codes
-
--- an arc that isn't there, a period that isn't there, and an undo where no edit is kept
-abbrev pub no_arc_code : ℕ
-no_arc_code = 32
-
-abbrev pub no_period_code : ℕ
-no_period_code = 33
-
+-- an undo where no edit is kept
 abbrev pub no_undo_code : ℕ
 no_undo_code = 39
-
--- a name that isn't there
-abbrev pub name_code : NameFault → ℕ
-name_code UnknownNode = unknown_node
-name_code NoArc = no_arc_code
 
 -- ---- blocks
 
@@ -57,13 +42,6 @@ pub record IsAnswerText (s : State) (text : List ℕ) : Type 0 where
       → out_by s.standing.model other k ≤ out_by s.standing.model s.standing.plan k
   pub reads_back : ReadsBack s.index s.standing.model s.standing.plan s.standing.labels s.standing.last
 
--- the text is the refusal of a model that can't be cleared, at a line, with a cut that is worth `most` at the horizon, fewer than the people
-pub record IsShortText (m : Model) (line most : ℕ) (text : List ℕ) : Type 0 where
-  pub cut : Cut
-  pub shortfall : IsShortfall m cut most
-  pub barred : ¬ IsClearable m
-  pub block : text ≡ shortfall_text line m cut most
-
 -- ---- the opening
 
 -- a model is opened with block 0, which takes the pushes of its plan
@@ -72,13 +50,6 @@ pub record Opens (m : Model) (r : Reply State) : Type 0 where
   pub first : r.after.index ≡ 0
   pub answer : IsAnswerText r.after r.text
   pub counted : r.steps ≡ r.after.standing.work.pushes
-
--- a model is refused at a line, as one that can't be cleared
-pub record OpensShort (m : Model) (line : ℕ) (x : Spoken) : Type 0 where
-  pub most : ℕ
-  pub refused : x.status ≡ 1
-  pub short : IsShortText m line most x.text
-  pub spent : IsSpentOpening m most x.steps
 
 -- ---- the replies
 
@@ -135,8 +106,10 @@ Replies names line s (Ok edit) r = AsksEdit line s (edit_named names edit) r
 abbrev pub session : NameTable → Model → Talk State
 session names m = record {
   Opens = Opens m;
+  Refuses = OpensShort m;
   Gets = λ line s text r. Replies names line s (command_of text) r;
   Quits = λ text. command_of text ≡ Ok Quit;
+  Wants = WantsNone;
 }
 
 -- a session over some lines: all are answered, and none of them ends it
@@ -149,4 +122,4 @@ SessionRun names m before lines x = TalkRun (session names m) before lines x
 
 -- a building is opened and the lines behind it are answered, or it is refused at the line of its end
 abbrev pub SessionAnswers : NameTable → Model → ℕ → List Line → Spoken → Type 0
-SessionAnswers names m before lines x = SessionRun names m before lines x ⊎ OpensShort m before x
+SessionAnswers names m before lines x = TalkAnswers (session names m) before lines x

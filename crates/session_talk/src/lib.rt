@@ -2,15 +2,14 @@
 //! line quits, or a line has a fault.
 //!
 //! `hold_session` takes all memory before it writes, and brings each reply to the sink before it reads on. `specs/Sessions` says what a line
-//! gets, `specs/Talks` how a talk goes over lines, and `specs/Held` what a whole session comes to.
+//! gets; how a talk goes over lines, and what a whole talk comes to, is said by `talk`.
 #![tactic(auto)]
 
 mod desk;
 mod hold;
 mod laws;
 mod reply;
-mod status;
-mod talker;
+mod speaker;
 
 pub use hold::hold_session;
 pub use laws::{edits_apart, sessions_agree, sessions_part};

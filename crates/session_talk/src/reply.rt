@@ -3,31 +3,20 @@ ghost use Rattle.std.specs.Prelude.{◌≡◌, ◌≢◌, ◌<◌, ◌≤◌, �
 ghost use Rattle.evac_law.specs.Edits.{IsEditOf, applied};
 ghost use Rattle.building_table.specs.EditNames.{IsEdit, edit_named};
 ghost use Rattle.line_io.specs.Line.{input_limit};
-ghost use Rattle.session_talk.specs.Desks.{SaysSome, shown, desk_state};
-ghost use Rattle.session_talk.specs.Sessions.{AsksEdit, Edits, Replies, Undoes, name_code};
+ghost use Rattle.session_talk.specs.Desks.{desk_state, shown_of};
+ghost use Rattle.session_talk.specs.Sessions.{AsksEdit, Edits, Replies, Undoes};
+ghost use Rattle.talk.specs.Speaking.{SaysSome};
 
 use crate::desk::Desk;
-use building_table::NameFault;
 use certificate_text::write_refusal;
 use edit_session::{EditRefusal, UndoRefusal};
 use evac_law::{Edit, Steps};
 use line_io::{Out, Sink, WriteFault};
 use model_text::{Command, TextFault};
 use std::sync::ledger::Ledger;
-
-const NO_PERIOD: u8 = 33;
+use talk::codes::{NO_PERIOD, name_code};
 
 const NOTHING_TO_UNDO: u8 = 39;
-
-// The number by which a refusal names a name that isn't there.
-fn name_code(fault: NameFault) -> u8
-    ensures { result ≡ name_code fault }
-{
-    match fault {
-        NameFault::UnknownNode => 13,
-        NameFault::NoArc => 32,
-    }
-}
 
 // An edit gets the next block, or a refusal with all as it was.
 fn reply_edit<K: Sink, L: Ledger>(
@@ -41,7 +30,7 @@ fn reply_edit<K: Sink, L: Ledger>(
     requires edit { IsEditOf desk.old.session.state.model edit }
     requires line { line ≤ input_limit }
     ensures { desk.old.index < line → SaysSome (Edits line (desk_state desk.old) (applied desk.old.session.state.model edit)) result
-        (shown desk.old (K.held sink.old) out.old (K.faults sink.old) steps.old) (shown desk.new (K.held sink.new) out.new (K.faults sink.new) steps.new) }
+        (shown_of desk.old (K.held sink.old) out.old (K.faults sink.old) steps.old) (shown_of desk.new (K.held sink.new) out.new (K.faults sink.new) steps.new) }
 {
     match desk.edit(edit, steps) {
         Ok(_) => desk.write_block(out, sink),
@@ -64,7 +53,7 @@ fn reply_named<K: Sink, L: Ledger>(
     requires edit { IsEdit command }
     requires line { line ≤ input_limit }
     ensures { desk.old.index < line → SaysSome (AsksEdit line (desk_state desk.old) (edit_named desk.old.names command)) result
-        (shown desk.old (K.held sink.old) out.old (K.faults sink.old) steps.old) (shown desk.new (K.held sink.new) out.new (K.faults sink.new) steps.new) }
+        (shown_of desk.old (K.held sink.old) out.old (K.faults sink.old) steps.old) (shown_of desk.new (K.held sink.new) out.new (K.faults sink.new) steps.new) }
 {
     match desk.edit_of(command) {
         Ok(edit) => reply_edit(desk, out, sink, steps, edit, line),
@@ -82,7 +71,7 @@ fn reply_undo<K: Sink, L: Ledger>(
 ) -> Result<(), WriteFault>
     requires { line ≤ input_limit }
     ensures { desk.old.index < line → SaysSome (Undoes line (desk_state desk.old) desk.old.session.state.former) result
-        (shown desk.old (K.held sink.old) out.old (K.faults sink.old) steps.old) (shown desk.new (K.held sink.new) out.new (K.faults sink.new) steps.new) }
+        (shown_of desk.old (K.held sink.old) out.old (K.faults sink.old) steps.old) (shown_of desk.new (K.held sink.new) out.new (K.faults sink.new) steps.new) }
 {
     match desk.undo(steps) {
         Ok(_) => desk.write_block(out, sink),
@@ -99,7 +88,7 @@ fn reply_cut<K: Sink>(
     line: u32,
 ) -> Result<(), WriteFault>
     ensures { (steps : ℕ) → SaysSome (Replies desk.now.names line (desk_state desk.now) (Ok (Command.Cut period))) result
-        (shown desk.now (K.held sink.old) out.old (K.faults sink.old) steps) (shown desk.now (K.held sink.new) out.new (K.faults sink.new) steps) }
+        (shown_of desk.now (K.held sink.old) out.old (K.faults sink.old) steps) (shown_of desk.now (K.held sink.new) out.new (K.faults sink.new) steps) }
 {
     if period > u32::from(desk.horizon()) {
         write_refusal(out, sink, NO_PERIOD, line)
@@ -111,7 +100,7 @@ fn reply_cut<K: Sink>(
 // Routes that make up the plan.
 fn reply_routes<K: Sink>(desk: &mut Desk, out: &mut Out, sink: &mut K) -> Result<(), WriteFault>
     ensures { (line steps : ℕ) → SaysSome (Replies desk.old.names line (desk_state desk.old) (Ok Command.Routes)) result
-        (shown desk.old (K.held sink.old) out.old (K.faults sink.old) steps) (shown desk.new (K.held sink.new) out.new (K.faults sink.new) steps) }
+        (shown_of desk.old (K.held sink.old) out.old (K.faults sink.old) steps) (shown_of desk.new (K.held sink.new) out.new (K.faults sink.new) steps) }
 {
     desk.write_routes(out, sink)
 }
@@ -119,7 +108,7 @@ fn reply_routes<K: Sink>(desk: &mut Desk, out: &mut Out, sink: &mut K) -> Result
 // When each node and each floor is empty.
 fn reply_clearing<K: Sink>(desk: &mut Desk, out: &mut Out, sink: &mut K) -> Result<(), WriteFault>
     ensures { (line steps : ℕ) → SaysSome (Replies desk.old.names line (desk_state desk.old) (Ok Command.Clearing)) result
-        (shown desk.old (K.held sink.old) out.old (K.faults sink.old) steps) (shown desk.new (K.held sink.new) out.new (K.faults sink.new) steps) }
+        (shown_of desk.old (K.held sink.old) out.old (K.faults sink.old) steps) (shown_of desk.new (K.held sink.new) out.new (K.faults sink.new) steps) }
 {
     desk.write_clearing(out, sink)
 }
@@ -131,7 +120,7 @@ fn reply_bottlenecks<K: Sink>(
     sink: &mut K,
 ) -> Result<(), WriteFault>
     ensures { (line steps : ℕ) → SaysSome (Replies desk.old.names line (desk_state desk.old) (Ok Command.Bottlenecks)) result
-        (shown desk.old (K.held sink.old) out.old (K.faults sink.old) steps) (shown desk.new (K.held sink.new) out.new (K.faults sink.new) steps) }
+        (shown_of desk.old (K.held sink.old) out.old (K.faults sink.old) steps) (shown_of desk.new (K.held sink.new) out.new (K.faults sink.new) steps) }
 {
     desk.write_bottlenecks(out, sink)
 }
@@ -139,7 +128,7 @@ fn reply_bottlenecks<K: Sink>(
 // The summary of the plan.
 fn reply_summary<K: Sink>(desk: &mut Desk, out: &mut Out, sink: &mut K) -> Result<(), WriteFault>
     ensures { (line steps : ℕ) → SaysSome (Replies desk.old.names line (desk_state desk.old) (Ok Command.Summary)) result
-        (shown desk.old (K.held sink.old) out.old (K.faults sink.old) steps) (shown desk.new (K.held sink.new) out.new (K.faults sink.new) steps) }
+        (shown_of desk.old (K.held sink.old) out.old (K.faults sink.old) steps) (shown_of desk.new (K.held sink.new) out.new (K.faults sink.new) steps) }
 {
     desk.write_summary(out, sink)
 }
@@ -147,7 +136,7 @@ fn reply_summary<K: Sink>(desk: &mut Desk, out: &mut Out, sink: &mut K) -> Resul
 // The work of the last edit or undo that was made.
 fn reply_work<K: Sink>(desk: &Desk, out: &mut Out, sink: &mut K) -> Result<(), WriteFault>
     ensures { (line steps : ℕ) → SaysSome (Replies desk.now.names line (desk_state desk.now) (Ok Command.Work)) result
-        (shown desk.now (K.held sink.old) out.old (K.faults sink.old) steps) (shown desk.now (K.held sink.new) out.new (K.faults sink.new) steps) }
+        (shown_of desk.now (K.held sink.old) out.old (K.faults sink.old) steps) (shown_of desk.now (K.held sink.new) out.new (K.faults sink.new) steps) }
 {
     desk.write_work(out, sink)
 }
@@ -164,7 +153,7 @@ fn reply_command<K: Sink, L: Ledger>(
     requires goes_on { command ≢ Command.Quit }
     requires line { line ≤ input_limit }
     ensures { desk.old.index < line → SaysSome (Replies desk.old.names line (desk_state desk.old) (Ok command)) result
-        (shown desk.old (K.held sink.old) out.old (K.faults sink.old) steps.old) (shown desk.new (K.held sink.new) out.new (K.faults sink.new) steps.new) }
+        (shown_of desk.old (K.held sink.old) out.old (K.faults sink.old) steps.old) (shown_of desk.new (K.held sink.new) out.new (K.faults sink.new) steps.new) }
 {
     match command {
         Command::Blank => Ok(()),
@@ -192,7 +181,7 @@ pub(crate) fn reply<K: Sink, L: Ledger>(
     requires goes_on { command ≢ Ok Command.Quit }
     requires line { line ≤ input_limit }
     ensures { desk.old.index < line → SaysSome (Replies desk.old.names line (desk_state desk.old) command) result
-        (shown desk.old (K.held sink.old) out.old (K.faults sink.old) steps.old) (shown desk.new (K.held sink.new) out.new (K.faults sink.new) steps.new) }
+        (shown_of desk.old (K.held sink.old) out.old (K.faults sink.old) steps.old) (shown_of desk.new (K.held sink.new) out.new (K.faults sink.new) steps.new) }
 {
     match command {
         Ok(command) => reply_command(desk, out, sink, steps, command, line),

@@ -54,10 +54,15 @@ space_kept m m' names t h s = record {
 }
 
 site-back : (m m' : Model) → IsSameSite m' m → IsSameSite m m'
-site-back m m' h = record { horizon = sym h.horizon; nodes = sym h.nodes; ends = sym h.ends }
+site-back m m' h = record { horizon = sym h.horizon; nodes = sym h.nodes; ends = sym h.ends; entrants = sym h.entrants }
 
 site-then : (m m' o : Model) → IsSameSite m' m → IsSameSite m o → IsSameSite m' o
-site-then m m' o h g = record { horizon = h.horizon ∙ g.horizon; nodes = h.nodes ∙ g.nodes; ends = h.ends ∙ g.ends }
+site-then m m' o h g = record {
+  horizon = h.horizon ∙ g.horizon;
+  nodes = h.nodes ∙ g.nodes;
+  ends = h.ends ∙ g.ends;
+  entrants = h.entrants ∙ g.entrants;
+}
 
 pub shape_serves : (m m' : Model) → HasSameShape m m' → Serves m m'
 shape_serves m m' h = record {
@@ -73,7 +78,7 @@ edit_serves m m' e e' h = shape_serves m m' (applied_keeps_shape m m' e e' h)
 -- ---- the models of a session
 
 shape-refl : (m : Model) → HasSameShape m m
-shape-refl m = record { names = refl; ways = refl; horizon = refl; seconds = refl }
+shape-refl m = record { names = refl; ways = refl; horizon = refl; seconds = refl; entrants = refl }
 
 pub begins_of_building : (m : Model) (s : SessionState) → Begins m s → IsOfBuilding m s
 begins_of_building m s h = record {

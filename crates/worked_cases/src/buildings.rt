@@ -28,6 +28,22 @@ pub(crate) const TWO_ROOMS: &str =
 pub(crate) const NEAR_AND_FAR: &str =
     "evacplan 1\nperiod 5\nhorizon 8\nfloor 1 Ground\nnode WP1.1 1 1\nnode WP2.1 3 3\nnode HA1.1 0 0\nnode DS1.1\narc WP1.1 HA1.1 1 1\narc WP2.1 HA1.1 5 4\narc HA1.1 DS1.1 1 1\nend\n";
 
+/// Four people in a room, who go one by one through a hall in which nobody can wait.
+pub(crate) const THROUGH_HALL: &str =
+    "evacplan 1\nperiod 5\nhorizon 20\nfloor 1 Ground\nnode WP1.1 5 4\nnode HA1.1 0 0\nnode DS1.1\narc WP1.1 HA1.1 1 3\narc HA1.1 DS1.1 1 1\nend\n";
+
+/// Three people in a room, through whose door one goes a period, and one who comes into it a period later.
+pub(crate) const ONE_LATE: &str =
+    "evacplan 2\nperiod 5\nhorizon 20\nfloor 1 Ground\nnode WP1.1 10 3\nnode DS1.1\narc WP1.1 DS1.1 1 1\nentrant WP1.1 1 1\nend\n";
+
+/// Three people in a room, through whose door two go a period, and four who come into it two periods later.
+pub(crate) const FOUR_LATE: &str =
+    "evacplan 2\nperiod 5\nhorizon 20\nfloor 1 Ground\nnode WP1.1 10 3\nnode DS1.1\narc WP1.1 DS1.1 1 2\nentrant WP1.1 2 4\nend\n";
+
+/// Nobody in a room.
+pub(crate) const EMPTY: &str =
+    "evacplan 1\nperiod 5\nhorizon 20\nfloor 1 Ground\nnode WP1.1 5 0\nnode DS1.1\narc WP1.1 DS1.1 1 1\nend\n";
+
 /// Five people in a room without a door.
 pub(crate) const TRAPPED: &str =
     "evacplan 1\nperiod 5\nhorizon 10\nfloor 1 Ground\nnode WP1.1 5 5\nnode DS1.1\nend\n";

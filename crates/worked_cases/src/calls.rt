@@ -46,7 +46,11 @@ pub(crate) fn is_edit_of(model: &Model, edit: Edit) -> bool
     let nodes = model.nodes.len();
     let arcs = model.arcs.len();
     match edit {
-        Edit::Shut { arc } | Edit::Reopen { arc } | Edit::Rate { arc, .. } => (arc as usize) < arcs,
+        Edit::Shut { arc }
+        | Edit::Reopen { arc }
+        | Edit::Rate { arc, .. }
+        | Edit::Window { arc, .. }
+        | Edit::Unwindow { arc, .. } => (arc as usize) < arcs,
         Edit::ShutExit { node }
         | Edit::ReopenExit { node }
         | Edit::Room { node, .. }

@@ -1,4 +1,4 @@
-//! Worked cases: buildings as text, and what is known of the reports on their plans, and of sessions on them.
+//! Worked cases: buildings as text, and what is known of the reports and the cards of their plans, and of sessions on them.
 //!
 //! Nothing here is called by a program. What is expected was worked out by hand, or by a slow solver of its own.
 #![tactic(auto)]
@@ -10,7 +10,11 @@ mod caller;
 #[cfg(test)]
 mod calls;
 #[cfg(test)]
+mod deals;
+#[cfg(test)]
 mod edits;
+#[cfg(test)]
+mod late;
 #[cfg(test)]
 mod refused;
 #[cfg(test)]
@@ -21,3 +25,5 @@ mod reports;
 mod session;
 #[cfg(test)]
 mod shown;
+#[cfg(test)]
+mod windows;

@@ -12,6 +12,14 @@ use route_decompose::{Route, RouteStep, Routes};
 use std::alloc::{AllocError, Global};
 use std::process::Abort;
 
+/// The routes of a session's plan, of which none is handed out yet.
+pub(crate) fn routes_of(alloc: Global, session: &Session) -> Result<Routes, AllocError> {
+    let model = session.model();
+    let mut routes = Routes::new(alloc, model)?;
+    routes.begin(model, session);
+    Ok(routes)
+}
+
 // The people of a route, where its steps are these; with no steps given, those of any route.
 fn count(route: &Route<'_>, steps: &[RouteStep]) -> u32 {
     if steps.is_empty() || route.steps() == steps {
@@ -28,9 +36,7 @@ fn routed(
     session: &Session,
     steps: &[RouteStep],
 ) -> Result<u32, AllocError> {
-    let model = session.model();
-    let mut routes = Routes::new(alloc, model)?;
-    routes.begin(model, session);
+    let mut routes = routes_of(alloc, session)?;
     let mut people = 0u32;
     for _ in 0..100_000 {
         if !routes.next() {
@@ -41,8 +47,12 @@ fn routed(
     panic!(rt; "there are too many routes")
 }
 
-// The report on a session's plan, where there is a room.
-fn cleared(rt: &impl Abort, alloc: Global, session: &Session) -> Result<Clearing, AllocError>
+/// The report on a session's plan, where there is a room.
+pub(crate) fn cleared(
+    rt: &impl Abort,
+    alloc: Global,
+    session: &Session,
+) -> Result<Clearing, AllocError>
     ensures { IfOk result (λ c. 0 < length c.moments) }
 {
     let model = session.model();

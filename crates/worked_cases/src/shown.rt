@@ -9,6 +9,7 @@ fn are_same(one: &Model, other: &Model) -> bool {
         && one.horizon == other.horizon
         && one.nodes.as_slice() == other.nodes.as_slice()
         && one.arcs.as_slice() == other.arcs.as_slice()
+        && one.entrants.as_slice() == other.entrants.as_slice()
 }
 
 // The people of a net who are out by a moment up to its horizon.
@@ -28,6 +29,19 @@ fn have_same_arrivals(one: &Net, other: &Net) -> bool {
         }
     }
     one.horizon() == other.horizon()
+}
+
+/// Whether as many people are out in a session by each moment from 0 on as is wanted.
+pub(crate) fn has_curve(session: &Session, wanted: &[u32]) -> bool {
+    for (moment, people) in wanted.iter().enumerate() {
+        let Ok(moment) = u16::try_from(moment) else {
+            return false;
+        };
+        if out_by(session.net(), moment) != Some(*people) {
+            return false;
+        }
+    }
+    true
 }
 
 /// Whether as many people are out in two sessions by each moment up to the horizon.

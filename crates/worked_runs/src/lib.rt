@@ -1,10 +1,17 @@
-//! Whole runs of the program's top call on worked buildings: plans, checked blocks, reports, sessions and drills.
+//! Whole runs of the program's top call on worked buildings: plans, checked blocks, reports, cards, sessions, studies, drills, and buildings
+//! written as texts of version 2.
 //!
 //! Nothing here is called by a program.
 #![tactic(auto)]
 
 #[cfg(test)]
 mod blocks;
+#[cfg(test)]
+mod closures;
+#[cfg(test)]
+mod comers;
+#[cfg(test)]
+mod largest;
 #[cfg(test)]
 mod plans;
 #[cfg(test)]
@@ -14,4 +21,8 @@ mod runs;
 #[cfg(test)]
 mod sessions;
 #[cfg(test)]
+mod studies;
+#[cfg(test)]
 mod texts;
+#[cfg(test)]
+mod versions;

@@ -1,6 +1,6 @@
 // Plans of small buildings, refusals of models, and sources and sinks that fail.
 use crate::runs::{check, check_failing_sink, check_failing_source, run_over, with_line};
-use crate::texts::{LONG_COMMENT, ONE_ROOM, ONE_ROOM_BLOCK, TWO_EXITS, TWO_EXITS_BLOCK};
+use crate::texts::{LONG_COMMENT, ONE_ROOM, ONE_ROOM_BLOCK, TRAPPED, TWO_EXITS, TWO_EXITS_BLOCK};
 use line_io::MemSink;
 use std::alloc::{AllocError, Global};
 use std::process::Abort;
@@ -35,10 +35,6 @@ const LATE: &str =
 
 const LATE_BLOCK: &str =
     "answer 0\npeople 3\ncleared 10\nout 0 0\nout 1 0\nout 2 0\nout 3 0\nout 4 0\nout 5 0\nout 6 0\nout 7 0\nout 8 0\nout 9 0\nout 10 3\nlabel WP1.1 0 10\nmove 0 WP1.1 DS1.1 3\nend\n";
-
-// A room without a way out.
-const TRAPPED: &str =
-    "evacplan 1\nperiod 5\nhorizon 10\nfloor 1 Ground\nnode WP1.1 5 5\nnode DS1.1\nend\n";
 
 // The hall where nobody may stay.
 const HALL: &str =
@@ -131,7 +127,8 @@ const CHANGED: &[(usize, &str, &str)] = &[
     (3, "horizon 000000020", ONE_ROOM_BLOCK),
     (7, "arc WP1.1 DS1.1 0 2", "refused 7 7\n"),
     (7, "arc WP1.1 DS1.1 1 10001", "refused 7 7\n"),
-    (3, "horizon 601", "refused 7 3\n"),
+    (3, "horizon 601", ONE_ROOM_BLOCK),
+    (3, "horizon 1201", "refused 7 3\n"),
     (7, "arc WP1.1 DS01.1 1 2", "refused 8 7\n"),
     (5, "node WP0.1 10 3", "refused 8 5\n"),
     (5, "node WP10000.1 10 3", "refused 8 5\n"),

@@ -44,6 +44,24 @@ fn what_is_asked_for_stands_behind_the_block(rt: HostRuntime) -> Result<(), Fail
     checked
 }
 
+// The cards of the three people of one room.
+const ONE_ROOM_CARDS: &str =
+    "cards 0\ncard 1 WP1.1\nstep 0 WP1.1 DS1.1\ncard 2 WP1.1\nstep 0 WP1.1 DS1.1\ncard 3 WP1.1\nstep 1 WP1.1 DS1.1\nend\n";
+
+// One room is answered by its block and the cards, and a sink that fails has a front of them.
+fn check_cards(rt: &(impl Abort + AllocGlobal), text: &str) -> Result<(), Fail> {
+    check(rt, &["cards"], ONE_ROOM, 0, text)?;
+    check_failing_sink(rt, &["cards"], ONE_ROOM, text, 10)
+}
+
+#[test]
+fn each_person_has_a_card(rt: HostRuntime) -> Result<(), Fail> {
+    let text = joined(rt.alloc(), ONE_ROOM_BLOCK, ONE_ROOM_CARDS)?;
+    let checked = check_cards(&rt, text.as_str());
+    drop(text);
+    checked
+}
+
 // The reports on one room and a hall that nobody can leave.
 const HALL_REPORTS: &str =
     "clearing 0\nnode WP1.1 1\nnode HA1.1 none\nfloor 1 1\nend\nbottlenecks 0\narc WP1.1 DS1.1 1\nend\nsummary 0\npeople 3\ncleared 2\nseconds 10\nuncongested 1\npersonperiods 4\nend\n";
@@ -159,6 +177,16 @@ const OTHER_WORDS: &[&str] = &[
     "check check",
     "session --routes",
     "session session",
+    "study --routes",
+    "study study",
+    "study session",
+    "Study",
+    "cards --routes",
+    "cards cards",
+    "upgrade --reports",
+    "upgrade upgrade",
+    "check upgrade",
+    "Upgrade",
     "drill",
     "drill 5",
     "drill --number",

@@ -11,7 +11,7 @@ use std::process::Abort;
 use std::test::Fail;
 
 /// Lines, and what is said to them.
-type Exchange = (&'static str, &'static str);
+pub(crate) type Exchange = (&'static str, &'static str);
 
 // All that stands before each reply.
 fn heard(alloc: Global, talk: &[Exchange]) -> Result<String, AllocError> {
@@ -36,25 +36,40 @@ fn said(alloc: Global, talk: &[Exchange], taken: usize) -> Result<String, AllocE
     Ok(text)
 }
 
-// A session over these lines has its replies, and ends with this status.
+// A run in a mode over these lines has their replies, and ends with this status.
 fn check_said(
     rt: &(impl Abort + AllocGlobal),
+    mode: &str,
     talk: &[Exchange],
     input: &str,
     status: u8,
 ) -> Result<(), Fail> {
     let text = said(rt.alloc(), talk, input.len())?;
-    let checked = check(rt, &["session"], input, status, text.as_str());
+    let checked = check(rt, &[mode], input, status, text.as_str());
     drop(text);
     checked
 }
 
-// A session is held as it stands here, and ends with this status.
-fn check_talk(rt: &(impl Abort + AllocGlobal), talk: &[Exchange], status: u8) -> Result<(), Fail> {
+// A talk is held in a mode as it stands here, and ends with this status.
+pub(crate) fn check_talk_in(
+    rt: &(impl Abort + AllocGlobal),
+    mode: &str,
+    talk: &[Exchange],
+    status: u8,
+) -> Result<(), Fail> {
     let input = heard(rt.alloc(), talk)?;
-    let checked = check_said(rt, talk, input.as_str(), status);
+    let checked = check_said(rt, mode, talk, input.as_str(), status);
     drop(input);
     checked
+}
+
+// The same, of a session.
+pub(crate) fn check_talk(
+    rt: &(impl Abort + AllocGlobal),
+    talk: &[Exchange],
+    status: u8,
+) -> Result<(), Fail> {
+    check_talk_in(rt, "session", talk, status)
 }
 
 // All by the narrow way, one behind the other.
@@ -179,7 +194,7 @@ const HOSTILE: [Exchange; 28] = [
     (TWO_EXITS, TWO_EXITS_BLOCK),
     ("shutexits DS1.1\n", "refused 31 11\n"),
     ("SHUT WP1.1 DS1.1\n", "refused 31 12\n"),
-    ("window WP1.1 DS1.1 1 3\n", "refused 31 13\n"),
+    ("advance 1\n", "refused 31 13\n"),
     ("quit\0\n", "refused 31 14\n"),
     ("quit now\n", "refused 5 15\n"),
     ("undo 1\n", "refused 5 16\n"),
@@ -279,15 +294,16 @@ fn the_first_of_many_edits_stays(rt: HostRuntime) -> Result<(), Fail> {
     checked
 }
 
-// Whether a line is of a plan or of its routes.
+// Whether a line is of a plan, of its routes or of its work.
 fn is_free(line: &str) -> bool {
     line.starts_with("label ")
+        || line.starts_with("work ")
         || line.starts_with("move ")
         || line.starts_with("route ")
         || line.starts_with("step ")
 }
 
-// A text without the lines in which two best plans, or two lists of routes, may differ.
+// A text without the lines in which two best plans, two lists of routes, or the work of two edits may differ.
 fn forced(alloc: Global, whole: &str) -> Result<String, AllocError> {
     let mut text = String::new(alloc);
     for line in whole.lines() {
@@ -336,7 +352,7 @@ fn session_text(rt: &(impl Abort + AllocGlobal), input: &str) -> Result<String, 
 }
 
 // What a session on a building is told.
-fn session_on(
+pub(crate) fn session_on(
     rt: &(impl Abort + AllocGlobal),
     model: &str,
     commands: &str,
@@ -348,7 +364,7 @@ fn session_on(
 }
 
 // A session on a building whose best plans are many: its text but for the plans, and the people on routes.
-fn check_forced(
+pub(crate) fn check_forced(
     rt: &(impl Abort + AllocGlobal),
     model: &str,
     commands: &str,

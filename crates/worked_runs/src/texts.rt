@@ -5,6 +5,25 @@ pub(crate) const ONE_ROOM: &str =
 pub(crate) const ONE_ROOM_BLOCK: &str =
     "answer 0\npeople 3\ncleared 2\nout 0 0\nout 1 2\nout 2 3\nlabel WP1.1 0 2\nmove 0 WP1.1 DS1.1 2\nmove 1 WP1.1 DS1.1 1\nend\n";
 
+// The same room without its end, in version 1 and in version 2.
+pub(crate) const OLD_ROOM: &str =
+    "evacplan 1\nperiod 5\nhorizon 20\nfloor 1 Ground\nnode WP1.1 10 3\nnode DS1.1\narc WP1.1 DS1.1 1 2\n";
+
+pub(crate) const ROOM: &str =
+    "evacplan 2\nperiod 5\nhorizon 20\nfloor 1 Ground\nnode WP1.1 10 3\nnode DS1.1\narc WP1.1 DS1.1 1 2\n";
+
+// Its door is closed at the moments 0 and 1.
+pub(crate) const CLOSED_BLOCK: &str =
+    "answer 0\npeople 3\ncleared 4\nout 0 0\nout 1 0\nout 2 0\nout 3 2\nout 4 3\nlabel WP1.1 0 4\nmove 2 WP1.1 DS1.1 2\nmove 3 WP1.1 DS1.1 1\nend\n";
+
+// Four people come in at moment 2.
+pub(crate) const COMERS_BLOCK: &str =
+    "answer 0\npeople 7\ncleared 4\nout 0 0\nout 1 2\nout 2 3\nout 3 5\nout 4 7\nlabel WP1.1 0 2\nlabel WP1.1 2 4\nmove 0 WP1.1 DS1.1 2\nmove 1 WP1.1 DS1.1 1\nmove 2 WP1.1 DS1.1 2\nmove 3 WP1.1 DS1.1 2\nend\n";
+
+// A room without a way out.
+pub(crate) const TRAPPED: &str =
+    "evacplan 1\nperiod 5\nhorizon 10\nfloor 1 Ground\nnode WP1.1 5 5\nnode DS1.1\nend\n";
+
 pub(crate) const TWO_EXITS: &str =
     "evacplan 1\nperiod 5\nhorizon 20\nfloor 1 Ground\nnode WP1.1 8 8\nnode DS1.1\nnode DS2.1\narc WP1.1 DS1.1 1 1\narc WP1.1 DS2.1 3 5\nend\n";
 

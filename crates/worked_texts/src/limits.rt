@@ -26,9 +26,9 @@ fn largest(alloc: Global, horizon: u16) -> Result<String, AllocError> {
 }
 
 #[test]
-fn a_building_has_at_most_400000_cells(rt: HostRuntime) -> Result<(), Fail> {
+fn a_building_has_at_most_1000000_cells(rt: HostRuntime) -> Result<(), Fail> {
     let alloc = rt.alloc();
-    let text = largest(alloc, 199)?;
+    let text = largest(alloc, 499)?;
     for (more, want) in [
         ("end\n", (0, 0)),
         ("arc WP5.1 DS1.1 1 1\n", (17, 2005)),
@@ -36,7 +36,7 @@ fn a_building_has_at_most_400000_cells(rt: HostRuntime) -> Result<(), Fail> {
     ] {
         assert_eq!(rt; fault(alloc, text.as_str(), more)?, want, "at {more}");
     }
-    let text = largest(alloc, 200)?;
+    let text = largest(alloc, 500)?;
     assert_eq!(rt; fault(alloc, text.as_str(), "end\n")?, (20, 2005));
     Ok(())
 }

@@ -64,7 +64,7 @@ const WHOLE: &[(&str, (u8, u32))] = &[
     ("", (21, 1)),
     ("# evacplan 1\n", (21, 2)),
     ("period 5\n", (1, 1)),
-    ("evacplan 2\n", (1, 1)),
+    ("evacplan 3\n", (1, 1)),
     ("\nevacplan 1 1\n", (1, 2)),
     ("evacplan 01\nfloor 1 G\nnode DS1.1\nend\n", (18, 4)),
 ];

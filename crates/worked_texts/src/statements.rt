@@ -42,7 +42,7 @@ const LINES: &[(&str, u8)] = &[
     ("period 0000000005", 6),
     ("period 5\r", 6),
     ("horizon 0", 0),
-    ("horizon 601", 7),
+    ("horizon 1201", 7),
     ("horizon -1", 6),
     ("floor 0 Ground", 0),
     ("floor 0", 5),

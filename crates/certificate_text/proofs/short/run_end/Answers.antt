@@ -6,14 +6,14 @@ use Rattle.certificate_text.proofs.short.run_end.Goals as goal
 pub loop-last-preserved : goal.loop-last-preserved
 loop-last-preserved c = record {
   within = omega arith;
-  same = run_end-more (label_cut c.args.model.now c.args.labels.now c.args.model.now.horizon c.args.node) c.loop-last.last c.args.model.now.horizon (omega arith) (sym c.is_inside.ensures ∙ c.if-is_inside.true)
+  same = run_end-more (label_cut c.args.model.now c.args.labels.now c.args.k c.args.node) c.loop-last.last c.args.model.now.horizon (omega arith) (sym c.is_inside.ensures ∙ c.if-is_inside.true)
       ∙ c.loop-last.invariant.same;
 }
 
 pub returns-else-is_inside : goal.returns-else-is_inside
 returns-else-is_inside c =
-    run_end-stop (label_cut c.args.model.now c.args.labels.now c.args.model.now.horizon c.args.node) c.loop-last.last c.args.model.now.horizon (omega arith) (sym c.is_inside.ensures ∙ c.if-is_inside.false)
+    run_end-stop (label_cut c.args.model.now c.args.labels.now c.args.k c.args.node) c.loop-last.last c.args.model.now.horizon (omega arith) (sym c.is_inside.ensures ∙ c.if-is_inside.false)
     ∙ c.loop-last.invariant.same
 
 pub returns-after-loop-last : goal.returns-after-loop-last
-returns-after-loop-last c = run_end-last (label_cut c.args.model.now c.args.labels.now c.args.model.now.horizon c.args.node) c.loop-last.last c.args.model.now.horizon (omega arith) ∙ c.loop-last.invariant.same
+returns-after-loop-last c = run_end-last (label_cut c.args.model.now c.args.labels.now c.args.k c.args.node) c.loop-last.last c.args.model.now.horizon (omega arith) ∙ c.loop-last.invariant.same

@@ -7,8 +7,8 @@ use Rattle.certificate_text.proofs.short.run_end.Given as goal
 abbrev pub invariant-loop-last : goal.invariant-loop-last
 invariant-loop-last l = record {
   within : l.last ≤ l.model.horizon;
-  same : run_end (label_cut l.model l.labels l.model.horizon l.node) l.last (l.model.horizon - l.last)
-      ≡ run_end (label_cut l.model l.labels l.model.horizon l.node) l.moment (l.model.horizon - l.moment);
+  same : run_end (label_cut l.model l.labels l.k l.node) l.last (l.model.horizon - l.last)
+      ≡ run_end (label_cut l.model l.labels l.k l.node) l.moment (l.model.horizon - l.moment);
 }
 
 abbrev pub decreases-loop-last : goal.decreases-loop-last

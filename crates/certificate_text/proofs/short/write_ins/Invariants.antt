@@ -9,6 +9,6 @@ use Rattle.certificate_text.proofs.short.write_ins.Given as goal
 
 abbrev pub invariant-loop-node : goal.invariant-loop-node
 invariant-loop-node g l = record {
-  text : Puts (g.K.Sink.held l.initial.sink) l.initial.out (flat_map (node_in l.model (label_cut l.model l.labels l.model.horizon)) (below l.node)) (g.K.Sink.held l.sink) l.out;
+  text : Puts (g.K.Sink.held l.initial.sink) l.initial.out (flat_map (node_in l.model (label_cut l.model l.labels l.k)) (below l.node)) (g.K.Sink.held l.sink) l.out;
   faults : g.K.Sink.faults l.sink ≡ g.K.Sink.faults l.initial.sink;
 }

@@ -7,11 +7,11 @@ use Rattle.certificate_text.proofs.short.write_runs.Goals as goal
 
 pub loop-moment-preserved : goal.loop-moment-preserved
 loop-moment-preserved g c = record {
-  text = puts-part (in_part c.args.model.now (label_cut c.args.model.now c.args.labels.now c.args.model.now.horizon) c.args.node) c.loop-moment.moment c.loop-moment.invariant.text c.in_ok-write_run.ensures.text.ok;
+  text = puts-part (in_part c.args.model.now (label_cut c.args.model.now c.args.labels.now c.args.k) c.args.node) c.loop-moment.moment c.loop-moment.invariant.text c.in_ok-write_run.ensures.text.ok;
   faults = c.in_ok-write_run.ensures.cause.same ∙ c.loop-moment.invariant.faults;
 }
 
 pub returns-in_err-write_run-clause-text : goal.returns-in_err-write_run-clause-text
 returns-in_err-write_run-clause-text g c =
     text-failed c.from_residual.result c.from_residual.ensures.0
-    (front-part (in_part c.args.model.now (label_cut c.args.model.now c.args.labels.now c.args.model.now.horizon) c.args.node) c.loop-moment.moment (c.args.model.now.horizon + 1) (omega (arith, c.loop-moment-test.true)) c.loop-moment.invariant.text c.in_err-write_run.ensures.text.err)
+    (front-part (in_part c.args.model.now (label_cut c.args.model.now c.args.labels.now c.args.k) c.args.node) c.loop-moment.moment (c.args.model.now.horizon + 1) (omega (arith, c.loop-moment-test.true)) c.loop-moment.invariant.text c.in_err-write_run.ensures.text.err)

@@ -9,6 +9,6 @@ use Rattle.certificate_text.proofs.short.write_runs.Given as goal
 
 abbrev pub invariant-loop-moment : goal.invariant-loop-moment
 invariant-loop-moment g l = record {
-  text : Puts (g.K.Sink.held l.initial.sink) l.initial.out (flat_map (in_part l.model (label_cut l.model l.labels l.model.horizon) l.node) (below l.moment)) (g.K.Sink.held l.sink) l.out;
+  text : Puts (g.K.Sink.held l.initial.sink) l.initial.out (flat_map (in_part l.model (label_cut l.model l.labels l.k) l.node) (below l.moment)) (g.K.Sink.held l.sink) l.out;
   faults : g.K.Sink.faults l.sink ≡ g.K.Sink.faults l.initial.sink;
 }

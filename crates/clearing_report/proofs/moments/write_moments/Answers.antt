@@ -16,7 +16,7 @@ loop-arc-preserved g c n l =
     let f = g.F.Standing.stand c.args.standing.now in
     let xs = c.loop-arc.moments in
     let i = c.loop-arc.arc in
-    let from : c.arc-node.result.from ≡ tail m i = ap (λ (r : ArcRow). r.from) c.arc-node.ensures in
+    let from : c.arc.result.now.from ≡ tail m i = ap (λ (r : ArcRow). r.from) c.arc.ensures in
     let value : c.later.result ≡ later (get_or xs (tail m i) None) (last_that (λ t. ltb 0 (moved f.plan i t)) m.horizon) =
     c.later.ensures ∙ ap₂ (λ j z. later (get_or xs j None) z) from c.last_moved.ensures in
     ap₂ (λ j z. get_or (set xs j z) n None) from value

@@ -10,6 +10,6 @@ loop-way-preserved c =
     let m = c.args.model.now in
     let a = c.in-Some.way.arc in
     let d = c.in-Some.way.time in
-    let from = ap (λ (r : ArcRow). r.from) c.arc-node.ensures in
+    let from = ap (λ (r : ArcRow). r.from) c.arc.ensures in
     subst (λ n. AreTimes m (set c.loop-way.times n (Some d))) (sym from)
     (are_on m c.loop-way.times c.requires.valid c.loop-way.invariant a d c.in-Some.ensures)

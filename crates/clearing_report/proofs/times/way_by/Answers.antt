@@ -12,6 +12,6 @@ overflow_add-result c =
       c.from.ensures,
       ap (λ (r : ArcRow). r.travel) c.arc-row.ensures,
       (arc_is c.args.model.now c.args.arc c.requires.valid c.requires.arc_in).travel_fits.1,
-      c.requires.times.few c.arc-row.result.to c.in-None-Some.rest c.in-None-Some.is-1,
+      c.requires.times.few c.arc-row.result.now.to c.in-None-Some.rest c.in-None-Some.is-1,
       c.requires.valid.nodes_fit,
     )

@@ -1,12 +1,13 @@
-use Rattle.std.proofs.Common.{◌+◌, List, length, map, codes, sym, ap, ap₂, subst, ◌∙◌, arith}
+use Rattle.std.proofs.Common.{◌≡◌, ℕ, ◌+◌, List, [], length, map, codes, sym, ap, ap₂, subst, ◌∙◌, arith}
 use Rattle.evac_law.specs.Building.{IsValid}
 use Rattle.evac_law.specs.Limits.{arc_limit, node_limit}
 use Rattle.evac_law.specs.Sums.{below}
+use Rattle.evac_law.specs.declared.entrant.Entrant.{Entrant}
 use Rattle.evac_law.specs.declared.model.ArcRow.{ArcRow}
 use Rattle.evac_law.specs.declared.model.Model.{Model}
 use Rattle.evac_law.specs.declared.model.NodeRow.{NodeRow}
 use Rattle.building_table.specs.Names.{EndsDiffer, NamesDiffer, names_of}
-use Rattle.drill_building.specs.Drill.{drill_building}
+use Rattle.drill_building.specs.Drill.{drill_arcs, drill_building, drill_model, drill_nodes}
 use Rattle.drill_building.proofs.ArcLemmas.{arc-count, ends-differ}
 use Rattle.drill_building.proofs.Floors.{numbers-of, table-is, texts-of}
 use Rattle.drill_building.proofs.NodeLemmas.{names-differ, node-count}
@@ -14,8 +15,12 @@ use Rattle.drill_building.proofs.Validity.{drill-valid}
 use Rattle.drill_building.proofs.building.drill_model.Goals as goal
 
 -- a model of a drill, by its rows
-abbrev model-of : List NodeRow → List ArcRow → Model
-model-of nodes arcs = record { seconds = 5; horizon = 600; nodes = nodes; arcs = arcs }
+abbrev model-of : List NodeRow → List ArcRow → List Entrant → Model
+model-of nodes arcs entrants = record { seconds = 5; horizon = 600; nodes = nodes; arcs = arcs; entrants = entrants }
+
+model-as : (n : ℕ) (nodes : List NodeRow) (arcs : List ArcRow) (entrants : List Entrant) → nodes ≡ drill_nodes n → arcs ≡ drill_arcs n → entrants ≡ []
+    → model-of nodes arcs entrants ≡ drill_model n
+model-as n nodes arcs entrants a b c = ap₂ (λ x y. model-of x y entrants) a b ∙ ap (model-of (drill_nodes n) (drill_arcs n)) c
 
 pub new-requires-clause-few_nodes : goal.new-requires-clause-few_nodes
 unfolding node_limit
@@ -39,7 +44,7 @@ returns-clause-building c =
     let named = c.in_ok-names.ensures in
     let floors = below (n + 1) in
     record {
-      model = ap₂ model-of (c.new-2.ensures ∙ c.in_ok-nodes.ensures) (c.new-3.ensures ∙ c.in_ok-arcs.ensures);
+      model = model-as n _ _ _ (c.new-2.ensures ∙ c.in_ok-nodes.ensures) (c.new-3.ensures ∙ c.in_ok-arcs.ensures) (c.new-5.ensures ∙ c.new-4.ensures.items);
       names = table-is c.in_ok-names.names (names_of (drill_building n))
           (named.nodes (subst NamesDiffer (sym nodes) (names-differ n)) ∙ ap (map (λ (row : NodeRow). row.name)) nodes)
           (named.ends (subst EndsDiffer (sym arcs) (ends-differ n)) ∙ ap (map (λ (row : ArcRow). (row.from, row.to))) arcs)
@@ -50,8 +55,9 @@ returns-clause-building c =
 
 pub returns-clause-valid : goal.returns-clause-valid
 returns-clause-valid c =
-    subst IsValid (sym (ap₂ model-of (c.new-2.ensures ∙ c.in_ok-nodes.ensures) (c.new-3.ensures ∙ c.in_ok-arcs.ensures)))
-    (drill-valid c.args.number c.requires)
+    let n = c.args.number in
+    let entrants = c.new-5.ensures ∙ c.new-4.ensures.items in
+    subst IsValid (sym (model-as n _ _ _ (c.new-2.ensures ∙ c.in_ok-nodes.ensures) (c.new-3.ensures ∙ c.in_ok-arcs.ensures) entrants)) (drill-valid n c.requires)
 
 pub returns-clause-names : goal.returns-clause-names
 returns-clause-names c =

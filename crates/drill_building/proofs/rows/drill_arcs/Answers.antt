@@ -1,4 +1,4 @@
-use Rattle.std.proofs.Common.{◌≡◌, ◌-◌, ◌++◌, sym, ap, ap₂, ◌∙◌, arith, append_assoc}
+use Rattle.std.proofs.Common.{◌≡◌, ◌-◌, ◌++◌, sym, ap, ◌∙◌, arith, append_assoc}
 use Rattle.std.specs.List.{flat_map}
 use Rattle.drill_building.specs.Drill.{drill_arcs, ground_arcs, storey_arcs, storeys}
 use Rattle.drill_building.proofs.Storeys.{storeys-more}
@@ -7,7 +7,7 @@ use Rattle.drill_building.proofs.rows.drill_arcs.Goals as goal
 pub loop-storey-preserved : goal.loop-storey-preserved
 loop-storey-preserved c =
     let f = c.loop-storey.storey in
-    c.in_ok-extend_from_slice.ensures.items ∙ ap₂ (λ xs ys. xs ++ ys) c.loop-storey.invariant c.storey_arcs.ensures
+    c.in_ok-push_storey.ensures ∙ ap (λ xs. xs ++ storey_arcs f) c.loop-storey.invariant
     ∙ append_assoc ground_arcs (flat_map storey_arcs (storeys (f - 1))) (storey_arcs f)
     ∙ ap (λ l. ground_arcs ++ l) (sym (storeys-more storey_arcs f c.loop-storey.auto.storey))
 

@@ -1,6 +1,6 @@
 use Rattle.std.proofs.Common.{◌≡◌, ◌∙◌, ap}
 use Rattle.evac_top.specs.Check.{IsChecked, verdict_status, verdict_text}
-use Rattle.session_talk.specs.Held.{status_after}
+use Rattle.talk.specs.Held.{status_after}
 use Rattle.evac_top.proofs.ClaimLemmas.{checked, status-small}
 use Rattle.evac_top.proofs.TellLemmas.{tells-nothing, tells-sent}
 use Rattle.evac_top.proofs.check.judge.Goals as goal

@@ -1,13 +1,46 @@
-use Rattle.std.proofs.Common.{◌≡◌, ◌≤◌, ◌<◌, ℕ, ap, subst, refl, arith, ◌∙◌}
+use Rattle.std.proofs.Common.{◌≡◌, ◌≤◌, ◌<◌, ℕ, true, ap, subst, refl, arith, ◌∙◌}
+use Rattle.std.proofs.lemmas.Bool.{false_from_ne_true}
+use Rattle.evac_law.specs.Building.{IsValid}
+use Rattle.evac_law.specs.declared.model.Model.{Model}
+use Rattle.residual_net.specs.declared.place.Place.{Place}
 use Rattle.residual_net.specs.Change.{IsLimitSet}
-use Rattle.residual_net.specs.Network.{limit_at}
-use Rattle.residual_net.specs.OfModel.{model_limit}
-use Rattle.residual_net.specs.Site.{Site, is_source}
+use Rattle.residual_net.specs.Network.{Network, limit_at}
+use Rattle.residual_net.specs.OfModel.{model_limit, site_of}
+use Rattle.residual_net.specs.Site.{IsPlace, Site, is_barred, is_source}
+use Rattle.residual_net.proofs.Begin.{barred_limit}
 use Rattle.flow_repair.specs.Opened.{head_number}
 use Rattle.residual_net.proofs.Kept.{out_same}
 use Rattle.flow_repair.proofs.Between.{within_raised, within_thinned}
 use Rattle.flow_repair.proofs.Refitting.{least_raised, lowered_refits, right_already, set_refitted, still_cancellable}
 use Rattle.flow_repair.proofs.fit.fit_place.Goals as goal
+
+-- a barred place of the net has the limit 0 in the model
+barred_none : (m : Model) (w : Network) (p : Place) → IsValid m → w.site ≡ site_of m → IsPlace w.site p → is_barred w.site p ≡ true → model_limit m p ≡ 0
+barred_none m w p valid site i b =
+    barred_limit m p valid (subst (λ (s : Site). IsPlace s p) site i) (subst (λ (s : Site). is_barred s p ≡ true) site b)
+
+pub set_limit-requires-clause-open : goal.set_limit-requires-clause-open
+set_limit-requires-clause-open g c = λ b.
+    let h = c.requires.fittable in
+    c.limit_of-limit.ensures ∙ barred_none c.args.model.now c.args.net.now c.args.place h.valid h.between.of_model c.requires.place b
+
+pub head_number-requires-clause-open : goal.head_number-requires-clause-open
+head_number-requires-clause-open g c =
+    let h = c.requires.fittable in
+    let p = c.args.place in
+    ap (λ (s : Site). is_barred s p) c.set_limit.ensures.site
+    ∙ false_from_ne_true (is_barred c.args.net.now.site p)
+    (λ b. omega (
+      arith,
+      c.limit_of-limit.ensures,
+      barred_none c.args.model.now c.args.net.now p h.valid h.between.of_model c.requires.place b,
+      c.if-limit-old.true,
+    ))
+
+pub set_limit-requires-then-limit-old-2-clause-open : goal.set_limit-requires-then-limit-old-2-clause-open
+set_limit-requires-then-limit-old-2-clause-open g c = λ b.
+    let h = c.requires.fittable in
+    c.limit_of-limit.ensures ∙ barred_none c.args.model.now c.args.net.now c.args.place h.valid h.between.of_model c.requires.place b
 
 pub cancel_all-requires-clause-cancellable : goal.cancel_all-requires-clause-cancellable
 cancel_all-requires-clause-cancellable g c =

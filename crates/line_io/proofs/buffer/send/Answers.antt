@@ -1,7 +1,6 @@
-use Rattle.std.proofs.Common.{◌≡◌, ◌∙◌, ◌+◌, ◌-◌, subst, ap, sym, List, ℕ, refl, length, take, drop, Result, Ok, Err, arith}
+use Rattle.std.proofs.Common.{◌∙◌, subst, List, ℕ, refl, drop, Ok, Err, arith}
 use Rattle.std.proofs.lemmas.List.{length-drop, take_rest, drop-drop}
 use Rattle.line_io.specs.Calls.{Offers}
-use Rattle.line_io.specs.declared.outside.Failed.{Failed}
 use Rattle.line_io.proofs.CallLemmas.{offers-none, offers-push}
 use Rattle.line_io.proofs.ReaderLemmas.{sent-more}
 use Rattle.std.proofs.KnownBytes.{Appends-nil, Appends-trans}

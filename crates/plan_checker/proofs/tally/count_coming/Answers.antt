@@ -13,18 +13,18 @@ add-requires-clause-room c =
     let p = c.args.moves.now in
     let i = c.loop-step.step-index in
     let v = get_or p i no_move in
-    let node : c.arc-arc.result.to < c.args.tally.now.nodes =
+    let node : c.arc-arc.result.now.to < c.args.tally.now.nodes =
     omega (
       arith,
       head_in c.args.model.now v.arc c.requires.countable.valid (c.requires.countable.ordered.in_range i no_move c.loop-step-test.true).0,
       ap (λ (r : ArcRow). r.to) c.arc-arc.ensures,
       c.requires.countable.nodes,
     ) in
-    let moment : v.moment + c.arc-arc.result.travel ≤ c.args.tally.now.last = omega (arith, c.if-arrival-last.true, c.last.ensures, c.loop-step.invariant.last) in
+    let moment : v.moment + c.arc-arc.result.now.travel ≤ c.args.tally.now.last = omega (arith, c.if-arrival-last.true, c.last.ensures, c.loop-step.invariant.last) in
     omega (
       arith,
-      c.loop-step.invariant.counts c.arc-arc.result.to (v.moment + c.arc-arc.result.travel) node moment,
-      coming_room c.args.model.now p i c.arc-arc.result.to (v.moment + c.arc-arc.result.travel) no_move c.loop-step-test.true,
+      c.loop-step.invariant.counts c.arc-arc.result.now.to (v.moment + c.arc-arc.result.now.travel) node moment,
+      coming_room c.args.model.now p i c.arc-arc.result.now.to (v.moment + c.arc-arc.result.now.travel) no_move c.loop-step-test.true,
       c.requires.countable.few,
     )
 

@@ -13,18 +13,18 @@ add-requires-clause-room c =
     let p = c.args.moves.now in
     let i = c.loop-step.step-index in
     let v = get_or p i no_move in
-    let node : c.arc-node.result.from < c.args.tally.now.nodes =
+    let node : c.arc.result.now.from < c.args.tally.now.nodes =
     omega (
       arith,
       tail_in c.args.model.now v.arc c.requires.countable.valid (c.requires.countable.ordered.in_range i no_move c.loop-step-test.true).0,
-      ap (λ (r : ArcRow). r.from) c.arc-node.ensures,
+      ap (λ (r : ArcRow). r.from) c.arc.ensures,
       c.requires.countable.nodes,
     ) in
     let moment : v.moment ≤ c.args.tally.now.last = omega (arith, c.if-step-last.true, c.last.ensures, c.loop-step.invariant.last) in
     omega (
       arith,
-      c.loop-step.invariant.counts c.arc-node.result.from v.moment node moment,
-      leaving_room c.args.model.now p i c.arc-node.result.from v.moment no_move c.loop-step-test.true,
+      c.loop-step.invariant.counts c.arc.result.now.from v.moment node moment,
+      leaving_room c.args.model.now p i c.arc.result.now.from v.moment no_move c.loop-step-test.true,
       c.requires.countable.few,
     )
 
@@ -45,7 +45,7 @@ loop-step-preserved c =
               w.add.ensures.counts n t (omega (arith, h, c.loop-step.invariant.nodes)) (omega (arith, k, c.loop-step.invariant.last)),
               c.loop-step.invariant.counts n t h k,
               leaving_more m p i n t no_move c.loop-step-test.true,
-              ap (λ (r : ArcRow). cond (eqb r.from n && eqb v.moment t) v.people 0) w.arc-node.ensures,
+              ap (λ (r : ArcRow). cond (eqb r.from n && eqb v.moment t) v.people 0) w.arc.ensures,
             ));
       }
       | else-step-last w ↦ record {

@@ -1,5 +1,5 @@
 use Rattle.std.specs.Prelude.{◌≡◌, ◌==◌, ◌++◌, Bool, true, false, if◌then◌else◌, List, [], ◌∷◌, codes, decimal}
-use Rattle.std.proofs.Common.{ℕ, ◌∙◌, append-nil, refl, sym}
+use Rattle.std.proofs.Common.{ℕ, ◌∙◌, append-nil, refl}
 use Rattle.evac_law.specs.Names.{name_text}
 use Rattle.line_io.specs.Text.{fields}
 use Rattle.line_io.proofs.TextLemmas.{text-line}

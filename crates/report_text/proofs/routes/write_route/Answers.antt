@@ -1,6 +1,6 @@
 use Rattle.std.proofs.Common.{◌<◌, ◌∙◌, ap, arith, length, subst, sym}
 use Rattle.std.specs.List.{All, flat_map}
-use Rattle.line_io.proofs.TextLemmas.{front-more, front-then, puts-then, text-failed, text-is, text-last}
+use Rattle.line_io.proofs.TextLemmas.{front-more, text-failed, text-is, text-last}
 use Rattle.evac_law.specs.declared.model.NodeRow.{NodeRow}
 use Rattle.evac_law.specs.Building.{node_at}
 use Rattle.evac_law.specs.Names.{IsName}

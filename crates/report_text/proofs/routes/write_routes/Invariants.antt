@@ -1,5 +1,5 @@
 -- The routes so far were put, or a front of them.
-use Rattle.std.proofs.Common.{◌≡◌, ◌++◌, List, codes}
+use Rattle.std.proofs.Common.{◌++◌, List, codes}
 use Rattle.std.specs.List.{flat_map}
 use Rattle.line_io.specs.Causes.{HasCause}
 use Rattle.line_io.specs.Writer.{PutsText}

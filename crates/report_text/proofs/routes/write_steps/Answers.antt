@@ -1,4 +1,4 @@
-use Rattle.std.proofs.Common.{◌≡◌, ◌∙◌, arith, get_or}
+use Rattle.std.proofs.Common.{◌∙◌, arith, get_or}
 use Rattle.line_io.proofs.TextLemmas.{front-each, puts-each, text-failed}
 use Rattle.route_decompose.specs.declared.route.RouteStep.{RouteStep}
 use Rattle.report_text.specs.ReportText.{step_part}

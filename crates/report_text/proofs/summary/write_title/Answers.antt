@@ -1,4 +1,4 @@
-use Rattle.std.proofs.Common.{[], ap}
+use Rattle.std.proofs.Common.{ap}
 use Rattle.line_io.proofs.TextLemmas.{puts-is, puts-none, text-done}
 use Rattle.report_text.specs.ReportText.{title_line}
 use Rattle.report_text.proofs.summary.write_title.Goals as goal

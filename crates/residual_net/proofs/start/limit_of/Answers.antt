@@ -15,5 +15,5 @@ overflow_add-moment c =
     let m = c.args.model.now in
     let place = subst (λ (p : Place). IsPlace (site_of m) p) c.in-Arc.is c.requires.place in
     let arc = c.requires.valid.arcs c.in-Arc.arc no_arc (omega (arith, place.0, length-map m.arcs (λ (a : ArcRow). joined a))) in
-    let travel : c.arc.result.travel ≤ travel_limit = rw c.arc.ensures arc.travel_fits.1 in
+    let travel : c.arc.result.now.travel ≤ travel_limit = rw c.arc.ensures arc.travel_fits.1 in
     omega (arith, place.1, c.requires.valid.horizon, travel)

@@ -2,7 +2,6 @@ use Rattle.std.proofs.Common.{rules, IsFalse, true, ◌++◌, [], ◌∷◌, ◌
 use Rattle.std.proofs.lemmas.List.{length-append}
 use Rattle.evac_law.specs.Building.{arrival, head, is_exit_at}
 use Rattle.evac_law.specs.Limits.{horizon_limit, travel_limit}
-use Rattle.evac_law.specs.declared.model.ArcRow.{ArcRow}
 use Rattle.route_decompose.specs.Stocks.{TrailView, IsLeadable, IsLedOn}
 use Rattle.route_decompose.specs.Tables.{people_at}
 use Rattle.route_decompose.proofs.Going.{arc_of, comes, on_by_hold, on_by_move, on_to_exit, stays, still_left}
@@ -30,8 +29,7 @@ unfolding horizon_limit travel_limit
 overflow_add-moment-2 t c =
     let s = c.args.store.now in
     let arc = arc_of s c.requires.leadable.left c.in-Some.arc c.args.moment c.in-Some.ensures.some.0 c.in-Some.ensures.some.2 in
-    let row = ap (λ (r : ArcRow). r.travel) c.arc-row.ensures in
-    omega (arith, c.requires.leadable.moment_in, c.requires.leadable.left.stock.valid.horizon, arc.travel_fits.1, row)
+    omega (arith, c.requires.leadable.moment_in, c.requires.leadable.left.stock.valid.horizon, arc.travel_fits.1, c.travel-time.ensures)
 
 pub lead_out-people-requires-2 : goal.lead_out-people-requires-2
 lead_out-people-requires-2 t c =
@@ -40,17 +38,16 @@ lead_out-people-requires-2 t c =
     let m = c.args.moment in
     let facts = c.in-Some.ensures.some in
     let arc = arc_of s c.requires.leadable.left a m facts.0 facts.2 in
-    let row = c.arc-row.ensures in
     let inside : IsFalse (is_exit_at s.model (head s.model a)) =
-    subst (λ (r : ArcRow). IsFalse (is_exit_at s.model r.to)) row (sym c.is_exit.ensures ∙ c.if-is_exit.false) in
-    let time : 1 ≤ c.arc-row.result.travel = subst (λ (r : ArcRow). 1 ≤ r.travel) (sym row) arc.travel_fits.0 in
-    let next : IsLeadable s c.arc-row.result.to (m + c.arc-row.result.travel) =
-    subst (λ (r : ArcRow). IsLeadable s r.to (m + r.travel)) (sym row) (comes s c.requires.leadable.left a m facts.0 facts.2 inside) in
+    subst (λ n. IsFalse (is_exit_at s.model n)) c.head-next.ensures (sym c.is_exit.ensures ∙ c.if-is_exit.false) in
+    let time : 1 ≤ c.travel-time.result = omega (arith, c.travel-time.ensures, arc.travel_fits.0) in
+    let next : IsLeadable s c.head-next.result (m + c.travel-time.result) =
+    rw (c.head-next.ensures, c.travel-time.ensures) (comes s c.requires.leadable.left a m facts.0 facts.2 inside) in
     let some : 1 ≤ c.min-2.result = omega (arith, c.min-2.ensures, c.requires.some, c.left-left.ensures, facts.2) in
     let longer : length c.add.new.self.steps ≡ length c.args.trail.now.steps + 1 =
     ap (λ (x : TrailView). length x.steps) c.add.ensures ∙ length-append c.args.trail.now.steps (record { moment = m; arc = a } ∷ []) in
     let same_room : c.add.new.self.room ≡ c.args.trail.now.room = ap (λ (x : TrailView). x.room) c.add.ensures in
-    let room : length c.add.new.self.steps + s.model.horizon ≤ c.add.new.self.room + (m + c.arc-row.result.travel) =
+    let room : length c.add.new.self.steps + s.model.horizon ≤ c.add.new.self.room + (m + c.travel-time.result) =
     omega (arith, longer, same_room, time, c.requires.room) in
     search rules
 
@@ -61,7 +58,7 @@ take_left-requires-2-clause-enough t c =
     let v = c.lead_out-people-2.new.store in
     let p = c.lead_out-people-2.result in
     let on : IsLedOn s v (head s.model a) (arrival s.model a c.args.moment) p c.add.new.self c.lead_out-people-2.new.trail =
-    subst (λ (r : ArcRow). IsLedOn s v r.to (c.args.moment + r.travel) p c.add.new.self c.lead_out-people-2.new.trail) c.arc-row.ensures c.lead_out-people-2.ensures.led in
+    rw (← c.head-next.ensures, ← c.travel-time.ensures) c.lead_out-people-2.ensures.led in
     let still = still_left s v a c.args.moment p c.add.new.self c.lead_out-people-2.new.trail c.requires.leadable.left.stock c.in-Some.ensures.some.0 on in
     omega (arith, still, c.lead_out-people-2.ensures.most, c.min-2.ensures, c.left-left.ensures)
 
@@ -71,7 +68,7 @@ returns-then-is_exit-clause-led t c =
     let a = c.in-Some.arc in
     let w = c.take_left.new.self in
     let exit : is_exit_at s.model (head s.model a) ≡ true =
-    subst (λ (r : ArcRow). is_exit_at s.model r.to ≡ true) c.arc-row.ensures (sym c.is_exit.ensures ∙ c.if-is_exit.true) in
+    subst (λ n. is_exit_at s.model n ≡ true) c.head-next.ensures (sym c.is_exit.ensures ∙ c.if-is_exit.true) in
     let on = on_to_exit s w a c.args.moment c.min-people.result c.args.trail.now c.requires.leadable.left c.in-Some.ensures.some.0 exit c.take_left.ensures in
     subst (λ (x : TrailView). IsLedOn s w c.args.node c.args.moment c.min-people.result c.args.trail.now x) (sym c.add.ensures)
     (subst (λ n. IsLedOn s w n c.args.moment c.min-people.result c.args.trail.now (record { steps = c.args.trail.now.steps ++ step_of a c.args.moment ∷ []; room = c.args.trail.now.room }))
@@ -87,7 +84,7 @@ returns-clause-led t c =
     let p = c.lead_out-people-2.result in
     let u = c.lead_out-people-2.new.trail in
     let on : IsLedOn s v (head s.model a) (arrival s.model a m) p c.add.new.self u =
-    subst (λ (r : ArcRow). IsLedOn s v r.to (m + r.travel) p c.add.new.self u) c.arc-row.ensures c.lead_out-people-2.ensures.led in
+    rw (← c.head-next.ensures, ← c.travel-time.ensures) c.lead_out-people-2.ensures.led in
     let from : IsLedOn s v (head s.model a) (arrival s.model a m) p (record { steps = c.args.trail.now.steps ++ step_of a m ∷ []; room = c.args.trail.now.room }) u =
     subst (λ (x : TrailView). IsLedOn s v (head s.model a) (arrival s.model a m) p x u) c.add.ensures on in
     subst (λ n. IsLedOn s w n m p c.args.trail.now u) c.in-Some.ensures.some.1

@@ -1,5 +1,5 @@
 use Rattle.session_talk.specs.Sessions.{session}
-use Rattle.session_talk.proofs.TalkLemmas.{parts_of}
+use Rattle.talk.proofs.TalkLemmas.{parts_of}
 use Rattle.session_talk.proofs.laws.sessions_part.Goals as goal
 
 pub returns : goal.returns

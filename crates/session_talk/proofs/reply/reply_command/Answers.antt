@@ -1,9 +1,9 @@
 use Rattle.std.proofs.Common.{Ok, Result, refl}
 use Rattle.line_io.specs.declared.out.WriteFault.{WriteFault}
 use Rattle.model_text.specs.declared.command.Command.TheVariants.{Blank}
-use Rattle.session_talk.specs.Desks.{shown, desk_state}
+use Rattle.session_talk.specs.Desks.{desk_state, shown_of}
 use Rattle.session_talk.specs.Sessions.{Replies}
-use Rattle.session_talk.proofs.Replying.{said_nothing}
+use Rattle.talk.proofs.Answering.{said_nothing}
 use Rattle.session_talk.proofs.Saying.{as_made}
 use Rattle.session_talk.proofs.reply.reply_command.Goals as goal
 
@@ -12,7 +12,7 @@ returns-in-Blank g c =
     let d = c.args.desk.now in
     let none : Unit {0} = tt in
     let done : Result (Unit {0}) WriteFault = Ok none in
-    let s = shown d (g.K.Sink.held c.args.sink.now) c.args.out.now (g.K.Sink.faults c.args.sink.now) c.args.steps.now in
+    let s = shown_of d (g.K.Sink.held c.args.sink.now) c.args.out.now (g.K.Sink.faults c.args.sink.now) c.args.steps.now in
     λ before. as_made done d.names c.args.line (desk_state d) Blank _ s s c.in-Blank.is
     (said_nothing (λ r. Replies d.names c.args.line (desk_state d) (Ok Blank) r) none s refl)
 

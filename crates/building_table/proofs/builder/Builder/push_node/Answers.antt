@@ -1,5 +1,6 @@
-use Rattle.std.proofs.Common.{◌≡◌, ◌∷◌, ◌++◌, [], false, map, ap, sym, ◌∙◌, arith}
+use Rattle.std.proofs.Common.{◌≡◌, ◌∷◌, ◌++◌, [], map, ap, sym, ◌∙◌, arith}
 use Rattle.std.proofs.lemmas.Grind.{common_steps}
+use Rattle.evac_law.specs.Building.{node_row}
 use Rattle.evac_law.specs.declared.model.NodeRow.{NodeRow}
 use Rattle.building_table.specs.Built.{Built}
 use Rattle.building_table.specs.Names.{NameLists, names_with}
@@ -11,7 +12,7 @@ pub invariant_of-self-2 : goal.invariant_of-self-2
 invariant_of-self-2 c =
     let rows = c.self.inside.nodes.items in
     let index : NameLists = c.self.inside.index in
-    let row : NodeRow = record { name = c.args.name; capacity = c.args.capacity; start = c.args.start; shut = false } in
+    let row : NodeRow = node_row c.args.name c.args.capacity c.args.start in
     let pushed : c.push.new.self.items ≡ rows ++ (row ∷ []) = grind (arith, common_steps) in
     let made : c.insert_node.new.self ≡ record index { nodes = names_with index.nodes row.name } = grind (arith, common_steps) in
     let new = ap (λ (b : Built). holds_node b c.args.name) c.self.view_is ∙ c.requires.new in

@@ -1,4 +1,4 @@
-use Rattle.building_table.proofs.TakeLemmas.{take-ok, take-fault, same-title, same-period, same-horizon, same-floor, same-room, same-exit, same-arc}
+use Rattle.building_table.proofs.TakeLemmas.{take-ok, take-fault, same-title, same-period, same-horizon, same-floor, same-room, same-exit, same-arc, same-window, same-entrant}
 use Rattle.building_table.proofs.builder.Builder.take.Goals as goal
 
 pub returns-in-Title-clause-taken : goal.returns-in-Title-clause-taken
@@ -42,3 +42,15 @@ returns-in-Arc-clause-taken c = rw c.in-Arc.is (take-ok c.take_arc.result _ _ c.
 
 pub returns-in-Arc-clause-fault : goal.returns-in-Arc-clause-fault
 returns-in-Arc-clause-fault c = rw c.in-Arc.is (take-fault c.take_arc.result _ _ c.args.self.now c.take_arc.new.self _ c.take_arc.ensures (same-arc c.in-Arc.from c.in-Arc.to c.in-Arc.travel c.in-Arc.rate c.args.self.now))
+
+pub returns-in-Window-clause-taken : goal.returns-in-Window-clause-taken
+returns-in-Window-clause-taken c = rw c.in-Window.is (take-ok c.take_window.result _ _ c.args.self.now c.take_window.new.self _ c.take_window.ensures (same-window c.in-Window.from c.in-Window.to c.in-Window.first c.in-Window.until c.args.self.now))
+
+pub returns-in-Window-clause-fault : goal.returns-in-Window-clause-fault
+returns-in-Window-clause-fault c = rw c.in-Window.is (take-fault c.take_window.result _ _ c.args.self.now c.take_window.new.self _ c.take_window.ensures (same-window c.in-Window.from c.in-Window.to c.in-Window.first c.in-Window.until c.args.self.now))
+
+pub returns-in-Entrant-clause-taken : goal.returns-in-Entrant-clause-taken
+returns-in-Entrant-clause-taken c = rw c.in-Entrant.is (take-ok c.take_entrant.result _ _ c.args.self.now c.take_entrant.new.self _ c.take_entrant.ensures (same-entrant c.in-Entrant.name c.in-Entrant.moment c.in-Entrant.people c.args.self.now))
+
+pub returns-in-Entrant-clause-fault : goal.returns-in-Entrant-clause-fault
+returns-in-Entrant-clause-fault c = rw c.in-Entrant.is (take-fault c.take_entrant.result _ _ c.args.self.now c.take_entrant.new.self _ c.take_entrant.ensures (same-entrant c.in-Entrant.name c.in-Entrant.moment c.in-Entrant.people c.args.self.now))

@@ -80,7 +80,7 @@ returns c =
     record { whole = c.requires.size; text = c.content_size-kept.ensures ∙ ap (λ b. length (content (take size b))) c.pending.ensures.bytes } in
     let given = ap (λ r. r.given) c.self.view_is in
     let limited = c.self.invariant.limited in
-    let near : r.given + size ≤ 20000000 = omega arith in
+    let near : r.given + size ≤ input_limit = omega arith in
     let some : 0 < size = omega arith in
     record {
       line = λ rest last. front-found r c.keep.new.self size _ rest f c.requires.settled last some c.if-kept-gt-LINE_LIMIT.false near c.keep.ensures;

@@ -1,4 +1,3 @@
-use Rattle.std.proofs.Common.{refl}
 use Rattle.session_talk.proofs.DeskLemmas.{desk_opened}
 use Rattle.session_talk.proofs.desk.Desk.open.Goals as goal
 

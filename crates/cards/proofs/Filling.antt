@@ -1,0 +1,53 @@
+-- A table that is filled moment by moment and row by row.
+use Rattle.std.proofs.Common.{◌≡◌, ℕ, ◌+◌, ◌<◌, ◌≤◌, ◌⊎◌, inl, inr, cond, ◌&&◌, eqb, refl, sym, ◌∙◌, arith, subst}
+use Rattle.std.proofs.lemmas.Bool.{cases_lt}
+use Rattle.std.proofs.lemmas.Bool.Decides.{nat_tests}
+use Rattle.route_decompose.specs.Tables.{IsPut, IsRowFilled, PeopleTable, people_at}
+
+-- ---- a row, moment by moment
+
+-- a row of the second table has these numbers before a moment, and the rows before it are as in the first
+pub record IsFilling (c d : PeopleTable) (n t : ℕ) (f : ℕ → ℕ) : Type 0 where
+  pub rows : d.rows ≡ c.rows
+  pub last : d.last ≡ c.last
+  pub row : (k : ℕ) → k < t → people_at d n k ≡ f k
+  pub others : (i k : ℕ) → i < n → people_at d i k ≡ people_at c i k
+
+pub none_filled : (c : PeopleTable) (n : ℕ) (f : ℕ → ℕ) → IsFilling c c n 0 f
+none_filled c n f = record { rows = refl; last = refl; row = λ k l. absurd (omega (arith, l)); others = λ i k l. refl }
+
+here : (n t x y : ℕ) → cond (eqb n n && eqb t t) x y ≡ x
+here n t x y = grind (arith, nat_tests)
+
+elsewhere : (n i t k x y : ℕ) → (n ≡ i → t ≡ k → ⊥) → cond (eqb n i && eqb t k) x y ≡ y
+elsewhere n i t k x y h = grind (arith, nat_tests)
+
+pub one_filled : (c d e : PeopleTable) (n t x : ℕ) (f : ℕ → ℕ) → IsFilling c d n t f → IsPut d e n t x → x ≡ f t → IsFilling c e n (t + 1) f
+one_filled c d e n t x f h put same = record {
+  rows = put.rows ∙ h.rows;
+  last = put.last ∙ h.last;
+  row = λ k l. split k l (cases_lt k t);
+  others = λ i k l. put.cells i k ∙ elsewhere n i t k x (people_at d i k) (λ a b. omega (arith, a, l)) ∙ h.others i k l;
+}
+  where
+    at : (k : ℕ) → k ≡ t → people_at e n k ≡ f k
+    at k a = subst (λ (z : ℕ). people_at e n z ≡ f z) (sym a) (put.cells n t ∙ here n t x (people_at d n t) ∙ same)
+
+    split : (k : ℕ) → k < t + 1 → (k < t) ⊎ (t ≤ k) → people_at e n k ≡ f k
+    split k l (inl b) = put.cells n k ∙ elsewhere n n t k x (people_at d n k) (λ a c. omega (arith, c, b)) ∙ h.row k b
+    split k l (inr b) = at k (omega (arith, l, b))
+
+pub all_filled : (c d : PeopleTable) (n t : ℕ) (f : ℕ → ℕ) → IsFilling c d n t f → c.last < t → IsRowFilled c d n f
+all_filled c d n t f h l = record { rows = h.rows; last = h.last; row = λ k b. h.row k (omega (arith, b, l)); others = h.others }
+
+-- ---- a table, row by row
+
+pub row_filled : (d e : PeopleTable) (i last : ℕ) (f : ℕ → ℕ → ℕ) → ((n t : ℕ) → n < i → t ≤ last → people_at d n t ≡ f n t)
+    → IsRowFilled d e i (f i) → last ≤ d.last → (n t : ℕ) → n < i + 1 → t ≤ last → people_at e n t ≡ f n t
+row_filled d e i last f old row long n t l h = split (cases_lt n i)
+  where
+    split : (n < i) ⊎ (i ≤ n) → people_at e n t ≡ f n t
+    split (inl b) = row.others n t b ∙ old n t b h
+    split (inr b) =
+        let same : n ≡ i = omega (arith, l, b) in
+        subst (λ (z : ℕ). people_at e z t ≡ f z t) (sym same) (row.row t (omega (arith, h, long)))

@@ -1,0 +1,34 @@
+use Rattle.std.proofs.Common.{refl, arith}
+use Rattle.cards.specs.Numbers.{entrants_before}
+use Rattle.cards.proofs.Counted.{came_before_is}
+use Rattle.cards.proofs.Numbers.{enters_then}
+use Rattle.cards.proofs.turn.entrant.Goals as goal
+
+pub returns-clause-number : goal.returns-clause-number
+unfolding entrants_before
+returns-clause-number c =
+    let t = c.args.turn in
+    let here = c.requires.turn in
+    let before = here.turn.before in
+    let earlier = came_before_is c.args.counts.now c.requires.counts t.node t.moment here.node_in here.turn.moment_in in
+    record { node = refl; moment = refl; number = omega (arith, c.before-earlier.ensures.number, earlier, c.coming-along_arcs.ensures.coming, c.from.ensures, before) }
+
+pub returns-clause-comer : goal.returns-clause-comer
+unfolding entrants_before
+returns-clause-comer c =
+    let p = c.args.counts.now.plan in
+    let t = c.args.turn in
+    let here = c.requires.turn in
+    let low = here.not_before in
+    let high = here.one_of in
+    let earlier = came_before_is c.args.counts.now c.requires.counts t.node t.moment here.node_in here.turn.moment_in in
+    record {
+      node_in = here.node_in;
+      in_time = here.turn.moment_in;
+      at =
+          enters_then p.model p.moves c.requires.counts.takes.feasible.arcs t.node t.moment _
+          (record {
+            from = omega (arith, c.before-earlier.ensures.number, earlier, c.coming-along_arcs.ensures.coming);
+            until = omega (arith, c.before-earlier.ensures.number, earlier, c.coming-along_arcs.ensures.coming, c.from.ensures, low, high);
+          });
+    }

@@ -1,0 +1,12 @@
+pub use Rattle.evac_law.specs.Building
+pub use Rattle.evac_law.specs.Plans
+pub use Rattle.evac_law.specs.Stands
+pub use Rattle.route_decompose.specs.Routes
+pub mod Cards
+pub mod Numbers
+pub mod Laws
+pub mod Kept
+pub mod Counts
+pub mod Following
+pub mod Turns
+pub mod Dealing

@@ -1,0 +1,57 @@
+// The mode `upgrade`: a model is read to the end of its input, and is sent as a text of version 2.
+ghost use Rattle.std.specs.Prelude.{◌≡◌, ℕ, [], Some};
+ghost use Rattle.evac_law.specs.Building.{IsValid};
+ghost use Rattle.line_io.specs.Causes.{HasCause};
+ghost use Rattle.model_writer.specs.ModelText.{building_text};
+ghost use Rattle.evac_top.specs.Accounts.{side};
+ghost use Rattle.evac_top.specs.Runs.{Runs};
+ghost use Rattle.evac_top.specs.Sends.{Sends};
+ghost use Rattle.evac_top.specs.Upgrade.{IsUpgraded};
+ghost use Rattle.evac_top.specs.Tells.{Tells};
+ghost use Rattle.evac_top.specs.declared.words.Mode.TheVariants.{Upgrade};
+
+use crate::read::read_input;
+use crate::reply::flush_behind;
+use crate::status::{DONE, NO_MEMORY};
+use crate::stop::{status_after, stop};
+use building_table::Building;
+use line_io::{Lines, Out, Sink, Source, WriteFault};
+use model_writer::write_model;
+use std::alloc::Global;
+
+// Sends the text of a building.
+fn send_model<K: Sink>(out: &mut Out, sink: &mut K, building: &Building) -> Result<(), WriteFault>
+    requires fresh { out.old ≡ [] }
+    requires valid { IsValid building.now.model }
+    ensures text { Sends (K.held sink.old) (K.held sink.new) (building_text building.now) result }
+    ensures cause { HasCause (K.faults sink.old) (K.faults sink.new) result }
+{
+    let put = write_model(out, sink, building);
+    flush_behind(put, out, sink)
+}
+
+// Sends the same, and drops the building.
+fn answer<K: Sink>(out: &mut Out, sink: &mut K, building: Building) -> u8
+    requires fresh { out.old ≡ [] }
+    requires valid { IsValid building.model }
+    ensures { Tells (IsUpgraded building) result 0 (side (K.held sink.old) (K.faults sink.old)) (side (K.held sink.new) (K.faults sink.new)) }
+{
+    let status = status_after(send_model(out, sink, &building), DONE);
+    drop(building);
+    status
+}
+
+/// Runs the mode. It counts no steps.
+pub(crate) fn upgrade<S: Source, K: Sink>(alloc: Global, source: &mut S, sink: &mut K) -> u8
+    ensures { (steps : ℕ) → Runs (Some Upgrade) result
+        (record { source = side (S.left source.old) (S.faults source.old); sink = side (K.held sink.old) (K.faults sink.old); steps = steps })
+        (record { source = side (S.left source.new) (S.faults source.new); sink = side (K.held sink.new) (K.faults sink.new); steps = steps }) }
+{
+    let (Ok(mut lines), Ok(mut out)) = (Lines::new(alloc), Out::new(alloc)) else {
+        return NO_MEMORY;
+    };
+    match read_input(alloc, &mut lines, source) {
+        Ok(input) => answer(&mut out, sink, input.building),
+        Err(fault) => stop(&mut out, sink, fault),
+    }
+}

@@ -1,0 +1,2 @@
+pub mod RateLemmas
+pub mod Trying

@@ -1,0 +1,14 @@
+pub mod Adding
+pub mod AgainLemmas
+pub mod ArcsGo
+pub mod EndedLemmas
+pub mod EntrantsGo
+pub mod FloorsGo
+pub mod LinesWithin
+pub mod NodesGo
+pub mod PlainGo
+pub mod ReadBack
+pub mod SaidBack
+pub mod SizeLemmas
+pub mod TextLemmas
+pub mod WindowsGo

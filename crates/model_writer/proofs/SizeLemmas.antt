@@ -1,0 +1,183 @@
+-- The lines of a plain building's text keep the limits on a line and on an input.
+use Rattle.std.proofs.Common.{◌≡◌, ℕ, ◌+◌, ◌*◌, ◌^◌, ◌<◌, ◌≤◌, Bool, true, false, cond, ◌||◌, List, [], ◌∷◌, ◌++◌, length, map, get_or, ap, ◌∙◌, arith, length-append}
+use Rattle.std.specs.Prelude.{decimal, MatchOption, Some, None, ⊤}
+use Rattle.std.specs.declared.option.Option.{Option}
+use Rattle.std.specs.List.{All, flat_map, list_any, sum_by}
+use Rattle.std.proofs.lemmas.List.{length-map}
+use Rattle.std.proofs.lemmas.List.Concat.{length-flat_map}
+use Rattle.std.proofs.lemmas.List.Elements.{All-append, All-cons, All-head, All-map, All-nil, All-tail}
+use Rattle.std.proofs.lemmas.List.Folds.{list_any-append}
+use Rattle.std.proofs.lemmas.List.Sums.{sum_by-cons, sum_by-le}
+use Rattle.evac_law.specs.Building.{IsArc, IsEntrant, people}
+use Rattle.evac_law.specs.Limits.{arc_limit, floor_limit, floor_number_limit, node_limit, people_limit, window_limit}
+use Rattle.evac_law.specs.Names.{is_exit}
+use Rattle.evac_law.specs.declared.entrant.Entrant.{Entrant as Coming}
+use Rattle.evac_law.specs.declared.model.ArcRow.{ArcRow}
+use Rattle.evac_law.specs.declared.model.Model.{Model}
+use Rattle.evac_law.specs.declared.model.NodeRow.{NodeRow}
+use Rattle.evac_law.proofs.MoveLemmas.{All-flat_map_at}
+use Rattle.certificate_text.proofs.LineTexts.{IsField, IsLine, decimal-field, kept-whole, word-kept}
+use Rattle.line_io.specs.Line.{input_limit, is_lf, line_limit}
+use Rattle.model_text.specs.Grammar.{Said, Blank, Header, Title, Period, Horizon, Floor, Node, Exit, Arc, Window, Entrant, End}
+use Rattle.model_text.specs.Plain.{IsPlain, IsTextBehind}
+use Rattle.model_text.specs.Taken.{Description}
+use Rattle.model_text.proofs.TextLemmas.{HasText}
+use Rattle.model_writer.specs.Laws.{AreFine, IsContent, IsSpelled}
+use Rattle.model_writer.specs.ModelText.{arc_said, entrant_said, floor_said, node_said, parts_said, said_line, said_of, said_text, title_said, window_said, windows_said}
+use Rattle.model_writer.proofs.EndedLemmas.{ended-size}
+use Rattle.model_writer.proofs.SaidBack.{spells-said}
+
+-- ---- the line of a statement
+
+line-content : (x : List ℕ) → IsLine x → IsContent x
+unfolding line_limit
+line-content x is = (is.short, kept-whole x is.kept)
+
+title-content : (text : List ℕ) → IsTextBehind line_limit 6 text → IsContent (said_line (Title text))
+title-content text is = ((let fits = is.fits in omega arith), is.one_line)
+
+floor-content : (floor : ℕ) (text : List ℕ) → floor ≤ floor_number_limit → IsTextBehind line_limit (7 + length (decimal floor)) text → IsContent (said_line (Floor floor text))
+unfolding floor_number_limit
+floor-content floor text few is =
+    let number : IsField (decimal floor) = decimal-field floor (omega arith) in
+    let size = length-append (decimal floor) (32 ∷ text) in
+    let fits = is.fits in
+    let short : length (said_line (Floor floor text)) ≤ line_limit = omega arith in (
+      short,
+      list_any-append is_lf (decimal floor) (32 ∷ text) ∙ ap (λ t. t || list_any is_lf (32 ∷ text)) (kept-whole (decimal floor) (word-kept (decimal floor) number.seen))
+          ∙ is.one_line,
+    )
+
+pub content-said : (s : Said) → IsSpelled s → HasText line_limit s → IsContent (said_line s)
+content-said Blank is text = absurd is
+content-said (Header version) is text = line-content _ (spells-said (Header version) is).line
+content-said (Title text) is fits = title-content text fits
+content-said (Period seconds) is text = line-content _ (spells-said (Period seconds) is).line
+content-said (Horizon moments) is text = line-content _ (spells-said (Horizon moments) is).line
+content-said (Floor floor text) is fits = floor-content floor text is.0.0 fits
+content-said (Node name capacity start) is text = line-content _ (spells-said (Node name capacity start) is).line
+content-said (Exit name) is text = line-content _ (spells-said (Exit name) is).line
+content-said (Arc start finish travel rate) is text = line-content _ (spells-said (Arc start finish travel rate) is).line
+content-said (Window start finish first until) is text = line-content _ (spells-said (Window start finish first until) is).line
+content-said (Entrant name moment people) is text = line-content _ (spells-said (Entrant name moment people) is).line
+content-said End is text = line-content _ (spells-said End is).line
+
+-- ---- the texts of the statements
+
+title-texts : (limit : ℕ) (title : Option (List ℕ)) → MatchOption title ⊤ (λ text. IsTextBehind limit 6 text) → All (HasText limit) (title_said title)
+title-texts limit None is = All-nil (HasText limit)
+title-texts limit (Some text) is = All-cons (HasText limit) (Title text) [] is (All-nil (HasText limit))
+
+node-text : (limit : ℕ) (n : NodeRow) (t : Bool) → HasText limit (cond t (Exit n.name) (Node n.name n.capacity n.start))
+node-text limit n true = tt
+node-text limit n false = tt
+
+windows-texts : (limit : ℕ) (m : Model) → All (HasText limit) (flat_map (windows_said m) m.arcs)
+windows-texts limit m =
+    All-flat_map_at (HasText limit) (windows_said m) m.arcs
+    (λ k a within. let arc = get_or m.arcs k a in All-map (HasText limit) (window_said m arc) arc.windows.items (λ j w inside. tt))
+
+parts-texts : (limit : ℕ) (d : Description) → IsPlain limit d → All (HasText limit) (parts_said d)
+parts-texts limit d plain =
+    let m = d.model in
+    let es = map (entrant_said m) m.entrants in
+    let ws = flat_map (windows_said m) m.arcs in
+    let as' = map (arc_said m) m.arcs in
+    let ns = map node_said m.nodes in
+    let fs = map floor_said d.floors in
+    let rows = fs ++ (ns ++ (as' ++ (ws ++ es))) in
+    All-append (HasText limit) (title_said d.title) (Period m.seconds ∷ Horizon m.horizon ∷ rows) (title-texts limit d.title plain.title)
+    (All-cons (HasText limit) (Period m.seconds) (Horizon m.horizon ∷ rows) tt (All-cons (HasText limit) (Horizon m.horizon) rows tt
+    (All-append (HasText limit) fs (ns ++ (as' ++ (ws ++ es))) (All-map (HasText limit) floor_said d.floors plain.floor_texts)
+    (All-append (HasText limit) ns (as' ++ (ws ++ es))
+    (All-map (HasText limit) node_said m.nodes (λ k n within. let node = get_or m.nodes k n in node-text limit node (is_exit node.name.kind)))
+    (All-append (HasText limit) as' (ws ++ es) (All-map (HasText limit) (arc_said m) m.arcs (λ k a within. tt))
+    (All-append (HasText limit) ws es (windows-texts limit m) (All-map (HasText limit) (entrant_said m) m.entrants (λ k e within. tt))))))))
+
+-- ---- all lines
+
+fine-content : (taken ss : List Said) → AreFine taken ss → All (HasText line_limit) ss → All (λ s. IsContent (said_line s)) ss
+fine-content taken [] fine texts = All-nil (λ s. IsContent (said_line s))
+fine-content taken (s ∷ ss) fine texts =
+    All-cons (λ s. IsContent (said_line s)) s ss (content-said s fine.1 (All-head (HasText line_limit) s ss texts))
+    (fine-content (s ∷ taken) ss fine.3 (All-tail (HasText line_limit) s ss texts))
+
+pub contents : (d : Description) → IsPlain line_limit d → AreFine [] (parts_said d) → All (λ s. IsContent (said_line s)) (said_of d)
+contents d plain fine =
+    let P : Said → Type 0 = λ s. IsContent (said_line s) in
+    All-cons P (Header 2) (parts_said d ++ (End ∷ [])) (content-said (Header 2) (omega arith) tt)
+    (All-append P (parts_said d) (End ∷ []) (fine-content [] (parts_said d) fine (parts-texts line_limit d plain))
+    (All-cons P End [] (content-said End tt tt) (All-nil P)))
+
+-- ---- how many they are
+
+title-few : (title : Option (List ℕ)) → length (title_said title) ≤ 1
+title-few None = omega arith
+title-few (Some text) = omega arith
+
+windows-few : (m : Model) (arcs : List ArcRow) → All (IsArc m.nodes) arcs → length (flat_map (windows_said m) arcs) ≤ length arcs * window_limit
+windows-few m arcs each =
+    let whole = length-flat_map (windows_said m) arcs in
+    let most = sum_by-le (λ (a : ArcRow). length (windows_said m a)) window_limit arcs (λ k a within.
+    let few = (each k a within).windows.few in
+    let size = length-map (get_or arcs k a).windows.items (window_said m (get_or arcs k a)) in
+    omega arith) in
+    omega arith
+
+entrants-few : (nodes : List NodeRow) (horizon : ℕ) (es : List Coming) → All (IsEntrant nodes horizon) es → length es ≤ sum_by (λ e. e.people) es
+entrants-few nodes horizon [] each = omega arith
+entrants-few nodes horizon (e ∷ es) each =
+    let more = entrants-few nodes horizon es (All-tail (IsEntrant nodes horizon) e es each) in
+    let somebody = (All-head (IsEntrant nodes horizon) e es each).somebody in
+    let whole = sum_by-cons (λ (f : Coming). f.people) e es in
+    omega arith
+
+parts-few : (d : Description) → length (parts_said d)
+    ≡ length (title_said d.title) + (2 + (length d.floors + (length d.model.nodes + (length d.model.arcs + (length (flat_map (windows_said d.model) d.model.arcs) + length d.model.entrants)))))
+parts-few d =
+    let m = d.model in
+    let es = map (entrant_said m) m.entrants in
+    let ws = flat_map (windows_said m) m.arcs in
+    let as' = map (arc_said m) m.arcs in
+    let ns = map node_said m.nodes in
+    let fs = map floor_said d.floors in
+    let a = length-append (title_said d.title) (Period m.seconds ∷ Horizon m.horizon ∷ (fs ++ (ns ++ (as' ++ (ws ++ es))))) in
+    let b = length-append fs (ns ++ (as' ++ (ws ++ es))) in
+    let c = length-append ns (as' ++ (ws ++ es)) in
+    let e = length-append as' (ws ++ es) in
+    let f = length-append ws es in
+    let floors = length-map d.floors floor_said in
+    let nodes = length-map m.nodes node_said in
+    let arcs = length-map m.arcs (arc_said m) in
+    let entrants = length-map m.entrants (entrant_said m) in
+    omega arith
+
+pub few-said : (limit : ℕ) (d : Description) → IsPlain limit d → length (said_of d) < 2 ^ 17
+unfolding floor_limit node_limit arc_limit window_limit people_limit people
+few-said limit d plain =
+    let m = d.model in
+    let valid = plain.valid in
+    let parts = parts-few d in
+    let title = title-few d.title in
+    let windows = windows-few m m.arcs valid.arcs in
+    let coming = entrants-few m.nodes m.horizon m.entrants valid.entrants in
+    let a = plain.few_floors in
+    let b = valid.nodes_fit in
+    let c = valid.arcs_fit in
+    let e = valid.people_fit in
+    let all = length-append (parts_said d) (End ∷ []) in
+    omega arith
+
+-- lines within the limit, fewer than some number
+texts-fit : (ss : List Said) → All (λ s. IsContent (said_line s)) ss → length ss < 2 ^ 17 → length (flat_map said_text ss) ≤ input_limit
+unfolding line_limit input_limit
+texts-fit ss each few =
+    let whole = length-flat_map said_text ss in
+    let most = sum_by-le (λ s. length (said_text s)) 202 ss (λ k s within.
+    let short = (each k s within).0 in
+    let size = ended-size (said_line (get_or ss k s)) in
+    omega arith) in
+    omega arith
+
+pub text-fits : (d : Description) → IsPlain line_limit d → All (λ s. IsContent (said_line s)) (said_of d) → length (flat_map said_text (said_of d)) ≤ input_limit
+text-fits d plain each = texts-fit (said_of d) each (few-said line_limit d plain)

@@ -1,0 +1,14 @@
+//! A building as a text of version 2.
+//!
+//! `specs/` has the text and the law that its lines describe the same building again.
+#![tactic(auto)]
+
+mod laws;
+mod line;
+mod model;
+
+pub use laws::{
+    fine_statements_read_back, lines_read_back, statements_read_back, text_is_of_description,
+    texts_describe_again,
+};
+pub use model::write_model;

@@ -1,0 +1,182 @@
+// Lines of statements, put with their ends.
+ghost use Rattle.std.specs.Prelude.{◌≡◌, ◌≤◌, ◌++◌, ◌∷◌, decimal, length};
+ghost use Rattle.std.specs.Option.{option_copied};
+ghost use Rattle.line_io.specs.Causes.{HasCause};
+ghost use Rattle.line_io.specs.Writer.{PutsText};
+ghost use Rattle.evac_law.specs.Names.{IsName, name_text};
+ghost use Rattle.model_text.specs.Reads.{said};
+ghost use Rattle.model_writer.specs.ModelText.{HasNames, ended, line_end, line_with, said_line, said_text};
+
+use certificate_text::put_name;
+use evac_law::NodeName;
+use line_io::{Out, Sink, TextLine, WriteFault};
+use model_text::Statement;
+
+// A line of a word and a number.
+fn of_number(word: &[u8], number: u32) -> TextLine
+    requires { length word.now ≤ 10 }
+    ensures value { result ≡ word.now ++ (32 ∷ decimal number) }
+    ensures few { length result ≤ 31 }
+{
+    let mut line = TextLine::new(word);
+    line.number(u64::from(number));
+    line
+}
+
+// A line of a word and a name.
+fn of_name(word: &[u8], name: NodeName) -> TextLine
+    requires word { length word.now ≤ 10 }
+    requires name { IsName name }
+    ensures value { result ≡ word.now ++ (32 ∷ name_text name) }
+    ensures few { length result ≤ 21 }
+{
+    let mut line = TextLine::new(word);
+    put_name(&mut line, name);
+    line
+}
+
+// A line of a word, a name and two numbers.
+fn of_name_numbers(word: &[u8], name: NodeName, first: u32, second: u32) -> TextLine
+    requires word { length word.now ≤ 10 }
+    requires name { IsName name }
+    ensures value { result ≡ ((word.now ++ (32 ∷ name_text name)) ++ (32 ∷ decimal first)) ++ (32 ∷ decimal second) }
+    ensures few { length result ≤ 63 }
+{
+    let mut line = of_name(word, name);
+    line.number(u64::from(first));
+    line.number(u64::from(second));
+    line
+}
+
+// A line of a word, two names and two numbers.
+fn of_names_numbers(word: &[u8], from: NodeName, to: NodeName, first: u32, second: u32) -> TextLine
+    requires word { length word.now ≤ 10 }
+    requires from { IsName from }
+    requires to { IsName to }
+    ensures value { result ≡ (((word.now ++ (32 ∷ name_text from)) ++ (32 ∷ name_text to)) ++ (32 ∷ decimal first)) ++ (32 ∷ decimal second) }
+    ensures few { length result ≤ 74 }
+{
+    let mut line = of_name(word, from);
+    put_name(&mut line, to);
+    line.number(u64::from(first));
+    line.number(u64::from(second));
+    line
+}
+
+// The fields of a line, and the text that stands behind them, where there is one.
+#[derive(Drop)]
+struct Line<'a> {
+    fields: TextLine,
+    text: Option<&'a [u8]>,
+}
+
+// A line of fields alone.
+fn of_fields<'a>(fields: TextLine) -> Line<'a>
+    ensures fields { result.fields ≡ fields }
+    ensures text { result.text ≡ None }
+{
+    Line { fields, text: None }
+}
+
+// A line of fields and of a text behind them.
+fn with_text<'a>(fields: TextLine, text: &'a [u8]) -> Line<'a>
+    ensures fields { result.fields ≡ fields }
+    ensures text { result.text ≡ Some text.entry }
+{
+    Line {
+        fields,
+        text: Some(text),
+    }
+}
+
+// The line of a statement.
+fn line_of(statement: Statement<'_>) -> Line<'_>
+    requires { HasNames (said statement) }
+    ensures { line_with result.fields (option_copied result.text) ≡ said_line (said statement.entry) }
+{
+    match statement {
+        Statement::Blank => of_fields(TextLine::new(b"")),
+        Statement::Header { version } => of_fields(of_number(b"evacplan", version)),
+        Statement::Title { text } => with_text(TextLine::new(b"title"), text),
+        Statement::Period { seconds } => of_fields(of_number(b"period", u32::from(seconds))),
+        Statement::Horizon { moments } => of_fields(of_number(b"horizon", u32::from(moments))),
+        Statement::Floor { floor, text } => with_text(of_number(b"floor", u32::from(floor)), text),
+        Statement::Node {
+            name,
+            capacity,
+            start,
+        } => of_fields(of_name_numbers(b"node", name, capacity, start)),
+        Statement::Exit { name } => of_fields(of_name(b"node", name)),
+        Statement::Arc {
+            from,
+            to,
+            travel,
+            rate,
+        } => of_fields(of_names_numbers(b"arc", from, to, u32::from(travel), rate)),
+        Statement::Window {
+            from,
+            to,
+            first,
+            until,
+        } => of_fields(of_names_numbers(b"window", from, to, first, until)),
+        Statement::Entrant {
+            name,
+            moment,
+            people,
+        } => of_fields(of_name_numbers(b"entrant", name, u32::from(moment), people)),
+        Statement::End => of_fields(TextLine::new(b"end")),
+    }
+}
+
+// The end of a line.
+fn end_of(line: &[u8]) -> &'static [u8]
+    ensures { result.now ≡ line_end line.now }
+{
+    if line.ends_with(b"\r") {
+        b"\r\n"
+    } else {
+        b"\n"
+    }
+}
+
+// Puts a line with its end.
+fn put_line<K: Sink>(out: &mut Out, sink: &mut K, line: &[u8]) -> Result<(), WriteFault>
+    ensures text { PutsText (K.held sink.old) out.old (ended line.now) (K.held sink.new) out.new result }
+    ensures cause { HasCause (K.faults sink.old) (K.faults sink.new) result }
+{
+    out.put_all(sink, line)?;
+    out.put_all(sink, end_of(line))
+}
+
+// Puts a line of fields and of a text behind them, with its end.
+fn put_text_line<K: Sink>(
+    out: &mut Out,
+    sink: &mut K,
+    fields: &[u8],
+    text: &[u8],
+) -> Result<(), WriteFault>
+    ensures text { PutsText (K.held sink.old) out.old (ended (fields.now ++ (32 ∷ text.now))) (K.held sink.new) out.new result }
+    ensures cause { HasCause (K.faults sink.old) (K.faults sink.new) result }
+{
+    out.put_all(sink, fields)?;
+    out.put_all(sink, b" ")?;
+    out.put_all(sink, text)?;
+    out.put_all(sink, end_of(text))
+}
+
+/// Puts the line of a statement with its end.
+pub(crate) fn write_statement<K: Sink>(
+    out: &mut Out,
+    sink: &mut K,
+    statement: Statement<'_>,
+) -> Result<(), WriteFault>
+    requires { HasNames (said statement) }
+    ensures text { PutsText (K.held sink.old) out.old (said_text (said statement.entry)) (K.held sink.new) out.new result }
+    ensures cause { HasCause (K.faults sink.old) (K.faults sink.new) result }
+{
+    let line = line_of(statement);
+    match line.text {
+        None => put_line(out, sink, line.fields.bytes()),
+        Some(text) => put_text_line(out, sink, line.fields.bytes(), text),
+    }
+}

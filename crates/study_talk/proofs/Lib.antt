@@ -1,0 +1,4 @@
+pub mod RowLemmas
+pub mod CertLemmas
+pub mod Replying
+pub mod Sending

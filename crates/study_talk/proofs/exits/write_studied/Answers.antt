@@ -1,0 +1,15 @@
+use Rattle.std.proofs.Common.{refl}
+use Rattle.study_talk.specs.StudyTexts.{Row}
+use Rattle.study_talk.proofs.RowLemmas.{row_as}
+use Rattle.study_talk.proofs.exits.write_studied.Goals as goal
+
+pub returns-clause-text : goal.returns-clause-text
+returns-clause-text g c =
+    let m = c.args.session.now.state.model in
+    let s = c.row_of-row.new.session in
+    let row : Row = record { exit = c.args.node; outcome = c.row_of-row.result; cut = s.refused } in (
+      row,
+      refl,
+      c.row_of-row.ensures.row,
+      row_as m s.state.model c.args.node s.refused c.row_of-row.result c.args.so_far c.write_next.result _ _ _ _ c.row_of-row.ensures.stays.model c.write_next.ensures.text,
+    )

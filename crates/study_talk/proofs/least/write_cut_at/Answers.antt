@@ -1,0 +1,33 @@
+use Rattle.std.proofs.Common.{◌+◌, ◌++◌, arith, refl}
+use Rattle.evac_law.specs.Certificates.{label_cut}
+use Rattle.certificate_text.specs.BlockText.{in_lines}
+use Rattle.report_text.specs.ReportText.{cut_line}
+use Rattle.study_talk.proofs.CertLemmas.{barred_said_by, cut_said}
+use Rattle.study_talk.proofs.least.write_cut_at.Goals as goal
+
+pub returns-in-Ok-clause-text : goal.returns-in-Ok-clause-text
+returns-in-Ok-clause-text g c =
+    let s = c.args.session.now.state in
+    let t = c.edit.new.self.state in
+    let text = cut_line c.args.by c.cut_value-value.result ++ in_lines t.model (label_cut t.model t.labels c.args.by) in (
+      text,
+      cut_said s t c.args.arc c.args.by c.args.rate c.cut_value-value.result text c.model.ensures.solved c.requires.arc c.requires.rate c.requires.by c.in-Ok.ensures.ends.2.0 c.requires.slow
+          (rw (c.model-model.ensures.model, c.labels.ensures) at c.cut_value-value.ensures.value) refl,
+      rw (c.model-model.ensures.model, c.labels-in-Ok.ensures) at c.write_cut-sent.ensures.text,
+    )
+
+pub returns-in-Ok-clause-counted : goal.returns-in-Ok-clause-counted
+returns-in-Ok-clause-counted g c =
+    let e = c.in-Ok.ensures.ends in
+    let b = c.go_back.ensures.counted in (e.0 + b.0, omega (arith, e.1, b.1))
+
+pub returns-in-Err-NotCleared-clause-text : goal.returns-in-Err-NotCleared-clause-text
+returns-in-Err-NotCleared-clause-text g c =
+    let s = c.args.session.now in
+    let t = c.edit.new.self in
+    let f = c.in-Err-NotCleared in
+    let text = cut_line s.state.model.horizon f.most ++ in_lines s.state.model (label_cut s.state.model t.refused s.state.model.horizon) in (
+      text,
+      barred_said_by s t f.field-0 c.args.arc c.args.by c.args.rate f.field-0-0 f.most f.ensures.ends.0 text f.field-0-is f.ensures.ends.2 refl,
+      rw (c.model-model-in-Err-NotCleared.ensures.model, c.refused_cut-labels.ensures.labels, c.from.ensures, f.ensures.unchanged) at c.write_cut.ensures.text,
+    )

@@ -1,0 +1,50 @@
+-- What a study works with.
+use Rattle.std.specs.Prelude.{◌≡◌, ℕ, List, [], Result, Ok, Err, ⊤}
+use Rattle.std.specs.declared.option.Option.{Option}
+use Rattle.evac_law.specs.declared.model.Model.{Model}
+use Rattle.line_io.specs.Causes.{Count}
+use Rattle.model_text.specs.declared.study.StudyCommand.TheVariants.{Quit}
+use Rattle.model_text.specs.StudyCommands.{study_command_of}
+use Rattle.building_table.specs.Names.{NameTable, NamesFit}
+use Rattle.edit_session.specs.declared.faults.BeginFault.{BeginFault}
+use Rattle.edit_session.specs.Sessions.{BeginEnds, SessionView}
+use Rattle.study_talk.specs.Studies.{StudyReplies}
+use Rattle.talk.specs.Speaking.{Shown, shown}
+use Rattle.talk.specs.Talks.{Replying}
+
+-- a desk of a study as contracts see it: the names of a building, and a session on its model
+pub record StudyView : Type 0 where
+  pub names : NameTable
+  pub session : SessionView
+
+-- the names are those of the session's model, and no edit is kept
+pub record IsStudyDesk (names : NameTable) (session : SessionView) : Type 0 where
+  pub names_fit : NamesFit names session.state.model
+  pub none_kept : session.state.former ≡ []
+
+-- a study begins with a building's model, on which no edit is kept; or the model can't be cleared
+abbrev pub StudyBegins : NameTable → Model → Result StudyView BeginFault → ℕ → Type 0
+StudyBegins names m (Ok d) steps = (d.names ≡ names) × BeginEnds m (Ok d.session) steps
+StudyBegins names m (Err fault) steps = BeginEnds m (Err fault) steps
+
+-- what no line changes
+abbrev pub Kept : Type 0
+Kept = NameTable × Model
+
+abbrev pub kept_of : StudyView → Kept
+kept_of d = (d.names, d.session.state.model)
+
+-- what is shown of a desk
+abbrev pub shown_study : StudyView → Option (List ℕ) → List ℕ → Count → ℕ → Shown Kept (Unit {0})
+shown_study d held pending faults steps = shown (kept_of d) tt held pending faults steps
+
+-- what a line gets in a study, and which line quits
+abbrev pub gets : Kept → Replying (Unit {0})
+gets kept = λ line s text r. StudyReplies kept.0 kept.1 line (study_command_of text) r
+
+abbrev pub Quits : List ℕ → Type 0
+Quits text = study_command_of text ≡ Ok Quit
+
+-- a study can be anywhere
+abbrev pub Behind : ℕ → Unit {0} → Type 0
+Behind before s = ⊤

@@ -1,0 +1,10 @@
+-- What holding a study over the lines of a source comes to.
+use Rattle.std.specs.Prelude.{ℕ}
+use Rattle.evac_law.specs.declared.model.Model.{Model}
+use Rattle.building_table.specs.Names.{NameTable}
+use Rattle.study_talk.specs.Studies.{study}
+use Rattle.talk.specs.Held.{Around, HoldsTalk}
+
+-- a study was held on a model, by its status: 0 done, 1 refused, 3 the source failed, 4 the sink failed, 5 there was no memory
+abbrev pub HoldsStudy : NameTable → Model → ℕ → Around → Around → Type 0
+HoldsStudy names m status a b = HoldsTalk (study names m) status a b

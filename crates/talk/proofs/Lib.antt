@@ -1,0 +1,7 @@
+pub mod TalkLemmas
+pub mod Answering
+pub mod Holding
+pub mod Going
+pub mod Sending
+pub mod Widening
+pub mod Wanting

@@ -1,0 +1,644 @@
+#!/usr/bin/env python3
+"""Computes the tables, buildings and answers of FIGURES.md, and compares them with what stands there.
+
+    python3 docs/figures.py [--program PATH] [--write]
+
+What stands on the page below a line `<!-- figures: NAME -->` is what the function of that name puts out here. Every sum on the page, as
+`1.3 × 0.60 × 5 = 3.90`, is computed anew too. The answers are those of the built program. It prints each difference with its line, and its
+status is 1 where there is one. With --write it writes the tables into the page instead.
+"""
+import argparse
+import math
+import pathlib
+import re
+import subprocess
+import sys
+from dataclasses import dataclass
+from fractions import Fraction
+
+TOP = pathlib.Path(__file__).resolve().parent.parent
+PAGE = TOP / "docs/FIGURES.md"
+PROGRAM = TOP / "crates/evacplan/out/evacplan"
+
+# As published: people on a square metre slow one another down by this share each.
+A = Fraction("0.266")
+FREE_DENSITY = Fraction("0.54")
+FREE_SHARE = Fraction("0.85")
+WAYS = {
+    "corridor, aisle, ramp, doorway": (Fraction("1.40"), Fraction("1.3")),
+    "stair 191/254": (Fraction("1.00"), Fraction("0.94")),
+    "stair 178/279": (Fraction("1.08"), Fraction("1.01")),
+    "stair 165/305": (Fraction("1.16"), Fraction("1.09")),
+    "stair 165/330": (Fraction("1.23"), Fraction("1.16")),
+}
+LEVEL, STAIR = "corridor, aisle, ramp, doorway", "stair 178/279"
+WALL, DOOR, TREAD = Fraction("0.20"), Fraction("0.15"), Fraction("0.15")
+# A planner's own choice: people a second through a leaf that isn't held open.
+LEAF = Fraction(50, 60)
+WAITING = Fraction("1.9")
+
+
+def frac(text):
+    return Fraction(text)
+
+
+# The people a second that a door of 0.90 m lets through.
+ROOM_DOOR = frac("1.3") * frac("0.60")
+
+
+def free_speed(way):
+    return FREE_SHARE * WAYS[way][0]
+
+
+def density_of(flow, way):
+    """The density at which a way has this flow for each metre, where nobody is held up: the smaller of two."""
+    k, greatest = WAYS[way]
+    if flow >= greatest:
+        return 1 / (2 * A)
+    free = flow / free_speed(way)
+    return free if free <= FREE_DENSITY else (1 - math.sqrt(1 - 4 * A * flow / k)) / float(2 * A)
+
+
+def speed_of(flow, way):
+    """The speed at which people walk on a way that has this flow for each metre."""
+    k = WAYS[way][0]
+    return min(float(free_speed(way)), float(k) * (1 - float(A) * float(density_of(flow, way))))
+
+
+def half_up(number, places):
+    """A number with so many places, a half rounded up."""
+    return f"{math.floor(number * 10**places + Fraction(1, 2)) / 10**places:.{places}f}"
+
+
+def table(head, rows, align):
+    """The lines of a table of Markdown."""
+    rule = {"l": "---", "r": "--:"}
+    return [f"| {' | '.join(head)} |", f"|{'|'.join(rule[it] for it in align)}|", *(f"| {' | '.join(row)} |" for row in rows)]
+
+
+# The figures, and tables by width and length
+
+
+def ways():
+    stairs = [(way.split()[1].split("/"), k) for way, (k, _) in WAYS.items() if way != LEVEL]
+    rows = [[LEVEL, "", "", f"{float(WAYS[LEVEL][0]):.2f}"]]
+    rows += [["stair", f"{riser} mm", f"{tread} mm", f"{float(k):.2f}"] for (riser, tread), k in stairs]
+    return table(["Way", "Riser", "Tread", "k"], rows, "lrrr")
+
+
+def densities():
+    k, rows = WAYS[LEVEL][0], [[f"below {float(FREE_DENSITY)}", f"{float(free_speed(LEVEL)):.2f}", "S D"]]
+    for density in ("1.0", "1.5", "1.9", "2.5", "3.0", "3.5"):
+        speed = k - A * k * Fraction(density)
+        rows.append([density, f"{float(speed):.2f}", f"{float(speed * Fraction(density)):.2f}"])
+    head = ["Density, people per square metre", "Speed, metres per second", "Specific flow, people per second and metre"]
+    return table(head, rows, "rrr")
+
+
+def greatest():
+    rows = []
+    for way, (k, most) in WAYS.items():
+        free = free_speed(way)
+        rows.append([way, f"{float(most):.3g}", *(half_up(it, 2) for it in (free, free * FREE_DENSITY, k / 2))])
+    head = ["Way", "Greatest flow, people per second and metre", "Free speed, metres per second"]
+    return table([*head, "Flow up to which it holds", "Speed at the greatest flow"], rows, "lrrrr")
+
+
+def crowding():
+    head, rows = ["Flow, people per second and metre", "On the level: density", "speed"], []
+    for flow in (Fraction(tenth, 10) for tenth in range(4, 14)):
+        row = [f"{float(flow):.1f}"]
+        for way, (_, most) in WAYS.items():
+            is_queue = flow >= most
+            cells = [f"{float(density_of(flow, way)):.2f}"] * (way == LEVEL) + [f"{speed_of(flow, way):.2f}"]
+            row += ["queue"] * len(cells) if is_queue and flow > most else cells
+        rows.append(row)
+    return table([*head, *(way.replace("stair", "Stair") for way in WAYS if way != LEVEL)], rows, "r" * (len(WAYS) + 2))
+
+
+def merging():
+    """A corridor of 2.00 m, and a stair behind it, into which several doors of 0.90 m lead."""
+    rows = []
+    for doors in (1, 2, 3, 4):
+        comes, width = doors * ROOM_DOOR, frac("1.60")
+        flow = comes / width
+        is_queue = flow > WAYS[LEVEL][1]
+        sum = " + ".join(["0.78"] * doors)
+        shown = f"({sum}) / 1.60" if doors > 1 else f"{sum} / 1.60"
+        time = 18 / speed_of(flow, LEVEL)
+        cells = [f"{float(density_of(flow, LEVEL)):.2f}", f"{speed_of(flow, LEVEL):.2f} m/s", f"{time:.1f} s", f"{math.ceil(time / 5)}"]
+        rows.append([f"{doors}", f"{shown} = {half_up(flow, 2)}" + ", a queue" * is_queue, *cells])
+    return table(["Doors", "Comes / width", "Density", "Speed", "18 m take", "Travel"], rows, "rrrrrr")
+
+
+def rate_of(flow, seconds):
+    return math.floor(flow * seconds)
+
+
+def doors():
+    rows = []
+    for width in ("0.75", "0.80", "0.85", "0.90", "1.00", "1.10", "1.20", "1.50", "1.60", "1.80", "2.00"):
+        clear = Fraction(width)
+        effective, leaves = clear - 2 * DOOR, 1 if clear < Fraction("1.4") else 2
+        flow = WAYS[LEVEL][1] * effective
+        shut = min(flow, leaves * LEAF)
+        cells = [half_up(flow * 5, 2), f"{rate_of(flow, 5)}", f"{leaves}", half_up(shut * 5, 2), f"{rate_of(shut, 5)}"]
+        rows.append([f"{width} m", f"{float(effective):.2f} m", *cells])
+    head = ["Clear width", "Effective width", "People in 5 s", "Rate, held open", "Leaves", "People in 5 s", "Rate, not held open"]
+    return table(head, rows, "rrrrrrr")
+
+
+def corridors():
+    rows = []
+    for width in ("1.00", "1.20", "1.50", "1.80", "2.00", "2.40", "3.00"):
+        effective = Fraction(width) - 2 * WALL
+        flow = WAYS[LEVEL][1] * effective
+        rows.append([f"{width} m", f"{float(effective):.2f} m", half_up(flow * 5, 2), f"{rate_of(flow, 5)}"])
+    return table(["Clear width", "Effective width", "People in 5 s", "Rate"], rows, "rrrr")
+
+
+def stairs():
+    kinds, rows = [way for way in WAYS if way != LEVEL], []
+    for width in ("0.90", "1.00", "1.10", "1.20", "1.30", "1.40", "1.50", "1.60", "1.80", "2.00"):
+        effective = Fraction(width) - 2 * TREAD
+        flows = [WAYS[way][1] * effective for way in kinds]
+        rows.append([f"{width} m", f"{float(effective):.2f} m", *(f"{half_up(flow * 5, 2)}: {rate_of(flow, 5)}" for flow in flows)])
+    return table(["Clear width", "Effective width", *(way.split()[1] for way in kinds)], rows, "r" * (len(kinds) + 2))
+
+
+def travels():
+    def cell(length, speed):
+        return f"{math.ceil(Fraction(length) / speed / 5)}"
+
+    columns = [(way, speed) for way in (LEVEL, STAIR) for speed in (WAYS[way][0] / 2, free_speed(way))]
+    rows = [[f"{length} m", *(cell(length, speed) for _, speed in columns)] for length in (3, 4, 5, 6, 8, 10, 15, 20)]
+    names = [f"{'Level' if way == LEVEL else 'Stair 178/279'}, {float(speed):.2f} m/s" for way, speed in columns]
+    return table(["Length", *names], rows, "rrrrr")
+
+
+# The examples
+
+
+@dataclass
+class Passage:
+    """A way of a building: its effective width, its length, and the most people a second that can come to it."""
+
+    name: str
+    width: Fraction
+    length: Fraction
+    comes: Fraction
+    way: str = LEVEL
+    # The sums of its effective width and of its length.
+    widths: str = ""
+    lengths: str = ""
+    # Whether its rate is the flow that can come, so that people walk at the speed of that flow.
+    is_held: bool = False
+    # The part of it that is level, on a stair; and the people a second that a door at its end lets through.
+    landing: Fraction = Fraction(0)
+    door: Fraction | None = None
+
+    @property
+    def flow(self):
+        """The people a second for which its speed is taken, over each metre."""
+        return min(self.comes / self.width, WAYS[self.way][1])
+
+    @property
+    def most(self):
+        """The most people a second that its width and its door let in."""
+        return self.door if self.door is not None else WAYS[self.way][1] * self.width
+
+    @property
+    def speed(self):
+        return speed_of(self.flow, self.way)
+
+    @property
+    def seconds(self):
+        return float(self.length) / self.speed + float(self.landing) / speed_of(self.flow, LEVEL)
+
+    def free_seconds(self):
+        """The time of a walk with nobody in the way."""
+        return float(self.length / free_speed(self.way) + self.landing / free_speed(LEVEL))
+
+    def numbers(self, period=5, is_safe=True):
+        """Travel and rate for periods of so many seconds, rounded to the safe side or to the other."""
+        if is_safe:
+            lets_in = min(self.most, self.comes) if self.is_held else self.most
+            return max(1, math.ceil(round(self.seconds / period, 9))), rate_of(lets_in, period)
+        return max(1, math.floor(round(self.free_seconds() / period, 9))), math.ceil(self.most * period)
+
+    @property
+    def travel(self):
+        return self.numbers()[0]
+
+    @property
+    def rate(self):
+        return self.numbers()[1]
+
+
+@dataclass
+class Place:
+    """A room of a building, with its capacity and its people; or an exit, which has none."""
+
+    name: str
+    capacity: int | None = None
+    start: int = 0
+    area: str = ""
+    what: str = ""
+
+
+@dataclass
+class Example:
+    """A building that the page works out: its places, and its arcs with the passage that each is."""
+
+    file: str
+    title: str
+    horizon: int
+    places: list
+    arcs: list
+
+    def lines(self, period=5, is_safe=True):
+        """The lines of the building for periods of so many seconds."""
+        found = ["evacplan 1", f"title {self.title}", f"period {period}", f"horizon {self.horizon * 5 // period}"]
+        found += ["floor 1 Ground", "floor 2 Upper"]
+        found += [f"node {it.name}" if it.capacity is None else f"node {it.name} {it.capacity} {it.start}" for it in self.places]
+        found += ["arc {} {} {} {}".format(tail, head, *it.numbers(period, is_safe)) for tail, head, it in self.arcs]
+        return [*found, "end"]
+
+    def passages(self):
+        """Each kind of passage once, by its name."""
+        return {it.name: it for _, _, it in self.arcs}
+
+
+# The length of a step of 178/279 along the slope of the stair.
+RISER = frac("0.331")
+
+
+def door_of(width):
+    """The people a second that a door of this effective width lets through, where it is held open."""
+    return WAYS[LEVEL][1] * frac(width)
+
+
+def corridor():
+    """One room, a corridor and a stair."""
+    places = [
+        Place("WP1.2", 75, 60),
+        Place("HA1.2", 7, area="4", what="corridor behind the room's door"),
+        Place("SW1.2", 11, area="6", what="corridor before the stair, its head"),
+        Place("LO1.1", 38, area="20", what="lobby"),
+        Place("DS1.1"),
+    ]
+    room = Passage("room, to its door", frac("10"), frac("11"), ROOM_DOOR, door=ROOM_DOOR)
+    hall = Passage("corridor", frac("1.60"), frac("18"), ROOM_DOOR, widths="2.00 - 0.40")
+    stair = Passage("stair", frac("0.90"), 18 * RISER, ROOM_DOOR, STAIR, widths="1.20 - 0.30", lengths="18 × 0.331")
+    lobby = Passage("lobby, to the door outside", frac("3.60"), frac("3"), ROOM_DOOR, widths="4.00 - 0.40", door=door_of("0.70"))
+    arcs = [("WP1.2", "HA1.2", room), ("HA1.2", "SW1.2", hall), ("SW1.2", "LO1.1", stair), ("LO1.1", "DS1.1", lobby)]
+    return Example("corridor.evac", "One room, a corridor and a stair", 240, places, arcs)
+
+
+def school(is_held=True):
+    """A school of two storeys for 200 pupils; is_held: whether its corridors are held to what two classrooms let through."""
+    two = 2 * ROOM_DOOR
+    hall = dict(width=frac("2.00"), comes=two if is_held else frac("2.60"), widths="2.40 - 0.40", is_held=is_held)
+    stair_flow = WAYS[STAIR][1] * frac("1.20")
+    room = Passage("classroom, to its door", frac("7"), frac("10"), ROOM_DOOR, door=ROOM_DOOR)
+    across = Passage("corridor, to the other half", length=frac("16"), lengths="20 - 4", **hall)
+    along = Passage("corridor, to its end", length=frac("12"), **hall)
+    stair = Passage("stair, with its landing", frac("1.20"), 18 * RISER, two, STAIR, "1.50 - 0.30", "18 × 0.331", landing=frac("2.4"))
+    ends = [
+        Passage("lobby, to the main door", frac("5.60"), frac("5"), stair_flow + two, widths="6.00 - 0.40", door=door_of("1.50")),
+        Passage("foot of stair 2, to its door", frac("2.60"), frac("3"), stair_flow + two, widths="3.00 - 0.40", door=LEAF),
+    ]
+    places, arcs = [], []
+    for floor in (1, 2):
+        places += [Place(f"WP{number}.{floor}", 30, 25) for number in (1, 2, 3, 4)]
+        places += [Place(f"HA{half}.{floor}", 36, area="19.2", what="half of a corridor") for half in (1, 2)]
+        arcs += [(f"WP{number}.{floor}", f"HA{(number + 1) // 2}.{floor}", room) for number in (1, 2, 3, 4)]
+        arcs += [(f"HA{half}.{floor}", f"HA{3 - half}.{floor}", across) for half in (1, 2)]
+        arcs += [(f"HA{half}.{floor}", f"LO{half}.1" if floor == 1 else f"SW{half}.2", along) for half in (1, 2)]
+        if floor == 1:
+            places += [Place("LO1.1", 57, area="30", what="lobby"), Place("LO2.1", 22, area="12", what="foot of stair 2")]
+            places += [Place("DS1.1"), Place("DS2.1")]
+            arcs += [(f"LO{side}.1", f"DS{side}.1", end) for side, end in enumerate(ends, 1)]
+        else:
+            places += [Place(f"SW{side}.2", 11, area="6", what="head of a stair") for side in (1, 2)]
+            arcs += [(f"SW{side}.2", f"LO{side}.1", stair) for side in (1, 2)]
+    return Example("school.evac", "School of two storeys", 120, places, arcs)
+
+
+def rates(doors):
+    """The rates of passages and doors, from their widths."""
+    rows = [[name, f"{widths} = {float(width):.2f} m", *sum_of(flow, width)] for name, widths, width, flow in doors]
+    return table(["Passage", "Effective width", "Flow × width × 5 s", "Rate"], rows, "lrrr")
+
+
+def sum_of(flow, width):
+    people = flow * width * 5
+    shown = f"{float(people):.2f}" if people * 100 == int(people * 100) else f"{float(people):.3f}"
+    return [f"{float(flow):.3g} × {float(width):.2f} × 5 = {shown}", f"{rate_of(flow * width, 5)}"]
+
+
+def corridor_rates():
+    level, stair = WAYS[LEVEL][1], WAYS[STAIR][1]
+    return rates(
+        [
+            ("door of the room", "0.90 - 0.30", frac("0.60"), level),
+            ("corridor", "2.00 - 0.40", frac("1.60"), level),
+            ("stair", "1.20 - 0.30", frac("0.90"), stair),
+            ("door outside", "1.00 - 0.30", frac("0.70"), level),
+        ],
+    )
+
+
+def crowd_of(passage, own_density):
+    """How many come to a passage for each metre, the flow and the density there."""
+    if not passage.widths:
+        return ["", "", f"{own_density:.2f}"]
+    comes = f"{float(passage.comes):.4g}" if passage.comes > 2 else f"{float(passage.comes):.2f}"
+    is_queue = passage.comes / passage.width > passage.flow
+    shown = f"{comes} / {float(passage.width):.2f} = {half_up(passage.comes / passage.width, 2)}" + ", a queue" * is_queue
+    return [shown, half_up(passage.flow, 2), f"{float(density_of(passage.flow, passage.way)):.2f}"]
+
+
+def travel_rows(example, own_density):
+    """How crowded each kind of passage is, and how long people walk on it."""
+    rows = []
+    for it in example.passages().values():
+        length = f"{it.lengths} = {float(it.length):.2f} m" if it.lengths else f"{float(it.length):g} m"
+        length += f", and {float(it.landing)} m" if it.landing else ""
+        times = [f"{it.speed:.2f} m/s", f"{it.seconds:.1f} s", f"{it.seconds / 5:.2f}", f"{it.travel}"]
+        rows.append([it.name, length, *crowd_of(it, own_density), *times])
+    head = ["Passage", "Length", "Comes / width", "Flow per metre", "Density", "Speed", "Time", "Periods", "Travel"]
+    return table(head, rows, "lrrrrrrrr")
+
+
+def corridor_travels():
+    return travel_rows(corridor(), 60 / 150)
+
+
+def capacities(example):
+    rows = []
+    for it in {it.what: it for it in example.places if it.area}.values():
+        area = frac(it.area)
+        people = area * WAITING
+        rows.append([it.what, f"{float(area):g} m²", f"{float(area):g} × 1.9 = {float(people):.1f}", f"{math.floor(people)}"])
+    return table(["Node", "Area in which people wait", "Area × 1.9", "Capacity"], rows, "lrrr")
+
+
+def corridor_capacities():
+    return capacities(corridor())
+
+
+def corridor_lines():
+    return [f"    {line}" for line in corridor().lines()]
+
+
+def school_rates():
+    level, stair, two = WAYS[LEVEL][1], WAYS[STAIR][1], 2 * ROOM_DOOR
+    found = rates(
+        [
+            ("door of a classroom", "0.90 - 0.30", frac("0.60"), level),
+            ("stair", "1.50 - 0.30", frac("1.20"), stair),
+            ("main door, two leaves held open", "1.80 - 0.30", frac("1.50"), level),
+        ],
+    )
+    held = f"| corridor, held to two classrooms' doors | | 2 × 0.78 × 5 = {float(two * 5):.2f} | {rate_of(two, 5)} |"
+    leaf = f"| door at stair 2, one leaf that isn't held open | | 50 / 60 × 5 = {float(LEAF * 5):.2f} | {rate_of(LEAF, 5)} |"
+    return [*found[:3], held, *found[3:], leaf]
+
+
+def school_travels():
+    return travel_rows(school(), 25 / 56)
+
+
+def school_capacities():
+    return capacities(school())
+
+
+# Answers
+
+
+class Answers:
+    """What the built program says of the examples, each building once."""
+
+    def __init__(self, program):
+        self.program, self.kept = program, {}
+
+    def of(self, lines):
+        """The lines that the reports on a building begin with, by their first word."""
+        text = "\n".join(lines) + "\n"
+        if text not in self.kept:
+            ran = subprocess.run([self.program, "solve", "--reports"], input=text.encode(), capture_output=True)
+            if ran.returncode:
+                sys.exit(f"figures: {self.program} ended with {ran.returncode}: {ran.stdout[:60]!r}")
+            self.kept[text] = ran.stdout.decode().split("\n")
+        return self.kept[text]
+
+    def number(self, lines, word):
+        return int(next(line.split()[1] for line in self.of(lines) if line.startswith(f"{word} ")))
+
+    def bottlenecks(self, lines):
+        """The arcs that hold people up, with their periods."""
+        said = self.of(lines)
+        at = said.index("bottlenecks 0") + 1
+        return said[at : said.index("end", at)]
+
+
+ANSWERS = Answers(PROGRAM)
+
+
+def answer_row(lines, periods, *shown):
+    """The last row of a reckoning by hand: what the program answers, which is to be the same."""
+    answer = ANSWERS.number(lines, "cleared")
+    if periods != answer or any(it not in ANSWERS.of(lines) for it in shown):
+        sys.exit(f"figures: by hand {periods} periods, and the program says {answer}")
+    said = [*shown, f"cleared {answer}", f"seconds {ANSWERS.number(lines, 'seconds')}"]
+    return ["`./evacplan solve`", "", ", ".join(f"`{it}`" for it in said)]
+
+
+def corridor_hand():
+    """The seconds until the room is empty and everybody is out."""
+    return sum(it.seconds for it in corridor().passages().values()) + float(60 / ROOM_DOOR)
+
+
+def corridor_by_hand():
+    room, *others = corridor().passages().values()
+    groups = math.ceil(60 / room.rate)
+    rows = [["a walk through the room, to its door", f"{room.seconds:.1f} s", f"{room.travel}"]]
+    in_groups = f"60 / {room.rate} = {groups}, of which the first is at moment 0: {groups - 1}"
+    rows.append(["60 people pass the door", f"60 / 0.78 = {float(60 / ROOM_DOOR):.1f} s", in_groups])
+    rows += [[it.name, f"{it.seconds:.1f} s", f"{it.travel}"] for it in others]
+    periods = room.travel + sum(it.travel for it in others) + groups - 1
+    rows.append(["everybody is out", f"{corridor_hand():.0f} s", f"{periods} periods, {5 * periods} s"])
+    return table(["", "By hand", "In periods"], [*rows, answer_row(corridor().lines(), periods)], "lrr")
+
+
+def school_doors():
+    """The passages that a reckoning of the school looks at: a classroom, the corridor to its end, a stair, and those to the two doors."""
+    by_name = school().passages()
+    names = ("classroom, to its door", "corridor, to its end", "stair, with its landing")
+    return [by_name[it] for it in (*names, "lobby, to the main door", "foot of stair 2, to its door")]
+
+
+def school_hand():
+    """The seconds until both doors have let all through. Until the first come down stair 1, two classrooms alone use the main door."""
+    room, along, stair, lobby, foot = school_doors()
+    come = room.seconds + along.seconds
+    early = float(2 * ROOM_DOOR) * stair.seconds
+    main, side = float(lobby.door), float(foot.door)
+    return (200 - early + main * (come + stair.seconds + lobby.seconds) + side * (come + foot.seconds)) / (main + side)
+
+
+def school_by_hand():
+    room, along, stair, lobby, foot = school_doors()
+    come = room.travel + along.travel
+    above, early = come + stair.travel, 2 * room.rate * stair.travel
+
+    def out(period):
+        """The people out by a period, where both doors are always busy."""
+        return early + lobby.rate * (period - above) + foot.rate * (period - come)
+
+    periods = next(k for k in range(1, 121) if out(k) >= 200)
+    last, two = periods - 1, float(2 * ROOM_DOOR)
+    by_last = f"{early} + {lobby.rate} × {last - above} + {foot.rate} × {last - come} = {out(last)}"
+    seconds = f"{room.seconds:.1f} + {along.seconds:.1f} = {room.seconds + along.seconds:.1f} s"
+    rows = [
+        ["the first of the ground floor come to the main door", seconds, f"{room.travel} + {along.travel} = {come}"],
+        ["the first of the upper floor come to it", f"{stair.seconds:.2f} s later", f"{come} + {stair.travel} = {above}"],
+        [
+            "so many come in between, by two classrooms' doors",
+            f"{two:.2f} × {stair.seconds:.2f} = {two * stair.seconds:.1f}",
+            f"2 × {room.rate} × {stair.travel} = {early}",
+        ],
+        ["from then on the main door lets through", f"{float(lobby.door):.2f} a second", f"{lobby.rate} a period"],
+        ["and the door at stair 2, from when the first come to it", f"{float(foot.door):.2f} a second", f"{foot.rate} a period"],
+        ["from the two places to outside", f"{lobby.seconds:.1f} s, {foot.seconds:.1f} s", f"{lobby.travel}, {foot.travel}"],
+        [f"out by period {last}", "", by_last],
+        ["all 200 are out", f"{school_hand():.0f} s", f"{periods} periods, {5 * periods} s"],
+        answer_row(school().lines(), periods, f"out {last} {out(last)}"),
+    ]
+    return table(["", "By hand", "In periods"], rows, "lrr")
+
+
+def roundings():
+    rows = []
+    for name, example, by_hand in (("One room", corridor(), corridor_hand()), ("School", school(), school_hand())):
+        for period in (2, 5, 10):
+            safe, other = example.lines(period), example.lines(period, is_safe=False)
+            seconds = [f"{ANSWERS.number(safe, 'seconds')} s", f"{by_hand:.0f} s", f"{ANSWERS.number(other, 'seconds')} s"]
+            rows.append([name, f"{period} s", *seconds, ", ".join(f"`{line}`" for line in ANSWERS.bottlenecks(safe))])
+    return table(["Building", "Period", "Safe side", "By hand", "Other side", "Bottlenecks of the safe side"], rows, "lrrrrl")
+
+
+def school_choices():
+    """What the two choices for the corridors come to."""
+    rows = []
+    for name, is_held in (("rate 7 and the speed of that flow, as above", True), ("the greatest flow and its speed, 0.70 m/s", False)):
+        example = school(is_held)
+        along, lines = example.passages()["corridor, to its end"], example.lines()
+        answer = [f"`cleared {ANSWERS.number(lines, 'cleared')}`", f"{ANSWERS.number(lines, 'seconds')} s"]
+        rows.append([name, f"{along.rate}", f"{along.travel}", *answer])
+    return table(["Corridors", "Rate", "Travel, 12 m", "Answer", ""], rows, "lrrrr")
+
+
+NAMED = {
+    it.__name__: it
+    for it in (
+        *(ways, densities, greatest, crowding, merging, doors, corridors, stairs, travels),
+        *(corridor_rates, corridor_travels, corridor_capacities, corridor_lines, corridor_by_hand),
+        *(school_rates, school_travels, school_capacities, school_by_hand, school_choices, roundings),
+    )
+}
+
+
+# The page
+
+
+def places_on(page):
+    """Yields the name of each marked table or block of the page, and its first and last line, from 0."""
+    lines = page.split("\n")
+    for number, line in enumerate(lines):
+        found = re.fullmatch(r"<!-- figures: (\w+) -->", line)
+        if found:
+            first = number + 1
+            while first < len(lines) and not lines[first]:
+                first += 1
+            last = first
+            while last < len(lines) and lines[last]:
+                last += 1
+            yield found[1], first, last
+
+
+SUM = re.compile(r"(?<![\w.])((?:\d[\d.,]*|[()√²])(?:\s*(?:[×/+()√²]|-)\s*|\d[\d.,]*)*?) = (\d[\d.]*)")
+
+
+def wrong_sums(page):
+    """Yields what is wrong about the sums on the page."""
+    for number, line in enumerate(page.split("\n"), 1):
+        for found in SUM.finditer(line):
+            words = found[1].strip().replace(",", "").replace("×", "*").replace("²", "**2").replace("√", "math.sqrt")
+            if not re.search(r"[*/+-]|sqrt", words) or not re.fullmatch(r"[\d.*/+()\s-]*(?:math\.sqrt[\d.*/+()\s-]*)*", words):
+                continue
+            places = len(found[2].rstrip(".").partition(".")[2])
+            try:
+                value = eval(words, {"math": math})  # (numbers and operators alone)
+            except SyntaxError:
+                continue
+            if abs(value - float(found[2].rstrip("."))) > 0.5001 * 10**-places:
+                yield f"FIGURES.md:{number}: {found[0]}: it is {value:.{places + 2}f}"
+
+
+def wrong_files():
+    """Yields what differs between an example's lines and its file."""
+    for example in (corridor(), school()):
+        path = TOP / "examples" / example.file
+        wanted = example.lines()
+        said = [line for line in path.read_text().split("\n") if line and not line.startswith("#")] if path.exists() else []
+        if said != wanted:
+            line = next((one for one, other in zip(wanted, [*said, *[""] * len(wanted)]) if one != other), "a line more")
+            yield f"examples/{example.file}: it isn't what figures.py computes: {line}"
+
+
+def differences(page):
+    """Yields each table and sum of the page that isn't the computed one."""
+    lines, seen = page.split("\n"), set()
+    for name, first, last in places_on(page):
+        seen.add(name)
+        if name not in NAMED:
+            yield f"FIGURES.md:{first}: figures.py has no {name}"
+            continue
+        wanted = NAMED[name]()
+        for number in range(max(last - first, len(wanted))):
+            has = lines[first + number] if first + number < last else None
+            new = wanted[number] if number < len(wanted) else None
+            if has != new:
+                yield f"FIGURES.md:{first + number + 1}: {has or 'a line is missing'}; computed: {new or 'no such line'}"
+    yield from (f"FIGURES.md: no table is marked {name}" for name in NAMED if name not in seen)
+    yield from wrong_sums(page)
+    yield from wrong_files()
+
+
+def written(page):
+    """The page with its tables computed anew."""
+    lines = page.split("\n")
+    for name, first, last in reversed(list(places_on(page))):
+        lines[first:last] = NAMED[name]()
+    return "\n".join(lines)
+
+
+def main():
+    parser = argparse.ArgumentParser(description=__doc__.split("\n")[0])
+    parser.add_argument("--program", type=pathlib.Path, default=PROGRAM)
+    parser.add_argument("--write", action="store_true")
+    given = parser.parse_args()
+    ANSWERS.program = given.program
+    page = PAGE.read_text()
+    if given.write:
+        PAGE.write_text(written(page))
+        return 0
+    found = list(differences(page))
+    print("\n".join(found) if found else "the tables, sums and answers of FIGURES.md are as computed")
+    return 1 if found else 0
+
+
+if __name__ == "__main__":
+    sys.exit(main())

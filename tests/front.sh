@@ -1,0 +1,331 @@
+#!/usr/bin/env bash
+# Tests the scripts `evacplan` and `build` on copies of them, with a stand-in for the command rt: nothing is proved or built here.
+#
+#     tests/front.sh
+#
+# prints what fails, and how many cases passed. Its status is 1 where one failed.
+set -u
+top=$(cd "$(dirname "$(readlink -f "${BASH_SOURCE[0]}")")/.." && pwd)
+room=$(mktemp -d)
+trap 'rm -rf "$room"' EXIT
+passed=0 failed=0
+name='' here='' status=0
+
+# Begins a case: a repository of three crates, of which the program stands on two, an empty folder for temporary files, and the stand-in.
+begin() {
+  name=$1 here=$room/$((passed + failed))
+  mkdir -p "$here/bin" "$here/tmp" "$here/repo"
+  cp "$top/evacplan" "$top/build" "$here/repo/"
+  cp "$top/tests/front/rt" "$top/tests/front/program" "$here/bin/"
+  printf 'rattle-kit-1 logic 0123456789abcdef\n' >"$here/repo/README.md"
+  printf '# crates\nlow:\nevacplan: low # and no more\nworked: low\n' >"$here/repo/crates.txt"
+  local crate
+  for crate in low evacplan worked; do
+    mkdir -p "$here/repo/crates/$crate/src" "$here/repo/crates/$crate/proofs"
+    echo "of $crate" >"$here/repo/crates/$crate/src/one.rt"
+    echo "of $crate" >"$here/repo/crates/$crate/proofs/One.antt"
+  done
+  export PATH="$here/bin:$path" TMPDIR=$here/tmp RT_ROOM=$here
+  unset RT_LOGIC RT_ENDS RT_FAILS RT_SLOW
+}
+path=$PATH
+
+# Runs a command of the repository with its streams in files, and keeps its status.
+run() {
+  "$@" >"$here/out" 2>"$here/err"
+  status=$?
+}
+
+# Waits until a command succeeds, some 30 seconds at most.
+await() {
+  for _ in {1..300}; do
+    "$@" && return
+    sleep 0.1
+  done
+  return 1
+}
+
+has_ended() {
+  ! kill -0 "$1" 2>/dev/null
+}
+
+# Makes a program that says what it was given, newer than all sources.
+build_before() {
+  mkdir -p "$here/repo/crates/evacplan/out"
+  cp "$top/tests/front/program" "$here/repo/crates/evacplan/out/evacplan"
+  touch -d '1 hour ago' "$here/repo/crates.txt" "$here/repo/crates"/*/* "$here/repo/crates"/*/*/*
+  touch "$here/repo/crates/evacplan/out/evacplan"
+}
+
+# Ends a case: each word is a test by name, with its value behind `=`.
+expect() {
+  local it why=()
+  for it in "$@"; do
+    case $it in
+      status=*) [ "$status" -eq "${it#*=}" ] || why+=("status $status and not ${it#*=}") ;;
+      out=*) [ "$(cat "$here/out")" = "${it#*=}" ] || why+=("printed '$(cat "$here/out")' and not '${it#*=}'") ;;
+      lines=*) [ "$(wc -l <"$here/err")" -eq "${it#*=}" ] || why+=("$(wc -l <"$here/err") lines on standard error and not ${it#*=}") ;;
+      says=*) grep -qF -- "${it#*=}" "$here/err" || why+=("doesn't say '${it#*=}' on standard error") ;;
+      hides=*) ! grep -qF -- "${it#*=}" "$here/err" "$here/out" || why+=("says '${it#*=}'") ;;
+      calls=*) [ "$(paste -sd , "$here/calls" 2>/dev/null)" = "${it#*=}" ] || why+=("called rt for '$(paste -sd , "$here/calls" 2>/dev/null)'") ;;
+      *) why+=("no such test: $it") ;;
+    esac
+  done
+  [ -z "$(ls -A "$here/tmp")" ] || why+=("left $(ls -A "$here/tmp") among the temporary files")
+  if [ ${#why[@]} -eq 0 ]; then
+    passed=$((passed + 1))
+    rm -rf "$here"
+    return
+  fi
+  failed=$((failed + 1))
+  printf 'front: %s: %s\n' "$name" "${why[@]}"
+  sed 's/^/    /' "$here/err"
+}
+
+# Runs a command with a terminal as its standard input and standard error, and keeps its status. It types the first word.
+run_at_terminal() {
+  python3 - "$here" "$@" <<'END'
+import os, pty, subprocess, sys, termios
+room, typed, *words = sys.argv[1:]
+other, terminal = pty.openpty()
+modes = termios.tcgetattr(terminal)
+modes[3] &= ~termios.ECHO
+termios.tcsetattr(terminal, termios.TCSANOW, modes)
+with open(f"{room}/out", "wb") as out:
+    ran = subprocess.Popen(words, stdin=terminal, stdout=out, stderr=terminal)
+os.write(other, typed.encode())
+os.close(terminal)
+said = b""
+try:
+    while more := os.read(other, 4096):
+        said += more
+except OSError:
+    pass
+with open(f"{room}/err", "wb") as err:
+    err.write(said.replace(b"\r\n", b"\n"))
+sys.exit(ran.wait())
+END
+  status=$?
+}
+
+# Where no program is built
+
+begin 'an unproved run gives the answer of the program, and says so in one line'
+run "$here/repo/evacplan" solve --reports <<<'a building'
+expect status=0 'out=solve --reports: a building' lines=1 'says=./build makes the proved program' 'hides=proved=no' calls=version,try
+
+for ends in 1 2 5; do
+  begin "an unproved run ends with the status of the program, $ends"
+  RT_ENDS=$ends run "$here/repo/evacplan" check <<<'a building'
+  expect "status=$ends" 'out=check: a building' lines=1
+done
+
+begin 'input that comes slowly is read to its end'
+run "$here/repo/evacplan" solve < <(echo one; sleep 2.5; echo two)
+expect status=0 'out=solve: one two'
+
+begin 'refused words read nothing'
+run timeout 20 "$here/repo/evacplan" solved < <(sleep 100)
+expect status=0 'out=solved:'
+
+begin 'a drill reads nothing'
+run timeout 20 "$here/repo/evacplan" drill --number 1 < <(sleep 100)
+expect status=0 'out=drill --number 1:'
+
+begin 'a session from a pipe is answered'
+run "$here/repo/evacplan" session <<<'a building'
+expect status=0 'out=session: a building' lines=1
+
+begin 'a session at a terminal needs the proved program'
+run_at_terminal '' "$here/repo/evacplan" session
+expect status=70 out= lines=1 'says=needs the proved program' calls=
+
+begin 'a study from a pipe is answered'
+run "$here/repo/evacplan" study <<<'a building'
+expect status=0 'out=study: a building' lines=1
+
+begin 'a study at a terminal needs the proved program'
+run_at_terminal '' "$here/repo/evacplan" study
+expect status=70 out= lines=1 'says=a study at a terminal needs the proved program' calls=
+
+begin 'a building that is typed is read to its end'
+run_at_terminal $'a building\n\004' "$here/repo/evacplan" solve
+expect status=0 'out=solve: a building' lines=1
+
+begin 'input that cannot be read is status 3'
+run "$here/repo/evacplan" solve <"$here"
+expect status=3 out= lines=1
+
+begin 'closed input is status 3'
+run "$here/repo/evacplan" solve <&-
+expect status=3 out= lines=1
+
+begin 'output that cannot be written is status 4'
+"$here/repo/evacplan" solve <<<'a building' >/dev/full 2>"$here/err"
+status=$?
+expect status=4 lines=1
+
+begin 'a program that cannot be built is status 70, and it is said why'
+RT_FAILS=try run "$here/repo/evacplan" solve <<<'a building'
+expect status=70 out= 'says=one.rt:1: error' 'says=could not be built'
+
+begin 'a run that comes to no answer is status 70, and it is said why'
+RT_FAILS=answer run "$here/repo/evacplan" solve <<<'a building'
+expect status=70 out= 'says=more than 1048576 bytes' 'says=came to no answer' 'hides=a line of it'
+
+begin 'without rt it is status 70'
+mkdir "$here/none"
+for it in bash dirname readlink sed awk find grep cat mktemp rm; do ln -s "$(command -v "$it")" "$here/none/$it"; done
+PATH=$here/none run "$here/repo/evacplan" solve <<<'a building'
+expect status=70 out= lines=1 "says=rt isn't on the path"
+
+begin 'another kit is told before anything is built'
+RT_LOGIC=fedcba9876543210 run "$here/repo/evacplan" solve <<<'a building'
+expect status=70 out= lines=1 'says=logic fedcba9876543210' 'says=logic 0123456789abcdef' calls=version
+
+begin 'the scripts run by a link and from another folder'
+ln -s "$here/repo/evacplan" "$here/link"
+cd "$here/tmp" || exit 1
+run "$here/link" solve <<<'a building'
+cd "$top" || exit 1
+expect status=0 'out=solve: a building'
+
+for signal in INT TERM HUP; do
+  begin "a run that is ended by SIG$signal leaves nothing"
+  # (a program that is started beside others ignores SIGINT, but for this)
+  RT_SLOW=1 python3 -c 'import os, signal, sys; signal.signal(signal.SIGINT, signal.SIG_DFL); os.execvp(sys.argv[1], sys.argv[1:])' \
+    "$here/repo/evacplan" solve <<<'a building' >"$here/out" 2>"$here/err" &
+  await test -e "$here/slow"
+  kill "-$signal" $!
+  wait $!
+  status=$?
+  await has_ended "$(cat "$here/slow")" || echo 'rt goes on' >>"$here/out"
+  case $signal in INT) ends=130 ;; TERM) ends=143 ;; HUP) ends=129 ;; esac
+  expect "status=$ends" out=
+done
+
+# Where it is built
+
+begin 'the built program is run with its words and streams, and nothing is said'
+build_before
+run "$here/repo/evacplan" solve 'two words' <<<'a building'
+expect status=0 'out=built: solve,two words, a building' lines=0 calls=
+
+begin 'its status is that of the script'
+build_before
+run "$here/repo/evacplan" end 5 <&-
+expect status=5 lines=0
+
+begin 'refused words at a terminal get the line that names the words'
+build_before
+run_at_terminal '' "$here/repo/evacplan" end 2
+expect status=2 'out=built: end,2,' lines=1 'says=docs/FORMATS.md' 'says=solve < examples/office.evac'
+
+begin 'refused words get none where standard error is a file'
+build_before
+run "$here/repo/evacplan" end 2
+expect status=2 lines=0
+
+begin 'other statuses get none at a terminal'
+build_before
+run_at_terminal '' "$here/repo/evacplan" end 1
+expect status=1 lines=0
+
+begin 'refused words of an unproved run get the line too'
+export RT_ENDS=2
+run_at_terminal '' "$here/repo/evacplan" solved
+expect status=2 out=solved: lines=2 'says=docs/FORMATS.md'
+
+for source in crates.txt crates/low/src/one.rt crates/evacplan/proofs/One.antt; do
+  begin "an older program isn't used where $source is newer"
+  build_before
+  touch -d '1 minute' "$here/repo/$source"
+  run "$here/repo/evacplan" solve <<<'a building'
+  expect status=0 'out=solve: a building' lines=1 'says=a source is newer'
+done
+
+begin "nor where a source is gone"
+build_before
+rm "$here/repo/crates/low/proofs/One.antt"
+touch -d '1 minute' "$here/repo/crates/low/proofs"
+run "$here/repo/evacplan" solve <<<'a building'
+expect status=0 'out=solve: a building' lines=1 'says=a source is newer'
+
+begin 'a crate that the program does not stand on may change'
+build_before
+touch -d '1 minute' "$here/repo/crates/worked/src/one.rt"
+run "$here/repo/evacplan" solve <<<'a building'
+expect status=0 'out=built: solve, a building' lines=0
+
+# build
+
+begin 'build proves the crates of the program, names and counts them, and builds it'
+run "$here/repo/build" 3
+expect status=0 'says=1 of 2: low' 'says=2 of 2: evacplan' 'says=3 at a time' 'hides=logic=proved' 'calls=version,all check --jobs 3,run'
+
+begin 'evacplan then runs what was built'
+run "$here/repo/build"
+run "$here/repo/evacplan" solve <<<'a building'
+expect status=0 'out=built: solve, a building' lines=0
+
+begin 'a program that is built already stays'
+build_before
+run "$here/repo/build"
+expect status=0 lines=1 'says=no source is newer' calls=version
+
+begin 'what changes while it is built is newer'
+RT_FAILS=edit run "$here/repo/build"
+run "$here/repo/evacplan" solve <<<'a building'
+expect status=0 'out=solve: a building' 'says=a source is newer'
+
+begin 'a crate that is not proved is named, and no program is left'
+build_before
+touch -d '1 minute' "$here/repo/crates/low/src/one.rt"
+RT_FAILS=all run "$here/repo/build"
+[ ! -e "$here/repo/crates/evacplan/out/evacplan" ] || echo 'the program is there' >>"$here/out"
+expect status=70 out= 'says=1 of 2: low' 'says=Answers.antt:8' 'says=== evacplan' 'hides=2 of 2' 'hides=fn low::echo: proved'
+
+begin 'a build whose rt is killed says so'
+RT_FAILS=killed run "$here/repo/build"
+expect status=70 'says=rt all check ended with 137' 'says=== evacplan'
+
+begin 'what stops rt before the first crate is shown'
+RT_FAILS=front run "$here/repo/build"
+expect status=70 'says=one.rt:1: error' 'says=was not built'
+
+begin 'a program that is not linked is status 70'
+RT_FAILS=run run "$here/repo/build" 3
+expect status=70 'says=was not built' 'calls=version,all check --jobs 3,run'
+
+begin 'another kit builds nothing'
+RT_LOGIC=fedcba9876543210 run "$here/repo/build"
+expect status=70 lines=1 'says=logic fedcba9876543210' calls=version
+
+for words in 0 many '1 2'; do
+  begin "build refuses the words $words"
+  # shellcheck disable=SC2086
+  run "$here/repo/build" $words
+  expect status=64 lines=1 calls=
+done
+
+begin 'two builds at once build once'
+RT_SLOW=1 "$here/repo/build" 3 2>"$here/first" &
+await test -e "$here/slow"
+RT_SLOW=1 "$here/repo/build" 3 >"$here/out" 2>"$here/err" &
+second=$!
+await grep -q 'another build' "$here/err"
+touch "$here/go"
+wait "$second"
+status=$?
+expect status=0 'says=another build is at work' 'says=no source is newer' 'calls=version,all check --jobs 3,version,run'
+
+begin 'a build that is ended leaves nothing, and the next one goes on'
+RT_SLOW=1 "$here/repo/build" 2>"$here/first" &
+await test -e "$here/slow"
+kill $!
+wait $!
+run "$here/repo/build"
+expect status=0 'says=2 of 2: evacplan' "says=program is built"
+
+echo "front: $passed passed, $failed failed"
+[ "$failed" -eq 0 ]
