@@ -148,6 +148,14 @@ begin 'a study at a terminal needs the proved program'
 run_at_terminal '' "$here/repo/evacplan" study
 expect status=70 out= lines=1 'says=a study at a terminal needs the proved program' calls=
 
+begin 'a replan from a pipe is answered'
+run "$here/repo/evacplan" replan <<<'a building'
+expect status=0 'out=replan: a building' lines=1
+
+begin 'a replan at a terminal needs the proved program'
+run_at_terminal '' "$here/repo/evacplan" replan
+expect status=70 out= lines=1 'says=a replan at a terminal needs the proved program' calls=
+
 begin 'a building that is typed is read to its end'
 run_at_terminal $'a building\n\004' "$here/repo/evacplan" solve
 expect status=0 'out=solve: a building' lines=1

@@ -14,7 +14,8 @@ use Rattle.block_reader.specs.declared.run.Run.{Run}
 use Rattle.block_reader.specs.declared.stage.Stage.{Stage}
 use Rattle.block_reader.specs.declared.stage.Stage.TheVariants as stages
 use Rattle.certificate_text.specs.BlockEntries.{entries_of, label_entries, entry_of_move, out_entries}
-use Rattle.block_reader.specs.DraftFacts.{IsDraft, IsEntry, IsRun, all_runs, draft_entries, head_entries, node_runs, run_entry}
+use Rattle.block_reader.specs.DraftFacts.{IsDraft, IsRun, all_runs, node_runs}
+use Rattle.block_reader.proofs.DraftEntries.{IsEntry, draft_entries, head_entries, run_entry}
 use Rattle.block_reader.specs.Drafts.{Draft, IsStated, behind_run, is_cleared, is_curve, is_empty, is_full, is_index, is_lists, is_people, last_of, no_draft, only_exits, run_label, with_entry}
 use Rattle.block_reader.proofs.BlockWalks.{IsCurve, label-taken}
 use Rattle.block_reader.proofs.DraftLemmas.{IsPart, entry-next, none-draft}

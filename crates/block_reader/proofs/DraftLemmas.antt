@@ -23,7 +23,8 @@ use Rattle.block_reader.specs.declared.stage.Stage.TheVariants as stages
 use Rattle.certificate_text.specs.Block.{number_field_limit}
 use Rattle.certificate_text.specs.BlockEntries.{entry_of_move, out_entries}
 use Rattle.certificate_text.specs.BlockReadings.{says_something}
-use Rattle.block_reader.specs.DraftFacts.{AreMoves, AreRuns, IsDraft, IsEntry, IsRun, draft_entries, head_entries, run_entry}
+use Rattle.block_reader.specs.DraftFacts.{AreMoves, AreRuns, IsDraft, IsRun}
+use Rattle.block_reader.proofs.DraftEntries.{IsEntry, draft_entries, head_entries, run_entry}
 use Rattle.block_reader.specs.Drafts.{Draft, arc_of, behind_run, follows_move, follows_run, is_cleared, is_curve, is_empty, is_full, is_index, is_lists, is_move, is_people, is_run, last_of, no_draft, node_of, only_exits, run_label, with_cleared, with_entry, with_index, with_move, with_out, with_people, with_run}
 use Rattle.certificate_text.specs.Entries.{is_end}
 use Rattle.block_reader.proofs.ExitLemmas.{exits-at}

@@ -10,7 +10,7 @@ use Rattle.model_text.specs.Numbers.{field_number}
 use Rattle.certificate_text.specs.declared.entry.Entry.{Entry}
 use Rattle.certificate_text.specs.declared.entry.Entry.TheVariants.{Blank, Index, People, Cleared, Out, Label, Move, End}
 use Rattle.certificate_text.specs.Block.{number_field_limit}
-use Rattle.block_reader.specs.DraftFacts.{IsEntry}
+use Rattle.block_reader.proofs.DraftEntries.{IsEntry}
 use Rattle.certificate_text.specs.Entries.{entry_by_word, cleared_entry, end_entry, entry_of, index_entry, label_entry, move_entry, read_move, entry_of_fields, one_number, out_entry, people_entry}
 use Rattle.block_reader.proofs.NumberFits.{number-fits}
 use Rattle.block_reader.proofs.OptionLemmas.{follows, some-same}

@@ -2,6 +2,7 @@ pub mod BlockLemmas
 pub mod BlockReadLemmas
 pub mod BlockWalks
 pub mod DraftBlocks
+pub mod DraftEntries
 pub mod DraftLemmas
 pub mod DraftTables
 pub mod EntryLemmas

@@ -13,7 +13,8 @@ use Rattle.certificate_text.specs.Block.{HasAllLabels, IsBlockOf}
 use Rattle.certificate_text.specs.BlockEntries.{entries_of, label_entries, entry_of_move, out_entries}
 use Rattle.certificate_text.specs.BlockReadings.{Begins, BlockReading, EndsBlock, ReadsAs, Refused, Refuses, Says, Stated, as_said, said_by}
 use Rattle.certificate_text.proofs.EntryTexts.{body}
-use Rattle.block_reader.specs.DraftFacts.{all_runs, run_entry}
+use Rattle.block_reader.specs.DraftFacts.{all_runs}
+use Rattle.block_reader.proofs.DraftEntries.{run_entry}
 use Rattle.block_reader.specs.Drafts.{Draft, IsStated, no_draft}
 use Rattle.certificate_text.specs.Entries.{is_end}
 use Rattle.block_reader.proofs.BlockWalks.{block-stated, block-walk, block_draft}

@@ -13,7 +13,8 @@ use Rattle.certificate_text.specs.declared.entry.Entry.TheVariants as entries
 use Rattle.block_reader.specs.declared.run.Run.{Run}
 use Rattle.certificate_text.specs.BlockEntries.{label_entries, label_entry_at, node_entries}
 use Rattle.certificate_text.specs.BlockText.{begins_run}
-use Rattle.block_reader.specs.DraftFacts.{all_runs, node_runs, run_entry, run_part, run_parts}
+use Rattle.block_reader.specs.DraftFacts.{all_runs, node_runs, run_part, run_parts}
+use Rattle.block_reader.proofs.DraftEntries.{run_entry}
 use Rattle.block_reader.specs.Drafts.{run_label}
 use Rattle.block_reader.proofs.BlockLemmas.{fold-other}
 use Rattle.certificate_text.proofs.ListParts.{below-same, map-flat_map}

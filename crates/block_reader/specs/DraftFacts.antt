@@ -1,18 +1,13 @@
 -- What the reader knows of a block up to some line.
-use Rattle.std.specs.Prelude.{◌≡◌, ℕ, ◌+◌, ◌<◌, ◌≤◌, false, if◌then◌else◌, List, [], ◌∷◌, ◌++◌, length, map, IsFalse}
+use Rattle.std.specs.Prelude.{◌≡◌, ℕ, ◌+◌, ◌<◌, ◌≤◌, false, if◌then◌else◌, List, [], ◌∷◌, length, IsFalse}
 use Rattle.std.specs.List.{All, flat_map}
 use Rattle.evac_law.specs.declared.model.Model.{Model}
 use Rattle.evac_law.specs.declared.plan.Move.{Move}
-use Rattle.evac_law.specs.Building.{is_exit_at, node_at}
+use Rattle.evac_law.specs.Building.{is_exit_at}
 use Rattle.evac_law.specs.Stands.{IsOrdered}
 use Rattle.evac_law.specs.Sums.{below}
-use Rattle.certificate_text.specs.declared.entry.Entry.{Entry}
-use Rattle.certificate_text.specs.declared.entry.Entry.TheVariants as entries
 use Rattle.block_reader.specs.declared.run.Run.{Run}
-use Rattle.block_reader.specs.declared.stage.Stage.{Stage}
-use Rattle.block_reader.specs.declared.stage.Stage.TheVariants as stages
 use Rattle.certificate_text.specs.Block.{number_field_limit}
-use Rattle.certificate_text.specs.BlockEntries.{entry_of_move, out_entries}
 use Rattle.certificate_text.specs.BlockText.{begins_run}
 use Rattle.block_reader.specs.Drafts.{Draft, behind_run, is_curve, is_full, is_lists, last_of, run_label}
 
@@ -32,21 +27,6 @@ node_runs m f c n = if is_exit_at m n then [] else run_parts f n c
 -- the runs of so many nodes, before the moment c
 abbrev pub all_runs : Model → (ℕ → ℕ → ℕ) → ℕ → ℕ → List Run
 all_runs m f c k = flat_map (node_runs m f c) (below k)
-
--- ---- what a draft says so far
-
-abbrev pub head_entries : Stage → ℕ → ℕ → ℕ → List Entry
-head_entries stages.Index index people cleared = []
-head_entries stages.People index people cleared = entries.Index index ∷ []
-head_entries stages.Cleared index people cleared = entries.Index index ∷ entries.People people ∷ []
-head_entries stages.Lists index people cleared = entries.Index index ∷ entries.People people ∷ entries.Cleared cleared ∷ []
-
-abbrev pub run_entry : Model → Run → Entry
-run_entry m r = entries.Label (node_at m r.node).name r.moment r.label
-
-abbrev pub draft_entries : Model → Draft → List Entry
-draft_entries m d =
-    head_entries d.stage d.index d.people d.cleared ++ out_entries d.outs ++ map (run_entry m) d.runs ++ map (entry_of_move m) d.moves
 
 -- ---- what holds of it
 
@@ -79,14 +59,3 @@ pub record IsDraft (m : Model) (d : Draft) : Type 0 where
   pub no_runs : is_curve d ≡ false → d.runs ≡ []
   pub moves : AreMoves m d.moves
   pub no_moves : is_full m d ≡ false → d.moves ≡ []
-
--- the numbers of a line have nine digits at most
-abbrev pub IsEntry : Entry → Type 0
-IsEntry entries.Blank = Unit {0}
-IsEntry (entries.Index index) = index ≤ number_field_limit
-IsEntry (entries.People people) = people ≤ number_field_limit
-IsEntry (entries.Cleared moment) = moment ≤ number_field_limit
-IsEntry (entries.Out period people) = people ≤ number_field_limit
-IsEntry (entries.Label node moment label) = label ≤ number_field_limit
-IsEntry (entries.Move moment start finish people) = people ≤ number_field_limit
-IsEntry entries.End = Unit {0}

@@ -3,27 +3,30 @@ use Rattle.std.proofs.Common.{◌≡◌, ℕ, ◌+◌, List, [], ◌∷◌, take
 use Rattle.evac_law.specs.declared.edit.Edit.{Edit}
 use Rattle.evac_law.specs.declared.edit.EditFault.{EditFault}
 use Rattle.evac_law.specs.declared.model.Model.{Model}
-use Rattle.evac_law.specs.Building.{IsValid, people}
+use Rattle.evac_law.specs.Building.{IsValid}
 use Rattle.evac_law.specs.Edits.{IsEditOf, applied, checks, edited, inverse_of}
-use Rattle.evac_law.proofs.EditLemmas.{unless-Ok, valid_edited}
+use Rattle.evac_law.proofs.EditLemmas.{inverse_undoes, unless-Ok, valid_edited}
 use Rattle.evac_law.specs.LabelTable.{LabelTable}
 use Rattle.evac_law.proofs.Optimal.{shortfall_bars_clearing}
 use Rattle.evac_law.specs.Certificates.{IsTableOf, label_cut}
 use Rattle.residual_net.specs.Labelled.{IsClosedBelow, IsLabelsOf}
-use Rattle.residual_net.specs.Network.{Network, IsNet, IsWithinLimits, flow_at}
-use Rattle.residual_net.specs.OfModel.{IsNetOf, plan_of, site_of}
+use Rattle.residual_net.specs.Network.{Network, IsNet, IsWithinLimits, flow_at, saved_of, with_saved}
+use Rattle.residual_net.proofs.Kept.{same_saved}
+use Rattle.residual_net.specs.OfModel.{IsNetOf, site_of}
 use Rattle.residual_net.proofs.SentLemmas.{arrived_all_sent}
 use Rattle.terminal_augment.specs.Settled.{KeepsLimits}
 use Rattle.lex_flow.specs.Outcomes.{IsCleared}
 use Rattle.terminal_augment.proofs.KeptLemmas.{net_of_kept}
 use Rattle.residual_net.specs.Site.{Site}
+use Rattle.edit_session.specs.declared.faults.EditRefusal.{EditRefusal}
 use Rattle.edit_session.specs.declared.faults.EditRefusal.TheVariants.{Fault, NotCleared}
 use Rattle.edit_session.specs.declared.scratch.Scratch.{Scratch}
 use Rattle.edit_session.specs.declared.work.Work.{Work}
 use Rattle.edit_session.specs.Kept.{IsSession, LeadBack, state_of, view_of}
-use Rattle.edit_session.specs.Mended.{IsCarried, IsRefused, IsRepairable, IsScratchOf, IsStanding}
-use Rattle.edit_session.specs.Sessions.{EditEnds, IsEdited, UndoEnds, kept_limit}
-use Rattle.edit_session.specs.Thrift.{IsCounted, IsSpent}
+use Rattle.edit_session.specs.Making.{IsMade}
+use Rattle.edit_session.specs.Mended.{IsCarried, IsRefused, IsRepairable, IsScratchOf, IsStanding, last_arrival_of}
+use Rattle.edit_session.specs.Sessions.{EditEnds, IsEdited, SessionState, SessionView, TrialEnds, UndoEnds, kept_limit}
+use Rattle.edit_session.specs.Thrift.{IsCounted}
 use Rattle.edit_session.proofs.Ring.{back_more, back_take, edited_is}
 use Rattle.edit_session.proofs.Standing.{barred_by, clearable_by, edited_by, standing_saved, undone_by}
 
@@ -42,6 +45,12 @@ pub made : (m m' m'' : Model) (e e' : Edit) (r : Result Edit EditFault) → appl
     → IfErr r (λ f. applied m e ≡ Err f) → m'' ≡ m'
 made m m' m'' e e' (Ok i) h ok fault = (edited_is m m'' e i ok).0 ∙ sym (edited_is m m' e e' h).0
 made m m' m'' e e' (Err f) h ok fault = absurd (cc)
+
+-- the inverse of an edit that was made gives the model back
+pub taken_back : (m m' n : Model) (e e' : Edit) (r : Result Edit EditFault) → IsValid m → IsEditOf m e → applied m e ≡ Ok (m', e')
+    → IfOk r (λ i. applied m' e' ≡ Ok (n, i)) → IfErr r (λ f. applied m' e' ≡ Err f) → n ≡ m
+taken_back m m' n e e' r valid in_range accepted ok fault =
+    made m' m n e' e r (inverse_undoes m m' e e' valid in_range accepted).1 ok fault
 
 -- ---- a session begins
 
@@ -98,34 +107,90 @@ ends_edited m m' e e' w v l k refused ring room x old work steps h done in_range
       counted,
     )
 
--- ---- an edit is refused
-
-pub ends_fault : (m : Model) (e : Edit) (w : Network) (l refused : LabelTable) (ring : List Edit) (old : Work) (fault : EditFault)
-    → applied m e ≡ Err fault → EditEnds (view_of m w l refused ring old) e (Err (Fault fault)) (view_of m w l refused ring old) 0
-ends_fault m e w l refused ring old fault h = (h, refl, refl)
+-- ---- a net goes back to what was saved
 
 -- a net with its flow and limits saved is no other state
-pub state_saved : (m m' : Model) (w v : Network) (l k cut : LabelTable) (ring : List Edit) (work : Work) (most : ℕ) → IsRefused m' w v l k cut most
-    → state_of m v k ring work ≡ state_of m w l ring work
+state_saved : (m : Model) (w v : Network) (l : LabelTable) (ring : List Edit) (work : Work) → v ≡ with_saved w → state_of m v l ring work ≡ state_of m w l ring work
 unfolding flow_at
-state_saved m m' w v l k cut ring work most h = ap₂ (λ (z : Network) (y : LabelTable). state_of m z y ring work) h.net h.labels
+state_saved m w v l ring work h = ap (λ (z : Network). state_of m z l ring work) h
 
-pub session_barred : (m m' : Model) (w v : Network) (l k refused cut : LabelTable) (ring : List Edit) (room most : ℕ) (x y : Scratch)
-    → IsSession m w l refused ring room x → IsRefused m' w v l k cut most → IsScratchOf v.site y → cut ≡ y.labels → IsSession m v k cut ring room y
-session_barred m m' w v l k refused cut ring room most x y h short scratch same = record {
-  standing = subst (λ z. IsStanding m v z) (sym short.labels) (subst (λ z. IsStanding m z l) (sym short.net) (standing_saved m w l h.standing));
-  back = h.back;
-  refused_labels = subst (λ z. IsLabelsOf v.site z) (sym same) scratch.labels;
-  room = h.room;
-  scratch = scratch;
-}
+state_back : (m n : Model) (w v : Network) (l : LabelTable) (ring : List Edit) (work : Work) → n ≡ m → v ≡ with_saved w
+    → state_of n v l ring work ≡ state_of m w l ring work
+state_back m n w v l ring work back h = ap (λ (z : Model). state_of z v l ring work) back ∙ state_saved m w v l ring work h
 
-pub ends_barred : (m m' : Model) (e e' : Edit) (w v : Network) (l k refused cut : LabelTable) (ring : List Edit) (room most steps : ℕ) (x : Scratch) (old : Work)
-    → IsSession m w l refused ring room x → IsValid m' → IsRefused m' w v l k cut most → IsSpent m (plan_of w) m' most steps → applied m e ≡ Ok (m', e')
-    → EditEnds (view_of m w l refused ring old) e (Err (NotCleared (people m') most)) (view_of m v k cut ring old) steps
-ends_barred m m' e e' w v l k refused cut ring room most steps x old h valid short spent accepted = (
-  barred_by m m' e e' w v l k cut ring old most steps h.standing valid short spent accepted,
-  state_saved m m' w v l k cut ring old most short,
+standing_back : (m n : Model) (w v : Network) (l : LabelTable) → IsStanding m w l → n ≡ m → v ≡ with_saved w → IsStanding n v l
+standing_back m n w v l h back same =
+    subst (λ (z : Model). IsStanding z v l) (sym back) (subst (λ (z : Network). IsStanding m z l) (sym same) (standing_saved m w l h))
+
+-- ---- an edit is refused
+
+standing_refused : (m n : Model) (e : Edit) (w v : Network) (l refused cut y : LabelTable) (why : EditRefusal) (steps : ℕ) → IsStanding m w l
+    → IsMade m e w refused (Err why) n v cut y steps → IsStanding n v l × (n ≡ m)
+standing_refused m n e w v l refused cut y (Fault fault) steps h made =
+    (subst (λ (z : Model). IsStanding z v l) (sym made.1) (subst (λ (z : Network). IsStanding m z l) (sym made.2) h), made.1)
+standing_refused m n e w v l refused cut y (NotCleared all most) steps h made = (standing_back m n w v l h made.back made.refused.net, made.back)
+
+pub session_refused : (m n : Model) (e : Edit) (w v : Network) (l refused cut : LabelTable) (ring : List Edit) (room : ℕ) (x y : Scratch) (why : EditRefusal) (steps : ℕ)
+    → IsSession m w l refused ring room x → IsMade m e w refused (Err why) n v cut y.labels steps → IsLabelsOf v.site cut → IsScratchOf v.site y
+    → IsSession n v l cut ring room y
+session_refused m n e w v l refused cut ring room x y why steps h made labels scratch =
+    let stands = standing_refused m n e w v l refused cut y.labels why steps h.standing made in
+    record {
+      standing = stands.0;
+      back = subst (λ (z : Model). LeadBack z ring) (sym stands.1) h.back;
+      refused_labels = labels;
+      room = h.room;
+      scratch = scratch;
+    }
+
+pub ends_refused : (m n : Model) (e : Edit) (w v : Network) (l refused cut y : LabelTable) (ring : List Edit) (old : Work) (why : EditRefusal) (steps : ℕ)
+    → IsMade m e w refused (Err why) n v cut y steps → EditEnds (view_of m w l refused ring old) e (Err why) (view_of n v l cut ring old) steps
+ends_refused m n e w v l refused cut y ring old (Fault fault) steps made = (
+  made.0,
+  ap (λ (z : Model). view_of z v l cut ring old) made.1
+      ∙ ap₂ (λ (z : Network) (k : LabelTable). view_of m z l k ring old) made.2 made.3,
+  made.4,
+)
+ends_refused m n e w v l refused cut y ring old (NotCleared all most) steps made = (
+  barred_by m made.edited e made.inverse w v l cut ring old all most steps made.valid made.count made.refused made.spent made.accepted,
+  state_back m n w v l ring old made.back made.refused.net,
+)
+
+pub state_refused : (v v' : SessionView) (e : Edit) (why : EditRefusal) (steps : ℕ) → EditEnds v e (Err why) v' steps → v'.state ≡ v.state
+state_refused v v' e (Fault fault) steps h = ap (λ (z : SessionView). z.state) h.1
+state_refused v v' e (NotCleared all most) steps h = h.1
+
+-- ---- an edit is tried
+
+-- what was saved is the net before
+restored : (m : Model) (w v u : Network) (l : LabelTable) (work : Work) → IsCarried m w v l work → u ≡ saved_of v → u ≡ with_saved w
+restored m w v u l work h is = is ∙ same_saved (with_saved w) v h.site h.saved
+
+pub session_tried : (m m' n : Model) (w v u : Network) (l k refused cut : LabelTable) (ring : List Edit) (room : ℕ) (x y : Scratch) (work : Work)
+    → IsSession m w l refused ring room x → IsCarried m' w v k work → u ≡ saved_of v → n ≡ m → IsLabelsOf v.site cut → IsScratchOf v.site y
+    → IsSession n u l cut ring room y
+session_tried m m' n w v u l k refused cut ring room x y work h done is back labels scratch =
+    let same : u.site ≡ v.site = ap (λ (z : Network). z.site) is in
+    record {
+      standing = standing_back m n w u l h.standing back (restored m' w v u k work done is);
+      back = subst (λ (z : Model). LeadBack z ring) (sym back) h.back;
+      refused_labels = subst (λ (s : Site). IsLabelsOf s cut) (sym same) labels;
+      room = h.room;
+      scratch = subst (λ (s : Site). IsScratchOf s y) (sym same) scratch;
+    }
+
+pub ends_tried : (m m' n : Model) (e e' : Edit) (w v u : Network) (l k refused cut : LabelTable) (ring : List Edit) (old work : Work) (last steps : ℕ)
+    → IsStanding m w l → IsCarried m' w v k work → IsEditOf m e → applied m e ≡ Ok (m', e') → IsCounted work steps → last ≡ last_arrival_of v
+    → u ≡ saved_of v → n ≡ m → cut ≡ refused
+    → TrialEnds (view_of m w l refused ring old) e (Ok last) (view_of n u l cut ring old) steps
+ends_tried m m' n e e' w v u l k refused cut ring old work last steps h done in_range accepted counted is_last is back same = (
+  record {
+    after = state_of m' v k (take kept_limit (e' ∷ ring)) work;
+    edited = edited_by m m' e e' w v l k ring old work h done in_range accepted;
+    out = sym is_last;
+    counted = counted;
+  },
+  ap₂ (λ (s : SessionState) (c : LabelTable). record { state = s; refused = c }) (state_back m n w u l ring old back (restored m' w v u k work done is)) same,
 )
 
 -- ---- an edit is undone
@@ -148,9 +213,9 @@ ends_undone m e w v l k refused ring room x old work steps h done counted =
     (undone_by m e w v l k ring old work h.standing done, refl, refl, counted)
 
 -- the model before can be cleared
-pub never_barred : (m : Model) (e : Edit) (w v : Network) (l k refused cut : LabelTable) (ring : List Edit) (room most : ℕ) (x : Scratch)
-    → IsSession m w l refused (e ∷ ring) room x → IsRefused (edited m e) w v l k cut most → ⊥
-never_barred m e w v l k refused cut ring room most x h short =
+pub never_barred : (m : Model) (e : Edit) (w v : Network) (l refused cut : LabelTable) (ring : List Edit) (room most : ℕ) (x : Scratch)
+    → IsSession m w l refused (e ∷ ring) room x → IsRefused (edited m e) w v cut most → ⊥
+never_barred m e w v l refused cut ring room most x h short =
     let passed = unless-Ok (checks m e) (edited m e, inverse_of m e) (edited m e, inverse_of m e) h.back.1 in
     let valid = valid_edited m e h.standing.valid h.back.0 passed.0 in
     shortfall_bars_clearing (edited m e) (label_cut (edited m e) cut (edited m e).horizon) most valid short.shown.shortfall h.back.2

@@ -156,14 +156,14 @@ undone_by m e w v l k ring old work h done = record {
   };
 }
 
-pub barred_by : (m m' : Model) (e e' : Edit) (w v : Network) (l k cut : LabelTable) (ring : List Edit) (old : Work) (most steps : ℕ)
-    → IsStanding m w l → IsValid m' → IsRefused m' w v l k cut most → IsSpent m (plan_of w) m' most steps → applied m e ≡ Ok (m', e')
-    → IsBarred (state_of m w l ring old) e cut (people m') most steps
-barred_by m m' e e' w v l k cut ring old most steps h valid short spent accepted = record {
+pub barred_by : (m m' : Model) (e e' : Edit) (w v : Network) (l cut : LabelTable) (ring : List Edit) (old : Work) (all most steps : ℕ)
+    → IsValid m' → all ≡ people m' → IsRefused m' w v cut most → IsSpent m (plan_of w) m' most steps → applied m e ≡ Ok (m', e')
+    → IsBarred (state_of m w l ring old) e cut all most steps
+barred_by m m' e e' w v l cut ring old all most steps valid count short spent accepted = record {
   edited = m';
   inverse = e';
   accepted = accepted;
   table = short.shown.table;
-  not_cleared = not_cleared_by m' cut most valid short.shown.shortfall;
+  not_cleared = subst (λ (n : ℕ). IsNotCleared m' cut n most) (sym count) (not_cleared_by m' cut most valid short.shown.shortfall);
   spent = spent;
 }

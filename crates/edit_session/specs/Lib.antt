@@ -12,3 +12,5 @@ pub mod Thrift
 pub mod Sessions
 pub mod Kept
 pub mod Mended
+pub mod Making
+pub mod Laws

@@ -47,9 +47,10 @@ pub record IsScratchOf (s : Site) (x : Scratch) : Type 0 where
   pub search : IsSearchOf s x.search
   pub room : s.shape.horizon + 2 ≤ x.path.room
 
--- the net stands for a plan of the edited model, and came to it by thrifty work from its plan of any model before
+-- the net stands for a plan of the edited model, and came to it by thrifty work from its plan of any model before; what was saved is the net before
 pub record IsCarried (m : Model) (w v : Network) (l : LabelTable) (work : Work) : Type 0 where
   pub site : v.site ≡ w.site
+  pub saved : v.saved ≡ w.cells
   pub standing : IsStanding m v l
   pub thrifty : (b : Model) → IsValid b → IsNetOf b w → IsThrifty b (plan_of w) m (plan_of v) (last_arrival_of v) work
 
@@ -58,15 +59,15 @@ pub record IsShown (m : Model) (cut : LabelTable) (most : ℕ) : Type 0 where
   pub table : IsTableOf m cut
   pub shortfall : IsShortfall m (label_cut m cut m.horizon) most
 
--- net and labels are as before, and other labels show that not everybody gets out
-pub record IsRefused (m : Model) (w v : Network) (l k cut : LabelTable) (most : ℕ) : Type 0 where
+-- the net is as before, and labels show that not everybody gets out
+pub record IsRefused (m : Model) (w v : Network) (cut : LabelTable) (most : ℕ) : Type 0 where
   pub net : v ≡ with_saved w
-  pub labels : k ≡ l
   pub shown : IsShown m cut most
 
-abbrev pub IsMended : Model → Network → Network → LabelTable → LabelTable → LabelTable → Repaired → Type 0
-IsMended m w v l k cut (Cleared work) = IsCarried m w v k work
-IsMended m w v l k cut (Short most) = IsRefused m w v l k cut most
+-- with labels that prove the new plan best, or show that not everybody gets out
+abbrev pub IsMended : Model → Network → Network → LabelTable → Repaired → Type 0
+IsMended m w v l (Cleared work) = IsCarried m w v l work
+IsMended m w v l (Short most) = IsRefused m w v l most
 
 -- the steps that it took: those of its work, or what a refusal may spend
 abbrev pub IsWithinWork : Model → Network → ℕ → ℕ → Repaired → Type 0

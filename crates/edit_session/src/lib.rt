@@ -1,10 +1,14 @@
 //! An editing session: a model with its best plan, repaired after each edit, and edits undone.
 //!
 //! `Session::begin` takes all memory. After each edit and undo the standing net is brought under the edited model's limits, and settled
-//! from the first moment that the edit may have touched; where not everybody can get out any more, all is left as it was.
+//! from the first moment that the edit may have touched; where not everybody can get out any more, all is left as it was. A trial
+//! answers when everybody would be out behind an edit, and leaves all as it was.
 #![tactic(auto)]
 
 mod faults;
+mod laws;
+mod made;
+mod making;
 mod mend;
 mod repaired;
 mod scratch;
@@ -12,5 +16,6 @@ mod session;
 mod work;
 
 pub use faults::{BeginFault, EditRefusal, Short, UndoRefusal};
+pub use laws::{goes_on_as_fresh, state_is_quickest};
 pub use session::Session;
 pub use work::Work;

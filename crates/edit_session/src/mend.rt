@@ -34,19 +34,19 @@ fn find_shortfall(net: &Net, model: &Model, scratch: &mut Scratch) -> Option<u32
     }
 }
 
-/// Brings a standing net and its labels to an edited model. Where not everybody can get out, both are left as they were, and the
-/// scratch has the labels that show it.
+/// Brings a standing net to an edited model; the scratch gets the labels of its new plan, and what is saved is the net before. Where not
+/// everybody can get out, the net is left as it was, and the scratch has the labels that show it.
 pub fn repair_net<L: Ledger>(
     net: &mut Net,
     model: &Model,
     edit: Edit,
-    labels: &mut Labels,
+    labels: &Labels,
     scratch: &mut Scratch,
     steps: &mut Steps<L>,
 ) -> Repaired
-    requires repairable { IsRepairable model.now edit net.old labels.old }
+    requires repairable { IsRepairable model.now edit net.old labels.now }
     requires scratch { IsScratchOf net.old.site scratch.old }
-    ensures mended { IsMended model.now net.old net.new labels.old labels.new scratch.new.labels result }
+    ensures mended { IsMended model.now net.old net.new scratch.new.labels result }
     ensures counted { IsWithinWork model.now net.old steps.old steps.new result }
     ensures scratch { IsScratchOf net.new.site scratch.new }
 {
@@ -69,7 +69,6 @@ pub fn repair_net<L: Ledger>(
     ) {
         Outcome::Cleared { pushes, .. } => {
             let _ = net.shape();
-            labels.copy_from(&scratch.labels);
             let work = Work {
                 cancelled: taken.cancelled,
                 pushes,

@@ -4,9 +4,10 @@ ghost use Rattle.evac_law.specs.Building.{IsValid};
 ghost use Rattle.evac_law.specs.Certificates.{IsTableOf};
 ghost use Rattle.evac_law.specs.Edits.{IsEditOf};
 ghost use Rattle.evac_law.specs.Stands.{Fits};
-ghost use Rattle.edit_session.specs.Sessions.{BeginEnds, EditEnds, IsNetOfState, IsSolved, UndoEnds, stand_of_state};
+ghost use Rattle.edit_session.specs.Sessions.{BeginEnds, EditEnds, IsNetOfState, IsSolved, TrialEnds, UndoEnds, stand_of_state};
 
 use crate::faults::{BeginFault, EditRefusal, Short, UndoRefusal};
+use crate::making::make_edit;
 use crate::mend::repair_net;
 use crate::repaired::Repaired;
 use crate::scratch::Scratch;
@@ -96,31 +97,41 @@ impl Session {
         ensures ends { (n : ℕ) × (steps.new ≡ steps.old + n) × EditEnds self.old edit result self.new n }
         ensures unchanged { OnErr result (self.new.state ≡ self.old.state) }
     {
-        let inverse = match apply(&mut self.model, edit) {
-            Ok(inverse) => inverse,
-            Err(fault) => return Err(EditRefusal::Fault(fault)),
-        };
-        match repair_net(
+        let made = make_edit(
+            &mut self.model,
             &mut self.net,
-            &self.model,
-            edit,
-            &mut self.labels,
+            &self.labels,
+            &mut self.refused,
             &mut self.scratch,
+            edit,
             steps,
-        ) {
-            Repaired::Cleared { work } => {
-                self.ring.push_front(inverse);
-                self.work = work;
-                Ok(work)
-            }
-            Repaired::Short { most } => {
-                let people = self.model.people();
-                self.refused.copy_from(&self.scratch.labels);
-                // the inverse of an edit that was just made is accepted
-                let _ = apply(&mut self.model, inverse);
-                Err(EditRefusal::NotCleared { people, most })
-            }
-        }
+        )?;
+        self.labels.copy_from(&self.scratch.labels);
+        self.ring.push_front(made.inverse);
+        self.work = made.work;
+        Ok(made.work)
+    }
+
+    /// The moment by which everybody would be out behind an edit. It is made and taken back, so all stays as it was but the refused cut.
+    pub fn trial<L: Ledger>(&mut self, edit: Edit, steps: &mut Steps<L>) -> Result<u16, EditRefusal>
+        requires { IsEditOf self.old.state.model edit }
+        ensures ends { (n : ℕ) × (steps.new ≡ steps.old + n) × TrialEnds self.old edit result self.new n }
+        ensures unchanged { self.new.state ≡ self.old.state }
+    {
+        let made = make_edit(
+            &mut self.model,
+            &mut self.net,
+            &self.labels,
+            &mut self.refused,
+            &mut self.scratch,
+            edit,
+            steps,
+        )?;
+        let last = self.net.last_arrival();
+        self.net.restore();
+        // the inverse of an edit that was just made is accepted
+        let _ = apply(&mut self.model, made.inverse);
+        Ok(last)
     }
 
     /// Goes back to the model before the last kept edit.
@@ -137,11 +148,12 @@ impl Session {
             &mut self.net,
             &self.model,
             back,
-            &mut self.labels,
+            &self.labels,
             &mut self.scratch,
             steps,
         ) {
             Repaired::Cleared { work } => {
+                self.labels.copy_from(&self.scratch.labels);
                 self.work = work;
                 Ok(work)
             }

@@ -21,8 +21,9 @@ use Rattle.evac_top.specs.Upgrade.{Upgrades}
 use Rattle.evac_top.specs.Words.{reads}
 use Rattle.evac_top.specs.declared.words.Flags.{Flags}
 use Rattle.evac_top.specs.declared.words.Mode.{Mode}
-use Rattle.evac_top.specs.declared.words.Mode.TheVariants.{Solve, Check, Session, Study, Upgrade, Drill}
+use Rattle.evac_top.specs.declared.words.Mode.TheVariants.{Solve, Check, Session, Study, Replan, Upgrade, Drill}
 use Rattle.model_text.specs.Taken.{Description}
+use Rattle.replan_talk.specs.ReplanTalks.{replan}
 use Rattle.session_talk.specs.Sessions.{session}
 use Rattle.study_talk.specs.Studies.{study}
 use Rattle.talk.specs.Short.{OpensShort}
@@ -102,6 +103,10 @@ sessions-all r x h = talks-all session (λ names m reply opens. opening-clears m
 studies-all : (r : Reading) (x : Account) → Talks study r x → TalksAll study r x
 studies-all r x h = talks-all study (λ names m reply opens. opens.clearable) (λ names m line y refused. refused) r x h
 
+replans-all : (r : Reading) (x : Account) → Talks replan r x → TalksAll replan r x
+replans-all r x h =
+    talks-all replan (λ names m reply opens. opening-clears m opens.0.after.standing opens.1.begins) (λ names m line y refused. refused) r x h
+
 upgrades-all : (input : List ℕ) (result : Result Asked (ℕ × ℕ)) (x : Account) → Upgrades input result x → UpgradesAll result x
 upgrades-all input (Ok asked) x h = h.1.over
 upgrades-all input (Err fault) x h = h
@@ -112,6 +117,7 @@ answers-all (Some (Solve flags)) input x h = solves-all flags input (input_of (l
 answers-all (Some Check) input x (claim, is, h) = record { claim = claim; of_lines = is; alone = λ other g. one-claim-of (lines_of input) claim other is g; answered = checks-all input claim x h }
 answers-all (Some Session) input x h = sessions-all (model_of (lines_of input)) x h.0
 answers-all (Some Study) input x h = studies-all (model_of (lines_of input)) x h.0
+answers-all (Some Replan) input x h = replans-all (model_of (lines_of input)) x h.0
 answers-all (Some Upgrade) input x h = upgrades-all input (input_of (lines_of input)) x h
 answers-all (Some (Drill n)) input x h = drills-all n x h.1
 

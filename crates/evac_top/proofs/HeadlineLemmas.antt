@@ -1,6 +1,6 @@
 -- Every run of a session and every plan that is written keeps the headline.
 use Rattle.std.specs.declared.option.Option.{Option}
-use Rattle.std.proofs.Common.{◌≡◌, ◌≢◌, Some, ℕ, ◌+◌, ◌≤◌, true, List, [], ◌∷◌, length, Result, Ok, Err, refl, sym, ap, subst, ◌∙◌, arith, inl, inr}
+use Rattle.std.proofs.Common.{◌≡◌, ◌≢◌, Some, ℕ, ◌+◌, ◌≤◌, Bool, true, false, ◌&&◌, nat_lt, List, [], ◌∷◌, length, Result, Ok, Err, refl, sym, ap, subst, ◌∙◌, arith, inl, inr}
 use Rattle.evac_law.specs.declared.edit.Edit.{Edit}
 use Rattle.evac_law.specs.declared.edit.EditFault.{EditFault}
 use Rattle.evac_law.specs.declared.model.Model.{Model}
@@ -19,14 +19,15 @@ use Rattle.building_table.specs.EditNames.{edit_named}
 use Rattle.building_table.specs.Names.{NameTable, names_of}
 use Rattle.certificate_text.proofs.AnswerBack.{reads_back}
 use Rattle.edit_session.specs.Sessions.{IsSolved, with_former}
-use Rattle.edit_session.specs.Thrift.{IsThrifty}
+use Rattle.edit_session.specs.Thrift.{IsThrifty, IsThriftyOpening}
+use Rattle.replan_talk.specs.ReplanTalks.{AdvancesTo, AsksAdvance, AsksSession, CarriesOut, ReplanReplies, Replanned, RowOf, asks_advance, asks_of_people, is_barred, moment_of, replan}
 use Rattle.session_talk.specs.Sessions.{Advances, AsksEdit, Edits, IsAnswerText, Replies, State, Undoes, session}
 use Rattle.talk.specs.Talks.{EndsAt, RepliesTo, Reply, TalkRun, says}
 use Rattle.session_talk.proofs.Bridge.{answer_of}
 use Rattle.session_talk.proofs.Same.{cut_stays}
 use Rattle.evac_top.specs.Accounts.{Account, Outside}
 use Rattle.evac_top.specs.Answers.{Answers}
-use Rattle.evac_top.specs.Headline.{IsBestBlock, KeepsAll, KeepsBlock, KeepsPlan, KeepsPromise, KeepsSession, PlansKeepPromise, SessionsKeepPromise}
+use Rattle.evac_top.specs.Headline.{IsBestBlock, IsCarriedOut, KeepsAll, KeepsBlock, KeepsCarried, KeepsPlan, KeepsPromise, KeepsReplan, KeepsReplans, KeepsSession, PlansKeepPromise, ReplansKeepPromise, SessionsKeepPromise}
 use Rattle.evac_top.specs.Inputs.{Asked, input_of}
 use Rattle.evac_top.specs.Runs.{OfInput, Runs}
 use Rattle.evac_top.specs.Solve.{IsPlanned, Solves}
@@ -34,14 +35,14 @@ use Rattle.evac_top.specs.Talking.{Talks, spoken}
 use Rattle.evac_top.specs.Words.{reads}
 use Rattle.evac_top.specs.declared.words.Flags.{Flags}
 use Rattle.evac_top.specs.declared.words.Mode.{Mode}
-use Rattle.evac_top.specs.declared.words.Mode.TheVariants.{Session, Solve}
+use Rattle.evac_top.specs.declared.words.Mode.TheVariants.{Replan, Session, Solve}
 use Rattle.session_text.specs.StateTexts.{block_text}
 use Rattle.session_text.proofs.Solved.{feasible_of}
 use Rattle.evac_top.proofs.TellLemmas.{of-input}
 
 -- ---- one block
 
-best-block : (s : State) (text : List ℕ) → IsSolved s.standing → IsAnswerText s text → IsBestBlock s text
+pub best-block : (s : State) (text : List ℕ) → IsSolved s.standing → IsAnswerText s text → IsBestBlock s text
 best-block s text h a = record {
   block = a.block;
   reads_back = a.reads_back;
@@ -134,6 +135,77 @@ pub sessions-keep-promise : SessionsKeepPromise
 sessions-keep-promise status before after r reads_kept writes_kept memory =
     of-input true before.source.bytes _ _ (λ input h. keeps-session (model_of (lines_of input)) r.did h.0)
     (answered-all (Some Session) status before after r reads_kept writes_kept memory)
+
+-- ---- a plan that is carried out
+
+carries-out : (s : Replanned) (p : ℕ) (r : Reply Replanned) → CarriesOut s p r → IsCarriedOut s r
+carries-out s p r h =
+    let x = r.after.session.standing in record {
+      moment = p;
+      last = h.last;
+      block = h.block;
+      text = h.text;
+      answer = best-block r.after.session h.block h.begins.solved h.answer;
+      of_rest = h.begins.begun;
+      best = h.best;
+      thrifty = subst (λ (n : Model). IsThriftyOpening n x.plan x.last x.work) (sym h.begins.begun) h.begins.thrifty;
+      counted = h.counted;
+    }
+
+stays-there : (s : Replanned) (text : List ℕ) (r : Reply Replanned) → r ≡ says s text → KeepsCarried s r
+stays-there s text r h = inr (inr (ap (λ (a : Reply Replanned). a.after) h))
+
+advanced-to : (line : ℕ) (s : Replanned) (p : ℕ) (barred : Bool) (r : Reply Replanned) → AdvancesTo line s p barred r → KeepsCarried s r
+advanced-to line s p true r h = stays-there s _ r h
+advanced-to line s p false r h = inl (carries-out s p r h)
+
+asked-advance : (line : ℕ) (s : Replanned) (named : Result ℕ TextFault) (r : Reply Replanned) → AsksAdvance line s named r → KeepsCarried s r
+asked-advance line s (Err fault) r h = stays-there s _ r h
+asked-advance line s (Ok p) r h = advanced-to line s p (is_barred s p) r h
+
+asked-session : (names : NameTable) (line : ℕ) (s : Replanned) (c : Result Command TextFault) (late : Bool) (r : Reply Replanned) → AsksSession names line s c late r → KeepsCarried s r
+asked-session names line s c true r h = stays-there s _ r h
+asked-session names line s c false r h = inr (inl (h.0, one_line names line s.session c h.0 h.1, h.2))
+
+row-of : (names : NameTable) (line : ℕ) (s : Replanned) (text : List ℕ) (asks : Bool) (r : Reply Replanned) → RowOf names line s text asks r → KeepsCarried s r
+row-of names line s text true r h = asked-advance line s (moment_of text) r h
+row-of names line s text false r h = asked-session names line s (command_of text) (nat_lt 0 s.moment && asks_of_people names (command_of text)) r h
+
+carried-lines : (names : NameTable) (m : Model) (before : ℕ) (s : Replanned) (lines : List (List ℕ)) (r : Reply Replanned) → RepliesTo (replan names m).Gets before s lines r
+    → RepliesTo (λ line s text r. ReplanReplies names line s text r × KeepsCarried s r) before s lines r
+unfolding RepliesTo
+carried-lines names m before s [] r h = h
+carried-lines names m before s (line ∷ lines) r h =
+    (h.0, (h.1, row-of names (before + 1) s line (asks_advance line) h.0 h.1), (h.2.0, carried-lines names m (before + 1) h.0.after lines h.2.0 h.2.1, h.2.2))
+
+replans-keep : (d : Description) (last : ℕ) (lines : List Line) (x : Account) → TalkRun (replan (names_of d) d.model) last lines (spoken x) → KeepsReplan d last lines x
+replans-keep d last lines x run =
+    let goes = run.goes in
+    let q = goes.opening in
+    let opened = goes.opens in
+    let is = opened.2 in
+    let s = opened.0 in
+    record {
+      answered = run.answered;
+      rest = run.rest;
+      parts = run.parts;
+      opening = goes.opening;
+      more = goes.more;
+      of_model = ap (λ (a : Reply Replanned). a.after.session.standing.model) is ∙ opened.1.begins.begun;
+      first = subst (λ (a : Reply Replanned). IsBestBlock a.after.session a.text) (sym is) (best-block s.after s.text opened.1.begins.solved opened.1.answer);
+      replies = carried-lines (names_of d) d.model last goes.opening.after run.answered goes.more goes.replies;
+      ends = subst (λ (r : Reply Replanned). EndsAt (replan (names_of d) d.model) (last + length run.answered) run.rest r (spoken x)) goes.all run.ends;
+    }
+
+keeps-replans : (r : Reading) (x : Account) → Talks replan r x → KeepsReplans r x
+keeps-replans (Described d last rest) x (inl run) = λ can. replans-keep d last rest x run
+keeps-replans (Described d last rest) x (inr short) = λ can. absurd (short.short.barred can)
+keeps-replans (Refused code line) x h = tt
+
+pub replans-keep-promise : ReplansKeepPromise
+replans-keep-promise status before after r reads_kept writes_kept memory =
+    of-input true before.source.bytes _ _ (λ input h. keeps-replans (model_of (lines_of input)) r.did h.0)
+    (answered-all (Some Replan) status before after r reads_kept writes_kept memory)
 
 -- ---- a plan that is written
 

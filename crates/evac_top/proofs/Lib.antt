@@ -1,6 +1,7 @@
 pub mod BlockOpenLemmas
 pub mod ClaimLemmas
 pub mod CompleteLemmas
+pub mod FirstLineLemmas
 pub mod HeadlineLemmas
 pub mod InputLemmas
 pub mod OpenLemmas

@@ -19,6 +19,7 @@ use Rattle.building_table.specs.declared.faults.ModelFault.{ModelFault}
 use Rattle.building_table.specs.declared.faults.ModelFault.TheVariants.{Named, ReadFault, Memory}
 use Rattle.model_text.specs.Readings.{Described, IsUndecided, Reading, Refused, model_of, opening_of}
 use Rattle.model_text.specs.Taken.{Description}
+use Rattle.replan_talk.specs.ReplanTalks.{replan}
 use Rattle.session_talk.specs.Sessions.{session}
 use Rattle.study_talk.specs.Studies.{study}
 use Rattle.talk.specs.Held.{EndsByQuit, HoldsTalk, IsReadOut, OfLines, around}
@@ -31,7 +32,7 @@ use Rattle.evac_top.specs.Talking.{HasQuit, ReadsOn, TalkOn, Talks, TalksFront, 
 use Rattle.evac_top.specs.Tells.{Stops}
 use Rattle.evac_top.specs.Words.{reads}
 use Rattle.evac_top.specs.declared.words.Mode.{Mode}
-use Rattle.evac_top.specs.declared.words.Mode.TheVariants.{Session, Study}
+use Rattle.evac_top.specs.declared.words.Mode.TheVariants.{Replan, Session, Study}
 use Rattle.evac_top.proofs.OpenLemmas.{described-lines, model-missing, opening-further}
 use Rattle.evac_top.proofs.TakeLemmas.{few-taken, takes, whole-lines}
 use Rattle.evac_top.proofs.TellLemmas.{FaultIs, ReadsFirst, stopped, told-input}
@@ -322,4 +323,14 @@ study-talks = record {
   so_far = λ lines x h. h;
   front = λ input x h. h;
   memory = nothing-written study (λ names m line s text wants. wants);
+}
+
+pub replan-talks : IsTalk Replan replan
+replan-talks = record {
+  input = refl;
+  answers = λ input x talks reads_on. (talks, reads_on);
+  talks = λ input x h. h.0;
+  so_far = λ lines x h. h;
+  front = λ input x h. h;
+  memory = λ x h. h;
 }

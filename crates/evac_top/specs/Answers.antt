@@ -4,6 +4,7 @@ use Rattle.std.specs.declared.option.Option.{Option}
 use Rattle.line_io.specs.Line.{Line, lines_of}
 use Rattle.model_text.specs.Readings.{model_of}
 use Rattle.certificate_text.specs.BlockText.{refusal_line}
+use Rattle.replan_talk.specs.ReplanTalks.{replan}
 use Rattle.session_talk.specs.Sessions.{session}
 use Rattle.study_talk.specs.Studies.{study}
 use Rattle.evac_top.specs.Accounts.{Account, Ends, IsFront}
@@ -11,10 +12,10 @@ use Rattle.evac_top.specs.Check.{Checks}
 use Rattle.evac_top.specs.Drill.{Drills}
 use Rattle.evac_top.specs.Inputs.{Claimed, IsClaimOf, IsOpenClaim, IsOpenInput, input_of}
 use Rattle.evac_top.specs.Solve.{Solves}
-use Rattle.evac_top.specs.Talking.{ReadsOn, Talks, TalksFront, TalksSoFar}
+use Rattle.evac_top.specs.Talking.{ReadsOn, Talks, TalksFront, TalksMemory, TalksSoFar}
 use Rattle.evac_top.specs.Upgrade.{Upgrades}
 use Rattle.evac_top.specs.declared.words.Mode.{Mode}
-use Rattle.evac_top.specs.declared.words.Mode.TheVariants.{Solve, Check, Session, Study, Upgrade, Drill}
+use Rattle.evac_top.specs.declared.words.Mode.TheVariants.{Solve, Check, Session, Study, Replan, Upgrade, Drill}
 
 -- the text for words that ask for nothing
 abbrev pub words_text : List ℕ
@@ -31,6 +32,7 @@ Answers (Some (Solve flags)) input x = Solves flags input (input_of (lines_of in
 Answers (Some Check) input x = (claim : Result Claimed (ℕ × ℕ)) × IsClaimOf (lines_of input) claim × Checks input claim x
 Answers (Some Session) input x = Talks session (model_of (lines_of input)) x × ReadsOn session input x
 Answers (Some Study) input x = Talks study (model_of (lines_of input)) x × ReadsOn study input x
+Answers (Some Replan) input x = Talks replan (model_of (lines_of input)) x × ReadsOn replan input x
 Answers (Some Upgrade) input x = Upgrades input (input_of (lines_of input)) x
 Answers (Some (Drill number)) input x = Drills number x
 
@@ -45,6 +47,7 @@ AnswersSoFar (Some (Solve flags)) lines x = IsOpenInput lines × WritesNothing x
 AnswersSoFar (Some Check) lines x = IsOpenClaim lines × WritesNothing x
 AnswersSoFar (Some Session) lines x = TalksSoFar session (model_of lines) (length lines) x
 AnswersSoFar (Some Study) lines x = TalksSoFar study (model_of lines) (length lines) x
+AnswersSoFar (Some Replan) lines x = TalksSoFar replan (model_of lines) (length lines) x
 AnswersSoFar (Some Upgrade) lines x = IsOpenInput lines × WritesNothing x
 AnswersSoFar (Some (Drill number)) lines x = ⊥
 
@@ -55,15 +58,17 @@ AnswersFront (Some (Solve flags)) input x = IsFront (Answers (Some (Solve flags)
 AnswersFront (Some Check) input x = IsFront (Answers (Some Check) input) x
 AnswersFront (Some Session) input x = TalksFront session (model_of (lines_of input)) x
 AnswersFront (Some Study) input x = TalksFront study (model_of (lines_of input)) x
+AnswersFront (Some Replan) input x = TalksFront replan (model_of (lines_of input)) x
 AnswersFront (Some Upgrade) input x = IsFront (Answers (Some Upgrade) input) x
 AnswersFront (Some (Drill number)) input x = IsFront (Answers (Some (Drill number)) input) x
 
--- a run without memory: nothing was written
+-- a run without memory: nothing was written, or memory was wanting for a line of a talk behind whole replies
 abbrev pub AnswersMemory : Option Mode → Account → Type 0
 AnswersMemory None x = (x.taken ≡ []) × (x.written ≡ [])
 AnswersMemory (Some (Solve flags)) x = x.written ≡ []
 AnswersMemory (Some Check) x = x.written ≡ []
 AnswersMemory (Some Session) x = x.written ≡ []
 AnswersMemory (Some Study) x = x.written ≡ []
+AnswersMemory (Some Replan) x = TalksMemory replan x
 AnswersMemory (Some Upgrade) x = x.written ≡ []
 AnswersMemory (Some (Drill number)) x = (x.taken ≡ []) × (x.written ≡ [])

@@ -9,6 +9,7 @@ use Rattle.drill_building.specs.Drill.{drill_model}
 use Rattle.model_text.specs.Readings.{Reading, Described, Refused, model_of}
 use Rattle.building_table.specs.Names.{names_of}
 use Rattle.plan_checker.specs.Verdicts.{IsRight}
+use Rattle.replan_talk.specs.ReplanTalks.{replan}
 use Rattle.session_talk.specs.Sessions.{session}
 use Rattle.study_talk.specs.Studies.{study}
 use Rattle.talk.specs.Short.{OpensShort}
@@ -20,7 +21,7 @@ use Rattle.evac_top.specs.Solve.{IsShort}
 use Rattle.evac_top.specs.Talking.{TalkOn, spoken}
 use Rattle.evac_top.specs.Words.{reads}
 use Rattle.evac_top.specs.declared.words.Mode.{Mode}
-use Rattle.evac_top.specs.declared.words.Mode.TheVariants.{Solve, Check, Session, Study, Upgrade, Drill}
+use Rattle.evac_top.specs.declared.words.Mode.TheVariants.{Solve, Check, Session, Study, Replan, Upgrade, Drill}
 
 -- a building whose end is at a line is planned where it can be cleared, and refused with its shortfall exactly where it can't
 abbrev pub PlansAll : Model → ℕ → Account → Type 0
@@ -63,6 +64,7 @@ AnswersAll (Some (Solve flags)) input x = SolvesAll (input_of (lines_of input)) 
 AnswersAll (Some Check) input x = ChecksLines (lines_of input) x
 AnswersAll (Some Session) input x = TalksAll session (model_of (lines_of input)) x
 AnswersAll (Some Study) input x = TalksAll study (model_of (lines_of input)) x
+AnswersAll (Some Replan) input x = TalksAll replan (model_of (lines_of input)) x
 AnswersAll (Some Upgrade) input x = UpgradesAll (input_of (lines_of input)) x
 AnswersAll (Some (Drill number)) input x = PlansAll (drill_model number) 0 x
 

@@ -14,7 +14,10 @@ use Rattle.model_text.specs.Taken.{Description}
 use Rattle.building_table.specs.Names.{NameTable, names_of}
 use Rattle.certificate_text.specs.BlockLaws.{ReadsBack}
 use Rattle.edit_session.specs.Sessions.{SessionState}
-use Rattle.edit_session.specs.Thrift.{IsCounted, IsThrifty}
+use Rattle.edit_session.specs.Thrift.{IsCounted, IsThrifty, IsThriftyOpening}
+use Rattle.replan.specs.Rest.{rest}
+use Rattle.replan.specs.RestLaws.{IsBestFrom}
+use Rattle.replan_talk.specs.ReplanTalks.{ReplanReplies, Replanned, carried_on, gone_text, replan}
 use Rattle.session_text.specs.StateTexts.{block_text}
 use Rattle.session_talk.specs.Sessions.{Replies, State, session}
 use Rattle.talk.specs.Talks.{EndsAt, RepliesTo, Reply, followed}
@@ -25,7 +28,7 @@ use Rattle.evac_top.specs.Solve.{SaysPlan}
 use Rattle.evac_top.specs.Talking.{spoken}
 use Rattle.evac_top.specs.Words.{reads}
 use Rattle.evac_top.specs.declared.words.Flags.{Flags}
-use Rattle.evac_top.specs.declared.words.Mode.TheVariants.{Session, Solve}
+use Rattle.evac_top.specs.declared.words.Mode.TheVariants.{Replan, Session, Solve}
 
 -- an answer block that was written: it reads back as a feasible plan that takes everybody out, and for every period a stated cut is worth as many as
 -- are out by then, so no feasible plan has more people out by that period
@@ -73,6 +76,51 @@ SessionsKeepPromise =
     (status : ℕ) (before after : Outside) (r : Runs (Some Session) status before after) → ¬ Rose before.source.faults after.source.faults
     → ¬ Rose before.sink.faults after.sink.faults → status ≢ 5
     → OfInput (reads (Some Session)) before.source.bytes (λ input. KeepsSession (model_of (lines_of input)) r.did)
+
+-- ---- a plan that is carried out
+
+-- a line carried the plan out up to a moment: who is gone is said, and then the block of a best plan of what is left. With the moves before the
+-- moment it is best among all plans that make the same moves, and a count bounds how often it sent people
+pub record IsCarriedOut (s : Replanned) (r : Reply Replanned) : Type 0 where
+  pub moment : ℕ
+  pub last : ℕ
+  pub block : List ℕ
+  pub text : r.text ≡ gone_text moment r.after.gone last ++ block
+  pub answer : IsBestBlock r.after.session block
+  pub of_rest : r.after.session.standing.model ≡ rest s.session.standing.model s.session.standing.plan moment
+  pub best : IsBestFrom s.session.standing.model s.session.standing.plan moment r.after.session.standing.plan
+  pub thrifty : IsThriftyOpening r.after.session.standing.model r.after.session.standing.plan r.after.session.standing.last r.after.session.standing.work
+  pub counted : r.steps ≡ r.after.session.standing.work.pushes
+
+-- what a line got: the plan was carried out, or it got what a line of a session gets, or all is as it was
+abbrev pub KeepsCarried : Replanned → Reply Replanned → Type 0
+KeepsCarried s r = IsCarriedOut s r ⊎ (((q : Reply State) × KeepsPromise s.session q × (r ≡ carried_on s q)) ⊎ (r.after ≡ s))
+
+-- what a replan wrote on a building and some lines behind it: as a session, with what was carried out
+pub record KeepsReplan (d : Description) (last : ℕ) (lines : List Line) (x : Account) : Type 0 where
+  pub answered : List (List ℕ)
+  pub rest : List Line
+  pub parts : lines ≡ text_lines answered ++ rest
+  pub opening : Reply Replanned
+  pub more : Reply Replanned
+  pub of_model : opening.after.session.standing.model ≡ d.model
+  pub first : IsBestBlock opening.after.session opening.text
+  pub replies : RepliesTo (λ line s text r. ReplanReplies (names_of d) line s text r × KeepsCarried s r) last opening.after answered more
+  pub ends : EndsAt (replan (names_of d) d.model) (last + length answered) rest (followed opening more) (spoken x)
+
+-- a building that can be cleared, with any lines behind it
+abbrev pub KeepsReplans : Reading → Account → Type 0
+KeepsReplans (Described d last rest) x = IsClearable d.model → KeepsReplan d last rest x
+KeepsReplans (Refused code line) x = ⊤
+
+-- a run of a replan keeps all that
+abbrev pub ReplansKeepPromise : Type 0
+ReplansKeepPromise =
+    (status : ℕ) (before after : Outside) (r : Runs (Some Replan) status before after) → ¬ Rose before.source.faults after.source.faults
+    → ¬ Rose before.sink.faults after.sink.faults → status ≢ 5
+    → OfInput (reads (Some Replan)) before.source.bytes (λ input. KeepsReplans (model_of (lines_of input)) r.did)
+
+-- ---- a plan that is written
 
 -- what was written on a building that is planned: the block of a best plan, and behind it what is asked for
 pub record KeepsBlock (flags : Flags) (names : NameTable) (m : Model) (x : Account) : Type 0 where

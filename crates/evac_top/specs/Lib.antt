@@ -3,6 +3,7 @@ pub mod Answers
 pub mod Check
 pub mod Complete
 pub mod Drill
+pub mod FirstLine
 pub mod Headline
 pub mod Inputs
 pub mod Reads

@@ -6,7 +6,7 @@ use Rattle.drill_building.specs.declared.rows.TheConstants.{STOREY_LIMIT}
 use Rattle.model_text.specs.NameFields.{plain_within}
 use Rattle.evac_top.specs.declared.words.Flags.{Flags}
 use Rattle.evac_top.specs.declared.words.Mode.{Mode}
-use Rattle.evac_top.specs.declared.words.Mode.TheVariants.{Solve, Check, Session, Study, Upgrade, Drill}
+use Rattle.evac_top.specs.declared.words.Mode.TheVariants.{Solve, Check, Session, Study, Replan, Upgrade, Drill}
 
 -- whether the routes are asked for, and the reports
 abbrev pub asking : Bool → Bool → Flags
@@ -53,6 +53,7 @@ mode_of (v ∷ more) =
     else if bytes_eq v (codes "check") then mode_alone Check more
     else if bytes_eq v (codes "session") then mode_alone Session more
     else if bytes_eq v (codes "study") then mode_alone Study more
+    else if bytes_eq v (codes "replan") then mode_alone Replan more
     else if bytes_eq v (codes "upgrade") then mode_alone Upgrade more
     else if bytes_eq v (codes "drill") then option_map Drill (storeys_of more)
     else None
@@ -69,5 +70,6 @@ reads (Some (Solve flags)) = true
 reads (Some Check) = true
 reads (Some Session) = true
 reads (Some Study) = true
+reads (Some Replan) = true
 reads (Some Upgrade) = true
 reads (Some (Drill number)) = false

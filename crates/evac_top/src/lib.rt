@@ -11,6 +11,7 @@ mod drill;
 mod laws;
 mod plan;
 mod read;
+mod replanning;
 mod reply;
 mod session;
 mod solve;
@@ -23,5 +24,8 @@ mod upgrade;
 mod verdict;
 mod words;
 
-pub use laws::{plans_keep_promise, runs_answer, sessions_keep_promise};
+pub use laws::{
+    first_edit_gets_its_block, plans_keep_promise, replans_keep_promise, runs_answer,
+    sessions_keep_promise, stopping_is_refused,
+};
 pub use top::run;

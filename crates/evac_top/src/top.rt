@@ -6,6 +6,7 @@ ghost use Rattle.evac_top.specs.Words.{mode_of, reads};
 
 use crate::check::check;
 use crate::drill::drill;
+use crate::replanning::replan;
 use crate::reply::send_refusal;
 use crate::session::session;
 use crate::solve::solve;
@@ -40,6 +41,7 @@ pub fn run<S: Source, K: Sink, L: Ledger>(
         Some(Mode::Check) => check(alloc, source, sink),
         Some(Mode::Session) => session(alloc, source, sink, steps),
         Some(Mode::Study) => study(alloc, source, sink, steps),
+        Some(Mode::Replan) => replan(alloc, source, sink, steps),
         Some(Mode::Upgrade) => upgrade(alloc, source, sink),
         Some(Mode::Drill(number)) => drill(alloc, number, sink, steps),
         None => refuse_words(alloc, sink),

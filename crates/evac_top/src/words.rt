@@ -28,6 +28,8 @@ pub enum Mode {
     Session,
     /// Says of a model, line by line, what it comes to without an exit or at another rate.
     Study,
+    /// Keeps the plan of a model while it is edited and carried out line by line.
+    Replan,
     /// Writes a model as a text of version 2.
     Upgrade,
     /// Plans the building of a drill with so many storeys.
@@ -147,6 +149,7 @@ pub(crate) fn mode_of(words: &[String]) -> Option<Mode>
         "check" => mode_alone(Mode::Check, more),
         "session" => mode_alone(Mode::Session, more),
         "study" => mode_alone(Mode::Study, more),
+        "replan" => mode_alone(Mode::Replan, more),
         "upgrade" => mode_alone(Mode::Upgrade, more),
         "drill" => storeys_of(more).map(Mode::Drill),
         _ => None,

@@ -1,11 +1,13 @@
 -- What an edit of a session tells of the edited model, and what a search by halves comes to.
-use Rattle.std.proofs.Common.{◌≡◌, ℕ, zero, suc, ◌+◌, ◌<◌, ◌≤◌, Bool, true, false, ◌&&◌, leb, List, [], ◌∷◌, length, refl, ap, sym, ◌∙◌, arith, inl, inr, ◌⊎◌, subst, IsTrue}
+use Rattle.std.proofs.Common.{◌≡◌, ℕ, zero, suc, ◌+◌, ◌<◌, ◌≤◌, Bool, true, false, ◌&&◌, leb, List, length, refl, ap, sym, ◌∙◌, arith, inl, inr, ◌⊎◌, subst, IsTrue}
 use Rattle.std.proofs.lemmas.Bool.{leb-false, leb-true}
+use Rattle.std.proofs.lemmas.List.{set-get_or}
 use Rattle.std.proofs.lemmas.List.Elements.{All-get_or}
 use Rattle.evac_law.specs.declared.model.Model.{Model}
 use Rattle.evac_law.specs.declared.plan.Move.{Move}
 use Rattle.evac_law.specs.declared.edit.Edit.TheVariants as edits
-use Rattle.evac_law.specs.Building.{IsArc, IsValid, no_arc, people}
+use Rattle.evac_law.specs.declared.model.ArcRow.{ArcRow}
+use Rattle.evac_law.specs.Building.{IsArc, IsValid, arc_at, no_arc, people}
 use Rattle.evac_law.specs.Certificates.{IsCertified, label_cut}
 use Rattle.evac_law.specs.Cuts.{cut_value}
 use Rattle.evac_law.specs.LabelTable.{LabelTable}
@@ -16,30 +18,11 @@ use Rattle.exit_study.specs.Rates.{IsClearedBy, IsEnough, IsLeastRate, IsNoRate,
 use Rattle.evac_law.proofs.EditLemmas.{valid_arc}
 use Rattle.evac_law.proofs.Optimal.{certified_is_feasible, label_cut_is_cut, out_le_out, out_stays}
 use Rattle.evac_law.proofs.WeakDuality.{out_le_value}
-use Rattle.edit_session.specs.Sessions.{IsEdited, IsNotCleared, IsSolved, IsUndone, SessionState, kept_limit, with_former}
+use Rattle.edit_session.specs.Sessions.{IsEdited, IsNotCleared, IsSolved, IsTried, SessionState}
 use Rattle.edit_session.proofs.Ring.{edited_is}
-use Rattle.exit_study.specs.Stays.{StaysSolved}
+use Rattle.exit_study.specs.Exits.{IsClearedAt, without_exit}
 use Rattle.exit_study.proofs.RateLemmas.{enough_stays, people_at}
 use Rattle.evac_law.proofs.Thinned.{all_out_is_clearable}
-use Rattle.std.proofs.lemmas.List.{take_all}
-
--- ---- going back
-
-pub one_kept : (s s' : SessionState) → length s.former < kept_limit → s'.former ≡ with_former s → s'.former ≡ s.model ∷ s.former
-unfolding kept_limit
-one_kept s s' room kept = kept ∙ ap (λ (f : List Model). s.model ∷ f) (take_all 63 s.former (omega (arith, room)))
-
-pub some_kept : (s : SessionState) (m : Model) (f : List Model) → s.former ≡ m ∷ f → s.former ≡ [] → ⊥
-some_kept s m f e h = cc
-
--- an edit of a session, and its undo
-pub went_back : (s r t : SessionState) → r.former ≡ s.model ∷ s.former → IsUndone r t → StaysSolved s t
-went_back s r t kept h =
-    let e : h.before ∷ h.earlier ≡ s.model ∷ s.former = sym h.last_kept ∙ kept in record {
-      model = h.goes_on.gone ∙ (cc);
-      former = h.goes_on.kept ∙ (cc);
-      solved = h.goes_on.solved;
-    }
 
 -- ---- the edited model
 
@@ -83,7 +66,7 @@ slow_barred m k l all most h = record {
 }
 
 -- what an edit of the rate shows, by the last moment of its plan
-pub tried_made : (m : Model) (a k r : ℕ) (s t : SessionState) → s.model ≡ m → k ≤ m.horizon → IsEdited s (edits.Rate a r) t → TellsEnough m a k r (leb t.last k)
+tried_made : (m : Model) (a k r : ℕ) (s t : SessionState) → s.model ≡ m → k ≤ m.horizon → IsEdited s (edits.Rate a r) t → TellsEnough m a k r (leb t.last k)
 tried_made m a k r s t is j h = by (leb t.last k) refl
   where
     now : t.model ≡ at_rate m a r
@@ -92,6 +75,19 @@ tried_made m a k r s t is j h = by (leb t.last k) refl
     by : (b : Bool) → leb t.last k ≡ b → TellsEnough m a k r b
     by true e = cleared_by (at_rate m a r) t k now h.goes_on.solved (leb-true t.last k e)
     by false e = slow_before (at_rate m a r) t k now h.goes_on.solved (leb-false t.last k e)
+
+pub tried_told : (s : SessionState) (a k r last steps : ℕ) → k ≤ s.model.horizon → IsTried s (edits.Rate a r) last steps → TellsEnough s.model a k r (leb last k)
+tried_told s a k r last steps j h =
+    subst (λ (c : ℕ). TellsEnough s.model a k r (leb c k)) h.out (tried_made s.model a k r s h.after refl j h.edited)
+
+-- what shutting an exit shows
+pub exit_tried : (s : SessionState) (x last steps : ℕ) → IsTried s (edits.ShutExit x) last steps → IsClearedAt (without_exit s.model x) last
+exit_tried s x last steps h =
+    let t = h.after in
+    let now : t.model ≡ without_exit s.model x =
+    h.edited.goes_on.gone ∙ (edited_is s.model h.edited.edited (edits.ShutExit x) h.edited.inverse h.edited.accepted).0 in
+    let at : IsClearedAt t.model t.last = record { plan = t.plan; labels = t.labels; certified = h.edited.goes_on.solved.certified } in
+    subst (λ (m : Model). IsClearedAt m last) now (subst (λ (c : ℕ). IsClearedAt t.model c) h.out at)
 
 -- ---- what a rate is by its proof
 
@@ -123,22 +119,34 @@ cleared_is_enough m a k r valid l few h = (
   out_stays (at_rate m a r) h.plan h.last k h.in_time h.certified.arrives ∙ h.certified.all_out ∙ people_at m a r,
 )
 
--- ---- the session stands as before
-
-pub stays_same : (s : SessionState) → IsSolved s → StaysSolved s s
-stays_same s h = record { model = refl; former = refl; solved = h }
-
-pub stays_then : (s t u : SessionState) → StaysSolved s t → StaysSolved t u → StaysSolved s u
-stays_then s t u h g = record { model = g.model ∙ h.model; former = g.former ∙ h.former; solved = g.solved }
-
 -- ---- the search
 
-pub search_begins : (m : Model) (a k : ℕ) → IsSearch m a k 0 (rate_limit + 1)
-search_begins m a k = record {
+same_rate : (m : Model) (a : ℕ) → at_rate m a (arc_at m a).rate ≡ m
+same_rate m a = ap (λ (arcs : List ArcRow). record m { arcs = arcs }) (set-get_or m.arcs a no_arc)
+
+few_rate : (m : Model) (a : ℕ) → IsValid m → a < length m.arcs → (arc_at m a).rate ≤ rate_limit
+few_rate m a valid l = (All-get_or (IsArc m.nodes) m.arcs a no_arc l valid.arcs).rate_fits
+
+-- the plan that stands is in time
+pub search_from_enough : (s : SessionState) (a k : ℕ) → IsSolved s → a < length s.model.arcs → s.last ≤ k → IsSearch s.model a k 0 (arc_at s.model a).rate
+search_from_enough s a k h l soon = record {
   ordered = omega arith;
-  in_range = omega arith;
+  in_range = omega (arith, few_rate s.model a h.valid l);
   too_slow = λ q e. absurd (omega (arith, e));
-  enough = λ l. absurd (omega (arith, l));
+  enough = λ _. cleared_by (at_rate s.model a (arc_at s.model a).rate) s k (sym (same_rate s.model a)) h soon;
+}
+
+-- the plan that stands is too late
+pub search_from_slow : (s : SessionState) (a k : ℕ) → IsSolved s → a < length s.model.arcs → k < s.last
+    → IsSearch s.model a k ((arc_at s.model a).rate + 1) (rate_limit + 1)
+search_from_slow s a k h l late = record {
+  ordered = omega (arith, few_rate s.model a h.valid l);
+  in_range = omega arith;
+  too_slow = λ q e.
+      let same : (arc_at s.model a).rate ≡ q = omega (arith, e) in
+      subst (λ (r : ℕ). IsTooSlow (at_rate s.model a r) k) same
+      (slow_before (at_rate s.model a (arc_at s.model a).rate) s k (sym (same_rate s.model a)) h late);
+  enough = λ i. absurd (omega (arith, i));
 }
 
 pub search_down : (m : Model) (a k low high middle : ℕ) → IsSearch m a k low high → low ≤ middle → middle < high → IsClearedBy (at_rate m a middle) k

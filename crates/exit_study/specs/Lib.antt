@@ -6,7 +6,6 @@ pub use Rattle.evac_law.specs.LabelTable
 pub use Rattle.evac_law.specs.Limits
 pub use Rattle.evac_law.specs.Plans
 pub use Rattle.edit_session.specs.Sessions
-pub mod Stays
 pub mod Exits
 pub mod Rates
 pub mod Laws

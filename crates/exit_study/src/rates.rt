@@ -1,11 +1,8 @@
 // The least rate of an arc.
 ghost use Rattle.std.specs.Prelude.{◌≡◌, ◌+◌, ◌<◌, ◌≤◌, ℕ, length};
 ghost use Rattle.evac_law.specs.Limits.{rate_limit};
-ghost use Rattle.edit_session.specs.Sessions.{kept_limit};
-ghost use Rattle.exit_study.specs.Rates.{IsLeast, TellsEnough};
-ghost use Rattle.exit_study.specs.Stays.{StaysSolved};
+ghost use Rattle.exit_study.specs.Rates.{IsLeast, IsSearch, TellsEnough};
 
-use crate::going_back::go_back;
 use edit_session::Session;
 use evac_law::limits::RATE_LIMIT;
 use evac_law::{Edit, Standing, Steps};
@@ -29,25 +26,40 @@ fn try_rate<L: Ledger>(
     requires arc { arc < length session.old.state.model.arcs }
     requires rate { rate ≤ rate_limit }
     requires by { by ≤ session.old.state.model.horizon }
-    requires room { length session.old.state.former < kept_limit }
     ensures tried { TellsEnough session.old.state.model arc by rate result }
-    ensures stays { StaysSolved session.old.state session.new.state }
+    ensures unchanged { session.new.state ≡ session.old.state }
     ensures counted { (n : ℕ) × (steps.new ≡ steps.old + n) }
 {
-    // a session has a plan that is solved
-    let _ = session.model();
-    match session.edit(Edit::Rate { arc, rate }, steps) {
-        Ok(_) => {
-            let moment = session.cleared();
-            go_back(session, steps);
-            moment <= by
-        }
+    match session.trial(Edit::Rate { arc, rate }, steps) {
+        Ok(moment) => moment <= by,
         Err(_) => false,
     }
 }
 
-/// The least rate of an arc at which everybody is out of the session's model by a moment. The session stands on its model as before,
-/// with a best plan.
+/// The rates that a search has before it: none below `low` is enough, and `high` is, where it is a rate.
+struct Span {
+    low: u32,
+    high: u32,
+}
+
+/// The span that the plan that stands leaves of all rates, by the rate that the arc has.
+#[tactic(auto, unfolding(evac_law::specs::Limits::rate_limit))]
+fn first_span(session: &Session, arc: u32, by: u16) -> Span
+    requires { arc < length session.now.state.model.arcs }
+    ensures { IsSearch session.now.state.model arc by result.low result.high }
+{
+    let rate = session.model().arc(arc).rate;
+    if session.cleared() <= by {
+        Span { low: 0, high: rate }
+    } else {
+        Span {
+            low: rate + 1,
+            high: RATE_LIMIT + 1,
+        }
+    }
+}
+
+/// The least rate of an arc at which everybody is out of the session's model by a moment. The session stands as before.
 #[tactic(auto, unfolding(evac_law::specs::Limits::rate_limit))]
 pub fn least_rate<L: Ledger>(
     session: &mut Session,
@@ -57,15 +69,13 @@ pub fn least_rate<L: Ledger>(
 ) -> Least
     requires arc { arc < length session.old.state.model.arcs }
     requires by { by ≤ session.old.state.model.horizon }
-    requires room { length session.old.state.former < kept_limit }
     ensures least { IsLeast session.old.state.model arc by result }
-    ensures stays { StaysSolved session.old.state session.new.state }
+    ensures unchanged { session.new.state ≡ session.old.state }
     ensures counted { (n : ℕ) × (steps.new ≡ steps.old + n) }
 {
     // a session has a plan that is solved
     let _ = session.model();
-    let mut low = 0;
-    let mut high = RATE_LIMIT + 1;
+    let Span { mut low, mut high } = first_span(session, arc, by);
     while low < high {
         let middle = (low + high) / 2;
         if try_rate(session, arc, middle, by, steps) {

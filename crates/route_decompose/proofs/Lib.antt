@@ -8,3 +8,4 @@ pub mod UsedUp
 pub mod Arrivals
 pub mod Begin
 pub mod Handing
+pub mod HandedLemmas

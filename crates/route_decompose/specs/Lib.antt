@@ -1,6 +1,7 @@
 pub use Rattle.evac_law.specs.Building
 pub use Rattle.evac_law.specs.Plans
 pub use Rattle.evac_law.specs.Stands
+pub mod Laws
 pub mod Routes
 pub mod Tables
 pub mod Stocks

@@ -5,6 +5,7 @@
 #![tactic(auto)]
 
 mod fill;
+mod laws;
 mod layout;
 mod lead;
 mod route;
@@ -14,6 +15,7 @@ mod table;
 mod trail;
 
 pub use fill::fill_moves;
+pub use laws::routes_cover;
 pub use layout::Layout;
 pub use route::{Route, RouteStep};
 pub use routes::Routes;

@@ -3,7 +3,7 @@ use Rattle.std.proofs.Common.{◌≡◌, ℕ, refl, sym, ap, subst, Result, Ok, 
 use Rattle.evac_law.specs.declared.edit.Edit.{Edit}
 use Rattle.evac_law.specs.declared.model.Model.{Model}
 use Rattle.evac_law.specs.Shapes.{HasSameShape}
-use Rattle.building_table.specs.Names.{NameTable, NamesFit}
+use Rattle.building_table.specs.Names.{NamesFit}
 use Rattle.building_table.proofs.FitLemmas.{names_kept}
 use Rattle.edit_session.specs.declared.faults.EditRefusal.{EditRefusal}
 use Rattle.edit_session.specs.declared.faults.EditRefusal.TheVariants.{Fault, NotCleared}
@@ -15,7 +15,7 @@ use Rattle.route_decompose.specs.Routes.{IsSameSite, RoutesView}
 use Rattle.session_text.specs.Laws.{IsOfBuilding}
 use Rattle.session_text.specs.Spaces.{IsSpace, SpaceView}
 use Rattle.session_text.proofs.Serving.{begins_of_building, edit_keeps_building, shape_serves, undo_keeps_building}
-use Rattle.session_talk.specs.Desks.{IsDesk}
+use Rattle.session_talk.specs.Desks.{DeskView, HasTables, IsDesk}
 
 -- ---- models of one shape
 
@@ -30,63 +30,64 @@ shape-back m m' h = record {
 
 -- ---- at the model that stands
 
-pub desk_fit : (names : NameTable) (v : SessionView) (routes : RoutesView) (tables : SpaceView) → IsDesk names v routes tables → NamesFit names v.state.model
-desk_fit names v routes tables d = names_kept names d.building v.state.model d.of_building.same_shape d.names_fit
+pub desk_fit : (d : DeskView) (v : SessionView) → IsDesk d v → NamesFit d.names v.state.model
+desk_fit d v h = names_kept d.names h.building v.state.model h.of_building.same_shape h.names_fit
 
-pub desk_site : (names : NameTable) (v : SessionView) (routes : RoutesView) (tables : SpaceView) → IsDesk names v routes tables → IsSameSite v.state.model routes.model
-desk_site names v routes tables d = (shape_serves d.building v.state.model d.of_building.same_shape).site routes.model d.site
+pub desk_site : (d : DeskView) (v : SessionView) → IsDesk d v → IsSameSite v.state.model d.routes.model
+desk_site d v h = (shape_serves h.building v.state.model h.of_building.same_shape).site d.routes.model h.site
 
-pub desk_space : (names : NameTable) (v : SessionView) (routes : RoutesView) (tables : SpaceView) → IsDesk names v routes tables → IsSpace v.state.model names tables
-desk_space names v routes tables d = (shape_serves d.building v.state.model d.of_building.same_shape).space names tables d.space
+pub desk_space : (d : DeskView) (v : SessionView) → IsDesk d v → IsSpace v.state.model d.names d.space
+desk_space d v h = (shape_serves h.building v.state.model h.of_building.same_shape).space d.names d.space h.space
 
-pub with_routes : (names : NameTable) (v : SessionView) (routes other : RoutesView) (tables : SpaceView) → IsDesk names v routes tables → other.model ≡ v.state.model
-    → IsDesk names v other tables
-with_routes names v routes other tables d same = record {
-  building = d.building;
-  of_building = d.of_building;
-  names_fit = d.names_fit;
-  site = subst (IsSameSite d.building) (sym same) (shape_serves d.building v.state.model d.of_building.same_shape).same_site;
-  space = d.space;
+pub with_routes : (d : DeskView) (routes : RoutesView) (v : SessionView) → IsDesk d v → routes.model ≡ v.state.model → IsDesk (record d { routes = routes }) v
+with_routes d routes v h same = record {
+  building = h.building;
+  of_building = h.of_building;
+  names_fit = h.names_fit;
+  site = subst (IsSameSite h.building) (sym same) (shape_serves h.building v.state.model h.of_building.same_shape).same_site;
+  space = h.space;
 }
 
-pub with_space : (names : NameTable) (v : SessionView) (routes : RoutesView) (tables other : SpaceView) → IsDesk names v routes tables → IsSpace v.state.model names other
-    → IsDesk names v routes other
-with_space names v routes tables other d space = record {
-  building = d.building;
-  of_building = d.of_building;
-  names_fit = d.names_fit;
-  site = d.site;
-  space = (shape_serves v.state.model d.building (shape-back d.building v.state.model d.of_building.same_shape)).space names other space;
+pub with_space : (d : DeskView) (space : SpaceView) (v : SessionView) → IsDesk d v → IsSpace v.state.model d.names space → IsDesk (record d { space = space }) v
+with_space d space v h fits = record {
+  building = h.building;
+  of_building = h.of_building;
+  names_fit = h.names_fit;
+  site = h.site;
+  space = (shape_serves v.state.model h.building (shape-back h.building v.state.model h.of_building.same_shape)).space d.names space fits;
 }
+
+-- the index is no part of it
+pub with_index : (d d' : DeskView) (v : SessionView) → d' ≡ record d { index = d'.index } → IsDesk d v → IsDesk d' v
+with_index d d' v same h =
+    let there : IsDesk (record d { index = d'.index }) v = record { building = h.building; of_building = h.of_building; names_fit = h.names_fit; site = h.site; space = h.space } in
+    let P : DeskView → Type 0 = λ x. IsDesk x v in subst P (sym same) there
 
 -- ---- after an edit
 
-with_state : (names : NameTable) (v v' : SessionView) (routes : RoutesView) (tables : SpaceView) (d : IsDesk names v routes tables) → IsOfBuilding d.building v'.state
-    → IsDesk names v' routes tables
-with_state names v v' routes tables d of = record { building = d.building; of_building = of; names_fit = d.names_fit; site = d.site; space = d.space }
+with_state : (d : DeskView) (v v' : SessionView) (h : IsDesk d v) → IsOfBuilding h.building v'.state → IsDesk d v'
+with_state d v v' h of = record { building = h.building; of_building = of; names_fit = h.names_fit; site = h.site; space = h.space }
 
 stays_of : (m : Model) (s s' : SessionState) → s' ≡ s → IsOfBuilding m s → IsOfBuilding m s'
 stays_of m s s' same h = subst (IsOfBuilding m) (sym same) h
 
-pub with_edited : (names : NameTable) (v v' : SessionView) (routes : RoutesView) (tables : SpaceView) (e : Edit) (result : Result Work EditRefusal) (steps : ℕ)
-    → IsDesk names v routes tables → EditEnds v e result v' steps → IsDesk names v' routes tables
-with_edited names v v' routes tables e (Ok w) steps d h = with_state names v v' routes tables d (edit_keeps_building d.building v.state v'.state e d.of_building h.0)
-with_edited names v v' routes tables e (Err (Fault fault)) steps d h =
-    with_state names v v' routes tables d (stays_of d.building v.state v'.state (ap (λ (x : SessionView). x.state) h.1) d.of_building)
-with_edited names v v' routes tables e (Err (NotCleared all most)) steps d h = with_state names v v' routes tables d (stays_of d.building v.state v'.state h.1 d.of_building)
+pub with_edited : (d : DeskView) (v v' : SessionView) (e : Edit) (result : Result Work EditRefusal) (steps : ℕ) → IsDesk d v → EditEnds v e result v' steps → IsDesk d v'
+with_edited d v v' e (Ok w) steps h ends = with_state d v v' h (edit_keeps_building h.building v.state v'.state e h.of_building ends.0)
+with_edited d v v' e (Err (Fault fault)) steps h ends =
+    with_state d v v' h (stays_of h.building v.state v'.state (ap (λ (x : SessionView). x.state) ends.1) h.of_building)
+with_edited d v v' e (Err (NotCleared all most)) steps h ends = with_state d v v' h (stays_of h.building v.state v'.state ends.1 h.of_building)
 
-pub with_undone : (names : NameTable) (v v' : SessionView) (routes : RoutesView) (tables : SpaceView) (result : Result Work UndoRefusal) (steps : ℕ)
-    → IsDesk names v routes tables → UndoEnds v result v' steps → IsDesk names v' routes tables
-with_undone names v v' routes tables (Ok w) steps d h = with_state names v v' routes tables d (undo_keeps_building d.building v.state v'.state d.of_building h.0)
-with_undone names v v' routes tables (Err NothingToUndo) steps d h =
-    with_state names v v' routes tables d (stays_of d.building v.state v'.state (ap (λ (x : SessionView). x.state) h.1) d.of_building)
+pub with_undone : (d : DeskView) (v v' : SessionView) (result : Result Work UndoRefusal) (steps : ℕ) → IsDesk d v → UndoEnds v result v' steps → IsDesk d v'
+with_undone d v v' (Ok w) steps h ends = with_state d v v' h (undo_keeps_building h.building v.state v'.state h.of_building ends.0)
+with_undone d v v' (Err NothingToUndo) steps h ends =
+    with_state d v v' h (stays_of h.building v.state v'.state (ap (λ (x : SessionView). x.state) ends.1) h.of_building)
 
-pub desk_opened : (names : NameTable) (m : Model) (v : SessionView) (routes : RoutesView) (tables : SpaceView) → NamesFit names m → routes.model ≡ m → IsSpace m names tables
-    → Begins m v.state → IsDesk names v routes tables
-desk_opened names m v routes tables fit site space begins = record {
+-- a desk that is laid for the model with which a session begins
+pub desk_opened : (m : Model) (d : DeskView) (v : SessionView) → NamesFit d.names m → HasTables m d → Begins m v.state → IsDesk d v
+desk_opened m d v fit tables begins = record {
   building = m;
   of_building = begins_of_building m v.state begins;
   names_fit = fit;
-  site = subst (IsSameSite m) (sym site) (record { horizon = refl; nodes = refl; ends = refl; entrants = refl });
-  space = space;
+  site = subst (IsSameSite m) (sym tables.routes) (record { horizon = refl; nodes = refl; ends = refl; entrants = refl });
+  space = tables.space;
 }

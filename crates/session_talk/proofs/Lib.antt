@@ -1,5 +1,6 @@
 pub mod Same
 pub mod Bridge
+pub mod AskLemmas
 pub mod DeskLemmas
 pub mod Saying
 pub mod Replying

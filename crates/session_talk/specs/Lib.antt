@@ -9,5 +9,7 @@ pub use Rattle.talk.specs.Speaking
 pub use Rattle.talk.specs.Talks
 pub mod Sessions
 pub mod SessionLaws
+pub mod Asking
 pub mod Desks
+pub mod Talking
 pub mod Held

@@ -6,7 +6,6 @@ use Rattle.evac_law.specs.declared.model.Model.{Model}
 use Rattle.evac_law.specs.declared.plan.Move.{Move}
 use Rattle.evac_law.specs.Edits.{applied, fault_code}
 use Rattle.evac_law.specs.Plans.{IsFeasible, out_by}
-use Rattle.line_io.specs.Line.{Line}
 use Rattle.model_text.specs.declared.command.Command.{Command}
 use Rattle.model_text.specs.declared.command.Command.TheVariants.{Blank, Undo, Cut as CutAt, Routes, Clearing, Bottlenecks, Summary, Work, Quit}
 use Rattle.model_text.specs.declared.fault.TextFault.{TextFault}
@@ -21,7 +20,7 @@ use Rattle.edit_session.specs.Thrift.{IsCounted, IsSpent}
 use Rattle.session_text.specs.StateTexts.{SaysRoutesOf, SaysSummary, block_text, bottlenecks_of, clearing_of, cut_of, work_of}
 use Rattle.talk.specs.Codes.{name_code, no_period_code}
 use Rattle.talk.specs.Short.{IsShortText, OpensShort}
-use Rattle.talk.specs.Talks.{Reply, Spoken, Talk, TalkAnswers, TalkGoes, TalkRun, WantsNone, refuses, says}
+use Rattle.talk.specs.Talks.{Reply, Talk, TalkGoes, WantsNone, refuses, says}
 
 -- where a session is between two lines: the index of the block written last, and what stands since then
 pub record State : Type 0 where
@@ -115,11 +114,3 @@ session names m = record {
 -- a session over some lines: all are answered, and none of them ends it
 abbrev pub SessionGoes : NameTable → Model → ℕ → List (List ℕ) → Reply State → Type 0
 SessionGoes names m before lines r = TalkGoes (session names m) before lines r
-
--- a session over lines up to its end
-abbrev pub SessionRun : NameTable → Model → ℕ → List Line → Spoken → Type 0
-SessionRun names m before lines x = TalkRun (session names m) before lines x
-
--- a building is opened and the lines behind it are answered, or it is refused at the line of its end
-abbrev pub SessionAnswers : NameTable → Model → ℕ → List Line → Spoken → Type 0
-SessionAnswers names m before lines x = TalkAnswers (session names m) before lines x

@@ -7,7 +7,7 @@ ghost use Rattle.building_table.specs.Names.{NamesFit};
 ghost use Rattle.session_talk.specs.Held.{HoldsSession};
 ghost use Rattle.talk.specs.Held.{around};
 
-use crate::desk::Desk;
+use crate::speaker::SessionTalk;
 use building_table::Building;
 use edit_session::BeginFault;
 use evac_law::Steps;
@@ -38,8 +38,8 @@ pub fn hold_session<S: Source, K: Sink, L: Ledger>(
     ensures asks { Asks S.takes lines.old.ended source.old lines.new.ended source.new }
 {
     let line = lines.number();
-    match Desk::open(alloc, building, steps) {
-        Ok(desk) => hold_talk(lines, source, out, sink, desk, steps),
+    match SessionTalk::open(alloc, building, steps) {
+        Ok(talk) => hold_talk(lines, source, out, sink, talk, steps),
         Err(BeginFault::NotCleared(short)) => refuse_building(out, sink, short, line),
         Err(BeginFault::Memory) => NO_MEMORY,
     }

@@ -2,14 +2,19 @@
 //! line quits, or a line has a fault.
 //!
 //! `hold_session` takes all memory before it writes, and brings each reply to the sink before it reads on. `specs/Sessions` says what a line
-//! gets; how a talk goes over lines, and what a whole talk comes to, is said by `talk`.
+//! gets; how a talk goes over lines, and what a whole talk comes to, is said by `talk`. Whoever holds a session another way makes its replies
+//! on a `Desk` too.
 #![tactic(auto)]
 
+mod asks;
 mod desk;
 mod hold;
 mod laws;
 mod reply;
 mod speaker;
 
+pub use asks::{Asks, asked_by};
+pub use desk::Desk;
 pub use hold::hold_session;
 pub use laws::{edits_apart, sessions_agree, sessions_part};
+pub use reply::{reply_edited, reply_report, reply_undone};

@@ -1,190 +1,140 @@
-// What a line gets, put behind the pending bytes.
-ghost use Rattle.std.specs.Prelude.{◌≡◌, ◌≢◌, ◌<◌, ◌≤◌, ℕ, Ok};
-ghost use Rattle.evac_law.specs.Edits.{IsEditOf, applied};
-ghost use Rattle.building_table.specs.EditNames.{IsEdit, edit_named};
+// What a command gets, put behind the pending bytes.
+ghost use Rattle.std.specs.Prelude.{◌≡◌, ◌<◌, ◌≤◌, ◌+◌, ℕ, Ok, Err};
+ghost use Rattle.evac_law.specs.Edits.{applied};
+ghost use Rattle.evac_law.specs.declared.edit.Edit.{Edit as EditValue};
+ghost use Rattle.line_io.specs.Causes.{HasCause};
 ghost use Rattle.line_io.specs.Line.{input_limit};
-ghost use Rattle.session_talk.specs.Desks.{desk_state, shown_of};
-ghost use Rattle.session_talk.specs.Sessions.{AsksEdit, Edits, Replies, Undoes};
+ghost use Rattle.line_io.specs.Writer.{PutsText};
+ghost use Rattle.edit_session.specs.Sessions.{EditEnds, SessionView, UndoEnds};
+ghost use Rattle.session_talk.specs.Asking.{asked_by};
+ghost use Rattle.session_talk.specs.Desks.{DeskView, IsDesk, desk_state, shown_of};
+ghost use Rattle.session_talk.specs.Sessions.{Edits, Replies, State, Undoes, cut_reply};
 ghost use Rattle.talk.specs.Speaking.{SaysSome};
 
+use crate::asks::Asks;
 use crate::desk::Desk;
 use certificate_text::write_refusal;
-use edit_session::{EditRefusal, UndoRefusal};
-use evac_law::{Edit, Steps};
+use edit_session::{EditRefusal, Session, UndoRefusal, Work};
 use line_io::{Out, Sink, WriteFault};
-use model_text::{Command, TextFault};
-use std::sync::ledger::Ledger;
-use talk::codes::{NO_PERIOD, name_code};
+use model_text::Command;
+use session_text::{write_barred, write_cut, write_work};
+use talk::codes::NO_PERIOD;
 
 const NOTHING_TO_UNDO: u8 = 39;
 
-// An edit gets the next block, or a refusal with all as it was.
-fn reply_edit<K: Sink, L: Ledger>(
-    desk: &mut Desk,
+// The cut of a period, where there is the period.
+fn reply_cut<K: Sink>(
     out: &mut Out,
     sink: &mut K,
-    steps: &mut Steps<L>,
-    edit: Edit,
+    session: &Session,
+    period: u32,
     line: u32,
 ) -> Result<(), WriteFault>
-    requires edit { IsEditOf desk.old.session.state.model edit }
-    requires line { line ≤ input_limit }
-    ensures { desk.old.index < line → SaysSome (Edits line (desk_state desk.old) (applied desk.old.session.state.model edit)) result
-        (shown_of desk.old (K.held sink.old) out.old (K.faults sink.old) steps.old) (shown_of desk.new (K.held sink.new) out.new (K.faults sink.new) steps.new) }
+    ensures text { (s : State) → s.standing ≡ session.now.state → PutsText (K.held sink.old) out.old (cut_reply line s period).text (K.held sink.new) out.new result }
+    ensures cause { HasCause (K.faults sink.old) (K.faults sink.new) result }
 {
-    match desk.edit(edit, steps) {
-        Ok(_) => desk.write_block(out, sink),
-        Err(EditRefusal::Fault(fault)) => write_refusal(out, sink, fault.code(), line),
-        Err(EditRefusal::NotCleared { people, most }) => {
-            desk.write_barred(out, sink, line, people, most)
+    if period > u32::from(session.model().horizon) {
+        write_refusal(out, sink, NO_PERIOD, line)
+    } else {
+        write_cut(out, sink, session, period as u16)
+    }
+}
+
+/// Puts what a command gets that asks for a report or for nothing.
+pub fn reply_report<K: Sink>(
+    desk: &mut Desk,
+    session: &Session,
+    out: &mut Out,
+    sink: &mut K,
+    command: Command,
+    line: u32,
+) -> Result<(), WriteFault>
+    requires desk { IsDesk desk.old session.now }
+    requires asks { asked_by command ≡ Asks.Report }
+    ensures says { (steps : ℕ) → SaysSome (Replies desk.old.names line (desk_state desk.old session.now) (Ok command)) result
+        (shown_of desk.old session.now (K.held sink.old) out.old (K.faults sink.old) steps)
+        (shown_of desk.new session.now (K.held sink.new) out.new (K.faults sink.new) steps) }
+    ensures desk { IsDesk desk.new session.now }
+{
+    match command {
+        Command::Blank => Ok(()),
+        Command::Cut { period } => reply_cut(out, sink, session, period, line),
+        Command::Routes => desk.write_routes(out, sink, session),
+        Command::Clearing => desk.write_clearing(out, sink, session),
+        Command::Bottlenecks => desk.write_bottlenecks(out, sink, session),
+        Command::Summary => desk.write_summary(out, sink, session),
+        Command::Work => write_work(out, sink, session),
+        _ => unreachable!(),
+    }
+}
+
+// Puts the refusal of an edit by a session.
+fn reply_refused<K: Sink>(
+    out: &mut Out,
+    sink: &mut K,
+    session: &Session,
+    refusal: EditRefusal,
+    line: u32,
+) -> Result<(), WriteFault>
+    ensures { (d : DeskView) (v : SessionView) (e : EditValue) (n k : ℕ) → EditEnds v e (Err refusal) session.now n
+        → SaysSome (Edits line (desk_state d v) (applied v.state.model e)) result
+        (shown_of d v (K.held sink.old) out.old (K.faults sink.old) k)
+        (shown_of d session.now (K.held sink.new) out.new (K.faults sink.new) (k + n)) }
+{
+    match refusal {
+        EditRefusal::Fault(fault) => write_refusal(out, sink, fault.code(), line),
+        EditRefusal::NotCleared { people, most } => {
+            write_barred(out, sink, session, line, people, most)
         }
     }
 }
 
-// A command that edits.
-fn reply_named<K: Sink, L: Ledger>(
+/// Puts what an edit came to in a session: its block, which is counted, or a refusal.
+pub fn reply_edited<K: Sink>(
     desk: &mut Desk,
+    session: &Session,
     out: &mut Out,
     sink: &mut K,
-    steps: &mut Steps<L>,
-    command: Command,
-    line: u32,
-) -> Result<(), WriteFault>
-    requires edit { IsEdit command }
-    requires line { line ≤ input_limit }
-    ensures { desk.old.index < line → SaysSome (AsksEdit line (desk_state desk.old) (edit_named desk.old.names command)) result
-        (shown_of desk.old (K.held sink.old) out.old (K.faults sink.old) steps.old) (shown_of desk.new (K.held sink.new) out.new (K.faults sink.new) steps.new) }
-{
-    match desk.edit_of(command) {
-        Ok(edit) => reply_edit(desk, out, sink, steps, edit, line),
-        Err(fault) => write_refusal(out, sink, name_code(fault), line),
-    }
-}
-
-// An undo gets the next block, where an edit is kept.
-fn reply_undo<K: Sink, L: Ledger>(
-    desk: &mut Desk,
-    out: &mut Out,
-    sink: &mut K,
-    steps: &mut Steps<L>,
+    edited: Result<Work, EditRefusal>,
     line: u32,
 ) -> Result<(), WriteFault>
     requires { line ≤ input_limit }
-    ensures { desk.old.index < line → SaysSome (Undoes line (desk_state desk.old) desk.old.session.state.former) result
-        (shown_of desk.old (K.held sink.old) out.old (K.faults sink.old) steps.old) (shown_of desk.new (K.held sink.new) out.new (K.faults sink.new) steps.new) }
+    ensures says { (v : SessionView) (e : EditValue) (n k : ℕ) → EditEnds v e edited session.now n → desk.old.index < line
+        → SaysSome (Edits line (desk_state desk.old v) (applied v.state.model e)) result
+        (shown_of desk.old v (K.held sink.old) out.old (K.faults sink.old) k)
+        (shown_of desk.new session.now (K.held sink.new) out.new (K.faults sink.new) (k + n)) }
+    ensures desk { (v : SessionView) (e : EditValue) (n : ℕ) → EditEnds v e edited session.now n → IsDesk desk.old v → IsDesk desk.new session.now }
 {
-    match desk.undo(steps) {
-        Ok(_) => desk.write_block(out, sink),
+    match edited {
+        Ok(_) => {
+            desk.count_block();
+            desk.write_block(out, sink, session)
+        }
+        Err(refusal) => reply_refused(out, sink, session, refusal, line),
+    }
+}
+
+/// Puts what an undo came to in a session: its block, which is counted, or a refusal.
+pub fn reply_undone<K: Sink>(
+    desk: &mut Desk,
+    session: &Session,
+    out: &mut Out,
+    sink: &mut K,
+    undone: Result<Work, UndoRefusal>,
+    line: u32,
+) -> Result<(), WriteFault>
+    requires { line ≤ input_limit }
+    ensures says { (v : SessionView) (n k : ℕ) → UndoEnds v undone session.now n → desk.old.index < line
+        → SaysSome (Undoes line (desk_state desk.old v) v.state.former) result
+        (shown_of desk.old v (K.held sink.old) out.old (K.faults sink.old) k)
+        (shown_of desk.new session.now (K.held sink.new) out.new (K.faults sink.new) (k + n)) }
+    ensures desk { (v : SessionView) (n : ℕ) → UndoEnds v undone session.now n → IsDesk desk.old v → IsDesk desk.new session.now }
+{
+    match undone {
+        Ok(_) => {
+            desk.count_block();
+            desk.write_block(out, sink, session)
+        }
         Err(UndoRefusal::NothingToUndo) => write_refusal(out, sink, NOTHING_TO_UNDO, line),
-    }
-}
-
-// The cut of a period, where there is the period.
-fn reply_cut<K: Sink>(
-    desk: &Desk,
-    out: &mut Out,
-    sink: &mut K,
-    period: u32,
-    line: u32,
-) -> Result<(), WriteFault>
-    ensures { (steps : ℕ) → SaysSome (Replies desk.now.names line (desk_state desk.now) (Ok (Command.Cut period))) result
-        (shown_of desk.now (K.held sink.old) out.old (K.faults sink.old) steps) (shown_of desk.now (K.held sink.new) out.new (K.faults sink.new) steps) }
-{
-    if period > u32::from(desk.horizon()) {
-        write_refusal(out, sink, NO_PERIOD, line)
-    } else {
-        desk.write_cut(out, sink, period as u16)
-    }
-}
-
-// Routes that make up the plan.
-fn reply_routes<K: Sink>(desk: &mut Desk, out: &mut Out, sink: &mut K) -> Result<(), WriteFault>
-    ensures { (line steps : ℕ) → SaysSome (Replies desk.old.names line (desk_state desk.old) (Ok Command.Routes)) result
-        (shown_of desk.old (K.held sink.old) out.old (K.faults sink.old) steps) (shown_of desk.new (K.held sink.new) out.new (K.faults sink.new) steps) }
-{
-    desk.write_routes(out, sink)
-}
-
-// When each node and each floor is empty.
-fn reply_clearing<K: Sink>(desk: &mut Desk, out: &mut Out, sink: &mut K) -> Result<(), WriteFault>
-    ensures { (line steps : ℕ) → SaysSome (Replies desk.old.names line (desk_state desk.old) (Ok Command.Clearing)) result
-        (shown_of desk.old (K.held sink.old) out.old (K.faults sink.old) steps) (shown_of desk.new (K.held sink.new) out.new (K.faults sink.new) steps) }
-{
-    desk.write_clearing(out, sink)
-}
-
-// What holds people up, and in how many periods.
-fn reply_bottlenecks<K: Sink>(
-    desk: &mut Desk,
-    out: &mut Out,
-    sink: &mut K,
-) -> Result<(), WriteFault>
-    ensures { (line steps : ℕ) → SaysSome (Replies desk.old.names line (desk_state desk.old) (Ok Command.Bottlenecks)) result
-        (shown_of desk.old (K.held sink.old) out.old (K.faults sink.old) steps) (shown_of desk.new (K.held sink.new) out.new (K.faults sink.new) steps) }
-{
-    desk.write_bottlenecks(out, sink)
-}
-
-// The summary of the plan.
-fn reply_summary<K: Sink>(desk: &mut Desk, out: &mut Out, sink: &mut K) -> Result<(), WriteFault>
-    ensures { (line steps : ℕ) → SaysSome (Replies desk.old.names line (desk_state desk.old) (Ok Command.Summary)) result
-        (shown_of desk.old (K.held sink.old) out.old (K.faults sink.old) steps) (shown_of desk.new (K.held sink.new) out.new (K.faults sink.new) steps) }
-{
-    desk.write_summary(out, sink)
-}
-
-// The work of the last edit or undo that was made.
-fn reply_work<K: Sink>(desk: &Desk, out: &mut Out, sink: &mut K) -> Result<(), WriteFault>
-    ensures { (line steps : ℕ) → SaysSome (Replies desk.now.names line (desk_state desk.now) (Ok Command.Work)) result
-        (shown_of desk.now (K.held sink.old) out.old (K.faults sink.old) steps) (shown_of desk.now (K.held sink.new) out.new (K.faults sink.new) steps) }
-{
-    desk.write_work(out, sink)
-}
-
-// A command that doesn't quit.
-fn reply_command<K: Sink, L: Ledger>(
-    desk: &mut Desk,
-    out: &mut Out,
-    sink: &mut K,
-    steps: &mut Steps<L>,
-    command: Command,
-    line: u32,
-) -> Result<(), WriteFault>
-    requires goes_on { command ≢ Command.Quit }
-    requires line { line ≤ input_limit }
-    ensures { desk.old.index < line → SaysSome (Replies desk.old.names line (desk_state desk.old) (Ok command)) result
-        (shown_of desk.old (K.held sink.old) out.old (K.faults sink.old) steps.old) (shown_of desk.new (K.held sink.new) out.new (K.faults sink.new) steps.new) }
-{
-    match command {
-        Command::Blank => Ok(()),
-        Command::Undo => reply_undo(desk, out, sink, steps, line),
-        Command::Cut { period } => reply_cut(desk, out, sink, period, line),
-        Command::Routes => reply_routes(desk, out, sink),
-        Command::Clearing => reply_clearing(desk, out, sink),
-        Command::Bottlenecks => reply_bottlenecks(desk, out, sink),
-        Command::Summary => reply_summary(desk, out, sink),
-        Command::Work => reply_work(desk, out, sink),
-        Command::Quit => unreachable!(),
-        edit => reply_named(desk, out, sink, steps, edit, line),
-    }
-}
-
-/// Puts what a line gets, by what it commands; it doesn't quit.
-pub(crate) fn reply<K: Sink, L: Ledger>(
-    desk: &mut Desk,
-    out: &mut Out,
-    sink: &mut K,
-    steps: &mut Steps<L>,
-    command: Result<Command, TextFault>,
-    line: u32,
-) -> Result<(), WriteFault>
-    requires goes_on { command ≢ Ok Command.Quit }
-    requires line { line ≤ input_limit }
-    ensures { desk.old.index < line → SaysSome (Replies desk.old.names line (desk_state desk.old) command) result
-        (shown_of desk.old (K.held sink.old) out.old (K.faults sink.old) steps.old) (shown_of desk.new (K.held sink.new) out.new (K.faults sink.new) steps.new) }
-{
-    match command {
-        Ok(command) => reply_command(desk, out, sink, steps, command, line),
-        Err(fault) => write_refusal(out, sink, fault.code(), line),
     }
 }

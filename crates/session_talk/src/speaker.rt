@@ -1,30 +1,175 @@
-// A desk answers the lines of a session.
-ghost use Rattle.std.specs.Prelude.{◌≡◌};
+// A session answers the lines of a talk.
+ghost use Rattle.std.specs.Prelude.{◌≡◌, ◌≢◌, ◌<◌, ◌≤◌, ◌+◌, ℕ, Ok};
+ghost use Rattle.evac_law.specs.Building.{IsValid};
+ghost use Rattle.building_table.specs.EditNames.{IsEdit, edit_named};
+ghost use Rattle.building_table.specs.Names.{NamesFit};
+ghost use Rattle.line_io.specs.Line.{input_limit};
+ghost use Rattle.session_talk.specs.Desks.{IsDesk, desk_state, shown_of};
+ghost use Rattle.session_talk.specs.Sessions.{AsksEdit, Replies, Undoes};
+ghost use Rattle.talk.specs.Speaking.{SaysSome};
 
+use crate::asks::{Asks, asked_by};
 use crate::desk::Desk;
-use crate::reply::reply;
+use crate::reply::{reply_edited, reply_report, reply_undone};
+use building_table::Building;
+use certificate_text::write_refusal;
+use edit_session::{BeginFault, Session};
 use evac_law::Steps;
 use line_io::{Heard, Out, Sink, WriteFault};
-use model_text::{Command, read_command};
+use model_text::{Command, TextFault, read_command};
+use std::alloc::Global;
 use std::sync::ledger::Ledger;
+use talk::codes::name_code;
 use talk::{AnswerFault, Speaker};
 
-impl Speaker for Desk {
+/// A session with the desk at which its replies are made.
+#[derive(Drop)]
+pub(crate) struct SessionTalk {
+    desk: Desk,
+    session: Session,
+}
+
+impl SessionTalk {
+    ghost use Rattle.session_talk.specs.Talking.{TalkBegins};
+
+    /// A session on a building, with the best plan of its model. All memory that it needs is taken here.
+    pub(crate) fn open<L: Ledger>(
+        alloc: Global,
+        building: Building,
+        steps: &mut Steps<L>,
+    ) -> Result<SessionTalk, BeginFault>
+        requires valid { IsValid building.model }
+        requires names { NamesFit building.names building.model }
+        ensures { (n : ℕ) × (steps.new ≡ steps.old + n) × TalkBegins building.names building.model result n }
+    {
+        let Building { model, names } = building;
+        let Ok(desk) = Desk::new(alloc, names, &model) else {
+            drop(model);
+            return Err(BeginFault::Memory);
+        };
+        match Session::begin(alloc, model, steps) {
+            Ok(session) => Ok(SessionTalk { desk, session }),
+            Err(fault) => {
+                drop(desk);
+                Err(fault)
+            }
+        }
+    }
+}
+
+// A command that edits gets the next block, or a refusal with all as it was.
+fn reply_edit<K: Sink, L: Ledger>(
+    talk: &mut SessionTalk,
+    out: &mut Out,
+    sink: &mut K,
+    steps: &mut Steps<L>,
+    command: Command,
+    line: u32,
+) -> Result<(), WriteFault>
+    requires desk { IsDesk talk.old.desk talk.old.session }
+    requires edit { IsEdit command }
+    requires line { line ≤ input_limit }
+    ensures says { talk.old.desk.index < line
+        → SaysSome (AsksEdit line (desk_state talk.old.desk talk.old.session) (edit_named talk.old.desk.names command)) result
+        (shown_of talk.old.desk talk.old.session (K.held sink.old) out.old (K.faults sink.old) steps.old)
+        (shown_of talk.new.desk talk.new.session (K.held sink.new) out.new (K.faults sink.new) steps.new) }
+    ensures desk { IsDesk talk.new.desk talk.new.session }
+{
+    match talk.desk.edit_of(command) {
+        Ok(edit) => {
+            let edited = talk.session.edit(edit, steps);
+            reply_edited(&mut talk.desk, &talk.session, out, sink, edited, line)
+        }
+        Err(fault) => write_refusal(out, sink, name_code(fault), line),
+    }
+}
+
+// An undo gets the next block, where an edit is kept.
+fn reply_undo<K: Sink, L: Ledger>(
+    talk: &mut SessionTalk,
+    out: &mut Out,
+    sink: &mut K,
+    steps: &mut Steps<L>,
+    line: u32,
+) -> Result<(), WriteFault>
+    requires desk { IsDesk talk.old.desk talk.old.session }
+    requires line { line ≤ input_limit }
+    ensures says { talk.old.desk.index < line
+        → SaysSome (Undoes line (desk_state talk.old.desk talk.old.session) talk.old.session.state.former) result
+        (shown_of talk.old.desk talk.old.session (K.held sink.old) out.old (K.faults sink.old) steps.old)
+        (shown_of talk.new.desk talk.new.session (K.held sink.new) out.new (K.faults sink.new) steps.new) }
+    ensures desk { IsDesk talk.new.desk talk.new.session }
+{
+    let undone = talk.session.undo(steps);
+    reply_undone(&mut talk.desk, &talk.session, out, sink, undone, line)
+}
+
+// A command that doesn't quit.
+fn reply_command<K: Sink, L: Ledger>(
+    talk: &mut SessionTalk,
+    out: &mut Out,
+    sink: &mut K,
+    steps: &mut Steps<L>,
+    command: Command,
+    line: u32,
+) -> Result<(), WriteFault>
+    requires desk { IsDesk talk.old.desk talk.old.session }
+    requires goes_on { command ≢ Command.Quit }
+    requires line { line ≤ input_limit }
+    ensures says { talk.old.desk.index < line
+        → SaysSome (Replies talk.old.desk.names line (desk_state talk.old.desk talk.old.session) (Ok command)) result
+        (shown_of talk.old.desk talk.old.session (K.held sink.old) out.old (K.faults sink.old) steps.old)
+        (shown_of talk.new.desk talk.new.session (K.held sink.new) out.new (K.faults sink.new) steps.new) }
+    ensures desk { IsDesk talk.new.desk talk.new.session }
+{
+    match asked_by(command) {
+        Asks::Report => reply_report(&mut talk.desk, &talk.session, out, sink, command, line),
+        Asks::Edit => reply_edit(talk, out, sink, steps, command, line),
+        Asks::Undo => reply_undo(talk, out, sink, steps, line),
+        Asks::Quit => unreachable!(),
+    }
+}
+
+// What a line gets, by what it commands; it doesn't quit.
+fn reply<K: Sink, L: Ledger>(
+    talk: &mut SessionTalk,
+    out: &mut Out,
+    sink: &mut K,
+    steps: &mut Steps<L>,
+    command: Result<Command, TextFault>,
+    line: u32,
+) -> Result<(), WriteFault>
+    requires desk { IsDesk talk.old.desk talk.old.session }
+    requires goes_on { command ≢ Ok Command.Quit }
+    requires line { line ≤ input_limit }
+    ensures says { talk.old.desk.index < line
+        → SaysSome (Replies talk.old.desk.names line (desk_state talk.old.desk talk.old.session) command) result
+        (shown_of talk.old.desk talk.old.session (K.held sink.old) out.old (K.faults sink.old) steps.old)
+        (shown_of talk.new.desk talk.new.session (K.held sink.new) out.new (K.faults sink.new) steps.new) }
+    ensures desk { IsDesk talk.new.desk talk.new.session }
+{
+    match command {
+        Ok(command) => reply_command(talk, out, sink, steps, command, line),
+        Err(fault) => write_refusal(out, sink, fault.code(), line),
+    }
+}
+
+impl Speaker for SessionTalk {
     ghost use Rattle.building_table.specs.Names.{NameTable};
     ghost use Rattle.session_text.specs.StateTexts.{block_text};
-    ghost use Rattle.session_talk.specs.Desks.{Behind, Quits, desk_state, gets};
+    ghost use Rattle.session_talk.specs.Desks.{Behind, IsDesk, Quits, desk_state, gets};
     ghost use Rattle.session_talk.specs.Sessions.{State};
     ghost use Rattle.talk.specs.Talks.{WantsNone};
 
     ghost State = { State };
 
-    ghost state = { desk_state };
+    ghost state = { λ t. desk_state t.desk t.session };
 
     ghost Kept = { NameTable };
 
-    ghost kept = { λ d. d.names };
+    ghost kept = { λ t. t.desk.names };
 
-    ghost opening = { λ d. block_text d.index d.session.state };
+    ghost opening = { λ t. block_text t.desk.index t.session.state };
 
     ghost gets = { gets };
 
@@ -34,8 +179,10 @@ impl Speaker for Desk {
 
     ghost Behind = { Behind };
 
+    ghost ready = { λ t. IsDesk t.desk t.session };
+
     fn open<K: Sink>(&self, out: &mut Out, sink: &mut K) -> Result<(), WriteFault> {
-        self.write_block(out, sink)
+        self.desk.write_block(out, sink, &self.session)
     }
 
     fn answer<K: Sink, L: Ledger>(

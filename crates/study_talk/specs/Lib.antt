@@ -7,6 +7,7 @@ pub use Rattle.exit_study.specs.Rates
 pub use Rattle.talk.specs.Held as TalkHeld
 pub use Rattle.talk.specs.Short
 pub use Rattle.talk.specs.Talks
+pub mod Stays
 pub mod StudyTexts
 pub mod Studies
 pub mod Desks

@@ -3,9 +3,7 @@ ghost use Rattle.std.specs.Prelude.{◌≡◌, ◌+◌, ◌<◌, ◌≤◌, ℕ,
 ghost use Rattle.evac_law.specs.Building.{IsValid, is_exit_at};
 ghost use Rattle.line_io.specs.Causes.{Count, HasCause};
 ghost use Rattle.line_io.specs.Writer.{PutsText};
-ghost use Rattle.edit_session.specs.Sessions.{kept_limit};
 ghost use Rattle.exit_study.specs.Exits.{IsExitRow};
-ghost use Rattle.exit_study.specs.Stays.{StaysSolved};
 ghost use Rattle.report_text.specs.Parts.{PutsOn};
 ghost use Rattle.study_talk.specs.StudyTexts.{Row, SaysExits, exits_of, outcome_text, row_text};
 
@@ -22,9 +20,8 @@ use std::sync::ledger::Ledger;
 fn row_of<L: Ledger>(session: &mut Session, node: u32, steps: &mut Steps<L>) -> ExitRow
     requires node_in { node < length session.old.state.model.nodes }
     requires exit { IsTrue (is_exit_at session.old.state.model node) }
-    requires room { length session.old.state.former < kept_limit }
     ensures row { IsExitRow session.old.state.model node session.new.refused result }
-    ensures stays { StaysSolved session.old.state session.new.state }
+    ensures unchanged { session.new.state ≡ session.old.state }
     ensures counted { (n : ℕ) × (steps.new ≡ steps.old + n) }
 {
     if session.model().node(node).shut {
@@ -86,11 +83,10 @@ fn write_studied<K: Sink, L: Ledger>(
 ) -> Result<(), WriteFault>
     requires node_in { node < length session.old.state.model.nodes }
     requires exit { IsTrue (is_exit_at session.old.state.model node) }
-    requires room { length session.old.state.former < kept_limit }
     ensures text { let m = session.old.state.model in (row : Row) × (row.exit ≡ node) × IsExitRow m row.exit row.cut row.outcome
         × PutsOn so_far (K.held sink.old) out.old (row_text m row) (K.held sink.new) out.new result }
     ensures cause { (n : Count) → HasCause n (K.faults sink.old) so_far → HasCause n (K.faults sink.new) result }
-    ensures stays { StaysSolved session.old.state session.new.state }
+    ensures unchanged { session.new.state ≡ session.old.state }
     ensures counted { (n : ℕ) × (steps.new ≡ steps.old + n) }
 {
     let row = row_of(session, node, steps);
@@ -119,14 +115,11 @@ pub(crate) fn write_exits<K: Sink, L: Ledger>(
     sink: &mut K,
     steps: &mut Steps<L>,
 ) -> Result<(), WriteFault>
-    requires { length session.old.state.former < kept_limit }
     ensures text { (text : List ℕ) × SaysExits session.old.state.model text × PutsText (K.held sink.old) out.old text (K.held sink.new) out.new result }
     ensures cause { HasCause (K.faults sink.old) (K.faults sink.new) result }
-    ensures stays { StaysSolved session.old.state session.new.state }
+    ensures unchanged { session.new.state ≡ session.old.state }
     ensures counted { (n : ℕ) × (steps.new ≡ steps.old + n) }
 {
-    // a session has a plan that is solved
-    let _ = session.model();
     let mut so_far = write_number(out, sink, b"exits", u64::from(exit_count(session.model())));
     for node in 0..session.model().node_count() {
         if session.model().node(node).name.kind.is_exit() {

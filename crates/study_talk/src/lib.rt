@@ -7,6 +7,7 @@
 
 mod desk;
 mod exits;
+mod going_back;
 mod hold;
 mod least;
 mod lines;

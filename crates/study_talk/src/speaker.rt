@@ -10,7 +10,7 @@ use std::sync::ledger::Ledger;
 use talk::{AnswerFault, Speaker};
 
 impl Speaker for StudyDesk {
-    ghost use Rattle.std.specs.Prelude.{[]};
+    ghost use Rattle.std.specs.Prelude.{[], ⊤};
     ghost use Rattle.study_talk.specs.Desks.{Behind, Kept, Quits, gets, kept_of};
     ghost use Rattle.talk.specs.Talks.{WantsNone};
 
@@ -31,6 +31,8 @@ impl Speaker for StudyDesk {
     ghost Wants = { WantsNone };
 
     ghost Behind = { Behind };
+
+    ghost ready = { λ _. ⊤ };
 
     fn open<K: Sink>(&self, _out: &mut Out, _sink: &mut K) -> Result<(), WriteFault> {
         Ok(())

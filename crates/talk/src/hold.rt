@@ -86,6 +86,7 @@ pub fn hold_talk<S: Source, K: Sink, L: Ledger, T: Speaker + Drop>(
     steps: &mut Steps<L>,
 ) -> u8
     requires fresh { out.old ≡ [] }
+    requires ready { T.ready speaker }
     requires behind { T.Behind lines.old.number (T.state speaker) }
     ensures held { (n k : ℕ) → steps.old ≡ k + n → HoldsTalk
         (talk_from (opened (T.opening speaker) (T.state speaker) n) (T.gets (T.kept speaker)) T.Quits T.Wants) result

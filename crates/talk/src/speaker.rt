@@ -1,5 +1,5 @@
 // Who answers the lines of a talk.
-ghost use Rattle.std.specs.Prelude.{◌≡◌, ◌≤◌, ◌+◌, ℕ, List, length};
+ghost use Rattle.std.specs.Prelude.{◌≡◌, ◌≤◌, ◌+◌, ℕ, List, length, Ok};
 ghost use Rattle.line_io.specs.Causes.{HasCause};
 ghost use Rattle.line_io.specs.Line.{input_limit, line_limit};
 ghost use Rattle.line_io.specs.Writer.{PutsText};
@@ -38,6 +38,9 @@ pub trait Speaker {
     /// Where a talk can be behind so many lines.
     ghost Behind: { ℕ → Self.State → Type 0 };
 
+    /// It can answer a line.
+    ghost ready: { Self → Type 0 };
+
     /// Puts the text that opens a talk.
     fn open<K: Sink>(&self, out: &mut Out, sink: &mut K) -> Result<(), WriteFault>
         ensures text { PutsText (K.held sink.old) out.old (opening self.now) (K.held sink.new) out.new result }
@@ -52,9 +55,11 @@ pub trait Speaker {
         text: &[u8],
         line: u32,
     ) -> Result<Heard, AnswerFault>
+        requires ready { ready self.old }
         requires line { line ≤ input_limit }
         requires short { length text.now ≤ line_limit }
-        ensures { (before : ℕ) → line ≡ before + 1 → Behind before (state self.old) → AnswersLine gets Quits Wants Behind
+        ensures answers { (before : ℕ) → line ≡ before + 1 → Behind before (state self.old) → AnswersLine gets Quits Wants Behind
             (shown (kept self.old) (state self.old) (K.held sink.old) out.old (K.faults sink.old) steps.old) line text.now result
-            (shown (kept self.new) (state self.new) (K.held sink.new) out.new (K.faults sink.new) steps.new) };
+            (shown (kept self.new) (state self.new) (K.held sink.new) out.new (K.faults sink.new) steps.new) }
+        ensures more { result ≡ Ok Heard.More → ready self.new };
 }

@@ -21,7 +21,7 @@ struct Talker<'a, 'b, T: Speaker, K: Sink, L: Ledger> {
 }
 
 impl<'a, 'b, T: Speaker, K: Sink, L: Ledger> Listener for Talker<'a, 'b, T, K, L> {
-    ghost use Rattle.std.specs.Prelude.{⊤, ◌≡◌, ℕ};
+    ghost use Rattle.std.specs.Prelude.{◌≡◌, ℕ};
     ghost use Rattle.talk.specs.Speaking.{HearsLine, shown};
 
     type Fault = AnswerFault;
@@ -30,7 +30,7 @@ impl<'a, 'b, T: Speaker, K: Sink, L: Ledger> Listener for Talker<'a, 'b, T, K, L
 
     ghost kept = { λ s. (s.out.ghost_name, s.sink.ghost_name, s.steps.ghost_name) };
 
-    ghost ready = { λ _. ⊤ };
+    ghost ready = { λ s. T.ready s.speaker.now };
 
     ghost hears = { λ s line text result s'. HearsLine T.gets T.Quits T.Wants T.Behind
         (shown (T.kept s.speaker.now) (T.state s.speaker.now) (K.held s.sink.now) s.out.now (K.faults s.sink.now) s.steps.now) line text result
@@ -59,6 +59,7 @@ pub fn converse<S: Source, K: Sink, L: Ledger, T: Speaker>(
     speaker: &mut T,
     steps: &mut Steps<L>,
 ) -> Ending<AnswerFault>
+    requires { T.ready speaker.old }
     ensures hears { (end : T) × Listens (HearsLine T.gets T.Quits T.Wants T.Behind) result
         (shown (T.kept speaker.old) (T.state speaker.old) (K.held sink.old) out.old (K.faults sink.old) steps.old)
         (shown (T.kept end) (T.state end) (K.held sink.new) out.new (K.faults sink.new) steps.new)

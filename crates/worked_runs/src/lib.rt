@@ -1,5 +1,5 @@
-//! Whole runs of the program's top call on worked buildings: plans, checked blocks, reports, cards, sessions, studies, drills, and buildings
-//! written as texts of version 2.
+//! Whole runs of the program's top call on worked buildings: plans, checked blocks, reports, cards, sessions, replans, studies, drills, and
+//! buildings written as texts of version 2.
 //!
 //! Nothing here is called by a program.
 #![tactic(auto)]
@@ -14,6 +14,8 @@ mod comers;
 mod largest;
 #[cfg(test)]
 mod plans;
+#[cfg(test)]
+mod replans;
 #[cfg(test)]
 mod reports;
 #[cfg(test)]

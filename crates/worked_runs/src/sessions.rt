@@ -399,9 +399,10 @@ fn large_buildings_have_their_curves(rt: HostRuntime) -> Result<(), Fail> {
     )
 }
 
-// A session over pieces of these lines, of which one call fails, has this status and text.
+// A talk over pieces of these lines, of which one call fails, has this status and text.
 fn check_taken(
     rt: &(impl Abort + AllocGlobal),
+    mode: &str,
     input: &str,
     text: &str,
     piece: usize,
@@ -413,7 +414,7 @@ fn check_taken(
     let mut sink = MemSink::new(rt.alloc(), 1000, 4096, &[])?;
     let got = run_failing(
         rt.alloc(),
-        &["session"],
+        &[mode],
         input.as_bytes(),
         piece,
         &[call],
@@ -429,6 +430,7 @@ fn check_taken(
 // What was taken whole has its replies, and nothing else has.
 fn check_replies(
     rt: &(impl Abort + AllocGlobal),
+    mode: &str,
     talk: &[Exchange],
     input: &str,
     piece: usize,
@@ -439,14 +441,15 @@ fn check_replies(
 {
     let taken = (call as usize).saturating_sub(1).saturating_mul(piece);
     let text = said(rt.alloc(), talk, taken)?;
-    let checked = check_taken(rt, input, text.as_str(), piece, call, status);
+    let checked = check_taken(rt, mode, input, text.as_str(), piece, call, status);
     drop(text);
     checked
 }
 
-// A session over pieces, of which one call fails.
-fn check_fault(
+// A talk over pieces, of which one call fails.
+pub(crate) fn check_fault(
     rt: &(impl Abort + AllocGlobal),
+    mode: &str,
     talk: &[Exchange],
     piece: usize,
     call: u32,
@@ -455,7 +458,7 @@ fn check_fault(
     requires { 0 < piece }
 {
     let input = heard(rt.alloc(), talk)?;
-    let checked = check_replies(rt, talk, input.as_str(), piece, call, status);
+    let checked = check_replies(rt, mode, talk, input.as_str(), piece, call, status);
     drop(input);
     checked
 }
@@ -464,10 +467,10 @@ fn check_fault(
 #[test]
 fn lines_taken_before_a_fault_have_replies(rt: HostRuntime) -> Result<(), Fail> {
     for call in 1..12 {
-        check_fault(&rt, &BETWEEN, 16, call, 3)?;
+        check_fault(&rt, "session", &BETWEEN, 16, call, 3)?;
     }
-    check_fault(&rt, &BETWEEN, 16, 12, 0)?;
-    check_fault(&rt, &[(ONE_ROOM, ONE_ROOM_BLOCK)], 4096, 2, 3)
+    check_fault(&rt, "session", &BETWEEN, 16, 12, 0)?;
+    check_fault(&rt, "session", &[(ONE_ROOM, ONE_ROOM_BLOCK)], 4096, 2, 3)
 }
 
 // The status of a session into a sink that fails at one call: it has a front of the replies, a piece a call at the least.

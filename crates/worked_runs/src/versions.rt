@@ -68,7 +68,9 @@ fn their_blocks_are_right(rt: HostRuntime) -> Result<(), Fail> {
 
 // A model that is refused is so in each mode that reads one.
 fn check_refused(rt: &(impl Abort + AllocGlobal), input: &str, text: &str) -> Result<(), Fail> {
-    for mode in ["solve", "cards", "check", "session", "study", "upgrade"] {
+    for mode in [
+        "solve", "cards", "check", "session", "study", "replan", "upgrade",
+    ] {
         check(rt, &[mode], input, 1, text)?;
     }
     Ok(())

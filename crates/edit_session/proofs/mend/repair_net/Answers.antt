@@ -1,4 +1,4 @@
-use Rattle.std.proofs.Common.{◌≡◌, ℕ, ◌+◌, ◌-◌, ◌≤◌, ap, ap₂, subst, refl, sym, arith, ◌∙◌}
+use Rattle.std.proofs.Common.{◌≡◌, ℕ, ◌+◌, ◌-◌, ◌≤◌, ap, ap₂, subst, sym, arith, ◌∙◌}
 use Rattle.evac_law.specs.Certificates.{label_cut}
 use Rattle.evac_law.specs.Cuts.{cut_value}
 use Rattle.evac_law.specs.Plans.{violation}
@@ -100,8 +100,9 @@ returns-in-Cleared-clause-mended g c =
     let same : s.site ≡ w.site = ap (λ (z : Network). z.site) c.save.ensures in
     let site : u.site ≡ w.site = done.net.limits.site ∙ taken.net.site ∙ same in
     let last : moment ≡ last_arrival_of u = answer.last in
-    rw c.copy_from-in-Cleared.ensures (record {
+    record {
       site = site;
+      saved = done.net.limits.saved ∙ taken.net.saved ∙ ap (λ (z : Network). z.saved) c.save.ensures;
       standing = record {
         valid = valid;
         net = c.shape-in-Cleared.ensures.net;
@@ -126,7 +127,7 @@ returns-in-Cleared-clause-mended g c =
           (λ k. omega (arith, taken.taken.arrivals k, ap (λ (z : Network). arrived_by z k) c.save.ensures, arrived_saved w k))
           (λ e p i. taken.taken.idle e p (subst (λ (z : Site). IsPlace z p) (sym same) i) ∙ ap (λ (z : Network). flow_at z p) c.save.ensures ∙ flow_saved w p)
           (subst (λ (k : ℕ). pushes + arrivals_below v (k + 1) ≤ arrivals_below u (k + 1)) last bounded) idle;
-    })
+    }
 
 pub returns-in-Short-clause-mended : goal.returns-in-Short-clause-mended
 returns-in-Short-clause-mended g c =
@@ -145,7 +146,6 @@ returns-in-Short-clause-mended g c =
       net = c.restore-in-Short.ensures
           ∙ same_saved s u (c.settle_all.ensures.net.limits.site ∙ c.reshape-taken.ensures.net.site) (c.settle_all.ensures.net.limits.saved ∙ c.reshape-taken.ensures.net.saved)
           ∙ ap saved_of c.save.ensures;
-      labels = refl;
       shown = record {
         table = record {
           nodes = c.settle_all.ensures.labels.labels.nodes

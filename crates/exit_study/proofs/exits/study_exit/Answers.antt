@@ -1,7 +1,6 @@
-use Rattle.std.proofs.Common.{◌+◌, arith}
+use Rattle.exit_study.proofs.Trying.{exit_tried}
 use Rattle.exit_study.proofs.exits.study_exit.Goals as goal
 
-pub returns-in-Ok-clause-counted : goal.returns-in-Ok-clause-counted
-returns-in-Ok-clause-counted g c =
-    let e = c.in-Ok.ensures.ends in
-    let b = c.go_back.ensures.counted in (e.0 + b.0, omega (arith, e.1, b.1))
+pub returns-in-Ok-clause-row : goal.returns-in-Ok-clause-row
+returns-in-Ok-clause-row g c =
+    let ends = c.in-Ok.ensures.ends in exit_tried c.args.session.now.state c.args.node c.in-Ok.moment ends.0 ends.2.0

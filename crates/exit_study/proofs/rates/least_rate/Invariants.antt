@@ -1,12 +1,11 @@
-use Rattle.std.proofs.Common.{◌-◌, ◌≤◌}
+use Rattle.std.proofs.Common.{◌≡◌, ◌-◌, ◌≤◌}
 use Rattle.exit_study.specs.Rates.{IsSearch}
-use Rattle.exit_study.specs.Stays.{StaysSolved}
 use Rattle.exit_study.proofs.rates.least_rate.Given as goal
 
 abbrev pub invariant-loop-low : goal.invariant-loop-low
 invariant-loop-low g l = record {
   search : IsSearch l.fn.session.state.model l.arc l.by l.low l.high;
-  stays : StaysSolved l.initial.session.state l.session.state;
+  same : l.session.state ≡ l.initial.session.state;
   grows : l.initial.steps ≤ l.steps;
 }
 

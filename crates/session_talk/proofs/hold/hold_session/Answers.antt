@@ -8,12 +8,15 @@ use Rattle.talk.proofs.Sending.{short_held}
 use Rattle.session_talk.proofs.hold.hold_session.Goals as goal
 
 pub hold_talk-requires-clause-behind : goal.hold_talk-requires-clause-behind
-hold_talk-requires-clause-behind g c = omega (arith, c.in-Ok.ensures.2.1)
+hold_talk-requires-clause-behind g c = omega (arith, c.in-Ok.ensures.2.first)
+
+pub hold_talk-requires-clause-ready : goal.hold_talk-requires-clause-ready
+hold_talk-requires-clause-ready g c = c.in-Ok.ensures.2.serves
 
 pub returns-in-Ok-clause-held : goal.returns-in-Ok-clause-held
 returns-in-Ok-clause-held g c =
     let b = c.in-Ok.ensures in
-    opened_held back c.args.building.names c.args.building.model c.in-Ok.desk b.0 c.hold_talk.result _ _ b.2 (c.hold_talk.ensures.held b.0 c.args.steps.now b.1)
+    opened_held back c.args.building.names c.args.building.model c.in-Ok.talk b.0 c.hold_talk.result _ _ b.2 (c.hold_talk.ensures.held b.0 c.args.steps.now b.1)
 
 pub returns-in-Err-NotCleared-clause-held : goal.returns-in-Err-NotCleared-clause-held
 returns-in-Err-NotCleared-clause-held g c =

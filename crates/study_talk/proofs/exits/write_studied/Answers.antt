@@ -1,4 +1,5 @@
-use Rattle.std.proofs.Common.{refl}
+use Rattle.std.proofs.Common.{ap, refl}
+use Rattle.edit_session.specs.Sessions.{SessionState}
 use Rattle.study_talk.specs.StudyTexts.{Row}
 use Rattle.study_talk.proofs.RowLemmas.{row_as}
 use Rattle.study_talk.proofs.exits.write_studied.Goals as goal
@@ -11,5 +12,5 @@ returns-clause-text g c =
       row,
       refl,
       c.row_of-row.ensures.row,
-      row_as m s.state.model c.args.node s.refused c.row_of-row.result c.args.so_far c.write_next.result _ _ _ _ c.row_of-row.ensures.stays.model c.write_next.ensures.text,
+      row_as m s.state.model c.args.node s.refused c.row_of-row.result c.args.so_far c.write_next.result _ _ _ _ (ap (λ (z : SessionState). z.model) c.row_of-row.ensures.unchanged) c.write_next.ensures.text,
     )

@@ -1,80 +1,70 @@
-use Rattle.std.proofs.Common.{◌≡◌, ◌-◌, ◌∷◌, take, ap, subst, sym, refl, arith}
+use Rattle.std.proofs.Common.{◌≡◌, ◌∷◌, ◌∙◌, take, ap, refl, subst, sym, Ok, Err}
+use Rattle.std.proofs.lemmas.Result.{err_from_is_err_and}
 use Rattle.evac_law.specs.Edits.{IsEditOf}
-use Rattle.edit_session.specs.declared.faults.EditRefusal.TheVariants.{NotCleared}
 use Rattle.edit_session.specs.Kept.{view_of}
 use Rattle.edit_session.specs.Sessions.{EditEnds, SessionView}
-use Rattle.std.proofs.Common.{Ok, Err}
-use Rattle.edit_session.proofs.Going.{ends_barred, ends_edited, made, session_barred, session_edited}
+use Rattle.edit_session.proofs.Going.{ends_edited, ends_refused, session_edited, session_refused, state_refused}
 use Rattle.edit_session.proofs.session.Session.edit.Goals as goal
 
-pub invariant_of-self-in-Cleared : goal.invariant_of-self-in-Cleared
-invariant_of-self-in-Cleared g c =
+pub invariant_of-self : goal.invariant_of-self
+invariant_of-self g c =
     let s = c.self.inside in
-    let m' = c.apply.new.model in
-    let v = c.repair_net.new.net in
-    let k = c.repair_net.new.labels in
-    let e = c.args.edit in
-    let e' = c.in-Ok.inverse in
-    let in_range = subst (λ (z : SessionView). IsEditOf z.state.model e) (sym c.self.view_is) c.requires in
-    let ring = c.push_front.ensures.items in
-    rw ring
-    (session_edited s.model m' e e' s.net v s.labels k s.refused s.ring.items s.ring.capacity s.scratch c.repair_net.new.scratch c.in-Cleared.work
-    c.self.invariant c.in-Cleared.ensures.mended c.in-Cleared.ensures.scratch in_range c.in-Ok.ensures.ok)
+    let d = c.make_edit.new in
+    let made = c.in_err-made.ensures.made in
+    session_refused s.model d.model c.args.edit s.net d.net s.labels s.refused d.refused s.ring.items s.ring.capacity s.scratch d.scratch c.in_err-made.field-0.0 made.0
+    c.self.invariant made.2 c.in_err-made.ensures.refused c.in_err-made.ensures.scratch
 
-pub invariant_of-self-in-Short : goal.invariant_of-self-in-Short
-invariant_of-self-in-Short g c =
+pub invariant_of-self-2 : goal.invariant_of-self-2
+invariant_of-self-2 g c =
     let s = c.self.inside in
-    let m' = c.apply.new.model in
-    let v = c.repair_net.new.net in
-    let k = c.repair_net.new.labels in
-    let y = c.repair_net.new.scratch in
-    let back : c.apply-in-Short.new.model ≡ s.model =
-    made m' s.model c.apply-in-Short.new.model c.in-Ok.inverse c.args.edit c.apply-in-Short.result c.in-Ok.ensures.undoes.1 c.apply-in-Short.ensures.ok
-    c.apply-in-Short.ensures.fault in
-    rw (back, c.copy_from.ensures)
-    (session_barred s.model m' s.net v s.labels k s.refused y.labels s.ring.items s.ring.capacity c.in-Short.most s.scratch y c.self.invariant
-    c.in-Short.ensures.mended c.in-Short.ensures.scratch refl)
+    let d = c.make_edit.new in
+    let made = c.in_ok-made.made in
+    let done = c.in_ok-made.ensures.made.2 in
+    let in_range = subst (λ (z : SessionView). IsEditOf z.state.model c.args.edit) (sym c.self.view_is) c.requires in
+    rw (c.push_front.ensures.items, c.copy_from.ensures, done.2)
+    (session_edited s.model d.model c.args.edit made.inverse s.net d.net s.labels d.scratch.labels s.refused s.ring.items s.ring.capacity s.scratch d.scratch made.work
+    c.self.invariant done.1 c.in_ok-made.ensures.scratch in_range done.0)
 
-pub returns-in-Cleared-clause-ends : goal.returns-in-Cleared-clause-ends
-returns-in-Cleared-clause-ends g c =
+pub returns-in_err-made-clause-ends : goal.returns-in_err-made-clause-ends
+returns-in_err-made-clause-ends g c =
     let s = c.self.inside in
-    let m' = c.apply.new.model in
-    let v = c.repair_net.new.net in
-    let k = c.repair_net.new.labels in
-    let e = c.args.edit in
-    let e' = c.in-Ok.inverse in
-    let steps = c.repair_net.new.steps - c.args.steps.now in
-    let in_range = subst (λ (z : SessionView). IsEditOf z.state.model e) (sym c.self.view_is) c.requires in
-    let ends = ends_edited s.model m' e e' s.net v s.labels k s.refused s.ring.items s.ring.capacity s.scratch s.work c.in-Cleared.work steps
-    c.self.invariant c.in-Cleared.ensures.mended in_range c.in-Ok.ensures.ok c.in-Cleared.ensures.counted.1 in
-    let items : c.push_front.new.self.items ≡ take s.ring.capacity (e' ∷ s.ring.items) = ap (λ z. z.items) c.push_front.ensures.items in (
-      steps,
-      omega (arith, c.in-Cleared.ensures.counted.0),
-      rw items (subst (λ (z : SessionView). EditEnds z e (Ok c.in-Cleared.work)
-          (view_of m' v k s.refused (take s.ring.capacity (e' ∷ s.ring.items)) c.in-Cleared.work) steps) c.self.view_is ends),
+    let d = c.make_edit.new in
+    let made = c.in_err-made.ensures.made in
+    let why = c.in_err-made.field-0.0 in
+    let p = err_from_is_err_and c.from_residual.result c.from_residual.ensures.1 in
+    let is : c.from_residual.result ≡ Err why = rw (p.1, p.2) refl in
+    let ends = ends_refused s.model d.model c.args.edit s.net d.net s.labels s.refused d.refused d.scratch.labels s.ring.items s.work why made.0 made.2 in (
+      made.0,
+      made.1,
+      rw is (subst (λ (z : SessionView). EditEnds z c.args.edit (Err why) (view_of d.model d.net s.labels d.refused s.ring.items s.work) made.0) c.self.view_is ends),
     )
 
-pub returns-in-Short-clause-ends : goal.returns-in-Short-clause-ends
-returns-in-Short-clause-ends g c =
+pub returns-in_err-made-clause-unchanged : goal.returns-in_err-made-clause-unchanged
+returns-in_err-made-clause-unchanged g c =
     let s = c.self.inside in
-    let m' = c.apply.new.model in
-    let v = c.repair_net.new.net in
-    let k = c.repair_net.new.labels in
-    let cut = c.repair_net.new.scratch.labels in
-    let e = c.args.edit in
-    let steps = c.repair_net.new.steps - c.args.steps.now in
-    let back : c.apply-in-Short.new.model ≡ s.model =
-    made m' s.model c.apply-in-Short.new.model c.in-Ok.inverse e c.apply-in-Short.result c.in-Ok.ensures.undoes.1 c.apply-in-Short.ensures.ok
-    c.apply-in-Short.ensures.fault in
-    let spent = c.in-Short.ensures.counted.1 s.model c.self.invariant.standing.valid c.self.invariant.standing.of in
-    let ends = ends_barred s.model m' e c.in-Ok.inverse s.net v s.labels k s.refused cut s.ring.items s.ring.capacity c.in-Short.most steps s.scratch s.work
-    c.self.invariant c.in-Ok.ensures.valid c.in-Short.ensures.mended spent c.in-Ok.ensures.ok in (
-      steps,
-      omega (arith, c.in-Short.ensures.counted.0),
-      rw (back, c.copy_from.ensures, c.people-people.ensures)
-          (subst (λ (z : SessionView). EditEnds z e (Err (NotCleared (Rattle.evac_law.specs.Building.people m') c.in-Short.most))
-          (view_of s.model v k cut s.ring.items s.work) steps) c.self.view_is ends),
-    )
+    let d = c.make_edit.new in
+    let made = c.in_err-made.ensures.made in
+    let why = c.in_err-made.field-0.0 in
+    let ends = ends_refused s.model d.model c.args.edit s.net d.net s.labels s.refused d.refused d.scratch.labels s.ring.items s.work why made.0 made.2 in
+    let same = state_refused (view_of s.model s.net s.labels s.refused s.ring.items s.work) (view_of d.model d.net s.labels d.refused s.ring.items s.work) c.args.edit why made.0 ends in
+    let p = err_from_is_err_and c.from_residual.result c.from_residual.ensures.1 in
+    let all = same ∙ ap (λ (z : SessionView). z.state) c.self.view_is in rw p.1 all
 
-pub returns-in-Short-clause-unchanged : goal.returns-in-Short-clause-unchanged
-returns-in-Short-clause-unchanged g c = (returns-in-Short-clause-ends g c).2.1
+pub returns-clause-ends : goal.returns-clause-ends
+returns-clause-ends g c =
+    let s = c.self.inside in
+    let d = c.make_edit.new in
+    let made = c.in_ok-made.made in
+    let e = c.args.edit in
+    let done = c.in_ok-made.ensures.made in
+    let k = d.scratch.labels in
+    let ring = take s.ring.capacity (made.inverse ∷ s.ring.items) in
+    let in_range = subst (λ (z : SessionView). IsEditOf z.state.model e) (sym c.self.view_is) c.requires in
+    let ends = ends_edited s.model d.model e made.inverse s.net d.net s.labels k s.refused s.ring.items s.ring.capacity s.scratch s.work made.work done.0
+    c.self.invariant done.2.1 in_range done.2.0 done.2.3 in
+    let items : c.push_front.new.self.items ≡ ring = ap (λ z. z.items) c.push_front.ensures.items in (
+      done.0,
+      done.1,
+      rw (items, c.copy_from.ensures, done.2.2)
+          (subst (λ (z : SessionView). EditEnds z e (Ok made.work) (view_of d.model d.net k s.refused ring made.work) done.0) c.self.view_is ends),
+    )

@@ -24,21 +24,20 @@ unreachable-requires g c =
     let s = c.self.inside in
     let e = c.in-Some.back in
     let v = c.repair_net.new.net in
-    let k = c.repair_net.new.labels in
     let cut = c.repair_net.new.scratch.labels in
     let kept = first_kept s.ring.items e (sym c.pop_front.ensures.value ∙ c.in-Some.is) in
     let all = subst (λ (z : List Edit). IsSession s.model s.net s.labels s.refused z s.ring.capacity s.scratch) kept c.self.invariant in
     let model : c.apply.new.model ≡ edited s.model e =
     made s.model (edited s.model e) c.apply.new.model e (inverse_of s.model e) c.apply.result all.back.1 c.apply.ensures.ok c.apply.ensures.fault in
-    let short = subst (λ (z : Model). IsRefused z s.net v s.labels k cut c.in-Short.most) model c.in-Short.ensures.mended in
-    never_barred s.model e s.net v s.labels k s.refused cut (drop 1 s.ring.items) s.ring.capacity c.in-Short.most s.scratch all short
+    let short = subst (λ (z : Model). IsRefused z s.net v cut c.in-Short.most) model c.in-Short.ensures.mended in
+    never_barred s.model e s.net v s.labels s.refused cut (drop 1 s.ring.items) s.ring.capacity c.in-Short.most s.scratch all short
 
 pub returns-clause-ends : goal.returns-clause-ends
 returns-clause-ends g c =
     let s = c.self.inside in
     let e = c.in-Some.back in
     let v = c.repair_net.new.net in
-    let k = c.repair_net.new.labels in
+    let k = c.repair_net.new.scratch.labels in
     let work = c.in-Cleared.work in
     let steps = c.repair_net.new.steps - c.args.steps.now in
     let rest = drop 1 s.ring.items in
@@ -52,4 +51,4 @@ returns-clause-ends g c =
     let from_ring = subst (λ (z : List Edit). UndoEnds (view_of s.model s.net s.labels s.refused z s.work) (Ok work)
     (view_of (edited s.model e) v k s.refused rest work) steps) (sym kept) ends in
     let from_view = subst (λ (z : SessionView). UndoEnds z (Ok work) (view_of (edited s.model e) v k s.refused rest work) steps) c.self.view_is from_ring in
-    (steps, omega (arith, c.in-Cleared.ensures.counted.0), rw (model, items) from_view)
+    (steps, omega (arith, c.in-Cleared.ensures.counted.0), rw (model, items, c.copy_from.ensures) from_view)

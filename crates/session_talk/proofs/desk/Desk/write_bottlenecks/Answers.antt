@@ -1,5 +1,9 @@
+use Rattle.std.proofs.Common.{subst, sym}
+use Rattle.session_talk.specs.Desks.{DeskView, IsDesk}
 use Rattle.session_talk.proofs.DeskLemmas.{desk_space, with_space}
 use Rattle.session_talk.proofs.desk.Desk.write_bottlenecks.Goals as goal
 
-pub invariant_of-self : goal.invariant_of-self
-invariant_of-self g c = with_space _ _ _ _ _ c.self.invariant (c.write_bottlenecks.ensures.space _ (desk_space _ _ _ _ c.self.invariant))
+pub returns-clause-desk : goal.returns-clause-desk
+returns-clause-desk g c =
+    let h = (let P : DeskView → Type 0 = λ d. IsDesk d c.args.session.now in subst P (sym c.self.view_is) c.requires) in
+    with_space _ c.write_bottlenecks.new.space _ h (c.write_bottlenecks.ensures.space _ (desk_space _ _ h))

@@ -1,8 +1,14 @@
+use Rattle.std.proofs.Common.{subst, sym}
+use Rattle.session_talk.specs.Desks.{DeskView, IsDesk}
 use Rattle.session_talk.proofs.DeskLemmas.{desk_space, with_space}
 use Rattle.session_talk.proofs.desk.Desk.write_summary.Goals as goal
 
 pub write_summary-requires : goal.write_summary-requires
-write_summary-requires g c = record { space = desk_space _ _ _ _ c.self.invariant }
+write_summary-requires g c =
+    let h = (let P : DeskView → Type 0 = λ d. IsDesk d c.args.session.now in subst P (sym c.self.view_is) c.requires) in
+    record { space = desk_space _ _ h }
 
-pub invariant_of-self : goal.invariant_of-self
-invariant_of-self g c = with_space _ _ _ _ _ c.self.invariant c.write_summary.ensures.space
+pub returns-clause-desk : goal.returns-clause-desk
+returns-clause-desk g c =
+    let h = (let P : DeskView → Type 0 = λ d. IsDesk d c.args.session.now in subst P (sym c.self.view_is) c.requires) in
+    with_space _ c.write_summary.new.space _ h c.write_summary.ensures.space

@@ -19,7 +19,7 @@ returns-in_ok-flush-in-More-clause-hears g c =
     let P : Heard → Type 0 = λ h. AnswersLine t.gets t.Quits t.Wants t.Behind x c.args.line c.args.text.now (Ok h) y in
     λ before at behind. heard_more t.gets t.Quits t.Wants t.Behind x c.args.line c.args.text.now
     (t.kept a.self) (t.state a.self) (k.held a.sink) (k.held b.sink) a.out b.self (k.faults a.sink) (k.faults b.sink) a.steps tt
-    (subst P c.in-More.is (c.in_ok-answer.ensures before at behind)) f.both f.cause f.ok
+    (subst P c.in-More.is (c.in_ok-answer.ensures.answers before at behind)) f.both f.cause f.ok
 
 pub returns-in_err-flush-in-More-clause-hears : goal.returns-in_err-flush-in-More-clause-hears
 returns-in_err-flush-in-More-clause-hears g c =
@@ -37,4 +37,4 @@ returns-in_err-flush-in-More-clause-hears g c =
     λ before at behind. hears_fault t.gets t.Quits t.Wants t.Behind c.from_residual-in_err-flush-in-More.result x _ c.args.line c.args.text.now c.in_err-flush-in-More.field-0.0 is
     (heard_unflushed t.gets t.Quits t.Wants t.Behind x c.args.line c.args.text.now c.in_err-flush-in-More.field-0.0
     (t.kept a.self) (t.state a.self) (k.held a.sink) (k.held b.sink) a.out b.self (k.faults a.sink) (k.faults b.sink) a.steps
-    (subst P c.in-More.is (c.in_ok-answer.ensures before at behind)) f.both f.cause)
+    (subst P c.in-More.is (c.in_ok-answer.ensures.answers before at behind)) f.both f.cause)

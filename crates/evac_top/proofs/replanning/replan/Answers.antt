@@ -1,0 +1,29 @@
+use Rattle.std.proofs.Common.{refl}
+use Rattle.replan_talk.specs.ReplanTalks.{replan}
+use Rattle.evac_top.specs.declared.words.Mode.TheVariants.{Replan}
+use Rattle.evac_top.proofs.TakeLemmas.{fresh-drained}
+use Rattle.evac_top.proofs.TalkLemmas.{not-read, replan-talks, talk-held, talk-reads}
+use Rattle.evac_top.proofs.TellLemmas.{no-memory}
+use Rattle.evac_top.proofs.replanning.replan.Goals as goal
+
+pub returns-in_default : goal.returns-in_default
+returns-in_default g c = no-memory Replan (talk-reads Replan replan replan-talks) _
+
+pub returns-in-Ok : goal.returns-in-Ok
+returns-in-Ok g c =
+    let read = c.in-Ok.ensures in
+    let fresh = c.in-Ok-Ok.ensures in
+    talk-held Replan replan replan-talks c.in-Ok.building c.hold_replan.result c.in-Ok-Ok.lines c.read_model.new.lines c.hold_replan.new.lines _ _ _ _ (record {
+      fresh = fresh;
+      read = read.bytes;
+      reading = read.reading;
+      quiet = read.quiet (λ e. cc);
+      held = c.hold_replan.ensures.held;
+      drained = c.hold_replan.ensures.drained (read.drained (fresh-drained _ _ fresh));
+    })
+
+pub returns : goal.returns
+returns g c =
+    let read = c.in-Err.ensures in
+    not-read Replan replan replan-talks c.in-Err.fault c.stop.result c.in-Ok-Ok.lines c.read_model.new.lines _ _ c.in-Ok-Ok.ensures read.bytes read.reading
+    read.unfinished read.failed read.quiet refl c.stop.ensures

@@ -1,0 +1,34 @@
+// The mode `replan`: a model is read, its best plan is kept while it is edited and carried out, and each line behind it is answered.
+ghost use Rattle.std.specs.Prelude.{◌≡◌, Some};
+ghost use Rattle.evac_top.specs.Accounts.{side};
+ghost use Rattle.evac_top.specs.Runs.{Runs};
+ghost use Rattle.evac_top.specs.declared.words.Mode.TheVariants.{Replan};
+
+use crate::status::NO_MEMORY;
+use crate::stop::stop;
+use building_table::read_model;
+use evac_law::Steps;
+use line_io::{Lines, Out, Sink, Source};
+use replan_talk::hold_replan;
+use std::alloc::Global;
+use std::sync::ledger::Ledger;
+
+/// Runs the mode.
+pub(crate) fn replan<S: Source, K: Sink, L: Ledger>(
+    alloc: Global,
+    source: &mut S,
+    sink: &mut K,
+    steps: &mut Steps<L>,
+) -> u8
+    ensures { Runs (Some Replan) result
+        (record { source = side (S.left source.old) (S.faults source.old); sink = side (K.held sink.old) (K.faults sink.old); steps = steps.old })
+        (record { source = side (S.left source.new) (S.faults source.new); sink = side (K.held sink.new) (K.faults sink.new); steps = steps.new }) }
+{
+    let (Ok(mut lines), Ok(mut out)) = (Lines::new(alloc), Out::new(alloc)) else {
+        return NO_MEMORY;
+    };
+    match read_model(alloc, &mut lines, source) {
+        Ok(building) => hold_replan(alloc, &mut lines, source, &mut out, sink, building, steps),
+        Err(fault) => stop(&mut out, sink, fault),
+    }
+}

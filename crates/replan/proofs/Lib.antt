@@ -1,0 +1,12 @@
+mod Again
+mod Carried
+mod Counted
+mod Goes
+mod Late
+mod LeftOver
+mod Parted
+mod RestIs
+mod Running
+mod Shared
+mod Shifted
+mod Ways

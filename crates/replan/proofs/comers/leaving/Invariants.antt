@@ -1,0 +1,14 @@
+use Rattle.std.proofs.Common.{◌≡◌, ◌*◌, ◌^◌, ◌≤◌, ◌<◌, take, length}
+use Rattle.std.specs.List.{sum_by}
+use Rattle.time_expansion.specs.Expansion.{arcs_from}
+use Rattle.route_decompose.specs.Routes.{shape_of}
+use Rattle.evac_law.specs.Plans.{moved}
+use Rattle.replan.proofs.comers.leaving.Given as goal
+
+abbrev pub invariant-loop-arc : goal.invariant-loop-arc
+invariant-loop-arc g l = record {
+  arcs : l.arc-items ≡ arcs_from (shape_of l.layout) l.node;
+  few : length l.arc-items < 2 ^ 11;
+  sum : l.people ≡ sum_by (λ a. moved (g.F.Standing.stand l.standing).plan a l.moment) (take l.arc-index l.arc-items);
+  small : l.people ≤ l.arc-index * 2 ^ 32;
+}

@@ -1,0 +1,14 @@
+pub use Rattle.edit_session.specs.Sessions
+pub use Rattle.evac_law.specs.Building
+pub use Rattle.evac_law.specs.Certificates
+pub use Rattle.evac_law.specs.Edits
+pub use Rattle.evac_law.specs.Entrants
+pub use Rattle.evac_law.specs.LabelTable
+pub use Rattle.evac_law.specs.Plans
+pub use Rattle.evac_law.specs.Stands
+pub mod Committed
+pub mod Kept
+pub mod Replans
+pub mod Rest
+pub mod RestLaws
+pub mod Standing

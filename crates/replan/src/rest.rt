@@ -1,0 +1,56 @@
+// What is left of a building once a plan is carried out up to a moment.
+ghost use Rattle.std.specs.Prelude.{◌≡◌, ◌≤◌, IfOk, map};
+ghost use Rattle.replan.specs.Rest.{emptied, rest};
+ghost use Rattle.replan.specs.Standing.{Stands};
+
+use crate::comers::comers;
+use evac_law::{ArcRow, Model, NodeRow, Rows, Standing};
+use route_decompose::Layout;
+use std::alloc::{AllocError, Global};
+
+/// A copy of the arcs.
+fn same_arcs(alloc: Global, arcs: &[ArcRow]) -> Result<Vec<ArcRow>, AllocError>
+    ensures { IfOk result (λ r. r.items ≡ arcs.now) }
+{
+    let mut rows = Vec::new(alloc);
+    for arc in arcs {
+        rows.push(arc.copy())?;
+    }
+    Ok(rows)
+}
+
+/// The nodes, in which nobody starts.
+fn emptied(alloc: Global, nodes: &[NodeRow]) -> Result<Vec<NodeRow>, AllocError>
+    ensures { IfOk result (λ r. r.items ≡ map emptied nodes.now) }
+{
+    let mut rows = Vec::new(alloc);
+    for node in nodes {
+        rows.push(NodeRow { start: 0, ..*node })?;
+    }
+    Ok(rows)
+}
+
+/// What is left of a model once the moves of a standing plan before a moment are made.
+pub(crate) fn rest_of<F: Standing>(
+    alloc: Global,
+    layout: &Layout,
+    standing: &F,
+    from: u16,
+) -> Result<Model, AllocError>
+    requires stands { Stands layout.now (F.stand standing.now) }
+    requires first { 1 ≤ from }
+    requires in_horizon { from ≤ layout.now.horizon }
+    ensures { IfOk result (λ r. r ≡ rest layout.now (F.stand standing.now).plan from) }
+{
+    let model = layout.model();
+    let nodes = emptied(alloc, model.nodes.as_slice())?;
+    let arcs = same_arcs(alloc, model.arcs.as_slice())?;
+    let entrants = comers(alloc, layout, standing, from)?;
+    Ok(Model {
+        seconds: model.seconds,
+        horizon: model.horizon,
+        nodes: Rows::new(nodes),
+        arcs: Rows::new(arcs),
+        entrants: Rows::new(entrants),
+    })
+}

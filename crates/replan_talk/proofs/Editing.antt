@@ -1,0 +1,84 @@
+-- What edits and undos of a replan come to is what its lines get.
+use Rattle.std.proofs.Common.{◌≡◌, ℕ, ◌+◌, true, false, ◌&&◌, nat_lt, List, Result, Ok, Err, refl, sym, subst}
+use Rattle.std.specs.declared.option.Option.{Option}
+use Rattle.evac_law.specs.declared.edit.Edit.{Edit}
+use Rattle.evac_law.specs.Edits.{applied}
+use Rattle.line_io.specs.Causes.{Count, HasCause}
+use Rattle.line_io.specs.Writer.{PutsText}
+use Rattle.line_io.specs.declared.out.WriteFault.{WriteFault}
+use Rattle.model_text.specs.declared.command.Command.{Command}
+use Rattle.model_text.specs.declared.command.Command.TheVariants as commands
+use Rattle.building_table.specs.Names.{NameTable}
+use Rattle.certificate_text.specs.BlockText.{refusal_line}
+use Rattle.edit_session.specs.declared.faults.EditRefusal.{EditRefusal}
+use Rattle.edit_session.specs.declared.faults.UndoRefusal.{UndoRefusal}
+use Rattle.edit_session.specs.declared.work.Work.{Work}
+use Rattle.edit_session.specs.Sessions.{EditEnds, SessionView, UndoEnds}
+use Rattle.replan.specs.declared.faults.ReplanRefusal.{ReplanRefusal}
+use Rattle.replan.specs.Replans.{IsCarriedOutSame, ReplanEdits, ReplanUndoes, ReplanView, is_committed, is_of_people}
+use Rattle.session_talk.specs.Asking.{asked_by}
+use Rattle.session_talk.specs.declared.asks.Asks.TheVariants.{Report}
+use Rattle.session_talk.specs.Desks.{DeskView, IsDesk, desk_state, shown_of}
+use Rattle.session_talk.specs.Sessions.{Edits, Replies, Undoes}
+use Rattle.replan_talk.specs.Desks.{EditsUnless, replanned, shown_replan}
+use Rattle.replan_talk.specs.ReplanTalks.{SessionRow}
+use Rattle.replan_talk.proofs.Carrying.{code_said, lifted, widened}
+use Rattle.replan_talk.proofs.Rows.{edits_late, edits_now, report_row, undo_row}
+use Rattle.talk.specs.Speaking.{SaysSome}
+
+-- an edit that was made, or refused by the session: `w` is the session that stands then
+module _ {T : Type 0} (result : Result T WriteFault) (line n k steps : ℕ) (d d' : DeskView) (v v' : ReplanView) (w : SessionView) (a b : Option (List ℕ)) (p q : List ℕ) (f g : Count) where
+  pub edited_said : (e : Edit) (made : Result Work EditRefusal) → is_committed v e ≡ false → EditEnds v.session e made v'.session n → IsCarriedOutSame v v' → w ≡ v'.session → k ≡ steps + n
+      → (EditEnds v.session e made w n
+      → SaysSome (Edits line (desk_state d v.session) (applied v.session.state.model e)) result (shown_of d v.session a p f steps) (shown_of d' w b q g (steps + n)))
+      → SaysSome (EditsUnless line (replanned d v) e (nat_lt 0 v.moment && is_of_people e)) result (shown_replan d v a p f steps) (shown_replan d' v' b q g k)
+  edited_said e made free ends same stands counted says =
+      let Gets = Edits line (desk_state d v.session) (applied v.session.state.model e) in
+      let P : SessionView → Type 0 = λ x. EditEnds v.session e made x n → SaysSome Gets result (shown_of d v.session a p f steps) (shown_of d' x b q g (steps + n)) in
+      let Q : ℕ → Type 0 = λ i. SaysSome Gets result (shown_of d v.session a p f steps) (shown_of d' v'.session b q g i) in
+      let said = subst Q (sym counted) (subst P stands says ends) in
+      widened result _ _ _ _ (edits_now line (replanned d v) e (nat_lt 0 v.moment && is_of_people e) free) (lifted result Gets d d' v v' a b p q f g steps k same.moment same.gone said)
+
+  pub undone_said : (names : NameTable) (undone : Result Work UndoRefusal) → ReplanUndoes v undone v' n → w ≡ v'.session → k ≡ steps + n
+      → (UndoEnds v.session undone w n
+      → SaysSome (Undoes line (desk_state d v.session) v.session.state.former) result (shown_of d v.session a p f steps) (shown_of d' w b q g (steps + n)))
+      → SaysSome (SessionRow names line (replanned d v) (Ok commands.Undo)) result (shown_replan d v a p f steps) (shown_replan d' v' b q g k)
+  undone_said names undone ends stands counted says =
+      let Gets = Undoes line (desk_state d v.session) v.session.state.former in
+      let P : SessionView → Type 0 = λ x. UndoEnds v.session undone x n → SaysSome Gets result (shown_of d v.session a p f steps) (shown_of d' x b q g (steps + n)) in
+      let Q : ℕ → Type 0 = λ i. SaysSome Gets result (shown_of d v.session a p f steps) (shown_of d' v'.session b q g i) in
+      let said = subst Q (sym counted) (subst P stands says ends.0) in
+      widened result _ _ _ _ (undo_row names line (replanned d v)) (lifted result Gets d d' v v' a b p q f g steps k ends.1.moment ends.1.gone said)
+
+-- an edit that comes too late
+pub late_said : {T : Type 0} (result : Result T WriteFault) (line code n k : ℕ) (d : DeskView) (v v' : ReplanView) (e : Edit) (a b : Option (List ℕ)) (p q : List ℕ) (f g : Count) → is_committed v e ≡ true → v' ≡ v
+    → k ≡ n → code ≡ 42 → PutsText a p (refusal_line code line) b q result → HasCause f g result
+    → SaysSome (EditsUnless line (replanned d v) e (nat_lt 0 v.moment && is_of_people e)) result (shown_replan d v a p f n) (shown_replan d v' b q g k)
+late_said result line code n k d v v' e a b p q f g late same counted is put cause =
+    let Gets = EditsUnless line (replanned d v) e (nat_lt 0 v.moment && is_of_people e) in
+    let P : ReplanView → Type 0 = λ x. SaysSome Gets result (shown_replan d v a p f n) (shown_replan d x b q g k) in
+    let Q : ℕ → Type 0 = λ i. SaysSome Gets result (shown_replan d v a p f n) (shown_replan d v b q g i) in
+    subst P (sym same) (subst Q (sym counted) (code_said result Gets line code n d v 42 a b p q f g is (edits_late line (replanned d v) e (nat_lt 0 v.moment && is_of_people e) _ late refl) put cause))
+
+-- what an edit came to, by its refusal
+pub refused_by : (v v' : ReplanView) (e : Edit) (n : ℕ) (why named : ReplanRefusal) → why ≡ named → ReplanEdits v e (Err why) v' n → ReplanEdits v e (Err named) v' n
+refused_by v v' e n why named is h = let P : ReplanRefusal → Type 0 = λ r. ReplanEdits v e (Err r) v' n in subst P is h
+
+-- a desk that serves the session that stands
+pub desk_stands : (d : DeskView) (w w' : SessionView) → w ≡ w' → IsDesk d w → IsDesk d w'
+desk_stands d w w' is h = let P : SessionView → Type 0 = λ x. IsDesk d x in subst P is h
+
+pub edit_stands : (v : SessionView) (e : Edit) (made : Result Work EditRefusal) (w w' : SessionView) (n : ℕ) → w ≡ w' → EditEnds v e made w' n → EditEnds v e made w n
+edit_stands v e made w w' n is h = let P : SessionView → Type 0 = λ x. EditEnds v e made x n in subst P (sym is) h
+
+pub undo_stands : (v : SessionView) (undone : Result Work UndoRefusal) (w w' : SessionView) (n : ℕ) → w ≡ w' → UndoEnds v undone w' n → UndoEnds v undone w n
+undo_stands v undone w w' n is h = let P : SessionView → Type 0 = λ x. UndoEnds v undone x n in subst P (sym is) h
+
+-- a command that asks for a report
+pub report_said : {T : Type 0} (result : Result T WriteFault) (names : NameTable) (line n : ℕ) (c : Command) (d d' : DeskView) (v : ReplanView) (w : SessionView) (a b : Option (List ℕ)) (p q : List ℕ) (f g : Count)
+    → asked_by c ≡ Report → w ≡ v.session
+    → SaysSome (Replies names line (desk_state d w) (Ok c)) result (shown_of d w a p f n) (shown_of d' w b q g n)
+    → SaysSome (SessionRow names line (replanned d v) (Ok c)) result (shown_replan d v a p f n) (shown_replan d' v b q g n)
+report_said result names line n c d d' v w a b p q f g asks is says =
+    let P : SessionView → Type 0 = λ x. SaysSome (Replies names line (desk_state d x) (Ok c)) result (shown_of d x a p f n) (shown_of d' x b q g n) in
+    widened result _ _ _ _ (report_row names line (replanned d v) c asks) (lifted result (Replies names line (desk_state d v.session) (Ok c)) d d' v v a b p q f g n n refl refl (subst P is says))

@@ -1,0 +1,13 @@
+-- The lines of the moments so far were put.
+use Rattle.std.proofs.Common.{◌≡◌}
+use Rattle.std.specs.List.{flat_map}
+use Rattle.evac_law.specs.Sums.{below}
+use Rattle.line_io.specs.Writer.{Puts}
+use Rattle.replan_talk.specs.ReplanTalks.{gone_line}
+use Rattle.replan_talk.proofs.gone.write_gone_lines.Given as goal
+
+abbrev pub invariant-loop-moment : goal.invariant-loop-moment
+invariant-loop-moment g l = record {
+  text : Puts (g.K.Sink.held l.initial.sink) l.initial.out (flat_map (gone_line l.replan.gone) (below l.moment)) (g.K.Sink.held l.sink) l.out;
+  faults : g.K.Sink.faults l.sink ≡ g.K.Sink.faults l.initial.sink;
+}

@@ -1,0 +1,46 @@
+// Holding a replan over the lines of a source.
+ghost use Rattle.std.specs.Prelude.{◌≡◌, []};
+ghost use Rattle.evac_law.specs.Building.{IsValid};
+ghost use Rattle.line_io.specs.Calls.{Asks};
+ghost use Rattle.line_io.specs.Reader.{Drained};
+ghost use Rattle.building_table.specs.Names.{NamesFit};
+ghost use Rattle.replan_talk.specs.Held.{HoldsReplan};
+ghost use Rattle.talk.specs.Held.{around};
+
+use crate::speaker::ReplanTalk;
+use building_table::Building;
+use edit_session::BeginFault;
+use evac_law::Steps;
+use line_io::{Lines, Out, Sink, Source};
+use std::alloc::Global;
+use std::sync::ledger::Ledger;
+use talk::status::NO_MEMORY;
+use talk::{hold_talk, refuse_building};
+
+/// Holds a replan of a building over the lines behind it. Answers 0 where the input ended or a line quit, 1 where the model or a line was
+/// refused for good, 3 where the source failed, 4 where the sink failed, and 5 where there was no memory.
+pub fn hold_replan<S: Source, K: Sink, L: Ledger>(
+    alloc: Global,
+    lines: &mut Lines,
+    source: &mut S,
+    out: &mut Out,
+    sink: &mut K,
+    building: Building,
+    steps: &mut Steps<L>,
+) -> u8
+    requires fresh { out.old ≡ [] }
+    requires valid { IsValid building.model }
+    requires names { NamesFit building.names building.model }
+    ensures held { HoldsReplan building.names building.model result
+        (around lines.old (S.left source.old) (S.faults source.old) (K.held sink.old) (K.faults sink.old) steps.old)
+        (around lines.new (S.left source.new) (S.faults source.new) (K.held sink.new) (K.faults sink.new) steps.new) }
+    ensures drained { Drained lines.old (S.left source.old) → Drained lines.new (S.left source.new) }
+    ensures asks { Asks S.takes lines.old.ended source.old lines.new.ended source.new }
+{
+    let line = lines.number();
+    match ReplanTalk::open(alloc, building, steps) {
+        Ok(talk) => hold_talk(lines, source, out, sink, talk, steps),
+        Err(BeginFault::NotCleared(short)) => refuse_building(out, sink, short, line),
+        Err(BeginFault::Memory) => NO_MEMORY,
+    }
+}
