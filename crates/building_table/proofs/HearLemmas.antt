@@ -1,5 +1,5 @@
--- A statement that a builder takes is one more statement.
-use Rattle.std.proofs.Common.{◌≡◌, ℕ, List, [], ◌∷◌, Result, Ok, Err, None, Some, refl, sym, subst, ◌∙◌}
+-- What a reader of a model hears moves it on.
+use Rattle.std.proofs.Common.{◌≡◌, ℕ, List, [], Result, Ok, Err, None, Some, sym, subst, ◌∙◌}
 use Rattle.std.specs.declared.option.Option.{Option}
 use Rattle.line_io.specs.declared.hearing.Heard.{Heard}
 use Rattle.line_io.specs.declared.hearing.Heard.TheVariants.{More, Last}
@@ -7,28 +7,15 @@ use Rattle.line_io.specs.declared.hearing.Refusal.{Refusal}
 use Rattle.line_io.specs.declared.hearing.Refusal.TheVariants as refusals
 use Rattle.line_io.specs.declared.hearing.Refusal.TheVariants.{Code}
 use Rattle.building_table.specs.declared.read.ModelReader.{ModelReader}
-use Rattle.building_table.specs.Built.{IsPart, built_of}
+use Rattle.building_table.specs.Built.{built_of}
 use Rattle.building_table.specs.Reads.{TakesStep, HearsFirst, HearsModel, HearsStep}
-use Rattle.model_text.specs.Grammar.{Said, IsSaid, Blank, Header, End}
-use Rattle.model_text.specs.Readings.{AtStart, InModel, Step, Moved, step_unless, content_step, later_said}
-use Rattle.model_text.specs.Taken.{AreTaken, statement_fault}
-
-pub part-said : (x : Said) → IsPart x → IsSaid x
-part-said Blank p = absurd p
-part-said (Header v) p = absurd p
-part-said End p = absurd p
-part-said x p = p
-
--- such a statement goes on where it has no fault
-pub later-part : (version : ℕ) (taken : List Said) (x : Said) → IsPart x → later_said version taken (Ok x) ≡ step_unless (statement_fault taken x) (Moved (InModel version (x ∷ taken)))
-later-part version taken Blank p = absurd p
-later-part version taken (Header other) p = absurd p
-later-part version taken End p = absurd p
-later-part version taken x p = refl
+use Rattle.model_text.specs.Grammar.{SaidPart}
+use Rattle.model_text.specs.Readings.{AtStart, InModel, Step, content_step}
+use Rattle.model_text.specs.Taken.{AreTaken}
 
 -- ---- a reader of a model
 
-later-at : (result : Result Heard Refusal) (step : Step) (version : ℕ) (taken : List Said) (new : ModelReader) → AreTaken taken → new.version ≡ Some version → TakesStep result step version taken new.builder
+later-at : (result : Result Heard Refusal) (step : Step) (version : ℕ) (taken : List SaidPart) (new : ModelReader) → AreTaken taken → new.version ≡ Some version → TakesStep result step version taken new.builder
     → HearsStep result step new
 later-at (Ok More) step version taken new are still h = (InModel version h.0, h.1, (still, h.2, h.3))
 later-at (Ok Last) step version taken new are still h = (taken, h.0, are, h.1)
@@ -37,7 +24,7 @@ later-at (Err refusals.Memory) step version taken new are still h = tt
 
 -- a line behind the header of a version
 pub hears-later : (result : Result Heard Refusal) (version : ℕ) (r new : ModelReader) (text : List ℕ) (line : ℕ) → r.version ≡ Some version → new.version ≡ Some version
-    → ((taken : List Said) → AreTaken taken → r.builder ≡ built_of taken → TakesStep result (content_step (InModel version taken) text) version taken new.builder) → HearsModel r line text result new
+    → ((taken : List SaidPart) → AreTaken taken → r.builder ≡ built_of taken → TakesStep result (content_step (InModel version taken) text) version taken new.builder) → HearsModel r line text result new
 hears-later result version r new text line first still heard AtStart is = let no : Some version ≡ None = sym first ∙ is.0 in cc
 hears-later result version r new text line first still heard (InModel v taken) is =
     let same : version ≡ v = let e : Some version ≡ Some v = sym first ∙ is.0 in cc in

@@ -25,7 +25,7 @@ use Rattle.building_table.specs.Names.{NameTable, NamesFit, arc_ends, node_names
 use Rattle.building_table.specs.Passes.{ReadsLines, ReadsModel}
 use Rattle.building_table.specs.Reads.{IsInState, HearsModel, Finishes, AnswersBy, ReadsBy, ConcludesModel}
 use Rattle.model_text.specs.Codes.{missing_end}
-use Rattle.model_text.specs.Grammar.{Said}
+use Rattle.model_text.specs.Grammar.{SaidPart}
 use Rattle.model_text.specs.Readings.{Line, Refused, ReadingState, AtStart, Step, Ended, Stopped, step_unless, end_step, step_at, after_step, reading_at, opening_of}
 use Rattle.model_text.specs.Taken.{Description, description_of}
 
@@ -59,7 +59,7 @@ step-last {ending} {from} {to} {a} {c} h w t is step steps rest =
     ∙ ap (λ k. after_step (step_at w.place (Ok t)) k rest (λ y. reading_at y k rest)) (last-number h t is) ∙ ap (λ s. after_step s c.number rest (λ y. reading_at y c.number rest)) steps
 
 -- the end of the model
-ends-model : (a c : Reader) (l n : Option (List ℕ)) (texts : List (List ℕ)) (taken : List Said) (rest : List Line) → Passes a c l n texts → IsLeft (lines_left a l) (lines_left c n) rest
+ends-model : (a c : Reader) (l n : Option (List ℕ)) (texts : List (List ℕ)) (taken : List SaidPart) (rest : List Line) → Passes a c l n texts → IsLeft (lines_left a l) (lines_left c n) rest
     → ((more : List Line) → opening_of a.number (text_lines texts ++ more) ≡ after_step (end_step taken) c.number more (λ y. reading_at y c.number more))
     → (result : Result Building ModelFault) → Finishes result taken c.number → ReadsBy result a c l n
 ends-model a c l n texts taken rest p left means (Ok b) h = record {

@@ -1,4 +1,4 @@
--- What a builder holds after some statements, and the faults of a statement and of an end.
+-- What a builder holds after some parts, and the faults of a part and of an end.
 use Rattle.std.specs.Prelude.{◌≡◌, ℕ, List, map, Some, None}
 use Rattle.std.specs.declared.option.Option.{Option}
 use Rattle.evac_law.specs.declared.entrant.Entrant.{Entrant}
@@ -11,7 +11,7 @@ use Rattle.building_table.specs.declared.faults.EndFault.{EndFault}
 use Rattle.building_table.specs.declared.faults.EndFault.TheVariants as ends
 use Rattle.building_table.specs.Names.{names_of}
 use Rattle.model_text.specs.Codes.{repeated_setting, unknown_floor, repeated_node, over_full, unknown_node, self_arc, from_exit, repeated_arc, too_many, missing_setting, no_exit, too_large, unknown_arc, bad_window, window_overlap, too_many_windows, exit_named, repeated_entrant, entrant_late}
-use Rattle.model_text.specs.Grammar.{Said, IsSaid, Blank, Header, End}
+use Rattle.model_text.specs.Grammar.{SaidPart}
 use Rattle.model_text.specs.Taken.{Description, title_of, seconds_of, horizon_of, floors_of, nodes_of, arcs_of, entrants_of}
 
 -- the settings where they were given, the floors' numbers and their texts, the nodes, the arcs and the entrants
@@ -25,8 +25,8 @@ pub record Built : Type 0 where
   pub arcs : List ArcRow
   pub entrants : List Entrant
 
--- what statements, the last one first, have given
-abbrev pub built_of : List Said → Built
+-- what parts, the last one first, have given
+abbrev pub built_of : List SaidPart → Built
 built_of taken =
     record {
       seconds = seconds_of taken;
@@ -38,13 +38,6 @@ built_of taken =
       arcs = arcs_of taken;
       entrants = entrants_of taken;
     }
-
--- a statement that a builder takes: one that a line may say, other than a blank line, a header or the end
-abbrev pub IsPart : Said → Type 0
-IsPart Blank = ⊥
-IsPart (Header version) = ⊥
-IsPart End = ⊥
-IsPart statement = IsSaid statement
 
 -- the code of a fault; want of memory has none, and comes only where there is no other fault
 abbrev pub build_code : BuildFault → Option ℕ

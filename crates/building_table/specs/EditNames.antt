@@ -1,5 +1,5 @@
--- The edit that a command names.
-use Rattle.std.specs.Prelude.{ℕ, Result, Ok, Err, Some, None, ⊤}
+-- The places and the edits that commands name.
+use Rattle.std.specs.Prelude.{ℕ, Result, Ok, Err, Some, None}
 use Rattle.std.specs.declared.option.Option.{Option}
 use Rattle.evac_law.specs.declared.edit.Edit.{Edit}
 use Rattle.evac_law.specs.declared.edit.Edit.TheVariants as edits
@@ -7,8 +7,8 @@ use Rattle.evac_law.specs.declared.name.NodeName.{NodeName}
 use Rattle.building_table.specs.declared.faults.NameFault.{NameFault}
 use Rattle.building_table.specs.declared.faults.NameFault.TheVariants.{UnknownNode, NoArc}
 use Rattle.building_table.specs.Names.{NameTable, node_place, arc_place}
-use Rattle.model_text.specs.declared.command.Command.{Command}
-use Rattle.model_text.specs.declared.command.Command.TheVariants.{Shut, Reopen, ShutExit, OpenExit, Rate, Room, Shift, Enter, Leave, Window, Unwindow}
+use Rattle.model_text.specs.declared.named_edit.NamedEdit.{NamedEdit}
+use Rattle.model_text.specs.declared.named_edit.NamedEdit.TheVariants.{Shut, Reopen, ShutExit, ReopenExit, Rate, Room, Shift, Enter, Leave, Window, Unwindow}
 
 -- the first fault, or what follows from the value
 infixl 10 ◌>>=◌
@@ -31,27 +31,12 @@ named_nodes names start finish = named_node names start >>= λ a. named_node nam
 abbrev pub named_arc : NameTable → NodeName → NodeName → Result ℕ NameFault
 named_arc names start finish = named_nodes names start finish >>= λ n. or_fault NoArc (arc_place names n.0 n.1)
 
--- the eleven commands that edit
-abbrev pub IsEdit : Command → Type 0
-IsEdit (Shut start finish) = ⊤
-IsEdit (Reopen start finish) = ⊤
-IsEdit (ShutExit node) = ⊤
-IsEdit (OpenExit node) = ⊤
-IsEdit (Rate start finish rate) = ⊤
-IsEdit (Room node capacity) = ⊤
-IsEdit (Shift start finish people) = ⊤
-IsEdit (Enter node people) = ⊤
-IsEdit (Leave node people) = ⊤
-IsEdit (Window start finish first until) = ⊤
-IsEdit (Unwindow start finish first until) = ⊤
-IsEdit _ = ⊥
-
--- the edit of a command that edits, or the first name that has no place; no other command is asked
-unfoldable pub edit_named : NameTable → Command → Result Edit NameFault
+-- the edit at the places of its names, or the first name that has no place
+unfoldable pub edit_named : NameTable → NamedEdit → Result Edit NameFault
 edit_named names (Shut start finish) = named_arc names start finish >>= λ a. Ok (edits.Shut a)
 edit_named names (Reopen start finish) = named_arc names start finish >>= λ a. Ok (edits.Reopen a)
 edit_named names (ShutExit node) = named_node names node >>= λ n. Ok (edits.ShutExit n)
-edit_named names (OpenExit node) = named_node names node >>= λ n. Ok (edits.ReopenExit n)
+edit_named names (ReopenExit node) = named_node names node >>= λ n. Ok (edits.ReopenExit n)
 edit_named names (Rate start finish rate) = named_arc names start finish >>= λ a. Ok (edits.Rate a rate)
 edit_named names (Room node capacity) = named_node names node >>= λ n. Ok (edits.Room n capacity)
 edit_named names (Shift start finish people) = named_nodes names start finish >>= λ n. Ok (edits.Shift n.0 n.1 people)
@@ -59,4 +44,3 @@ edit_named names (Enter node people) = named_node names node >>= λ n. Ok (edits
 edit_named names (Leave node people) = named_node names node >>= λ n. Ok (edits.Leave n people)
 edit_named names (Window start finish first until) = named_arc names start finish >>= λ a. Ok (edits.Window a first until)
 edit_named names (Unwindow start finish first until) = named_arc names start finish >>= λ a. Ok (edits.Unwindow a first until)
-edit_named names _ = Err NoArc

@@ -20,18 +20,18 @@ use Rattle.building_table.specs.declared.faults.ModelFault.TheVariants.{Named, R
 use Rattle.building_table.specs.Built.{Built, IsBuilding, built_of}
 use Rattle.building_table.specs.declared.read.ModelReader.{ModelReader}
 use Rattle.model_text.specs.Codes.{missing_end}
-use Rattle.model_text.specs.Grammar.{Said}
+use Rattle.model_text.specs.Grammar.{SaidPart}
 use Rattle.model_text.specs.Readings.{Line, Described, Refused, ReadingState, AtStart, InModel, Step, Moved, Stopped, end_step, step_at, opening_of}
 use Rattle.model_text.specs.Taken.{Description, description_of, end_fault, AreTaken}
 
--- a builder with the statements behind the header of a version heard a line that takes a step
-abbrev pub TakesStep : Result Heard Refusal → Step → ℕ → List Said → Built → Type 0
-TakesStep (Ok More) step version taken new = (next : List Said) × (step ≡ Moved (InModel version next)) × AreTaken next × (new ≡ built_of next)
+-- a builder with the parts behind the header of a version heard a line that takes a step
+abbrev pub TakesStep : Result Heard Refusal → Step → ℕ → List SaidPart → Built → Type 0
+TakesStep (Ok More) step version taken new = (next : List SaidPart) × (step ≡ Moved (InModel version next)) × AreTaken next × (new ≡ built_of next)
 TakesStep (Ok Last) step version taken new = (step ≡ end_step taken) × (new ≡ built_of taken)
 TakesStep (Err (Code code)) step version taken new = step ≡ Stopped code
 TakesStep (Err refusals.Memory) step version taken new = ⊤
 
--- a line before the statements that takes a step: a version is that of the header
+-- a line before the parts that takes a step: a version is that of the header
 abbrev pub HearsFirst : Result (Option ℕ) Refusal → Step → Type 0
 HearsFirst (Ok None) step = step ≡ Moved AtStart
 HearsFirst (Ok (Some version)) step = step ≡ Moved (InModel version [])
@@ -48,15 +48,15 @@ IsInState r (InModel version taken) = (r.version ≡ Some version) × AreTaken t
 -- what a reader answers to a line that takes a step
 abbrev pub HearsStep : Result Heard Refusal → Step → ModelReader → Type 0
 HearsStep (Ok More) step new = (state : ReadingState) × (step ≡ Moved state) × IsInState new state
-HearsStep (Ok Last) step new = (taken : List Said) × (step ≡ end_step taken) × AreTaken taken × (new.builder ≡ built_of taken)
+HearsStep (Ok Last) step new = (taken : List SaidPart) × (step ≡ end_step taken) × AreTaken taken × (new.builder ≡ built_of taken)
 HearsStep (Err (Code code)) step new = step ≡ Stopped code
 HearsStep (Err refusals.Memory) step new = ⊤
 
 abbrev pub HearsModel : Hearing ModelReader Refusal
 HearsModel r line text result new = (state : ReadingState) → IsInState r state → HearsStep result (step_at state (Ok text)) new
 
--- the building of the statements, or the fault of their end; memory may be wanting where there is none
-abbrev pub Finishes : Result Building ModelFault → List Said → ℕ → Type 0
+-- the building of the parts, or the fault of their end; memory may be wanting where there is none
+abbrev pub Finishes : Result Building ModelFault → List SaidPart → ℕ → Type 0
 Finishes (Ok building) taken line = (end_fault taken ≡ None) × IsBuilding building (description_of taken)
 Finishes (Err (Named code number)) taken line = (end_fault taken ≡ Some code) × (number ≡ line)
 Finishes (Err ReadFault) taken line = ⊥
@@ -89,7 +89,7 @@ pub record ReadsBy (result : Result Building ModelFault) (before after : Reader)
 
 -- the answer of a reader that heard all, or behind which the lines ended, where so many went by
 abbrev pub ConcludesModel : Ending Refusal → ModelReader → ℕ → Result Building ModelFault → Type 0
-ConcludesModel endings.Finished reader number result = (taken : List Said) → AreTaken taken → reader.builder ≡ built_of taken → Finishes result taken number
+ConcludesModel endings.Finished reader number result = (taken : List SaidPart) → AreTaken taken → reader.builder ≡ built_of taken → Finishes result taken number
 ConcludesModel (endings.Failed (Code code)) reader number result = result ≡ Err (Named code number)
 ConcludesModel (endings.Failed refusals.Memory) reader number result = result ≡ Err Memory
 ConcludesModel endings.InputEnded reader number result = result ≡ Err (Named missing_end (number + 1))

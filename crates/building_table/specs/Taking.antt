@@ -1,4 +1,4 @@
--- What a statement does to what a builder holds.
+-- What a part does to what a builder holds.
 use Rattle.std.specs.Prelude.{◌≡◌, ℕ, ◌+◌, ◌*◌, ◌≤◌, Bool, not, ◌||◌, ◌==◌, nat_lt, nat_le, List, [], ◌∷◌, ◌++◌, length, map, is_some, is_none, unwrap_or, Result, None, OnOk, OnErr, IfErr}
 use Rattle.std.specs.List.{list_any, sum_by}
 use Rattle.evac_law.specs.Limits.{floor_limit, node_limit, arc_limit, people_limit, cell_limit, window_limit}
@@ -40,7 +40,7 @@ windows_held b start finish = arc_windows b.arcs (place_held b start finish)
 abbrev pub people_held : List NodeRow → List Entrant → ℕ
 people_held nodes entrants = sum_by (λ n. n.start) nodes + sum_by (λ e. e.people) entrants
 
--- the checks of a statement in their order, each with its code
+-- the checks of a part in their order, each with its code
 abbrev pub title_checks : Built → List (Bool × ℕ)
 title_checks b = (is_some b.title, repeated_setting) ∷ []
 

@@ -1,15 +1,15 @@
-// A building from its statements, one by one.
+// A building from its parts, one by one.
 ghost use Rattle.std.specs.Prelude.{◌≡◌, ◌≤◌, ◌<◌, ◌+◌, ◌*◌, ◌∷◌, ◌&&◌, ◌==◌, List, [], length, true, false, nat_le, nat_lt, MatchOption, ◌++◌, IfErr, IfOk, OnErr, OnOk, Some, None};
 ghost use Rattle.std.specs.List.{list_any, position};
 ghost use Rattle.evac_law.specs.Building.{IsValid};
-ghost use Rattle.evac_law.specs.Limits.{arc_limit, capacity_limit, cell_limit, floor_limit, horizon_limit, node_limit, people_limit, window_limit};
+ghost use Rattle.evac_law.specs.Limits.{arc_limit, cell_limit, floor_limit, node_limit, people_limit, window_limit};
 ghost use Rattle.evac_law.specs.Names.{is_exit};
 ghost use Rattle.evac_law.specs.Windows.{overlaps};
-ghost use Rattle.building_table.specs.Built.{Built, IsBuilding, IsPart, build_code, built_of, end_code};
+ghost use Rattle.building_table.specs.Built.{Built, IsBuilding, build_code, built_of, end_code};
 ghost use Rattle.building_table.specs.Taking.{Takes, end_checks, holds_node, arc_checks, close_checks, entrant_checks, exit_checks, floor_checks, holds_floor, horizon_checks, people_held, period_checks, room_checks, title_checks, window_checks, adding_arc, adding_entrant, adding_node, adding_window, with_floor};
-ghost use Rattle.model_text.specs.Grammar.{Said};
-ghost use Rattle.model_text.specs.Reads.{said};
-ghost use Rattle.model_text.specs.Taken.{AreTaken, closing, description_of, end_fault, entrant_of, first_code, is_coming, joins, place_of_arc, place_of_node, same_name, statement_fault, arc_windows, with_entrant};
+ghost use Rattle.model_text.specs.Grammar.{SaidPart};
+ghost use Rattle.model_text.specs.Reads.{said_part};
+ghost use Rattle.model_text.specs.Taken.{AreTaken, closing, description_of, end_fault, entrant_of, first_code, is_coming, joins, place_of_arc, place_of_node, same_name, part_fault, arc_windows, with_entrant};
 
 use crate::building::Building;
 use crate::entrants::EntrantTable;
@@ -20,7 +20,7 @@ use evac_law::limits::{
     ARC_LIMIT, CELL_LIMIT, FLOOR_LIMIT, NODE_LIMIT, PEOPLE_LIMIT, WINDOW_LIMIT,
 };
 use evac_law::{ArcRow, NodeName, NodeRow, Rows, Window};
-use model_text::Statement;
+use model_text::Part;
 use std::alloc::{AllocError, Global};
 use std::marker::Model;
 
@@ -197,10 +197,9 @@ impl Builder {
 
     #[tactic(auto, unfolding(evac_law::specs::Limits::people_limit))]
     fn is_crowded(&self, more: u32) -> bool
-        requires { more ≤ people_limit }
         ensures { result ≡ nat_lt people_limit (people_held self.now.nodes self.now.entrants + more) }
     {
-        self.people + more > PEOPLE_LIMIT
+        u64::from(self.people) + u64::from(more) > u64::from(PEOPLE_LIMIT)
     }
 
     fn has_exit(&self) -> bool
@@ -276,9 +275,7 @@ impl Builder {
         Ok(())
     }
 
-    #[tactic(auto, unfolding(evac_law::specs::Limits::capacity_limit, evac_law::specs::Limits::people_limit))]
     fn take_room(&mut self, name: NodeName, capacity: u32, start: u32) -> Result<(), BuildFault>
-        requires { start ≤ capacity_limit }
         ensures { Takes result (room_checks self.old name capacity start) self.old self.new (adding_node self.old name capacity start) }
     {
         if !self.has_floor(name.floor) {
@@ -387,16 +384,13 @@ impl Builder {
         Ok(())
     }
 
-    #[tactic(auto, unfolding(evac_law::specs::Limits::horizon_limit))]
     fn take_window(
         &mut self,
         start: NodeName,
         finish: NodeName,
-        first: u32,
-        until: u32,
+        first: u16,
+        until: u16,
     ) -> Result<(), BuildFault>
-        requires first_fits { first ≤ horizon_limit }
-        requires until_fits { until ≤ horizon_limit + 1 }
         ensures { Takes result (window_checks self.old start finish first until) self.old self.new (adding_window self.old start finish first until) }
     {
         let Some(from) = self.node_place(start) else {
@@ -411,13 +405,7 @@ impl Builder {
         if until <= first {
             return Err(BuildFault::BadWindow);
         }
-        self.close(
-            arc,
-            Window {
-                from: first as u16,
-                until: until as u16,
-            },
-        )
+        self.close(arc, Window { from: first, until })
     }
 
     // Puts one more entrant among the others.
@@ -437,7 +425,6 @@ impl Builder {
     }
 
     fn take_entrant(&mut self, name: NodeName, moment: u16, people: u32) -> Result<(), BuildFault>
-        requires { people ≤ people_limit }
         ensures { Takes result (entrant_checks self.old name moment people) self.old self.new (adding_entrant self.old name moment people) }
     {
         let Some(node) = self.node_place(name) else {
@@ -455,50 +442,48 @@ impl Builder {
         self.push_entrant(node, moment, people)
     }
 
-    /// Takes one more statement: a title, a period, a horizon, a floor, a node, an exit, an arc, a window or an entrant.
-    pub fn take(&mut self, alloc: Global, statement: Statement<'_>) -> Result<(), BuildFault>
-        requires { IsPart (said statement) }
-        ensures taken { OnOk result ((before : List Said) → self.old ≡ built_of before → (statement_fault before (said statement.entry) ≡ None) × (self.new ≡ built_of (said statement.entry ∷ before))) }
-        ensures fault { IfErr result (λ fault. (before : List Said) → self.old ≡ built_of before → statement_fault before (said statement.entry) ≡ build_code fault) }
+    /// Takes one more part.
+    pub fn take(&mut self, alloc: Global, part: Part<'_>) -> Result<(), BuildFault>
+        ensures taken { OnOk result ((before : List SaidPart) → self.old ≡ built_of before → (part_fault before (said_part part.entry) ≡ None) × (self.new ≡ built_of (said_part part.entry ∷ before))) }
+        ensures fault { IfErr result (λ fault. (before : List SaidPart) → self.old ≡ built_of before → part_fault before (said_part part.entry) ≡ build_code fault) }
         ensures unchanged { OnErr result (self.new ≡ self.old) }
     {
-        match statement {
-            Statement::Title { text } => self.take_title(alloc, text),
-            Statement::Period { seconds } => self.take_period(seconds),
-            Statement::Horizon { moments } => self.take_horizon(moments),
-            Statement::Floor { floor, text } => self.take_floor(alloc, floor, text),
-            Statement::Node {
+        match part {
+            Part::Title { text } => self.take_title(alloc, text),
+            Part::Period { seconds } => self.take_period(seconds),
+            Part::Horizon { moments } => self.take_horizon(moments),
+            Part::Floor { floor, text } => self.take_floor(alloc, floor, text),
+            Part::Node {
                 name,
                 capacity,
                 start,
             } => self.take_room(name, capacity, start),
-            Statement::Exit { name } => self.take_exit(name),
-            Statement::Arc {
+            Part::Exit { name } => self.take_exit(name),
+            Part::Arc {
                 from,
                 to,
                 travel,
                 rate,
             } => self.take_arc(from, to, travel, rate),
-            Statement::Window {
+            Part::Window {
                 from,
                 to,
                 first,
                 until,
             } => self.take_window(from, to, first, until),
-            Statement::Entrant {
+            Part::Entrant {
                 name,
                 moment,
                 people,
             } => self.take_entrant(name, moment, people),
-            Statement::Blank | Statement::Header { .. } | Statement::End => unreachable!(),
         }
     }
 
-    /// The building of the statements that were taken.
+    /// The building of the parts that were taken.
     pub fn finish(self, alloc: Global) -> Result<Building, EndFault>
-        ensures building { IfOk result (λ b. (taken : List Said) → AreTaken taken → self ≡ built_of taken → (end_fault taken ≡ None) × IsBuilding b (description_of taken)) }
-        ensures valid { IfOk result (λ b. (taken : List Said) → AreTaken taken → self ≡ built_of taken → IsValid b.model) }
-        ensures fault { IfErr result (λ fault. (taken : List Said) → self ≡ built_of taken → end_fault taken ≡ end_code fault) }
+        ensures building { IfOk result (λ b. (taken : List SaidPart) → AreTaken taken → self ≡ built_of taken → (end_fault taken ≡ None) × IsBuilding b (description_of taken)) }
+        ensures valid { IfOk result (λ b. (taken : List SaidPart) → AreTaken taken → self ≡ built_of taken → IsValid b.model) }
+        ensures fault { IfErr result (λ fault. (taken : List SaidPart) → self ≡ built_of taken → end_fault taken ≡ end_code fault) }
     {
         let (seconds, horizon) = self.settings()?;
         let Ok(entrants) = self.entrants.rows(alloc) else {

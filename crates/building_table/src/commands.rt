@@ -1,14 +1,14 @@
-// The edit that a command names.
+// The places and the edits that commands name.
 ghost use Rattle.std.specs.Prelude.{◌≡◌, ◌<◌, IfOk, length};
 ghost use Rattle.evac_law.specs.Edits.{IsEditOf};
 ghost use Rattle.evac_law.specs.declared.model.Model.{Model};
-ghost use Rattle.building_table.specs.EditNames.{IsEdit, edit_named, named_arc, named_node, named_nodes};
+ghost use Rattle.building_table.specs.EditNames.{edit_named, named_arc, named_node, named_nodes};
 ghost use Rattle.building_table.specs.Names.{NamesFit};
 
 use crate::faults::NameFault;
 use crate::names::Names;
 use evac_law::{Edit, NodeName};
-use model_text::Command;
+use model_text::NamedEdit;
 
 fn node(names: &Names, name: NodeName) -> Result<u32, NameFault>
     ensures { result ≡ named_node names.now name }
@@ -39,50 +39,49 @@ pub fn arc_of(names: &Names, from: NodeName, to: NodeName) -> Result<u32, NameFa
     }
 }
 
-/// The edit that a command names, or the first name that has no place.
+/// The edit at the places of its names, or the first name that has no place.
 #[tactic(auto, unfolding(crate::specs::EditNames::edit_named))]
-pub fn edit_of(names: &Names, command: Command) -> Result<Edit, NameFault>
-    requires { IsEdit command }
-    ensures edit { result ≡ edit_named names.now command }
+pub fn edit_of(names: &Names, named: NamedEdit) -> Result<Edit, NameFault>
+    ensures edit { result ≡ edit_named names.now named }
     ensures within { IfOk result (λ edit. (m : Model) → NamesFit names.now m → IsEditOf m edit) }
 {
-    match command {
-        Command::Shut { from, to } => Ok(Edit::Shut {
+    match named {
+        NamedEdit::Shut { from, to } => Ok(Edit::Shut {
             arc: arc_of(names, from, to)?,
         }),
-        Command::Reopen { from, to } => Ok(Edit::Reopen {
+        NamedEdit::Reopen { from, to } => Ok(Edit::Reopen {
             arc: arc_of(names, from, to)?,
         }),
-        Command::ShutExit { node: name } => Ok(Edit::ShutExit {
+        NamedEdit::ShutExit { node: name } => Ok(Edit::ShutExit {
             node: node(names, name)?,
         }),
-        Command::OpenExit { node: name } => Ok(Edit::ReopenExit {
+        NamedEdit::ReopenExit { node: name } => Ok(Edit::ReopenExit {
             node: node(names, name)?,
         }),
-        Command::Rate { from, to, rate } => Ok(Edit::Rate {
+        NamedEdit::Rate { from, to, rate } => Ok(Edit::Rate {
             arc: arc_of(names, from, to)?,
             rate,
         }),
-        Command::Room {
+        NamedEdit::Room {
             node: name,
             capacity,
         } => Ok(Edit::Room {
             node: node(names, name)?,
             capacity,
         }),
-        Command::Shift { from, to, people } => {
+        NamedEdit::Shift { from, to, people } => {
             let (from, to) = nodes(names, from, to)?;
             Ok(Edit::Shift { from, to, people })
         }
-        Command::Enter { node: name, people } => Ok(Edit::Enter {
+        NamedEdit::Enter { node: name, people } => Ok(Edit::Enter {
             node: node(names, name)?,
             people,
         }),
-        Command::Leave { node: name, people } => Ok(Edit::Leave {
+        NamedEdit::Leave { node: name, people } => Ok(Edit::Leave {
             node: node(names, name)?,
             people,
         }),
-        Command::Window {
+        NamedEdit::Window {
             from,
             to,
             first,
@@ -92,7 +91,7 @@ pub fn edit_of(names: &Names, command: Command) -> Result<Edit, NameFault>
             from: first,
             until,
         }),
-        Command::Unwindow {
+        NamedEdit::Unwindow {
             from,
             to,
             first,
@@ -102,6 +101,5 @@ pub fn edit_of(names: &Names, command: Command) -> Result<Edit, NameFault>
             from: first,
             until,
         }),
-        _ => unreachable!(),
     }
 }

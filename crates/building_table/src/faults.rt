@@ -1,10 +1,10 @@
-// Why a statement, a model or a name is refused.
+// Why a part, a model or a name is refused.
 ghost use Rattle.std.specs.Prelude.{◌≡◌};
 ghost use Rattle.building_table.specs.Built.{build_code, end_code};
 
 use thiserror::Error;
 
-/// Why a statement is refused among those before it.
+/// Why a part is refused among those before it.
 #[derive(Clone, Copy, PartialEq, Eq, Debug, Error)]
 pub enum BuildFault {
     #[error("it was given before")]

@@ -1,64 +1,27 @@
 // One line of a model.
 ghost use Rattle.std.specs.Prelude.{◌≡◌, ℕ, List, IfOk, Ok, Err};
 ghost use Rattle.evac_law.specs.Building.{IsValid};
-ghost use Rattle.building_table.specs.Built.{IsPart, built_of};
+ghost use Rattle.building_table.specs.Built.{built_of};
 ghost use Rattle.building_table.specs.Reads.{Finishes, TakesStep, HearsFirst};
-ghost use Rattle.model_text.specs.Fields.{fields_of};
-ghost use Rattle.model_text.specs.Grammar.{IsSaid, Said};
-ghost use Rattle.model_text.specs.Readings.{AtStart, InModel, begins_unknown, content_step, is_unknown, later_said};
-ghost use Rattle.model_text.specs.Reads.{said};
+ghost use Rattle.model_text.specs.Grammar.{IsSaidPart, SaidPart};
+ghost use Rattle.model_text.specs.Readings.{AtStart, InModel, content_step, later_said};
+ghost use Rattle.model_text.specs.Reads.{said, said_part};
 ghost use Rattle.model_text.specs.Taken.{AreTaken};
 
 use crate::builder::Builder;
 use crate::building::Building;
 use crate::faults::ModelFault;
 use line_io::{Heard, Refusal};
-use model_text::{Fields, Statement, TextFault, is_word, read_line};
+use model_text::{Part, Statement, TextFault, read_later_line, read_line};
 use std::alloc::Global;
 
 // The code of a first line that is no header.
 const FIRST_LINE: u8 = 1;
 
-// Whether a first word is unknown behind the header of a version.
-fn is_unknown(version: u32, word: &[u8]) -> bool
-    ensures { result ≡ is_unknown version word.now }
-{
-    is_word(word, b"evacplan")
-        || (version == 1 && (is_word(word, b"window") || is_word(word, b"entrant")))
-}
-
-// Whether the first word of a line is.
-fn begins_unknown(version: u32, text: &[u8]) -> bool
-    ensures { result ≡ begins_unknown version (fields_of text.now) }
-{
-    let mut fields = Fields::new(text);
-    match fields.next() {
-        None => false,
-        Some(word) => is_unknown(version, word),
-    }
-}
-
-// Takes a statement into a builder.
-fn hear_statement(
-    alloc: Global,
-    builder: &mut Builder,
-    statement: Statement<'_>,
-) -> Result<Heard, Refusal>
-    requires { IsSaid (said statement) }
-    ensures { (version : ℕ) (taken : List Said) → AreTaken taken → builder.old ≡ built_of taken → TakesStep result (later_said version taken (Ok (said statement.entry))) version taken builder.new }
-{
-    match statement {
-        Statement::Blank => Ok(Heard::More),
-        Statement::Header { .. } => Err(Refusal::Code(TextFault::UnknownWord.code())),
-        Statement::End => Ok(Heard::Last),
-        part => hear_part(alloc, builder, part),
-    }
-}
-
-// Takes a statement that a builder takes.
-fn hear_part(alloc: Global, builder: &mut Builder, part: Statement<'_>) -> Result<Heard, Refusal>
-    requires { IsPart (said part) }
-    ensures { (version : ℕ) (taken : List Said) → AreTaken taken → builder.old ≡ built_of taken → TakesStep result (later_said version taken (Ok (said part.entry))) version taken builder.new }
+// Takes a part into a builder.
+fn hear_part(alloc: Global, builder: &mut Builder, part: Part<'_>) -> Result<Heard, Refusal>
+    requires { IsSaidPart (said_part part) }
+    ensures { (version : ℕ) (taken : List SaidPart) → AreTaken taken → builder.old ≡ built_of taken → TakesStep result (later_said version taken (Ok (said (Statement.Part part.entry)))) version taken builder.new }
 {
     match builder.take(alloc, part) {
         Ok(()) => Ok(Heard::More),
@@ -76,13 +39,13 @@ pub(crate) fn hear(
     builder: &mut Builder,
     text: &[u8],
 ) -> Result<Heard, Refusal>
-    ensures { (taken : List Said) → AreTaken taken → builder.old ≡ built_of taken → TakesStep result (content_step (InModel version taken) text.now) version taken builder.new }
+    ensures { (taken : List SaidPart) → AreTaken taken → builder.old ≡ built_of taken → TakesStep result (content_step (InModel version taken) text.now) version taken builder.new }
 {
-    if begins_unknown(version, text) {
-        return Err(Refusal::Code(TextFault::UnknownWord.code()));
-    }
-    match read_line(text) {
-        Ok(statement) => hear_statement(alloc, builder, statement),
+    match read_later_line(version, text) {
+        Ok(Statement::Blank) => Ok(Heard::More),
+        Ok(Statement::Header { .. }) => Err(Refusal::Code(TextFault::UnknownWord.code())),
+        Ok(Statement::Part(part)) => hear_part(alloc, builder, part),
+        Ok(Statement::End) => Ok(Heard::Last),
         Err(fault) => Err(Refusal::Code(fault.code())),
     }
 }
@@ -101,9 +64,9 @@ pub(crate) fn hear_first(text: &[u8]) -> Result<Option<u32>, Refusal>
 
 /// The building of a builder, or the fault of the model's end.
 pub(crate) fn finish(alloc: Global, builder: Builder, line: u32) -> Result<Building, ModelFault>
-    ensures finished { (taken : List Said) → AreTaken taken → builder ≡ built_of taken → Finishes result taken line }
+    ensures finished { (taken : List SaidPart) → AreTaken taken → builder ≡ built_of taken → Finishes result taken line }
     ensures no_read { result ≡ Err ModelFault.ReadFault → ⊥ }
-    ensures valid { IfOk result (λ b. (taken : List Said) → AreTaken taken → builder ≡ built_of taken → IsValid b.model) }
+    ensures valid { IfOk result (λ b. (taken : List SaidPart) → AreTaken taken → builder ≡ built_of taken → IsValid b.model) }
 {
     match builder.finish(alloc) {
         Ok(building) => Ok(building),

@@ -1,6 +1,6 @@
 //! The building that the lines of a model describe: its model, the names of its nodes and arcs, its floors and its title.
 //!
-//! `Builder` takes statements one by one, `read_model` reads them from lines up to `end`, and `Names` finds what commands name.
+//! `Builder` takes parts one by one, `read_model` reads them from lines up to `end`, and `Names` finds what commands name.
 #![tactic(auto)]
 
 mod builder;

@@ -8,11 +8,11 @@ use Rattle.evac_law.specs.Edits.{applied}
 use Rattle.line_io.specs.Line.{Line, text_lines}
 use Rattle.model_text.specs.declared.command.Command.{Command}
 use Rattle.model_text.specs.declared.command.Command.TheVariants as commands
+use Rattle.model_text.specs.declared.named_edit.NamedEdit.{NamedEdit}
 use Rattle.model_text.specs.declared.fault.TextFault.{TextFault}
 use Rattle.model_text.specs.Commands.{command_of}
 use Rattle.model_text.specs.Taken.{Description}
 use Rattle.building_table.specs.declared.faults.NameFault.{NameFault}
-use Rattle.building_table.specs.EditNames.{IsEdit, edit_named}
 use Rattle.building_table.specs.Names.{NameTable, names_of}
 use Rattle.certificate_text.specs.BlockText.{answer_line, answer_text, cleared_line, end_line, label_lines, move_lines, out_lines, people_line, refusal_line}
 use Rattle.session_text.specs.StateTexts.{block_text}
@@ -41,22 +41,8 @@ block-some s e = end-some _ e
 
 -- ---- the line is answered
 
--- whatever an edit gets it gets as an edit
-edit-asks : (names : NameTable) (line : ℕ) (s : State) (c : Command) (r : Reply State) → IsEdit c → Replies names line s (Ok c) r
-    → AsksEdit line s (edit_named names c) r
-edit-asks names line s commands.Blank r is h = absurd is
-edit-asks names line s commands.Undo r is h = absurd is
-edit-asks names line s (commands.Cut k) r is h = absurd is
-edit-asks names line s commands.Routes r is h = absurd is
-edit-asks names line s commands.Clearing r is h = absurd is
-edit-asks names line s commands.Bottlenecks r is h = absurd is
-edit-asks names line s commands.Summary r is h = absurd is
-edit-asks names line s commands.Work r is h = absurd is
-edit-asks names line s commands.Quit r is h = absurd is
-edit-asks names line s c r is h = h
-
-not-quit : (line : List ℕ) (c : Command) → command_of line ≡ Ok c → IsEdit c → command_of line ≡ Ok commands.Quit → ⊥
-not-quit line c says is quits = let same : c ≡ commands.Quit = cc in subst IsEdit same is
+not-quit : (line : List ℕ) (e : NamedEdit) → command_of line ≡ Ok (commands.Edit e) → command_of line ≡ Ok commands.Quit → ⊥
+not-quit line e says quits = cc
 
 -- what ends a talk stands behind its replies
 ends-behind : (S : Type 0) (talk : Talk S) (before : ℕ) (rest : List Line) (r : Reply S) (x : Spoken) → EndsAt talk before rest r x
@@ -78,7 +64,7 @@ edit-gets d number line edited s r of a h =
     let Q : Result Edit NameFault → Type 0 = λ e. AsksEdit number s e r in
     let R : Model → Type 0 = λ m. Edits number s (applied m a.edit) r in
     let T : Result (Model × Edit) EditFault → Type 0 = λ made. Edits number s made r in
-    let asks : AsksEdit number s (Ok a.edit) r = subst Q a.named (edit-asks (names_of d) number s a.command r a.edits (subst P a.says h)) in
+    let asks : AsksEdit number s (Ok a.edit) r = subst Q a.named (subst P a.says h) in
     accepted-gets number s edited a.inverse r a.can (subst T a.accepted (subst R of asks))
 
 -- ---- what is written
@@ -108,7 +94,7 @@ unfolding RepliesTo
 by-answered d last line lines x edited opening more [] rest parts of a h ends =
     let T : List Line → Type 0 = λ l. EndsAt (session (names_of d) d.model) (last + 0) l (followed opening more) (spoken x) in
     let quits = subst T (sym parts) ends in
-    absurd (not-quit line a.command a.says a.edits quits.0)
+    absurd (not-quit line a.by_names a.says quits.0)
 by-answered d last line lines x edited opening more (text ∷ texts) rest parts of a h ends =
     let same : text ≡ line = cc in
     let P : List ℕ → Type 0 = λ t. Replies (names_of d) (last + 1) opening.after (command_of t) h.0 in

@@ -10,6 +10,8 @@ use Rattle.line_io.specs.Causes.{Rose}
 use Rattle.line_io.specs.Line.{Line, lines_of}
 use Rattle.model_text.specs.declared.command.Command.{Command}
 use Rattle.model_text.specs.declared.command.Command.TheVariants as commands
+use Rattle.model_text.specs.declared.command.Report.{Report}
+use Rattle.model_text.specs.declared.command.Report.TheVariants.{Routes, Clearing, Bottlenecks, Summary}
 use Rattle.model_text.specs.declared.fault.TextFault.{TextFault}
 use Rattle.model_text.specs.Commands.{command_of}
 use Rattle.model_text.specs.Readings.{Described, Reading, Refused, model_of}
@@ -20,8 +22,8 @@ use Rattle.building_table.specs.Names.{NameTable, names_of}
 use Rattle.certificate_text.proofs.AnswerBack.{reads_back}
 use Rattle.edit_session.specs.Sessions.{IsSolved, with_former}
 use Rattle.edit_session.specs.Thrift.{IsThrifty, IsThriftyOpening}
-use Rattle.replan_talk.specs.ReplanTalks.{AdvancesTo, AsksAdvance, AsksSession, CarriesOut, ReplanReplies, Replanned, RowOf, asks_advance, asks_of_people, is_barred, moment_of, replan}
-use Rattle.session_talk.specs.Sessions.{Advances, AsksEdit, Edits, IsAnswerText, Replies, State, Undoes, session}
+use Rattle.replan_talk.specs.ReplanTalks.{AdvancesTo, AsksAdvance, AsksSession, CarriesOut, ReplanReplies, Replanned, RowOf, asks_advance, asks_of_people, is_bad_moment, asked_moment, replan}
+use Rattle.session_talk.specs.Sessions.{Advances, AsksEdit, Edits, IsAnswerText, Replies, Reports, State, Undoes, session}
 use Rattle.talk.specs.Talks.{EndsAt, RepliesTo, Reply, TalkRun, says}
 use Rattle.session_talk.proofs.Bridge.{answer_of}
 use Rattle.session_talk.proofs.Same.{cut_stays}
@@ -80,18 +82,21 @@ undoes : (line : ℕ) (s : State) (former : List Model) (r : Reply State) → Un
 undoes line s [] r h = stays s _ r h
 undoes line s (m ∷ earlier) r h = advances s m earlier r h
 
+reports : (names : NameTable) (s : State) (report : Report) (r : Reply State) → Reports names s report r → KeepsPromise s r
+reports names s Routes r h = stays s h.0 r h.2
+reports names s Clearing r h = stays s _ r h
+reports names s Bottlenecks r h = stays s _ r h
+reports names s Summary r h = stays s h.0 r h.2
+
 one_line : (names : NameTable) (line : ℕ) (s : State) (c : Result Command TextFault) (r : Reply State) → Replies names line s c r → KeepsPromise s r
 one_line names line s (Err fault) r h = stays s _ r h
 one_line names line s (Ok commands.Blank) r h = stays s _ r h
+one_line names line s (Ok (commands.Edit edit)) r h = named line s (edit_named names edit) r h
 one_line names line s (Ok commands.Undo) r h = undoes line s s.standing.former r h
 one_line names line s (Ok (commands.Cut k)) r h = inr (ap (λ (a : Reply State). a.after) h ∙ cut_stays line s k)
-one_line names line s (Ok commands.Routes) r h = stays s h.0 r h.2
-one_line names line s (Ok commands.Clearing) r h = stays s _ r h
-one_line names line s (Ok commands.Bottlenecks) r h = stays s _ r h
-one_line names line s (Ok commands.Summary) r h = stays s h.0 r h.2
+one_line names line s (Ok (commands.Report report)) r h = reports names s report r h
 one_line names line s (Ok commands.Work) r h = stays s _ r h
 one_line names line s (Ok commands.Quit) r h = absurd h
-one_line names line s (Ok c) r h = named line s (edit_named names c) r h
 
 -- ---- all lines
 
@@ -161,14 +166,14 @@ advanced-to line s p false r h = inl (carries-out s p r h)
 
 asked-advance : (line : ℕ) (s : Replanned) (named : Result ℕ TextFault) (r : Reply Replanned) → AsksAdvance line s named r → KeepsCarried s r
 asked-advance line s (Err fault) r h = stays-there s _ r h
-asked-advance line s (Ok p) r h = advanced-to line s p (is_barred s p) r h
+asked-advance line s (Ok p) r h = advanced-to line s p (is_bad_moment s p) r h
 
 asked-session : (names : NameTable) (line : ℕ) (s : Replanned) (c : Result Command TextFault) (late : Bool) (r : Reply Replanned) → AsksSession names line s c late r → KeepsCarried s r
 asked-session names line s c true r h = stays-there s _ r h
 asked-session names line s c false r h = inr (inl (h.0, one_line names line s.session c h.0 h.1, h.2))
 
 row-of : (names : NameTable) (line : ℕ) (s : Replanned) (text : List ℕ) (asks : Bool) (r : Reply Replanned) → RowOf names line s text asks r → KeepsCarried s r
-row-of names line s text true r h = asked-advance line s (moment_of text) r h
+row-of names line s text true r h = asked-advance line s (asked_moment text) r h
 row-of names line s text false r h = asked-session names line s (command_of text) (nat_lt 0 s.moment && asks_of_people names (command_of text)) r h
 
 carried-lines : (names : NameTable) (m : Model) (before : ℕ) (s : Replanned) (lines : List (List ℕ)) (r : Reply Replanned) → RepliesTo (replan names m).Gets before s lines r

@@ -13,7 +13,7 @@ use Rattle.route_decompose.specs.Routes.{Covers, RouteView}
 use Rattle.session_text.specs.Spaces.{SpaceView}
 use Rattle.session_text.specs.StateTexts.{SaysReports, SaysRoutesOf, block_text, bottlenecks_of, clearing_of}
 use Rattle.evac_top.specs.Solve.{SaysPlan, Where}
-use Rattle.evac_top.specs.Tables.{HasTables, IsMade}
+use Rattle.evac_top.specs.Tables.{HasTablesAsked, HasReports}
 use Rattle.evac_top.specs.declared.tables.Tables.{Tables}
 use Rattle.evac_top.specs.declared.words.Flags.{Flags}
 
@@ -53,10 +53,10 @@ made-cards s made fair = record { cards = made; fair = fair; says = refl }
 abbrev pub made_text : NameTable → SessionState → SpaceView → List ℕ
 made_text names s t = clearing_of names 0 s ++ bottlenecks_of 0 s ++ summary_text 0 names.title s.model s.plan s.last t.clearing.time
 
-pub made-says : (names : NameTable) (s : SessionState) (t : SpaceView) → IsMade names s t → SaysReports names 0 s (made_text names s t)
+pub made-says : (names : NameTable) (s : SessionState) (t : SpaceView) → HasReports names s t → SaysReports names 0 s (made_text names s t)
 made-says names s t h = (summary_text 0 names.title s.model s.plan s.last t.clearing.time, (t.clearing.time, h.plan.time_is, refl), refl)
 
-pub says-plan : (flags : Flags) (names : NameTable) (s : SessionState) (t : Tables) (r q p : List ℕ) → HasTables flags names s t
+pub says-plan : (flags : Flags) (names : NameTable) (s : SessionState) (t : Tables) (r q p : List ℕ) → HasTablesAsked flags names s t
     → Where (is_some t.routes) (SaysRoutesOf 0 s) r → Where (is_some t.cards) (SaysCards 0 s.model s.plan) q → Where (is_some t.reports) (SaysReports names 0 s) p
     → SaysPlan flags names s (block_text 0 s ++ r ++ q ++ p)
 says-plan flags names s t r q p has says_r says_q says_p = record {

@@ -6,10 +6,11 @@ use Rattle.evac_law.specs.declared.model.Model.{Model}
 use Rattle.evac_law.specs.Certificates.{IsClearable}
 use Rattle.evac_law.specs.Edits.{applied}
 use Rattle.line_io.specs.Line.{Line}
-use Rattle.model_text.specs.declared.command.Command.{Command}
+use Rattle.model_text.specs.declared.command.Command.TheVariants as commands
+use Rattle.model_text.specs.declared.named_edit.NamedEdit.{NamedEdit}
 use Rattle.model_text.specs.Commands.{command_of}
 use Rattle.model_text.specs.Taken.{Description}
-use Rattle.building_table.specs.EditNames.{IsEdit, edit_named}
+use Rattle.building_table.specs.EditNames.{edit_named}
 use Rattle.building_table.specs.Names.{names_of}
 use Rattle.session_talk.specs.Sessions.{State}
 use Rattle.talk.specs.Talks.{Reply}
@@ -18,12 +19,11 @@ use Rattle.evac_top.specs.Headline.{IsBestBlock, KeepsAll}
 
 -- a line is an edit of a building that is accepted, and leads to another that can be cleared
 pub record IsAcceptedEdit (d : Description) (line : List ℕ) (edited : Model) : Type 0 where
-  pub command : Command
+  pub by_names : NamedEdit
   pub edit : Edit
   pub inverse : Edit
-  pub says : command_of line ≡ Ok command
-  pub edits : IsEdit command
-  pub named : edit_named (names_of d) command ≡ Ok edit
+  pub says : command_of line ≡ Ok (commands.Edit by_names)
+  pub named : edit_named (names_of d) by_names ≡ Ok edit
   pub accepted : applied d.model edit ≡ Ok (edited, inverse)
   pub can : IsClearable edited
 

@@ -59,9 +59,9 @@ mode_of (v ∷ more) =
     else None
 
 -- a drill has no more storeys than can be built
-abbrev pub IsWithin : Mode → Type 0
-IsWithin (Drill number) = number ≤ STOREY_LIMIT
-IsWithin mode = ⊤
+abbrev pub IsBuildable : Mode → Type 0
+IsBuildable (Drill number) = number ≤ STOREY_LIMIT
+IsBuildable mode = ⊤
 
 -- whether a mode reads its input
 abbrev pub reads : Option Mode → Bool

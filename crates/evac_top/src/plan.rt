@@ -6,7 +6,7 @@ ghost use Rattle.route_decompose.specs.Routes.{Covers, IsSameSite, RouteView};
 ghost use Rattle.session_text.specs.StateTexts.{SaysReports, SaysRoutesOf};
 ghost use Rattle.evac_top.specs.Sends.{Sends};
 ghost use Rattle.evac_top.specs.Solve.{SaysPlan, Where};
-ghost use Rattle.evac_top.specs.Tables.{HasTables, IsMade};
+ghost use Rattle.evac_top.specs.Tables.{HasTablesAsked, HasReports};
 ghost use Rattle.evac_top.specs.declared.words.Flags.{Flags};
 
 use crate::deal::put_cards;
@@ -77,7 +77,7 @@ fn put_made<K: Sink>(
     names: &Names,
     reports: &Option<ReportSpace>,
 ) -> Result<(), WriteFault>
-    requires { IfSome reports.now (IsMade names.now session.now.state) }
+    requires { IfSome reports.now (HasReports names.now session.now.state) }
     ensures text { (text : List ℕ) × Where (is_some reports.now) (SaysReports names.now 0 session.now.state) text
         × PutsOn so_far (K.held sink.old) out.old text (K.held sink.new) out.new result }
     ensures cause { (n : Count) → HasCause n (K.faults sink.old) so_far → HasCause n (K.faults sink.new) result }
@@ -100,8 +100,8 @@ pub(crate) fn send_plan<K: Sink>(
     requires fresh { out.old ≡ [] }
     requires site { IfSome tables.old.routes (λ r. IsSameSite session.now.state.model r.model) }
     requires cards { IfSome tables.old.cards (λ c. IsSameSite session.now.state.model c.model) }
-    requires made { IfSome tables.old.reports (IsMade names.now session.now.state) }
-    ensures text { (flags : Flags) → HasTables flags names.now session.now.state tables.old
+    requires made { IfSome tables.old.reports (HasReports names.now session.now.state) }
+    ensures text { (flags : Flags) → HasTablesAsked flags names.now session.now.state tables.old
         → (text : List ℕ) × SaysPlan flags names.now session.now.state text × Sends (K.held sink.old) (K.held sink.new) text result }
     ensures cause { HasCause (K.faults sink.old) (K.faults sink.new) result }
 {

@@ -1,7 +1,7 @@
 // The tables of what is asked for behind a block.
 ghost use Rattle.std.specs.Prelude.{◌≡◌, IfOk, IfSome, is_some};
 ghost use Rattle.route_decompose.specs.Routes.{IsSameSite};
-ghost use Rattle.evac_top.specs.Tables.{HasTables, IsMade};
+ghost use Rattle.evac_top.specs.Tables.{HasTablesAsked, HasReports};
 
 use crate::words::Flags;
 use building_table::Names;
@@ -21,7 +21,7 @@ pub struct Tables {
 
 // Makes the reports on where a session stands.
 fn make_reports(alloc: Global, session: &Session, names: &Names) -> Result<ReportSpace, AllocError>
-    ensures { IfOk result (IsMade names.now session.now.state) }
+    ensures { IfOk result (HasReports names.now session.now.state) }
 {
     let mut space = ReportSpace::new(alloc, session.model(), names)?;
     space.report_plan(session);
@@ -53,7 +53,7 @@ impl Tables {
         session: &Session,
         names: &Names,
     ) -> Result<Tables, AllocError>
-        ensures { IfOk result (HasTables flags names.now session.now.state) }
+        ensures { IfOk result (HasTablesAsked flags names.now session.now.state) }
     {
         let routes = if flags.routes {
             Some(Routes::new(alloc, session.model())?)

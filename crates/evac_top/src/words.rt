@@ -1,7 +1,7 @@
 // The modes of the program, and the words that ask for them.
 ghost use Rattle.std.specs.Prelude.{◌≡◌, ◌≤◌, IfSome, map, string_bytes};
 ghost use Rattle.model_text.specs.NameFields.{plain_within};
-ghost use Rattle.evac_top.specs.Words.{IsWithin, cards_alone, mode_alone, flags_of, mode_of, one_flag, storeys_of, two_flags};
+ghost use Rattle.evac_top.specs.Words.{IsBuildable, cards_alone, mode_alone, flags_of, mode_of, one_flag, storeys_of, two_flags};
 
 use drill_building::STOREY_LIMIT;
 use model_text::read_number;
@@ -138,7 +138,7 @@ fn cards_alone() -> Flags
 /// The mode that words ask for.
 pub(crate) fn mode_of(words: &[String]) -> Option<Mode>
     ensures mode { result ≡ mode_of (map string_bytes words.now) }
-    ensures few { IfSome result IsWithin }
+    ensures few { IfSome result IsBuildable }
 {
     let [word, more @ ..] = words else {
         return None;

@@ -18,7 +18,7 @@ use Rattle.exit_study.specs.Rates.{IsClearedBy, IsEnough, IsLeastRate, IsNoRate,
 use Rattle.evac_law.proofs.EditLemmas.{valid_arc}
 use Rattle.evac_law.proofs.Optimal.{certified_is_feasible, label_cut_is_cut, out_le_out, out_stays}
 use Rattle.evac_law.proofs.WeakDuality.{out_le_value}
-use Rattle.edit_session.specs.Sessions.{IsEdited, IsNotCleared, IsSolved, IsTried, SessionState}
+use Rattle.edit_session.specs.Sessions.{IsEdited, IsNotCleared, IsSolved, IsTrial, SessionState}
 use Rattle.edit_session.proofs.Ring.{edited_is}
 use Rattle.exit_study.specs.Exits.{IsClearedAt, without_exit}
 use Rattle.exit_study.proofs.RateLemmas.{enough_stays, people_at}
@@ -76,12 +76,12 @@ tried_made m a k r s t is j h = by (leb t.last k) refl
     by true e = cleared_by (at_rate m a r) t k now h.goes_on.solved (leb-true t.last k e)
     by false e = slow_before (at_rate m a r) t k now h.goes_on.solved (leb-false t.last k e)
 
-pub tried_told : (s : SessionState) (a k r last steps : ℕ) → k ≤ s.model.horizon → IsTried s (edits.Rate a r) last steps → TellsEnough s.model a k r (leb last k)
+pub tried_told : (s : SessionState) (a k r last steps : ℕ) → k ≤ s.model.horizon → IsTrial s (edits.Rate a r) last steps → TellsEnough s.model a k r (leb last k)
 tried_told s a k r last steps j h =
     subst (λ (c : ℕ). TellsEnough s.model a k r (leb c k)) h.out (tried_made s.model a k r s h.after refl j h.edited)
 
 -- what shutting an exit shows
-pub exit_tried : (s : SessionState) (x last steps : ℕ) → IsTried s (edits.ShutExit x) last steps → IsClearedAt (without_exit s.model x) last
+pub exit_tried : (s : SessionState) (x last steps : ℕ) → IsTrial s (edits.ShutExit x) last steps → IsClearedAt (without_exit s.model x) last
 exit_tried s x last steps h =
     let t = h.after in
     let now : t.model ≡ without_exit s.model x =

@@ -8,11 +8,16 @@ use Rattle.evac_law.specs.Names.{IsName, is_exit}
 use Rattle.evac_law.specs.declared.name.NodeName.{NodeName}
 use Rattle.model_text.specs.declared.command.Command.{Command}
 use Rattle.model_text.specs.declared.command.Command.TheVariants as commands
+use Rattle.model_text.specs.declared.command.Report.TheVariants as reports
 use Rattle.model_text.specs.declared.fault.TextFault.{TextFault}
 use Rattle.model_text.specs.declared.fault.TextFault.TheVariants.{UnknownWord, FieldCount, BadNumber, OutOfRange, BadName, UnknownCommand}
-use Rattle.model_text.specs.Commands.{alone, with_number, with_name, two_names, with_names, name_number, with_name_number, names_number, with_names_number, names_numbers, with_names_numbers, edit_by_word, request_by_word, command_by_word}
+use Rattle.model_text.specs.declared.named_edit.NamedEdit.{NamedEdit}
+use Rattle.model_text.specs.declared.named_edit.NamedEdit.TheVariants as edits
+use Rattle.model_text.specs.Commands.{alone, with_number, command_by_word}
+use Rattle.model_text.specs.NamedEdits.{with_name, two_names, with_names, name_number, with_name_number, names_number, with_names_number, names_numbers, with_names_numbers, edit_by_word}
 use Rattle.model_text.specs.Fields.{fields_of, behind_field, text_of}
-use Rattle.model_text.specs.Grammar.{◌>>=◌, or_fault, number_field, ranged, name_field, text_field, no_field, one_field, two_fields, three_fields, four_fields, Said, IsSaid, Blank, Exit, End, header, title, period, horizon, floor, exit_fields, node_fields, node, arc, window, entrant, end, is_comment, by_word, of_fields, statement_of}
+use Rattle.model_text.specs.Grammar.{◌>>=◌, or_fault, number_field, ranged, name_field, text_field, no_field, one_field, two_fields, three_fields, four_fields, Said, SaidPart, IsSaid, IsSaidPart, Blank, Part, Exit, End, header, title, period, horizon, floor, exit_fields, node_fields, node, arc, window, entrant, part_by_word, end, is_comment, by_word, of_fields, statement_of}
+use Rattle.model_text.specs.Readings.{is_unknown}
 use Rattle.model_text.specs.Reads.{Reads, said}
 use Rattle.model_text.specs.declared.statement.Statement.{Statement}
 use Rattle.model_text.specs.NameFields.{name_of}
@@ -99,6 +104,9 @@ good-four F (a ∷ b ∷ c ∷ d ∷ e ∷ more) count = count
 abbrev pub NoCommand : TextFault → Type 0
 NoCommand e = e ≢ UnknownCommand
 
+abbrev GoodPart : Result SaidPart TextFault → Type 0
+GoodPart r = Good NoCommand IsSaidPart r
+
 abbrev pub GoodSaid : Result Said TextFault → Type 0
 GoodSaid r = Good NoCommand IsSaid r
 
@@ -114,73 +122,87 @@ name = λ e. cc
 range : NoCommand OutOfRange
 range = λ e. cc
 
+good-title : (text : List ℕ) → GoodPart (title text)
+good-title text = good-bind NoCommand (λ t. 0 < length t) IsSaidPart (text_field text) _ (good-text NoCommand text count) (λ t h. h)
+
+good-period : (fields : List (List ℕ)) → GoodPart (period fields)
+good-period fields =
+    good-bind NoCommand Any-value IsSaidPart (one_field fields) _ (good-one NoCommand fields count) (λ f h.
+    good-bind NoCommand (IsWithin 1 seconds_limit) IsSaidPart (ranged 1 seconds_limit f) _ (good-ranged NoCommand 1 seconds_limit f number range) (λ s i. i))
+
+good-horizon : (fields : List (List ℕ)) → GoodPart (horizon fields)
+good-horizon fields =
+    good-bind NoCommand Any-value IsSaidPart (one_field fields) _ (good-one NoCommand fields count) (λ f h.
+    good-bind NoCommand (IsWithin 0 horizon_limit) IsSaidPart (ranged 0 horizon_limit f) _ (good-ranged NoCommand 0 horizon_limit f number range) (λ s i. i.1))
+
+good-floor : (fields : List (List ℕ)) (text : List ℕ) → GoodPart (floor fields text)
+good-floor [] text = count
+good-floor (f ∷ more) text =
+    good-bind NoCommand (λ t. 0 < length t) IsSaidPart (text_field text) _ (good-text NoCommand text count) (λ t h.
+    good-bind NoCommand (IsWithin 0 floor_number_limit) IsSaidPart (ranged 0 floor_number_limit f) _ (good-ranged NoCommand 0 floor_number_limit f number range) (λ s i. (i.1, h)))
+
+good-room : (n : NodeName) (fields : List (List ℕ)) → IsName n → is_exit n.kind ≡ false → GoodPart (node_fields n fields)
+good-room n fields is room =
+    good-bind NoCommand Any-value IsSaidPart (two_fields fields) _ (good-two NoCommand fields count) (λ f h.
+    good-bind NoCommand (IsWithin 0 capacity_limit) IsSaidPart (ranged 0 capacity_limit f.0) _ (good-ranged NoCommand 0 capacity_limit f.0 number range) (λ c i.
+    good-bind NoCommand (IsWithin 0 capacity_limit) IsSaidPart (ranged 0 capacity_limit f.1) _ (good-ranged NoCommand 0 capacity_limit f.1 number range) (λ s j.
+    (is, room, i.1, j.1))))
+
+good-exit : (n : NodeName) (fields : List (List ℕ)) → IsName n → is_exit n.kind ≡ true → GoodPart (exit_fields n fields)
+good-exit n fields is out = good-none NoCommand IsSaidPart (Exit n) fields count (is, out)
+
+kind-by : (n : NodeName) (fields : List (List ℕ)) (t : Bool) → is_exit n.kind ≡ t → IsName n → GoodPart (cond t (exit_fields n fields) (node_fields n fields))
+kind-by n fields true e is = good-exit n fields is e
+kind-by n fields false e is = good-room n fields is e
+
+good-node : (fields : List (List ℕ)) → GoodPart (node fields)
+good-node [] = count
+good-node (f ∷ more) = good-bind NoCommand IsName IsSaidPart (name_field f) _ (good-name NoCommand f name) (λ n is. kind-by n more (is_exit n.kind) refl is)
+
+good-arc : (fields : List (List ℕ)) → GoodPart (arc fields)
+good-arc fields =
+    good-bind NoCommand Any-value IsSaidPart (four_fields fields) _ (good-four NoCommand fields count) (λ f h.
+    good-bind NoCommand IsName IsSaidPart (name_field f.0) _ (good-name NoCommand f.0 name) (λ a i.
+    good-bind NoCommand IsName IsSaidPart (name_field f.1) _ (good-name NoCommand f.1 name) (λ b j.
+    good-bind NoCommand (IsWithin 1 travel_limit) IsSaidPart (ranged 1 travel_limit f.2) _ (good-ranged NoCommand 1 travel_limit f.2 number range) (λ t k.
+    good-bind NoCommand (IsWithin 0 rate_limit) IsSaidPart (ranged 0 rate_limit f.3) _ (good-ranged NoCommand 0 rate_limit f.3 number range) (λ r l.
+    (i, j, k.0, k.1, l.1))))))
+
+good-window : (fields : List (List ℕ)) → GoodPart (window fields)
+good-window fields =
+    good-bind NoCommand Any-value IsSaidPart (four_fields fields) _ (good-four NoCommand fields count) (λ f h.
+    good-bind NoCommand IsName IsSaidPart (name_field f.0) _ (good-name NoCommand f.0 name) (λ a i.
+    good-bind NoCommand IsName IsSaidPart (name_field f.1) _ (good-name NoCommand f.1 name) (λ b j.
+    good-bind NoCommand (IsWithin 0 horizon_limit) IsSaidPart (ranged 0 horizon_limit f.2) _ (good-ranged NoCommand 0 horizon_limit f.2 number range) (λ p k.
+    good-bind NoCommand (IsWithin 1 (horizon_limit + 1)) IsSaidPart (ranged 1 (horizon_limit + 1) f.3) _ (good-ranged NoCommand 1 (horizon_limit + 1) f.3 number range) (λ q l.
+    (i, j, k.1, l.0, l.1))))))
+
+good-entrant : (fields : List (List ℕ)) → GoodPart (entrant fields)
+good-entrant fields =
+    good-bind NoCommand Any-value IsSaidPart (three_fields fields) _ (good-three NoCommand fields count) (λ f h.
+    good-bind NoCommand IsName IsSaidPart (name_field f.0) _ (good-name NoCommand f.0 name) (λ a i.
+    good-bind NoCommand (IsWithin 1 horizon_limit) IsSaidPart (ranged 1 horizon_limit f.1) _ (good-ranged NoCommand 1 horizon_limit f.1 number range) (λ t j.
+    good-bind NoCommand (IsWithin 1 people_limit) IsSaidPart (ranged 1 people_limit f.2) _ (good-ranged NoCommand 1 people_limit f.2 number range) (λ n k.
+    (i, j.0, j.1, k.0, k.1)))))
+
+part-by : (t : Bool) (a b : Result SaidPart TextFault) → GoodPart a → GoodPart b → GoodPart (cond t a b)
+part-by t a b h k = pick NoCommand IsSaidPart t a b h k
+
+good-part : (word rest : List ℕ) → GoodPart (part_by_word word rest)
+good-part word rest =
+    part-by (bytes_eq word (codes "title")) (title (text_of rest)) _ (good-title (text_of rest))
+    (part-by (bytes_eq word (codes "period")) (period (fields_of rest)) _ (good-period (fields_of rest))
+    (part-by (bytes_eq word (codes "horizon")) (horizon (fields_of rest)) _ (good-horizon (fields_of rest))
+    (part-by (bytes_eq word (codes "floor")) (floor (fields_of rest) (text_of (behind_field rest))) _ (good-floor (fields_of rest) (text_of (behind_field rest)))
+    (part-by (bytes_eq word (codes "node")) (node (fields_of rest)) _ (good-node (fields_of rest))
+    (part-by (bytes_eq word (codes "arc")) (arc (fields_of rest)) _ (good-arc (fields_of rest))
+    (part-by (bytes_eq word (codes "window")) (window (fields_of rest)) _ (good-window (fields_of rest))
+    (part-by (bytes_eq word (codes "entrant")) (entrant (fields_of rest)) (Err UnknownWord) (good-entrant (fields_of rest)) (λ e. cc))))))))
+
 good-header : (fields : List (List ℕ)) → GoodSaid (header fields)
 good-header fields =
     good-bind NoCommand Any-value IsSaid (one_field fields) _ (good-one NoCommand fields count) (λ f h.
     good-bind NoCommand Any-value IsSaid (number_field f) _ (good-number NoCommand f number) (λ v i. tt))
-
-good-title : (text : List ℕ) → GoodSaid (title text)
-good-title text = good-bind NoCommand (λ t. 0 < length t) IsSaid (text_field text) _ (good-text NoCommand text count) (λ t h. h)
-
-good-period : (fields : List (List ℕ)) → GoodSaid (period fields)
-good-period fields =
-    good-bind NoCommand Any-value IsSaid (one_field fields) _ (good-one NoCommand fields count) (λ f h.
-    good-bind NoCommand (IsWithin 1 seconds_limit) IsSaid (ranged 1 seconds_limit f) _ (good-ranged NoCommand 1 seconds_limit f number range) (λ s i. i))
-
-good-horizon : (fields : List (List ℕ)) → GoodSaid (horizon fields)
-good-horizon fields =
-    good-bind NoCommand Any-value IsSaid (one_field fields) _ (good-one NoCommand fields count) (λ f h.
-    good-bind NoCommand (IsWithin 0 horizon_limit) IsSaid (ranged 0 horizon_limit f) _ (good-ranged NoCommand 0 horizon_limit f number range) (λ s i. i.1))
-
-good-floor : (fields : List (List ℕ)) (text : List ℕ) → GoodSaid (floor fields text)
-good-floor [] text = count
-good-floor (f ∷ more) text =
-    good-bind NoCommand (λ t. 0 < length t) IsSaid (text_field text) _ (good-text NoCommand text count) (λ t h.
-    good-bind NoCommand (IsWithin 0 floor_number_limit) IsSaid (ranged 0 floor_number_limit f) _ (good-ranged NoCommand 0 floor_number_limit f number range) (λ s i. (i.1, h)))
-
-good-room : (n : NodeName) (fields : List (List ℕ)) → IsName n → is_exit n.kind ≡ false → GoodSaid (node_fields n fields)
-good-room n fields is room =
-    good-bind NoCommand Any-value IsSaid (two_fields fields) _ (good-two NoCommand fields count) (λ f h.
-    good-bind NoCommand (IsWithin 0 capacity_limit) IsSaid (ranged 0 capacity_limit f.0) _ (good-ranged NoCommand 0 capacity_limit f.0 number range) (λ c i.
-    good-bind NoCommand (IsWithin 0 capacity_limit) IsSaid (ranged 0 capacity_limit f.1) _ (good-ranged NoCommand 0 capacity_limit f.1 number range) (λ s j.
-    (is, room, i.1, j.1))))
-
-good-exit : (n : NodeName) (fields : List (List ℕ)) → IsName n → is_exit n.kind ≡ true → GoodSaid (exit_fields n fields)
-good-exit n fields is out = good-none NoCommand IsSaid (Exit n) fields count (is, out)
-
-kind-by : (n : NodeName) (fields : List (List ℕ)) (t : Bool) → is_exit n.kind ≡ t → IsName n → GoodSaid (cond t (exit_fields n fields) (node_fields n fields))
-kind-by n fields true e is = good-exit n fields is e
-kind-by n fields false e is = good-room n fields is e
-
-good-node : (fields : List (List ℕ)) → GoodSaid (node fields)
-good-node [] = count
-good-node (f ∷ more) = good-bind NoCommand IsName IsSaid (name_field f) _ (good-name NoCommand f name) (λ n is. kind-by n more (is_exit n.kind) refl is)
-
-good-arc : (fields : List (List ℕ)) → GoodSaid (arc fields)
-good-arc fields =
-    good-bind NoCommand Any-value IsSaid (four_fields fields) _ (good-four NoCommand fields count) (λ f h.
-    good-bind NoCommand IsName IsSaid (name_field f.0) _ (good-name NoCommand f.0 name) (λ a i.
-    good-bind NoCommand IsName IsSaid (name_field f.1) _ (good-name NoCommand f.1 name) (λ b j.
-    good-bind NoCommand (IsWithin 1 travel_limit) IsSaid (ranged 1 travel_limit f.2) _ (good-ranged NoCommand 1 travel_limit f.2 number range) (λ t k.
-    good-bind NoCommand (IsWithin 0 rate_limit) IsSaid (ranged 0 rate_limit f.3) _ (good-ranged NoCommand 0 rate_limit f.3 number range) (λ r l.
-    (i, j, k.0, k.1, l.1))))))
-
-good-window : (fields : List (List ℕ)) → GoodSaid (window fields)
-good-window fields =
-    good-bind NoCommand Any-value IsSaid (four_fields fields) _ (good-four NoCommand fields count) (λ f h.
-    good-bind NoCommand IsName IsSaid (name_field f.0) _ (good-name NoCommand f.0 name) (λ a i.
-    good-bind NoCommand IsName IsSaid (name_field f.1) _ (good-name NoCommand f.1 name) (λ b j.
-    good-bind NoCommand (IsWithin 0 horizon_limit) IsSaid (ranged 0 horizon_limit f.2) _ (good-ranged NoCommand 0 horizon_limit f.2 number range) (λ p k.
-    good-bind NoCommand (IsWithin 1 (horizon_limit + 1)) IsSaid (ranged 1 (horizon_limit + 1) f.3) _ (good-ranged NoCommand 1 (horizon_limit + 1) f.3 number range) (λ q l.
-    (i, j, k.1, l.0, l.1))))))
-
-good-entrant : (fields : List (List ℕ)) → GoodSaid (entrant fields)
-good-entrant fields =
-    good-bind NoCommand Any-value IsSaid (three_fields fields) _ (good-three NoCommand fields count) (λ f h.
-    good-bind NoCommand IsName IsSaid (name_field f.0) _ (good-name NoCommand f.0 name) (λ a i.
-    good-bind NoCommand (IsWithin 1 horizon_limit) IsSaid (ranged 1 horizon_limit f.1) _ (good-ranged NoCommand 1 horizon_limit f.1 number range) (λ t j.
-    good-bind NoCommand (IsWithin 1 people_limit) IsSaid (ranged 1 people_limit f.2) _ (good-ranged NoCommand 1 people_limit f.2 number range) (λ n k.
-    (i, j.0, j.1, k.0, k.1)))))
 
 good-end : (fields : List (List ℕ)) → GoodSaid (end fields)
 good-end fields = good-none NoCommand IsSaid End fields count tt
@@ -192,15 +214,8 @@ pub good-word : (word rest : List ℕ) → GoodSaid (by_word word rest)
 good-word word rest =
     word-by (is_comment word) (Ok Blank) _ tt
     (word-by (bytes_eq word (codes "evacplan")) (header (fields_of rest)) _ (good-header (fields_of rest))
-    (word-by (bytes_eq word (codes "title")) (title (text_of rest)) _ (good-title (text_of rest))
-    (word-by (bytes_eq word (codes "period")) (period (fields_of rest)) _ (good-period (fields_of rest))
-    (word-by (bytes_eq word (codes "horizon")) (horizon (fields_of rest)) _ (good-horizon (fields_of rest))
-    (word-by (bytes_eq word (codes "floor")) (floor (fields_of rest) (text_of (behind_field rest))) _ (good-floor (fields_of rest) (text_of (behind_field rest)))
-    (word-by (bytes_eq word (codes "node")) (node (fields_of rest)) _ (good-node (fields_of rest))
-    (word-by (bytes_eq word (codes "arc")) (arc (fields_of rest)) _ (good-arc (fields_of rest))
-    (word-by (bytes_eq word (codes "window")) (window (fields_of rest)) _ (good-window (fields_of rest))
-    (word-by (bytes_eq word (codes "entrant")) (entrant (fields_of rest)) _ (good-entrant (fields_of rest))
-    (word-by (bytes_eq word (codes "end")) (end (fields_of rest)) (Err UnknownWord) (good-end (fields_of rest)) (λ e. cc)))))))))))
+    (word-by (bytes_eq word (codes "end")) (end (fields_of rest)) _ (good-end (fields_of rest))
+    (good-bind NoCommand IsSaidPart IsSaid (part_by_word word rest) (λ p. Ok (Part p)) (good-part word rest) (λ p is. is))))
 
 good-fields : (fields : List (List ℕ)) (rest : List ℕ) → GoodSaid (of_fields fields rest)
 good-fields [] rest = tt
@@ -210,6 +225,10 @@ good-fields (word ∷ more) rest = good-word word rest
 pub good-statement : (line : List ℕ) → GoodSaid (statement_of line)
 unfolding statement_of
 good-statement line = good-fields (fields_of line) (behind_field line)
+
+-- the same behind the header of a version
+pub good-later_word : (version : ℕ) (word rest : List ℕ) → GoodSaid (cond (is_unknown version word) (Err UnknownWord) (by_word word rest))
+good-later_word version word rest = word-by (is_unknown version word) (Err UnknownWord) (by_word word rest) (λ e. cc) (good-word word rest)
 
 -- the same of an answer that reads a line
 pub read-within : (r : Result Statement TextFault) (read : Result Said TextFault) → Reads r read → GoodSaid read → IfOk r (λ s. IsSaid (said s))
@@ -228,6 +247,9 @@ NoStatement e = (e ≢ UnknownWord) × (e ≢ OutOfRange)
 
 abbrev pub GoodCommand : Result Command TextFault → Type 0
 GoodCommand r = Good NoStatement Any-value r
+
+abbrev pub GoodEdit : Result NamedEdit TextFault → Type 0
+GoodEdit r = Good NoStatement Any-value r
 
 count' : NoStatement FieldCount
 count' = ((λ e. cc), (λ e. cc))
@@ -259,60 +281,59 @@ good-alone c fields = good-none NoStatement Any-value c fields count' tt
 good-with_number : (c : ℕ → Command) (fields : List (List ℕ)) → GoodCommand (with_number c fields)
 good-with_number c fields = one' fields _ (λ f. field-number f _ (λ n. tt))
 
-good-with_name : (c : NodeName → Command) (fields : List (List ℕ)) → GoodCommand (with_name c fields)
+good-with_name : (c : NodeName → NamedEdit) (fields : List (List ℕ)) → GoodEdit (with_name c fields)
 good-with_name c fields = one' fields _ (λ f. field-name f _ (λ n. tt))
 
-good-with_names : (c : NodeName → NodeName → Command) (fields : List (List ℕ)) → GoodCommand (with_names c fields)
+good-with_names : (c : NodeName → NodeName → NamedEdit) (fields : List (List ℕ)) → GoodEdit (with_names c fields)
 good-with_names c fields =
     then-any Any-value (two_names fields) _
     (then-any Any-value (two_fields fields) _ (good-two NoStatement fields count') (λ f. field-name f.0 _ (λ a. field-name f.1 _ (λ b. tt)))) (λ p. tt)
 
-good-with_name_number : (c : NodeName → ℕ → Command) (fields : List (List ℕ)) → GoodCommand (with_name_number c fields)
+good-with_name_number : (c : NodeName → ℕ → NamedEdit) (fields : List (List ℕ)) → GoodEdit (with_name_number c fields)
 good-with_name_number c fields =
     then-any Any-value (name_number fields) _
     (then-any Any-value (two_fields fields) _ (good-two NoStatement fields count') (λ f. field-name f.0 _ (λ a. field-number f.1 _ (λ b. tt)))) (λ p. tt)
 
-good-with_names_number : (c : NodeName → NodeName → ℕ → Command) (fields : List (List ℕ)) → GoodCommand (with_names_number c fields)
+good-with_names_number : (c : NodeName → NodeName → ℕ → NamedEdit) (fields : List (List ℕ)) → GoodEdit (with_names_number c fields)
 good-with_names_number c fields =
     then-any Any-value (names_number fields) _
     (then-any Any-value (three_fields fields) _ (good-three NoStatement fields count') (λ f. field-name f.0 _ (λ a. field-name f.1 _ (λ b. field-number f.2 _ (λ n. tt))))) (λ p. tt)
 
-good-with_names_numbers : (c : NodeName → NodeName → ℕ → ℕ → Command) (fields : List (List ℕ)) → GoodCommand (with_names_numbers c fields)
+good-with_names_numbers : (c : NodeName → NodeName → ℕ → ℕ → NamedEdit) (fields : List (List ℕ)) → GoodEdit (with_names_numbers c fields)
 good-with_names_numbers c fields =
     then-any Any-value (names_numbers fields) _
     (then-any Any-value (four_fields fields) _ (good-four NoStatement fields count') (λ f. field-name f.0 _ (λ a. field-name f.1 _ (λ b. field-number f.2 _ (λ p. field-number f.3 _ (λ q. tt)))))) (λ p. tt)
 
-or-else : (t : Bool) (a b : Result Command TextFault) → GoodCommand a → GoodCommand b → GoodCommand (cond t a b)
+or-else : {A : Type 0} (t : Bool) (a b : Result A TextFault) → Good NoStatement Any-value a → Good NoStatement Any-value b → Good NoStatement Any-value (cond t a b)
 or-else t a b h k = pick NoStatement Any-value t a b h k
 
-good-request : (word : List ℕ) (fields : List (List ℕ)) → GoodCommand (request_by_word word fields)
-good-request word fields =
-    or-else (bytes_eq word (codes "undo")) _ _ (good-alone commands.Undo fields)
-    (or-else (bytes_eq word (codes "cut")) _ _ (good-with_number commands.Cut fields)
-    (or-else (bytes_eq word (codes "routes")) _ _ (good-alone commands.Routes fields)
-    (or-else (bytes_eq word (codes "clearing")) _ _ (good-alone commands.Clearing fields)
-    (or-else (bytes_eq word (codes "bottlenecks")) _ _ (good-alone commands.Bottlenecks fields)
-    (or-else (bytes_eq word (codes "summary")) _ _ (good-alone commands.Summary fields)
-    (or-else (bytes_eq word (codes "work")) _ _ (good-alone commands.Work fields)
-    (or-else (bytes_eq word (codes "quit")) _ _ (good-alone commands.Quit fields) unknown')))))))
-
-good-edit : (word : List ℕ) (fields : List (List ℕ)) (other : Result Command TextFault) → GoodCommand other → GoodCommand (edit_by_word word fields other)
-good-edit word fields other h =
-    or-else (bytes_eq word (codes "shut")) _ _ (good-with_names commands.Shut fields)
-    (or-else (bytes_eq word (codes "reopen")) _ _ (good-with_names commands.Reopen fields)
-    (or-else (bytes_eq word (codes "shutexit")) _ _ (good-with_name commands.ShutExit fields)
-    (or-else (bytes_eq word (codes "openexit")) _ _ (good-with_name commands.OpenExit fields)
-    (or-else (bytes_eq word (codes "rate")) _ _ (good-with_names_number commands.Rate fields)
-    (or-else (bytes_eq word (codes "room")) _ _ (good-with_name_number commands.Room fields)
-    (or-else (bytes_eq word (codes "shift")) _ _ (good-with_names_number commands.Shift fields)
-    (or-else (bytes_eq word (codes "enter")) _ _ (good-with_name_number commands.Enter fields)
-    (or-else (bytes_eq word (codes "leave")) _ _ (good-with_name_number commands.Leave fields)
-    (or-else (bytes_eq word (codes "window")) _ _ (good-with_names_numbers commands.Window fields)
-    (or-else (bytes_eq word (codes "unwindow")) _ _ (good-with_names_numbers commands.Unwindow fields) h))))))))))
+good-edit : (word : List ℕ) (fields : List (List ℕ)) → GoodEdit (edit_by_word word fields)
+good-edit word fields =
+    or-else (bytes_eq word (codes "shut")) _ _ (good-with_names edits.Shut fields)
+    (or-else (bytes_eq word (codes "reopen")) _ _ (good-with_names edits.Reopen fields)
+    (or-else (bytes_eq word (codes "shutexit")) _ _ (good-with_name edits.ShutExit fields)
+    (or-else (bytes_eq word (codes "openexit")) _ _ (good-with_name edits.ReopenExit fields)
+    (or-else (bytes_eq word (codes "rate")) _ _ (good-with_names_number edits.Rate fields)
+    (or-else (bytes_eq word (codes "room")) _ _ (good-with_name_number edits.Room fields)
+    (or-else (bytes_eq word (codes "shift")) _ _ (good-with_names_number edits.Shift fields)
+    (or-else (bytes_eq word (codes "enter")) _ _ (good-with_name_number edits.Enter fields)
+    (or-else (bytes_eq word (codes "leave")) _ _ (good-with_name_number edits.Leave fields)
+    (or-else (bytes_eq word (codes "window")) _ _ (good-with_names_numbers edits.Window fields)
+    (or-else (bytes_eq word (codes "unwindow")) _ _ (good-with_names_numbers edits.Unwindow fields) unknown'))))))))))
 
 -- the fault of a command is none of a statement's own
 pub good-command : (word : List ℕ) (fields : List (List ℕ)) → GoodCommand (command_by_word word fields)
-good-command word fields = or-else (is_comment word) _ _ tt (good-edit word fields (request_by_word word fields) (good-request word fields))
+good-command word fields =
+    or-else (is_comment word) _ _ tt
+    (or-else (bytes_eq word (codes "undo")) _ _ (good-alone commands.Undo fields)
+    (or-else (bytes_eq word (codes "cut")) _ _ (good-with_number commands.Cut fields)
+    (or-else (bytes_eq word (codes "routes")) _ _ (good-alone (commands.Report reports.Routes) fields)
+    (or-else (bytes_eq word (codes "clearing")) _ _ (good-alone (commands.Report reports.Clearing) fields)
+    (or-else (bytes_eq word (codes "bottlenecks")) _ _ (good-alone (commands.Report reports.Bottlenecks) fields)
+    (or-else (bytes_eq word (codes "summary")) _ _ (good-alone (commands.Report reports.Summary) fields)
+    (or-else (bytes_eq word (codes "work")) _ _ (good-alone commands.Work fields)
+    (or-else (bytes_eq word (codes "quit")) _ _ (good-alone commands.Quit fields)
+    (then-any Any-value (edit_by_word word fields) _ (good-edit word fields) (λ e. tt))))))))))
 
 pub command-fault : (r read : Result Command TextFault) → r ≡ read → GoodCommand read → IfErr r NoStatement
 command-fault (Ok x) read e h = tt

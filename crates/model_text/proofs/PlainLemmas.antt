@@ -11,10 +11,10 @@ use Rattle.evac_law.specs.declared.model.ArcRow.{ArcRow}
 use Rattle.evac_law.specs.declared.model.NodeRow.{NodeRow}
 use Rattle.evac_law.specs.declared.window.Window.{Window as ClosureWindow}
 use Rattle.model_text.specs.Codes.{unknown_floor, repeated_node, repeated_setting, over_full, too_many}
-use Rattle.model_text.specs.Grammar.{Said, Title, Floor, Node, Exit, Arc, Window}
+use Rattle.model_text.specs.Grammar.{SaidPart, Title, Floor, Node, Exit, Arc, Window}
 use Rattle.model_text.specs.Plain.{IsContentWithin, IsPlain, IsTextBehind}
 use Rattle.model_text.specs.Readings.{Line, Described, AtStart, reading_at}
-use Rattle.model_text.specs.Taken.{AreTaken, Description, arcs_of, closing, description_of, end_fault, floors_of, has_floor, has_node, model_taken, nodes_of, people_of, statement_fault, title_of}
+use Rattle.model_text.specs.Taken.{AreTaken, Description, arcs_of, closing, description_of, end_fault, floors_of, has_floor, has_node, model_taken, nodes_of, people_of, part_fault, title_of}
 use Rattle.model_text.proofs.ListFacts.{any-map, length-push, missing, not-false}
 use Rattle.model_text.proofs.ReadingLemmas.{Says, reading-said}
 use Rattle.model_text.proofs.SoundLemmas.{below-limit, first-none, may-end, none-four, none-three, taken-valid}
@@ -22,7 +22,7 @@ use Rattle.model_text.proofs.TextLemmas.{HasText, line-text}
 
 -- ---- nothing is shut
 
-nodes-open : (taken : List Said) → All (λ n. n.shut ≡ false) (nodes_of taken)
+nodes-open : (taken : List SaidPart) → All (λ n. n.shut ≡ false) (nodes_of taken)
 nodes-open [] = All-nil (λ (n : NodeRow). n.shut ≡ false)
 nodes-open (Node name capacity start ∷ before) = All-push (λ (n : NodeRow). n.shut ≡ false) (nodes_of before) (node_row name capacity start) (nodes-open before) refl
 nodes-open (Exit name ∷ before) = All-push (λ (n : NodeRow). n.shut ≡ false) (nodes_of before) (node_row name 0 0) (nodes-open before) refl
@@ -36,7 +36,7 @@ closing-open [] place w each = All-nil IsOpen
 closing-open (a ∷ arcs) zero w each = All-cons IsOpen _ arcs (All-head IsOpen a arcs each) (All-tail IsOpen a arcs each)
 closing-open (a ∷ arcs) (suc n) w each = All-cons IsOpen a (closing arcs n w) (All-head IsOpen a arcs each) (closing-open arcs n w (All-tail IsOpen a arcs each))
 
-arcs-open : (taken : List Said) → All IsOpen (arcs_of taken)
+arcs-open : (taken : List SaidPart) → All IsOpen (arcs_of taken)
 arcs-open [] = All-nil IsOpen
 arcs-open (Arc start finish travel rate ∷ before) = All-push IsOpen (arcs_of before) _ (arcs-open before) refl
 arcs-open (Window start finish first until ∷ before) = closing-open (arcs_of before) _ _ (arcs-open before)
@@ -98,11 +98,11 @@ floors-node limit floors nodes row are on = record {
 }
 
 -- a number is a floor's where it is among the floors' numbers
-has-floor : (before : List Said) (floor : ℕ) → has_floor before floor ≡ list_any (λ f. f.0 == floor) (floors_of before)
+has-floor : (before : List SaidPart) (floor : ℕ) → has_floor before floor ≡ list_any (λ f. f.0 == floor) (floors_of before)
 has-floor before floor = any-map (λ f. f == floor) (λ (f : ℕ × List ℕ). f.0) (floors_of before)
 
-floors-of : (limit : ℕ) (taken : List Said) → AreTaken taken → All (HasText limit) taken → AreFloors limit (floors_of taken) (nodes_of taken)
-unfolding statement_fault
+floors-of : (limit : ℕ) (taken : List SaidPart) → AreTaken taken → All (HasText limit) taken → AreFloors limit (floors_of taken) (nodes_of taken)
+unfolding part_fault
 floors-of limit [] are texts = floors-none limit
 floors-of limit (Floor floor text ∷ before) are texts =
     let full = nat_le floor_limit (length (floors_of before)) in
@@ -124,13 +124,13 @@ floors-of limit (s ∷ before) are texts = floors-of limit before are.2 (All-tai
 
 -- ---- the building
 
-title-text : (limit : ℕ) (taken : List Said) → All (HasText limit) taken → MatchOption (title_of taken) ⊤ (λ text. IsTextBehind limit 6 text)
+title-text : (limit : ℕ) (taken : List SaidPart) → All (HasText limit) taken → MatchOption (title_of taken) ⊤ (λ text. IsTextBehind limit 6 text)
 title-text limit [] texts = tt
 title-text limit (Title text ∷ before) texts = All-head (HasText limit) (Title text) before texts
 title-text limit (s ∷ before) texts = title-text limit before (All-tail (HasText limit) s before texts)
 
--- statements that were taken, whose texts fit, describe a plain building where they may end
-pub taken-plain : (limit : ℕ) (taken : List Said) → AreTaken taken → All (HasText limit) taken → end_fault taken ≡ None → IsPlain limit (description_of taken)
+-- parts that were taken, whose texts fit, describe a plain building where they may end
+pub taken-plain : (limit : ℕ) (taken : List SaidPart) → AreTaken taken → All (HasText limit) taken → end_fault taken ≡ None → IsPlain limit (description_of taken)
 unfolding model_taken
 taken-plain limit taken are texts h =
     let floors = floors-of limit taken are texts in

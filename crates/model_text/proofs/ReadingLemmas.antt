@@ -1,5 +1,5 @@
--- The building of a reading is one of statements that its lines say and that were taken.
-use Rattle.std.proofs.Common.{◌≡◌, ℕ, ◌+◌, ◌==◌, ◌||◌, List, [], ◌∷◌, ◌++◌, Result, Ok, Err, Some, None, refl, subst}
+-- The building of a reading is one of parts that its lines say and that were taken.
+use Rattle.std.proofs.Common.{◌≡◌, ℕ, ◌+◌, Bool, true, false, cond, ◌==◌, ◌||◌, List, [], ◌∷◌, ◌++◌, Result, Ok, Err, Some, None, refl, subst}
 use Rattle.std.specs.declared.option.Option.{Option}
 use Rattle.std.specs.List.{All}
 use Rattle.std.proofs.lemmas.Bool.{cond_both}
@@ -7,82 +7,89 @@ use Rattle.std.proofs.lemmas.List.Elements.{All-cons, All-head, All-nil, All-tai
 use Rattle.evac_law.specs.Building.{IsValid}
 use Rattle.model_text.specs.declared.fault.TextFault.{TextFault}
 use Rattle.model_text.specs.declared.fault.TextFault.TheVariants.{UnknownWord}
-use Rattle.model_text.specs.Codes.{first_line, text_fault_code}
+use Rattle.model_text.specs.Codes.{first_line}
 use Rattle.model_text.specs.Fields.{fields_of}
-use Rattle.model_text.specs.Grammar.{Said, IsSaid, Blank, Header, End, statement_of}
-use Rattle.model_text.specs.Readings.{Line, Reading, Described, ReadingState, AtStart, InModel, Step, Moved, Ended, Stopped, step_unless, first_said, later_said, begins_unknown, step_at, after_step, reading_at}
-use Rattle.model_text.specs.Taken.{Description, description_of, statement_fault, end_fault, AreTaken}
+use Rattle.model_text.specs.Grammar.{Said, SaidPart, IsSaidPart, Blank, Header, Part, End, statement_of}
+use Rattle.model_text.specs.Readings.{Line, Reading, Described, ReadingState, AtStart, InModel, Step, Moved, Ended, Stopped, step_unless, first_said, later_said, later_statement, begins_unknown, step_at, after_step, reading_at}
+use Rattle.model_text.specs.Taken.{Description, description_of, part_fault, end_fault, AreTaken}
 use Rattle.model_text.proofs.GoodLemmas.{GoodSaid, good-statement}
 use Rattle.model_text.proofs.SoundLemmas.{taken-valid}
 
--- a line says a statement
-abbrev pub IsSaidIn : Line → Said → Type 0
-IsSaidIn (Ok content) s = statement_of content ≡ Ok s
+-- a line says a part
+abbrev pub IsSaidIn : Line → SaidPart → Type 0
+IsSaidIn (Ok content) s = statement_of content ≡ Ok (Part s)
 IsSaidIn (Err code) s = ⊥
 
--- each statement that a line says is of one kind
-abbrev pub Says : (Said → Type 0) → Line → Type 0
-Says P line = (s : Said) → IsSaidIn line s → P s
+-- each part that a line says is of one kind
+abbrev pub Says : (SaidPart → Type 0) → Line → Type 0
+Says P line = (s : SaidPart) → IsSaidIn line s → P s
 
--- a building that statements of one kind describe, which were taken and may end
-pub record IsSaidBy (P : Said → Type 0) (d : Description) : Type 0 where
-  pub taken : List Said
+-- a building that parts of one kind describe, which were taken and may end
+pub record IsSaidBy (P : SaidPart → Type 0) (d : Description) : Type 0 where
+  pub taken : List SaidPart
   pub are : AreTaken taken
   pub each : All P taken
   pub may_end : end_fault taken ≡ None
   pub is : description_of taken ≡ d
 
--- the statements of a state were taken, and are of one kind
-abbrev HasTaken : (Said → Type 0) → ReadingState → Type 0
+-- the parts of a state were taken, and are of one kind
+abbrev HasTaken : (SaidPart → Type 0) → ReadingState → Type 0
 HasTaken P AtStart = Unit {0}
 HasTaken P (InModel version taken) = AreTaken taken × All P taken
 
 -- so are those to which a step leads
-abbrev LeadsToTaken : (Said → Type 0) → Step → Type 0
+abbrev LeadsToTaken : (SaidPart → Type 0) → Step → Type 0
 LeadsToTaken P (Moved state) = HasTaken P state
 LeadsToTaken P (Ended building) = IsSaidBy P building
 LeadsToTaken P (Stopped code) = Unit {0}
 
-unless-taken : (P : Said → Type 0) (o : Option ℕ) (step : Step) → (o ≡ None → LeadsToTaken P step) → LeadsToTaken P (step_unless o step)
+unless-taken : (P : SaidPart → Type 0) (o : Option ℕ) (step : Step) → (o ≡ None → LeadsToTaken P step) → LeadsToTaken P (step_unless o step)
 unless-taken P (Some code) step h = tt
 unless-taken P None step h = h refl
 
-first-taken : (P : Said → Type 0) (r : Result Said TextFault) → LeadsToTaken P (first_said r)
+first-taken : (P : SaidPart → Type 0) (r : Result Said TextFault) → LeadsToTaken P (first_said r)
 first-taken P (Ok Blank) = tt
 first-taken P (Ok (Header version)) =
     cond_both (version == 1 || version == 2) (Moved (InModel version [])) (Stopped first_line) (LeadsToTaken P) (λ _. (tt, All-nil P)) (λ _. tt)
 first-taken P (Ok s) = tt
 first-taken P (Err fault) = tt
 
-later-taken : (P : Said → Type 0) (version : ℕ) (taken : List Said) (r : Result Said TextFault) → ((s : Said) → r ≡ Ok s → IsSaid s × P s) → AreTaken taken → All P taken
+later-taken : (P : SaidPart → Type 0) (version : ℕ) (taken : List SaidPart) (r : Result Said TextFault) → ((s : SaidPart) → r ≡ Ok (Part s) → IsSaidPart s × P s) → AreTaken taken → All P taken
     → LeadsToTaken P (later_said version taken r)
 later-taken P version taken (Ok Blank) says are each = (are, each)
 later-taken P version taken (Ok (Header other)) says are each = tt
 later-taken P version taken (Ok End) says are each =
     unless-taken P (end_fault taken) (Ended (description_of taken)) (λ none. record { taken = taken; are = are; each = each; may_end = none; is = refl })
-later-taken P version taken (Ok s) says are each =
+later-taken P version taken (Ok (Part s)) says are each =
     let right = says s refl in
-    unless-taken P (statement_fault taken s) (Moved (InModel version (s ∷ taken))) (λ none. ((right.0, none, are), All-cons P s taken right.1 each))
+    unless-taken P (part_fault taken s) (Moved (InModel version (s ∷ taken))) (λ none. ((right.0, none, are), All-cons P s taken right.1 each))
 later-taken P version taken (Err fault) says are each = tt
 
-step-taken : (P : Said → Type 0) (state : ReadingState) (line : Line) → Says P line → HasTaken P state → LeadsToTaken P (step_at state line)
+-- a line that is no unknown word says what it says in any place
+known-says : (t : Bool) (r : Result Said TextFault) (s : Said) → cond t (Err UnknownWord) r ≡ Ok s → r ≡ Ok s
+known-says true r s h = cc
+known-says false r s h = h
+
+step-taken : (P : SaidPart → Type 0) (state : ReadingState) (line : Line) → Says P line → HasTaken P state → LeadsToTaken P (step_at state line)
+unfolding later_statement
 step-taken P AtStart (Ok content) says has = first-taken P (statement_of content)
 step-taken P (InModel version taken) (Ok content) says has =
-    cond_both (begins_unknown version (fields_of content)) (Stopped (text_fault_code UnknownWord)) (later_said version taken (statement_of content)) (LeadsToTaken P) (λ _. tt)
-    (λ _. later-taken P version taken (statement_of content) (λ s h. (subst GoodSaid h (good-statement content), says s h)) has.0 has.1)
+    later-taken P version taken (later_statement version content) (λ s h.
+    let e = known-says (begins_unknown version (fields_of content)) (statement_of content) (Part s) h in
+    (subst GoodSaid e (good-statement content), says s e)) has.0 has.1
 step-taken P state (Err code) says has = tt
 
 described-is : (a b : Description) (m n : ℕ) (xs ys : List Line) → Described a m xs ≡ Described b n ys → a ≡ b
 described-is a b m n xs ys h = cc
 
-said-by-step : (P : Said → Type 0) (step : Step) (number : ℕ) (lines : List Line) (more : ReadingState → Reading) (d : Description) (last : ℕ) (rest : List Line) → LeadsToTaken P step
+said-by-step : (P : SaidPart → Type 0) (step : Step) (number : ℕ) (lines : List Line) (more : ReadingState → Reading) (d : Description) (last : ℕ) (rest : List Line) → LeadsToTaken P step
     → ((state : ReadingState) → HasTaken P state → more state ≡ Described d last rest → IsSaidBy P d) → after_step step number lines more ≡ Described d last rest → IsSaidBy P d
 said-by-step P (Moved state) number lines more d last rest leads ih h = ih state leads h
 said-by-step P (Ended building) number lines more d last rest leads ih h = subst (IsSaidBy P) (described-is building d number last lines rest h) leads
 said-by-step P (Stopped code) number lines more d last rest leads ih h = cc
 
 -- the building that lines describe from a state on
-pub reading-said : (P : Said → Type 0) (state : ReadingState) (lines : List Line) (before : ℕ) (d : Description) (last : ℕ) (rest : List Line) → All (Says P) lines → HasTaken P state
+pub reading-said : (P : SaidPart → Type 0) (state : ReadingState) (lines : List Line) (before : ℕ) (d : Description) (last : ℕ) (rest : List Line) → All (Says P) lines → HasTaken P state
     → reading_at state before lines ≡ Described d last rest → IsSaidBy P d
 unfolding reading_at
 reading-said P state [] before d last rest say has h = cc

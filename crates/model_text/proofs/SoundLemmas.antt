@@ -1,4 +1,4 @@
--- Statements that were taken describe a valid model.
+-- Parts that were taken describe a valid model.
 use Rattle.std.proofs.Common.{◌≡◌, ◌≢◌, ℕ, ◌+◌, ◌<◌, ◌≤◌, Bool, true, false, not, ◌||◌, nat_lt, nat_le, IsTrue, IsFalse, List, [], ◌∷◌, ◌++◌, length, get_or, Some, None, is_none, unwrap_or, refl, sym, ap, subst, ◌∙◌, arith, eq-eqb}
 use Rattle.std.specs.declared.option.Option.{Option}
 use Rattle.std.specs.List.{list_any, sum_by, All, AllPairs}
@@ -19,8 +19,8 @@ use Rattle.evac_law.specs.declared.window.Window.{Window as ClosureWindow}
 use Rattle.evac_law.proofs.EditLemmas.{at-set}
 use Rattle.evac_law.proofs.WindowLemmas.{windows_with}
 use Rattle.model_text.specs.Codes.{unknown_floor, repeated_node, over_full, unknown_node, self_arc, from_exit, repeated_arc, too_many, missing_setting, no_exit, too_large, bad_window, window_overlap, too_many_windows, repeated_entrant, entrant_late, exit_named, unknown_arc}
-use Rattle.model_text.specs.Grammar.{Said, Period, Horizon, Node, Exit, Arc, Window, Entrant as Comes}
-use Rattle.model_text.specs.Taken.{same_name, seconds_of, horizon_of, nodes_of, place_of_node, place_of_arc, joins, arc_windows, closing, arcs_of, with_entrant, entrant_of, entrants_of, is_coming, windows_of, has_floor, has_node, has_arc, has_entrant, people_of, first_code, statement_fault, cells_of, end_fault, model_taken, AreTaken}
+use Rattle.model_text.specs.Grammar.{SaidPart, Period, Horizon, Node, Exit, Arc, Window, Entrant as Comes}
+use Rattle.model_text.specs.Taken.{same_name, seconds_of, horizon_of, nodes_of, place_of_node, place_of_arc, joins, arc_windows, closing, arcs_of, with_entrant, entrant_of, entrants_of, is_coming, windows_of, has_floor, has_node, has_arc, has_entrant, people_of, first_code, part_fault, cells_of, end_fault, model_taken, AreTaken}
 use Rattle.model_text.proofs.EntrantLemmas.{IsComing, all-with_entrant, coming-kept, sorted-with_entrant, sum-with_entrant}
 use Rattle.model_text.proofs.InsertLemmas.{none-passes}
 use Rattle.model_text.proofs.ListFacts.{found, length-push, missing, not-false, push-pairs, same-name-is, same-name-self}
@@ -54,12 +54,12 @@ none-six a b c d e f p q r s t u h =
 -- ---- settings
 
 -- the seconds and the horizon keep their ranges
-seconds-within : (taken : List Said) (s : ℕ) → AreTaken taken → seconds_of taken ≡ Some s → (1 ≤ s) × (s ≤ seconds_limit)
+seconds-within : (taken : List SaidPart) (s : ℕ) → AreTaken taken → seconds_of taken ≡ Some s → (1 ≤ s) × (s ≤ seconds_limit)
 seconds-within [] s are h = cc
 seconds-within (Period n ∷ before) s are h = let e : n ≡ s = cc in let P : ℕ → Type 0 = λ k. (1 ≤ k) × (k ≤ seconds_limit) in subst P e are.0
 seconds-within (_ ∷ before) s are h = seconds-within before s are.2 h
 
-horizon-within : (taken : List Said) (s : ℕ) → AreTaken taken → horizon_of taken ≡ Some s → s ≤ horizon_limit
+horizon-within : (taken : List SaidPart) (s : ℕ) → AreTaken taken → horizon_of taken ≡ Some s → s ≤ horizon_limit
 horizon-within [] s are h = cc
 horizon-within (Horizon n ∷ before) s are h = let e : n ≡ s = cc in let P : ℕ → Type 0 = λ k. k ≤ horizon_limit in subst P e are.0
 horizon-within (_ ∷ before) s are h = horizon-within before s are.2 h
@@ -222,14 +222,14 @@ arc-between nodes start finish t r has-start has-finish apart inside travel rate
 pub below-limit : (limit n : ℕ) → nat_le limit n ≡ false → n < limit
 below-limit limit n h = leb-false limit n h
 
-room-sound : (before : List Said) (name : NodeName) (capacity start : ℕ) → IsSound (nodes_of before) (arcs_of before) (entrants_of before) → IsName name → IsFalse (is_exit name.kind) → capacity ≤ capacity_limit
+room-sound : (before : List SaidPart) (name : NodeName) (capacity start : ℕ) → IsSound (nodes_of before) (arcs_of before) (entrants_of before) → IsName name → IsFalse (is_exit name.kind) → capacity ≤ capacity_limit
     → has_node before name ≡ false → start ≤ capacity → length (nodes_of before) < node_limit → people_of before + start ≤ people_limit
     → IsSound (nodes_of (Node name capacity start ∷ before)) (arcs_of before) (entrants_of before)
 room-sound before name capacity start sound is room fits new start-fits few people-fit =
     sound-node (nodes_of before) (arcs_of before) (entrants_of before) (node_row name capacity start) sound
     (record { name = is; start_fits = start-fits; capacity_fits = fits; exit_is_empty = λ exit. cc; only_exits_shut = λ shut. cc }) new few people-fit
 
-exit-sound : (before : List Said) (name : NodeName) → IsSound (nodes_of before) (arcs_of before) (entrants_of before) → IsName name → IsTrue (is_exit name.kind)
+exit-sound : (before : List SaidPart) (name : NodeName) → IsSound (nodes_of before) (arcs_of before) (entrants_of before) → IsName name → IsTrue (is_exit name.kind)
     → has_node before name ≡ false → length (nodes_of before) < node_limit → IsSound (nodes_of (Exit name ∷ before)) (arcs_of before) (entrants_of before)
 exit-sound before name sound is exit new few =
     sound-node (nodes_of before) (arcs_of before) (entrants_of before) (node_row name 0 0) sound
@@ -237,8 +237,8 @@ exit-sound before name sound is exit new few =
     (let h = sound.people_fit in omega arith)
 
 -- what was taken is sound
-pub sound-of : (taken : List Said) → AreTaken taken → IsSound (nodes_of taken) (arcs_of taken) (entrants_of taken)
-unfolding statement_fault
+pub sound-of : (taken : List SaidPart) → AreTaken taken → IsSound (nodes_of taken) (arcs_of taken) (entrants_of taken)
+unfolding part_fault
 sound-of [] are = sound-none
 sound-of (Node name capacity start ∷ before) are =
     let full = nat_le node_limit (length (nodes_of before)) in
@@ -284,15 +284,15 @@ some-of : (o : Option ℕ) → is_none o ≡ false → o ≡ Some (unwrap_or o 0
 some-of (Some x) h = refl
 some-of None h = cc
 
--- what holds of statements that may end
-pub record MayEnd (taken : List Said) : Type 0 where
+-- what holds of parts that may end
+pub record MayEnd (taken : List SaidPart) : Type 0 where
   pub seconds : seconds_of taken ≡ Some (unwrap_or (seconds_of taken) 0)
   pub horizon : horizon_of taken ≡ Some (unwrap_or (horizon_of taken) 0)
   pub has_exit : list_any (λ n. is_exit n.name.kind) (nodes_of taken) ≡ true
   pub cells_fit : cells_of taken ≤ cell_limit
   pub none_late : All (λ e. e.moment ≤ unwrap_or (horizon_of taken) 0) (entrants_of taken)
 
-pub may-end : (taken : List Said) → end_fault taken ≡ None → MayEnd taken
+pub may-end : (taken : List SaidPart) → end_fault taken ≡ None → MayEnd taken
 unfolding end_fault
 may-end taken h =
     let unset = is_none (seconds_of taken) || is_none (horizon_of taken) in
@@ -310,8 +310,8 @@ may-end taken h =
           (none-passes (λ e. nat_lt last e.moment) (entrants_of taken) n.3);
     }
 
--- statements that were taken and may end describe a valid model
-pub taken-valid : (taken : List Said) → AreTaken taken → end_fault taken ≡ None → IsValid (model_taken taken)
+-- parts that were taken and may end describe a valid model
+pub taken-valid : (taken : List SaidPart) → AreTaken taken → end_fault taken ≡ None → IsValid (model_taken taken)
 unfolding model_taken people
 taken-valid taken are h =
     let ends = may-end taken h in

@@ -11,19 +11,23 @@ use Rattle.model_text.specs.Fields.{fields_of, behind_field, text_of}
 use Rattle.model_text.specs.NameFields.{name_of}
 use Rattle.model_text.specs.Numbers.{field_number}
 
+-- a part of a model, without where it lies in memory
+pub data SaidPart : Type 0 where
+  Title : (text : List ℕ) → SaidPart
+  Period : (seconds : ℕ) → SaidPart
+  Horizon : (moments : ℕ) → SaidPart
+  Floor : (floor : ℕ) → (text : List ℕ) → SaidPart
+  Node : (name : NodeName) → (capacity : ℕ) → (start : ℕ) → SaidPart
+  Exit : (name : NodeName) → SaidPart
+  Arc : («from» : NodeName) → (to : NodeName) → (travel : ℕ) → (rate : ℕ) → SaidPart
+  Window : («from» : NodeName) → (to : NodeName) → (first : ℕ) → (until : ℕ) → SaidPart
+  Entrant : (name : NodeName) → (moment : ℕ) → (people : ℕ) → SaidPart
+
 -- a statement, without where it lies in memory
 pub data Said : Type 0 where
   Blank : Said
   Header : (version : ℕ) → Said
-  Title : (text : List ℕ) → Said
-  Period : (seconds : ℕ) → Said
-  Horizon : (moments : ℕ) → Said
-  Floor : (floor : ℕ) → (text : List ℕ) → Said
-  Node : (name : NodeName) → (capacity : ℕ) → (start : ℕ) → Said
-  Exit : (name : NodeName) → Said
-  Arc : («from» : NodeName) → (to : NodeName) → (travel : ℕ) → (rate : ℕ) → Said
-  Window : («from» : NodeName) → (to : NodeName) → (first : ℕ) → (until : ℕ) → Said
-  Entrant : (name : NodeName) → (moment : ℕ) → (people : ℕ) → Said
+  Part : (part : SaidPart) → Said
   End : Said
 
 -- the first fault, or what follows from the value
@@ -73,58 +77,75 @@ abbrev pub four_fields : List (List ℕ) → Result (List ℕ × List ℕ × Lis
 four_fields (a ∷ b ∷ c ∷ d ∷ []) = Ok (a, b, c, d)
 four_fields _ = Err FieldCount
 
--- `evacplan` and a version
-abbrev pub header : List (List ℕ) → Result Said TextFault
-header fields = one_field fields >>= λ f. number_field f >>= λ v. Ok (Header v)
-
 -- `title` and a text
-abbrev pub title : List ℕ → Result Said TextFault
+abbrev pub title : List ℕ → Result SaidPart TextFault
 title text = text_field text >>= λ t. Ok (Title t)
 
 -- `period` and its seconds
-abbrev pub period : List (List ℕ) → Result Said TextFault
+abbrev pub period : List (List ℕ) → Result SaidPart TextFault
 period fields = one_field fields >>= λ f. ranged 1 seconds_limit f >>= λ s. Ok (Period s)
 
 -- `horizon` and the last moment
-abbrev pub horizon : List (List ℕ) → Result Said TextFault
+abbrev pub horizon : List (List ℕ) → Result SaidPart TextFault
 horizon fields = one_field fields >>= λ f. ranged 0 horizon_limit f >>= λ h. Ok (Horizon h)
 
 -- `floor`, its number, and a text, which stands behind the number
-abbrev pub floor : List (List ℕ) → List ℕ → Result Said TextFault
+abbrev pub floor : List (List ℕ) → List ℕ → Result SaidPart TextFault
 floor [] text = Err FieldCount
 floor (number ∷ more) text = text_field text >>= λ t. ranged 0 floor_number_limit number >>= λ f. Ok (Floor f t)
 
 -- `node` and a name; behind an exit's name nothing stands, behind another the capacity and the start
-abbrev pub exit_fields : NodeName → List (List ℕ) → Result Said TextFault
+abbrev pub exit_fields : NodeName → List (List ℕ) → Result SaidPart TextFault
 exit_fields name fields = no_field (Exit name) fields
 
-abbrev pub node_fields : NodeName → List (List ℕ) → Result Said TextFault
+abbrev pub node_fields : NodeName → List (List ℕ) → Result SaidPart TextFault
 node_fields name fields = two_fields fields >>= λ f. ranged 0 capacity_limit f.0 >>= λ c. ranged 0 capacity_limit f.1 >>= λ s. Ok (Node name c s)
 
-abbrev pub node : List (List ℕ) → Result Said TextFault
+abbrev pub node : List (List ℕ) → Result SaidPart TextFault
 node [] = Err FieldCount
 node (name ∷ more) = name_field name >>= λ n. if is_exit n.kind then exit_fields n more else node_fields n more
 
 -- `arc`, the two names of its ends, its traversal time and its rate
-abbrev pub arc : List (List ℕ) → Result Said TextFault
+abbrev pub arc : List (List ℕ) → Result SaidPart TextFault
 arc fields =
     four_fields fields >>= λ f. name_field f.0 >>= λ a. name_field f.1 >>= λ b. ranged 1 travel_limit f.2
     >>= λ t. ranged 0 rate_limit f.3 >>= λ r. Ok (Arc a b t r)
 
 -- `window`, the two names of an arc's ends, the first moment at which it is closed and the moment until which it is
-abbrev pub window : List (List ℕ) → Result Said TextFault
+abbrev pub window : List (List ℕ) → Result SaidPart TextFault
 window fields =
     four_fields fields >>= λ f. name_field f.0 >>= λ a. name_field f.1 >>= λ b. ranged 0 horizon_limit f.2
     >>= λ p. ranged 1 (horizon_limit + 1) f.3 >>= λ q. Ok (Window a b p q)
 
 -- `entrant`, the name of a node, the moment at which people come into it and how many they are
-abbrev pub entrant : List (List ℕ) → Result Said TextFault
+abbrev pub entrant : List (List ℕ) → Result SaidPart TextFault
 entrant fields =
     three_fields fields >>= λ f. name_field f.0 >>= λ a. ranged 1 horizon_limit f.1 >>= λ t. ranged 1 people_limit f.2 >>= λ n. Ok (Entrant a t n)
+
+-- a part by its first word and the bytes behind it
+abbrev pub part_by_word : List ℕ → List ℕ → Result SaidPart TextFault
+part_by_word word rest =
+    if bytes_eq word (codes "title") then title (text_of rest)
+    else if bytes_eq word (codes "period") then period (fields_of rest)
+    else if bytes_eq word (codes "horizon") then horizon (fields_of rest)
+    else if bytes_eq word (codes "floor") then floor (fields_of rest) (text_of (behind_field rest))
+    else if bytes_eq word (codes "node") then node (fields_of rest)
+    else if bytes_eq word (codes "arc") then arc (fields_of rest)
+    else if bytes_eq word (codes "window") then window (fields_of rest)
+    else if bytes_eq word (codes "entrant") then entrant (fields_of rest)
+    else Err UnknownWord
+
+-- `evacplan` and a version
+abbrev pub header : List (List ℕ) → Result Said TextFault
+header fields = one_field fields >>= λ f. number_field f >>= λ v. Ok (Header v)
 
 -- `end` alone
 abbrev pub end : List (List ℕ) → Result Said TextFault
 end fields = no_field End fields
+
+-- a part as a statement
+abbrev pub as_statement : Result SaidPart TextFault → Result Said TextFault
+as_statement part = part >>= λ p. Ok (Part p)
 
 -- whether a first field makes its line a comment
 abbrev pub is_comment : List ℕ → Bool
@@ -136,16 +157,8 @@ abbrev pub by_word : List ℕ → List ℕ → Result Said TextFault
 by_word word rest =
     if is_comment word then Ok Blank
     else if bytes_eq word (codes "evacplan") then header (fields_of rest)
-    else if bytes_eq word (codes "title") then title (text_of rest)
-    else if bytes_eq word (codes "period") then period (fields_of rest)
-    else if bytes_eq word (codes "horizon") then horizon (fields_of rest)
-    else if bytes_eq word (codes "floor") then floor (fields_of rest) (text_of (behind_field rest))
-    else if bytes_eq word (codes "node") then node (fields_of rest)
-    else if bytes_eq word (codes "arc") then arc (fields_of rest)
-    else if bytes_eq word (codes "window") then window (fields_of rest)
-    else if bytes_eq word (codes "entrant") then entrant (fields_of rest)
     else if bytes_eq word (codes "end") then end (fields_of rest)
-    else Err UnknownWord
+    else as_statement (part_by_word word rest)
 
 abbrev pub of_fields : List (List ℕ) → List ℕ → Result Said TextFault
 of_fields [] rest = Ok Blank
@@ -155,18 +168,20 @@ of_fields (word ∷ more) rest = by_word word rest
 unfoldable pub statement_of : List ℕ → Result Said TextFault
 statement_of line = of_fields (fields_of line) (behind_field line)
 
--- a statement that a line may say: its names are names, its numbers keep their ranges
-abbrev pub IsSaid : Said → Type 0
-IsSaid Blank = Unit {0}
-IsSaid (Header version) = Unit {0}
-IsSaid (Title text) = 0 < length text
-IsSaid (Period seconds) = (1 ≤ seconds) × (seconds ≤ seconds_limit)
-IsSaid (Horizon moments) = moments ≤ horizon_limit
-IsSaid (Floor floor text) = (floor ≤ floor_number_limit) × (0 < length text)
-IsSaid (Node name capacity start) = IsName name × IsFalse (is_exit name.kind) × (capacity ≤ capacity_limit) × (start ≤ capacity_limit)
-IsSaid (Exit name) = IsName name × IsTrue (is_exit name.kind)
-IsSaid (Arc start finish travel rate) = IsName start × IsName finish × (1 ≤ travel) × (travel ≤ travel_limit) × (rate ≤ rate_limit)
-IsSaid (Window start finish first until) =
+-- a part that a line may say: its names are names, its numbers keep their ranges
+abbrev pub IsSaidPart : SaidPart → Type 0
+IsSaidPart (Title text) = 0 < length text
+IsSaidPart (Period seconds) = (1 ≤ seconds) × (seconds ≤ seconds_limit)
+IsSaidPart (Horizon moments) = moments ≤ horizon_limit
+IsSaidPart (Floor floor text) = (floor ≤ floor_number_limit) × (0 < length text)
+IsSaidPart (Node name capacity start) = IsName name × IsFalse (is_exit name.kind) × (capacity ≤ capacity_limit) × (start ≤ capacity_limit)
+IsSaidPart (Exit name) = IsName name × IsTrue (is_exit name.kind)
+IsSaidPart (Arc start finish travel rate) = IsName start × IsName finish × (1 ≤ travel) × (travel ≤ travel_limit) × (rate ≤ rate_limit)
+IsSaidPart (Window start finish first until) =
     IsName start × IsName finish × (first ≤ horizon_limit) × (1 ≤ until) × (until ≤ horizon_limit + 1)
-IsSaid (Entrant name moment people) = IsName name × (1 ≤ moment) × (moment ≤ horizon_limit) × (1 ≤ people) × (people ≤ people_limit)
-IsSaid End = Unit {0}
+IsSaidPart (Entrant name moment people) = IsName name × (1 ≤ moment) × (moment ≤ horizon_limit) × (1 ≤ people) × (people ≤ people_limit)
+
+-- a statement that a line may say
+abbrev pub IsSaid : Said → Type 0
+IsSaid (Part part) = IsSaidPart part
+IsSaid _ = Unit {0}

@@ -1,5 +1,6 @@
 pub mod Codes
 pub mod Commands
+pub mod NamedEdits
 pub mod StudyCommands
 pub mod Fields
 pub mod Grammar

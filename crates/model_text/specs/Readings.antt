@@ -6,8 +6,8 @@ use Rattle.model_text.specs.declared.fault.TextFault.{TextFault}
 use Rattle.model_text.specs.declared.fault.TextFault.TheVariants.{UnknownWord}
 use Rattle.model_text.specs.Codes.{text_fault_code, first_line, missing_end}
 use Rattle.model_text.specs.Fields.{fields_of}
-use Rattle.model_text.specs.Grammar.{Said, Blank, Header, End, statement_of}
-use Rattle.model_text.specs.Taken.{Description, description_of, statement_fault, end_fault}
+use Rattle.model_text.specs.Grammar.{Said, SaidPart, Blank, Header, Part, End, statement_of}
+use Rattle.model_text.specs.Taken.{Description, description_of, part_fault, end_fault}
 
 -- a line: its content, or the code of its fault
 abbrev pub Line : Type 0
@@ -18,10 +18,10 @@ pub data Reading : Type 0 where
   Described : (building : Description) → (last : ℕ) → (rest : List Line) → Reading
   Refused : (code : ℕ) → (line : ℕ) → Reading
 
--- the state of a reading: before the header, or behind that of a version with some statements, the last one first
+-- the state of a reading: before the header, or behind that of a version with some parts, the last one first
 pub data ReadingState : Type 0 where
   AtStart : ReadingState
-  InModel : (version : ℕ) → (taken : List Said) → ReadingState
+  InModel : (version : ℕ) → (taken : List SaidPart) → ReadingState
 
 -- what one line does: the reading moves on to a state, a building ends, or the line is refused
 pub data Step : Type 0 where
@@ -40,16 +40,16 @@ first_said (Ok Blank) = Moved AtStart
 first_said (Ok (Header version)) = if version == 1 || version == 2 then Moved (InModel version []) else Stopped first_line
 first_said _ = Stopped first_line
 
--- the end of a model of some statements
-abbrev pub end_step : List Said → Step
+-- the end of a model of some parts
+abbrev pub end_step : List SaidPart → Step
 end_step taken = step_unless (end_fault taken) (Ended (description_of taken))
 
--- a line behind the header says one more statement, or ends the model
-abbrev pub later_said : ℕ → List Said → Result Said TextFault → Step
+-- a line behind the header says one more part, or ends the model
+abbrev pub later_said : ℕ → List SaidPart → Result Said TextFault → Step
 later_said version taken (Ok Blank) = Moved (InModel version taken)
 later_said version taken (Ok (Header other)) = Stopped (text_fault_code UnknownWord)
+later_said version taken (Ok (Part part)) = step_unless (part_fault taken part) (Moved (InModel version (part ∷ taken)))
 later_said version taken (Ok End) = end_step taken
-later_said version taken (Ok statement) = step_unless (statement_fault taken statement) (Moved (InModel version (statement ∷ taken)))
 later_said version taken (Err fault) = Stopped (text_fault_code fault)
 
 -- whether a first word is unknown behind the header: the header's own word, and in version 1 the words that only version 2 has
@@ -61,12 +61,14 @@ abbrev pub begins_unknown : ℕ → List (List ℕ) → Bool
 begins_unknown version [] = false
 begins_unknown version (word ∷ more) = is_unknown version word
 
--- what a line of some content does; an unknown word is refused before the fields behind it are looked at
+-- what a line behind the header of a version says; an unknown word is refused before the fields behind it are looked at
+unfoldable pub later_statement : ℕ → List ℕ → Result Said TextFault
+later_statement version line = if begins_unknown version (fields_of line) then Err UnknownWord else statement_of line
+
+-- what a line of some content does
 abbrev pub content_step : ReadingState → List ℕ → Step
 content_step AtStart content = first_said (statement_of content)
-content_step (InModel version taken) content =
-    if begins_unknown version (fields_of content) then Stopped (text_fault_code UnknownWord)
-    else later_said version taken (statement_of content)
+content_step (InModel version taken) content = later_said version taken (later_statement version content)
 
 abbrev pub step_at : ReadingState → Line → Step
 step_at state (Ok content) = content_step state content

@@ -5,9 +5,9 @@ use Rattle.model_text.specs.declared.study.StudyCommand.{StudyCommand}
 use Rattle.model_text.specs.declared.study.StudyCommand.TheVariants.{Blank, Exits, Least, Quit}
 use Rattle.model_text.specs.declared.fault.TextFault.{TextFault}
 use Rattle.model_text.specs.declared.fault.TextFault.TheVariants.{UnknownCommand}
-use Rattle.model_text.specs.Commands.{names_number}
 use Rattle.model_text.specs.Fields.{fields_of, behind_field}
 use Rattle.model_text.specs.Grammar.{◌>>=◌, is_comment, no_field}
+use Rattle.model_text.specs.NamedEdits.{names_number}
 
 -- two names and a number
 abbrev pub with_least : List (List ℕ) → Result StudyCommand TextFault

@@ -1,4 +1,4 @@
--- What statements have described so far, and when one more is refused. They stand in a list with the last one first.
+-- What parts have described so far, and when one more is refused. They stand in a list with the last one first.
 use Rattle.std.specs.Prelude.{◌≡◌, ℕ, ◌+◌, ◌*◌, Bool, true, false, not, ◌&&◌, ◌||◌, ◌==◌, nat_lt, nat_le, if◌then◌else◌, List, [], ◌∷◌, ◌++◌, length, slice_index_or, slice_set, is_some, is_none, unwrap_or, map, Some, None}
 use Rattle.std.specs.declared.option.Option.{Option}
 use Rattle.std.specs.List.{list_any, position_or_len, sum_by}
@@ -15,7 +15,7 @@ use Rattle.evac_law.specs.declared.model.ArcRow.{ArcRow}
 use Rattle.evac_law.specs.declared.model.Model.{Model}
 use Rattle.evac_law.specs.declared.window.Window.{Window as ClosureWindow}
 use Rattle.model_text.specs.Codes.{repeated_setting, unknown_floor, repeated_node, over_full, unknown_node, self_arc, from_exit, repeated_arc, too_many, missing_setting, no_exit, too_large, bad_window, window_overlap, too_many_windows, repeated_entrant, entrant_late, exit_named, unknown_arc}
-use Rattle.model_text.specs.Grammar.{Said, IsSaid, Title, Period, Horizon, Floor, Node, Exit, Arc, Window, Entrant}
+use Rattle.model_text.specs.Grammar.{SaidPart, IsSaidPart, Title, Period, Horizon, Floor, Node, Exit, Arc, Window, Entrant}
 
 -- ---- names
 
@@ -31,34 +31,34 @@ same_kind _ _ = false
 abbrev pub same_name : NodeName → NodeName → Bool
 same_name a b = same_kind a.kind b.kind && (a.number == b.number && a.floor == b.floor)
 
--- ---- what statements have described
+-- ---- what parts have described
 
 -- the title's text
-abbrev pub title_of : List Said → Option (List ℕ)
+abbrev pub title_of : List SaidPart → Option (List ℕ)
 title_of [] = None
 title_of (Title text ∷ before) = Some text
 title_of (_ ∷ before) = title_of before
 
 -- the seconds of a period
-abbrev pub seconds_of : List Said → Option ℕ
+abbrev pub seconds_of : List SaidPart → Option ℕ
 seconds_of [] = None
 seconds_of (Period seconds ∷ before) = Some seconds
 seconds_of (_ ∷ before) = seconds_of before
 
 -- the last moment
-abbrev pub horizon_of : List Said → Option ℕ
+abbrev pub horizon_of : List SaidPart → Option ℕ
 horizon_of [] = None
 horizon_of (Horizon moments ∷ before) = Some moments
 horizon_of (_ ∷ before) = horizon_of before
 
 -- the floors with their texts, in their order
-abbrev pub floors_of : List Said → List (ℕ × List ℕ)
+abbrev pub floors_of : List SaidPart → List (ℕ × List ℕ)
 floors_of [] = []
 floors_of (Floor floor text ∷ before) = floors_of before ++ ((floor, text) ∷ [])
 floors_of (_ ∷ before) = floors_of before
 
 -- the nodes in their order, none shut; an exit has no capacity and no start
-abbrev pub nodes_of : List Said → List NodeRow
+abbrev pub nodes_of : List SaidPart → List NodeRow
 nodes_of [] = []
 nodes_of (Node name capacity start ∷ before) = nodes_of before ++ (node_row name capacity start ∷ [])
 nodes_of (Exit name ∷ before) = nodes_of before ++ (node_row name 0 0 ∷ [])
@@ -84,7 +84,7 @@ closing arcs place window =
     slice_set arcs place (record (slice_index_or arcs place no_arc) { windows = record { items = with_window (arc_windows arcs place) window } })
 
 -- the arcs in their order, none shut, between the places of their names, each with the windows said of it
-abbrev pub arcs_of : List Said → List ArcRow
+abbrev pub arcs_of : List SaidPart → List ArcRow
 arcs_of [] = []
 arcs_of (Arc start finish travel rate ∷ before) =
     arcs_of before ++ (arc_row (place_of_node (nodes_of before) start) (place_of_node (nodes_of before) finish) travel rate ∷ [])
@@ -107,7 +107,7 @@ abbrev pub entrant_of : ℕ → ℕ → ℕ → Coming
 entrant_of node moment people = record { node = node; moment = moment; people = people }
 
 -- the entrants by node and then by moment
-abbrev pub entrants_of : List Said → List Coming
+abbrev pub entrants_of : List SaidPart → List Coming
 entrants_of [] = []
 entrants_of (Entrant name moment people ∷ before) =
     with_entrant (entrants_of before) (entrant_of (place_of_node (nodes_of before) name) moment people)
@@ -116,28 +116,28 @@ entrants_of (_ ∷ before) = entrants_of before
 -- ---- when one more is refused
 
 -- whether there is a floor of a number, a node of a name, an arc between two names, an entrant at a node and a moment
-abbrev pub has_floor : List Said → ℕ → Bool
+abbrev pub has_floor : List SaidPart → ℕ → Bool
 has_floor before floor = list_any (λ f. f == floor) (map (λ f. f.0) (floors_of before))
 
-abbrev pub has_node : List Said → NodeName → Bool
+abbrev pub has_node : List SaidPart → NodeName → Bool
 has_node before name = list_any (λ n. same_name n.name name) (nodes_of before)
 
-abbrev pub has_arc : List Said → NodeName → NodeName → Bool
+abbrev pub has_arc : List SaidPart → NodeName → NodeName → Bool
 has_arc before start finish = list_any (joins (place_of_node (nodes_of before) start) (place_of_node (nodes_of before) finish)) (arcs_of before)
 
 abbrev pub is_coming : ℕ → ℕ → Coming → Bool
 is_coming node moment e = e.node == node && e.moment == moment
 
-abbrev pub has_entrant : List Said → NodeName → ℕ → Bool
+abbrev pub has_entrant : List SaidPart → NodeName → ℕ → Bool
 has_entrant before name moment = list_any (is_coming (place_of_node (nodes_of before) name) moment) (entrants_of before)
 
 -- the windows of the arc between two names
-abbrev pub windows_of : List Said → NodeName → NodeName → List ClosureWindow
+abbrev pub windows_of : List SaidPart → NodeName → NodeName → List ClosureWindow
 windows_of before start finish =
     arc_windows (arcs_of before) (place_of_arc (arcs_of before) (place_of_node (nodes_of before) start) (place_of_node (nodes_of before) finish))
 
 -- the people who start somewhere or come in later
-abbrev pub people_of : List Said → ℕ
+abbrev pub people_of : List SaidPart → ℕ
 people_of before = sum_by (λ n. n.start) (nodes_of before) + sum_by (λ e. e.people) (entrants_of before)
 
 -- the code of the first check that holds
@@ -145,43 +145,42 @@ abbrev pub first_code : List (Bool × ℕ) → Option ℕ
 first_code [] = None
 first_code (c ∷ cs) = if c.0 then Some c.1 else first_code cs
 
--- the checks of a statement against those before it, in their order, each with its code
-abbrev pub statement_checks : List Said → Said → List (Bool × ℕ)
-statement_checks before (Title text) = (is_some (title_of before), repeated_setting) ∷ []
-statement_checks before (Period seconds) = (is_some (seconds_of before), repeated_setting) ∷ []
-statement_checks before (Horizon moments) = (is_some (horizon_of before), repeated_setting) ∷ []
-statement_checks before (Floor floor text) =
+-- the checks of a part against those before it, in their order, each with its code
+abbrev pub part_checks : List SaidPart → SaidPart → List (Bool × ℕ)
+part_checks before (Title text) = (is_some (title_of before), repeated_setting) ∷ []
+part_checks before (Period seconds) = (is_some (seconds_of before), repeated_setting) ∷ []
+part_checks before (Horizon moments) = (is_some (horizon_of before), repeated_setting) ∷ []
+part_checks before (Floor floor text) =
     (has_floor before floor, repeated_setting) ∷ (nat_le floor_limit (length (floors_of before)), too_many) ∷ []
-statement_checks before (Node name capacity start) =
+part_checks before (Node name capacity start) =
     (not (has_floor before name.floor), unknown_floor) ∷ (has_node before name, repeated_node) ∷ (nat_lt capacity start, over_full)
     ∷ (nat_le node_limit (length (nodes_of before)) || nat_lt people_limit (people_of before + start), too_many) ∷ []
-statement_checks before (Exit name) =
+part_checks before (Exit name) =
     (not (has_floor before name.floor), unknown_floor) ∷ (has_node before name, repeated_node)
     ∷ (nat_le node_limit (length (nodes_of before)), too_many) ∷ []
-statement_checks before (Arc start finish travel rate) =
+part_checks before (Arc start finish travel rate) =
     (not (has_node before start), unknown_node) ∷ (not (has_node before finish), unknown_node) ∷ (same_name start finish, self_arc)
     ∷ (is_exit start.kind, from_exit) ∷ (has_arc before start finish, repeated_arc)
     ∷ (nat_le arc_limit (length (arcs_of before)), too_many) ∷ []
-statement_checks before (Window start finish first until) =
+part_checks before (Window start finish first until) =
     (not (has_node before start), unknown_node) ∷ (not (has_node before finish), unknown_node)
     ∷ (not (has_arc before start finish), unknown_arc) ∷ (nat_le until first, bad_window)
     ∷ (list_any (λ v. overlaps v (window_of first until)) (windows_of before start finish), window_overlap)
     ∷ (nat_le window_limit (length (windows_of before start finish)), too_many_windows) ∷ []
-statement_checks before (Entrant name moment people) =
+part_checks before (Entrant name moment people) =
     (not (has_node before name), unknown_node) ∷ (is_exit name.kind, exit_named) ∷ (has_entrant before name moment, repeated_entrant)
     ∷ (nat_lt people_limit (people_of before + people), too_many) ∷ []
-statement_checks before _ = []
 
--- the fault of a statement, said of those before it
-unfoldable pub statement_fault : List Said → Said → Option ℕ
-statement_fault before statement = first_code (statement_checks before statement)
+-- the fault of a part, said of those before it
+unfoldable pub part_fault : List SaidPart → SaidPart → Option ℕ
+part_fault before part = first_code (part_checks before part)
 
 -- the cells of what is described: each node and each arc at each moment
-abbrev pub cells_of : List Said → ℕ
+abbrev pub cells_of : List SaidPart → ℕ
 cells_of taken = (length (nodes_of taken) + length (arcs_of taken)) * (unwrap_or (horizon_of taken) 0 + 1)
 
 -- the fault of the model's end
-unfoldable pub end_fault : List Said → Option ℕ
+unfoldable pub end_fault : List SaidPart → Option ℕ
 end_fault taken =
     first_code ((is_none (seconds_of taken) || is_none (horizon_of taken), missing_setting)
     ∷ (not (list_any (λ n. is_exit n.name.kind) (nodes_of taken)), no_exit)
@@ -196,7 +195,7 @@ pub record Description : Type 0 where
   pub title : Option (List ℕ)
   pub floors : List (ℕ × List ℕ)
 
-unfoldable pub model_taken : List Said → Model
+unfoldable pub model_taken : List SaidPart → Model
 model_taken taken =
     record {
       seconds = unwrap_or (seconds_of taken) 0;
@@ -206,10 +205,10 @@ model_taken taken =
       entrants = entrants_of taken;
     }
 
-abbrev pub description_of : List Said → Description
+abbrev pub description_of : List SaidPart → Description
 description_of taken = record { model = model_taken taken; title = title_of taken; floors = floors_of taken }
 
--- statements that lines may say, each without a fault when it came
-abbrev pub AreTaken : List Said → Type 0
+-- parts that lines may say, each without a fault when it came
+abbrev pub AreTaken : List SaidPart → Type 0
 AreTaken [] = Unit {0}
-AreTaken (statement ∷ before) = IsSaid statement × (statement_fault before statement ≡ None) × AreTaken before
+AreTaken (part ∷ before) = IsSaidPart part × (part_fault before part ≡ None) × AreTaken before

@@ -4,9 +4,9 @@ ghost use Rattle.model_text.specs.Fields.{fields_of};
 ghost use Rattle.model_text.specs.Grammar.{no_field};
 ghost use Rattle.model_text.specs.StudyCommands.{study_by_word, study_command_of, with_least};
 
-use crate::command::names_and_number;
 use crate::fault::TextFault;
 use crate::fields::{Fields, is_word};
+use crate::named_edit::names_and_number;
 use crate::statement::is_comment;
 use evac_law::NodeName;
 

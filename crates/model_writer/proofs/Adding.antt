@@ -1,4 +1,4 @@
--- Statements one after the other: none has a fault, and what they have described then.
+-- Parts one after the other: none has a fault, and what they have described then.
 use Rattle.std.proofs.Common.{◌≡◌, ℕ, ◌<◌, Bool, true, false, ◌&&◌, ◌||◌, cond, List, [], ◌∷◌, ◌++◌, length, get_or, None, Some, refl, ap, subst, ◌∙◌, arith, length-append}
 use Rattle.std.specs.declared.option.Option.{Option}
 use Rattle.std.specs.List.{All, AllPairs, list_any}
@@ -9,12 +9,11 @@ use Rattle.std.proofs.lemmas.List.Folds.{list_any_none}
 use Rattle.evac_law.specs.declared.entrant.Entrant.{Entrant as Coming}
 use Rattle.evac_law.specs.declared.model.ArcRow.{ArcRow}
 use Rattle.evac_law.specs.declared.model.NodeRow.{NodeRow}
-use Rattle.building_table.specs.Built.{IsPart}
-use Rattle.model_text.specs.Grammar.{Said}
-use Rattle.model_text.specs.Taken.{arcs_of, entrants_of, first_code, floors_of, horizon_of, nodes_of, seconds_of, statement_fault, title_of}
-use Rattle.model_writer.specs.Laws.{AreFine, IsSpelled, pushed}
+use Rattle.model_text.specs.Grammar.{SaidPart}
+use Rattle.model_text.specs.Taken.{arcs_of, entrants_of, first_code, floors_of, horizon_of, nodes_of, seconds_of, part_fault, title_of}
+use Rattle.model_writer.specs.Laws.{AreFine, IsSpelledPart, pushed}
 
--- ---- what statements have described
+-- ---- what parts have described
 
 pub record Gathered : Type 0 where
   pub title : Option (List ℕ)
@@ -25,7 +24,7 @@ pub record Gathered : Type 0 where
   pub arcs : List ArcRow
   pub entrants : List Coming
 
-abbrev pub gathered : List Said → Gathered
+abbrev pub gathered : List SaidPart → Gathered
 gathered taken = record {
   title = title_of taken;
   seconds = seconds_of taken;
@@ -36,38 +35,37 @@ gathered taken = record {
   entrants = entrants_of taken;
 }
 
--- one more statement has no fault, and this is described then
-pub record Adds (taken : List Said) (s : Said) (after : Gathered) : Type 0 where
-  pub part : IsPart s
-  pub spelled : IsSpelled s
-  pub none : statement_fault taken s ≡ None
+-- one more part has no fault, and this is described then
+pub record Adds (taken : List SaidPart) (s : SaidPart) (after : Gathered) : Type 0 where
+  pub spelled : IsSpelledPart s
+  pub none : part_fault taken s ≡ None
   pub is : gathered (s ∷ taken) ≡ after
 
--- none of some more statements has a fault, and this is described then
-pub record AddsAll (taken ss : List Said) (after : Gathered) : Type 0 where
+-- none of some more parts has a fault, and this is described then
+pub record AddsAll (taken ss : List SaidPart) (after : Gathered) : Type 0 where
   pub fine : AreFine taken ss
   pub is : gathered (pushed taken ss) ≡ after
 
-pub adds-none : (taken : List Said) (after : Gathered) → gathered taken ≡ after → AddsAll taken [] after
+pub adds-none : (taken : List SaidPart) (after : Gathered) → gathered taken ≡ after → AddsAll taken [] after
 adds-none taken after is = record { fine = tt; is = is }
 
-pub adds-more : (taken : List Said) (s : Said) (ss : List Said) (now after : Gathered) → Adds taken s now → AddsAll (s ∷ taken) ss after → AddsAll taken (s ∷ ss) after
-adds-more taken s ss now after this more = record { fine = (this.part, this.spelled, this.none, more.fine); is = more.is }
+pub adds-more : (taken : List SaidPart) (s : SaidPart) (ss : List SaidPart) (now after : Gathered) → Adds taken s now → AddsAll (s ∷ taken) ss after → AddsAll taken (s ∷ ss) after
+adds-more taken s ss now after this more = record { fine = (this.spelled, this.none, more.fine); is = more.is }
 
 -- the same description, spelled otherwise
-pub adds-is : (taken ss : List Said) (now after : Gathered) → now ≡ after → AddsAll taken ss now → AddsAll taken ss after
+pub adds-is : (taken ss : List SaidPart) (now after : Gathered) → now ≡ after → AddsAll taken ss now → AddsAll taken ss after
 adds-is taken ss now after e adds = record { fine = adds.fine; is = adds.is ∙ e }
 
-pushed-append : (taken xs ys : List Said) → pushed taken (xs ++ ys) ≡ pushed (pushed taken xs) ys
+pushed-append : (taken xs ys : List SaidPart) → pushed taken (xs ++ ys) ≡ pushed (pushed taken xs) ys
 pushed-append taken [] ys = refl
 pushed-append taken (x ∷ xs) ys = pushed-append (x ∷ taken) xs ys
 
-fine-append : (taken xs ys : List Said) → AreFine taken xs → AreFine (pushed taken xs) ys → AreFine taken (xs ++ ys)
+fine-append : (taken xs ys : List SaidPart) → AreFine taken xs → AreFine (pushed taken xs) ys → AreFine taken (xs ++ ys)
 fine-append taken [] ys f g = g
-fine-append taken (x ∷ xs) ys f g = (f.0, f.1, f.2, fine-append (x ∷ taken) xs ys f.3 g)
+fine-append taken (x ∷ xs) ys f g = (f.0, f.1, fine-append (x ∷ taken) xs ys f.2 g)
 
 -- some more and then others
-pub adds-append : (taken xs ys : List Said) (now after : Gathered) → AddsAll taken xs now
+pub adds-append : (taken xs ys : List SaidPart) (now after : Gathered) → AddsAll taken xs now
     → (gathered (pushed taken xs) ≡ now → AddsAll (pushed taken xs) ys after) → AddsAll taken (xs ++ ys) after
 adds-append taken xs ys now after adds then =
     let more = then adds.is in

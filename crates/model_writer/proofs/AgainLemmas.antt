@@ -1,10 +1,11 @@
 -- The text of a building that lines describe, described again.
 use Rattle.std.proofs.Common.{◌≡◌, ℕ, ◌+◌, ◌≤◌, List, [], ◌∷◌, length, map, sym, ap, subst, ◌∙◌, arith, length-append}
 use Rattle.std.specs.List.{All, flat_map}
+use Rattle.std.proofs.lemmas.List.{length-map}
 use Rattle.std.proofs.lemmas.List.Elements.{All-map, All-weaker}
 use Rattle.std.proofs.lemmas.List.Folds.{flat_map-map}
 use Rattle.line_io.specs.Line.{Line, input_limit, line_limit, lines_of, text_lines}
-use Rattle.model_text.specs.Grammar.{Said, End}
+use Rattle.model_text.specs.Grammar.{Said, Part, End}
 use Rattle.model_text.specs.Plain.{IsPlain}
 use Rattle.model_text.specs.Readings.{Described, model_of}
 use Rattle.model_text.specs.Taken.{Description}
@@ -31,7 +32,7 @@ plain-again d plain =
     let said = said-again line_limit d plain in
     let each = contents d plain said.fine in
     let fits = text-fits d plain each in
-    let count : length (parts_said d) + 2 ≡ length (said_of d) = (let size = length-append (parts_said d) (End ∷ []) in omega arith) in
+    let count : length (parts_said d) + 2 ≡ length (said_of d) = (let size = length-append (map Part (parts_said d)) (End ∷ []) in let same = length-map (parts_said d) Part in omega arith) in
     record {
       lines_fit = All-weaker (λ s. IsContent (said_line s)) (λ s. length (said_line s) ≤ line_limit) (λ s is. is.0) (said_of d) each;
       fits = fits;

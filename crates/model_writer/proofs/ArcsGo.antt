@@ -11,8 +11,8 @@ use Rattle.evac_law.specs.declared.model.ArcRow.{ArcRow}
 use Rattle.evac_law.specs.declared.model.Model.{Model}
 use Rattle.evac_law.specs.declared.model.NodeRow.{NodeRow}
 use Rattle.evac_law.specs.declared.name.NodeName.{NodeName}
-use Rattle.model_text.specs.Grammar.{Said, Arc, IsSaid}
-use Rattle.model_text.specs.Taken.{joins, place_of_node, same_name, statement_checks, statement_fault}
+use Rattle.model_text.specs.Grammar.{SaidPart, Arc, IsSaidPart}
+use Rattle.model_text.specs.Taken.{joins, place_of_node, same_name, part_checks, part_fault}
 use Rattle.model_text.proofs.ListFacts.{any-map}
 use Rattle.model_writer.specs.ModelText.{arc_said, name_at}
 use Rattle.model_writer.proofs.Adding.{Adds, AddsAll, Gathered, adds-is, adds-more, adds-none, gathered, no-code, none-before}
@@ -52,10 +52,10 @@ pub record IsPlainArc (nodes : List NodeRow) (a : ArcRow) : Type 0 where
 abbrev pub bare : ArcRow → ArcRow
 bare a = arc_row a.from a.to a.travel a.rate
 
-arc-adds : (m : Model) (g : Gathered) (done : List ArcRow) (a : ArcRow) (as' : List ArcRow) (taken : List Said) → AreNamed m.nodes
+arc-adds : (m : Model) (g : Gathered) (done : List ArcRow) (a : ArcRow) (as' : List ArcRow) (taken : List SaidPart) → AreNamed m.nodes
     → gathered taken ≡ record g { nodes = m.nodes; arcs = map bare done } → IsArc m.nodes a → AllPairs EndsDiffer (done ++ (a ∷ as')) → length (done ++ (a ∷ as')) ≤ arc_limit
     → Adds taken (arc_said m a) (record g { nodes = m.nodes; arcs = map bare (done ++ (a ∷ [])) })
-unfolding statement_fault
+unfolding part_fault
 arc-adds m g done a as' taken named is valid differ few =
     let size = length-append done (a ∷ as') in
     let same-size = length-map done bare in
@@ -63,13 +63,12 @@ arc-adds m g done a as' taken named is valid differ few =
     let to = name_at m a.to in
     let tail = known-name m a.from named valid.from_in in
     let head = known-name m a.to named valid.to_in in
-    let said : IsSaid (Arc from to a.travel a.rate) = (tail.named, head.named, valid.travel_fits.0, valid.travel_fits.1, valid.rate_fits) in
+    let said : IsSaidPart (Arc from to a.travel a.rate) = (tail.named, head.named, valid.travel_fits.0, valid.travel_fits.1, valid.rate_fits) in
     let with-arcs : List ArcRow → Gathered = λ l. record g { nodes = m.nodes; arcs = l } in
     let with-ends : ℕ → ℕ → Gathered = λ i j. with-arcs (map bare done ++ (arc_row i j a.travel a.rate ∷ [])) in
     record {
-      part = said;
       spelled = said;
-      none = no-code (statement_checks taken (arc_said m a)) (
+      none = no-code (part_checks taken (arc_said m a)) (
         ap (λ (x : Gathered). not (list_any (λ n. same_name n.name from) x.nodes)) is ∙ ap not tail.listed,
         (
           ap (λ (x : Gathered). not (list_any (λ n. same_name n.name to) x.nodes)) is ∙ ap not head.listed,
@@ -97,7 +96,7 @@ arc-adds m g done a as' taken named is valid differ few =
 -- ---- arcs
 
 -- arcs whose ends differ from those so far and from one another, before their windows
-pub arcs-go : (m : Model) (g : Gathered) (as' done : List ArcRow) (taken : List Said) → AreNamed m.nodes → gathered taken ≡ record g { nodes = m.nodes; arcs = map bare done }
+pub arcs-go : (m : Model) (g : Gathered) (as' done : List ArcRow) (taken : List SaidPart) → AreNamed m.nodes → gathered taken ≡ record g { nodes = m.nodes; arcs = map bare done }
     → All (IsPlainArc m.nodes) as' → AllPairs EndsDiffer (done ++ as') → length (done ++ as') ≤ arc_limit
     → AddsAll taken (map (arc_said m) as') (record g { nodes = m.nodes; arcs = map bare (done ++ as') })
 arcs-go m g [] done taken named is plain differ few = adds-none taken _ (is ∙ ap (λ l. record g { nodes = m.nodes; arcs = map bare l }) (sym (append-nil done)))

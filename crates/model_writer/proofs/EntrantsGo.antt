@@ -10,8 +10,8 @@ use Rattle.evac_law.specs.Limits.{horizon_limit, people_limit}
 use Rattle.evac_law.specs.declared.entrant.Entrant.{Entrant as Coming}
 use Rattle.evac_law.specs.declared.model.Model.{Model}
 use Rattle.evac_law.specs.declared.model.NodeRow.{NodeRow}
-use Rattle.model_text.specs.Grammar.{Said, Entrant, IsSaid}
-use Rattle.model_text.specs.Taken.{comes_before, entrant_of, is_coming, place_of_node, same_name, statement_checks, statement_fault, with_entrant}
+use Rattle.model_text.specs.Grammar.{SaidPart, Entrant, IsSaidPart}
+use Rattle.model_text.specs.Taken.{comes_before, entrant_of, is_coming, place_of_node, same_name, part_checks, part_fault, with_entrant}
 use Rattle.model_writer.specs.ModelText.{entrant_said, name_at}
 use Rattle.model_writer.proofs.Adding.{Adds, AddsAll, Gathered, adds-is, adds-more, adds-none, before-one, gathered, neither, no-code, none-before, second-fails}
 use Rattle.model_writer.proofs.ArcsGo.{AreNamed, known-name}
@@ -53,23 +53,22 @@ coming-so-far starting done e es few =
     let more = sum_by-cons (λ (f : Coming). f.people) e es in
     omega arith
 
-entrant-adds : (m : Model) (g : Gathered) (horizon : ℕ) (done : List Coming) (e : Coming) (es : List Coming) (taken : List Said) → AreNamed m.nodes
+entrant-adds : (m : Model) (g : Gathered) (horizon : ℕ) (done : List Coming) (e : Coming) (es : List Coming) (taken : List SaidPart) → AreNamed m.nodes
     → gathered taken ≡ record g { nodes = m.nodes; entrants = done } → IsEntrant m.nodes horizon e → horizon ≤ horizon_limit → AllPairs ComesBefore (done ++ (e ∷ es))
     → sum_by (λ n. n.start) m.nodes + sum_by (λ f. f.people) (done ++ (e ∷ es)) ≤ people_limit
     → Adds taken (entrant_said m e) (record g { nodes = m.nodes; entrants = done ++ (e ∷ []) })
-unfolding statement_fault
+unfolding part_fault
 entrant-adds m g horizon done e es taken named is valid early sorted people =
     let name = name_at m e.node in
     let node = known-name m e.node named valid.node_in in
     let in-horizon = valid.in_horizon in
     let starting = sum_by (λ (n : NodeRow). n.start) m.nodes in
     let few-people = coming-so-far starting done e es people in
-    let said : IsSaid (Entrant name e.moment e.people) =
+    let said : IsSaidPart (Entrant name e.moment e.people) =
     (node.named, valid.later, (let l : e.moment ≤ horizon_limit = omega arith in l), valid.somebody, (let l : e.people ≤ people_limit = omega arith in l)) in
     record {
-      part = said;
       spelled = said;
-      none = no-code (statement_checks taken (entrant_said m e)) (
+      none = no-code (part_checks taken (entrant_said m e)) (
         ap (λ (x : Gathered). not (list_any (λ n. same_name n.name name) x.nodes)) is ∙ ap not node.listed,
         (
           valid.no_exit,
@@ -94,7 +93,7 @@ entrant-adds m g horizon done e es taken named is valid early sorted people =
 -- ---- entrants
 
 -- entrants in order behind those so far
-pub entrants-go : (m : Model) (g : Gathered) (horizon : ℕ) (es done : List Coming) (taken : List Said) → AreNamed m.nodes
+pub entrants-go : (m : Model) (g : Gathered) (horizon : ℕ) (es done : List Coming) (taken : List SaidPart) → AreNamed m.nodes
     → gathered taken ≡ record g { nodes = m.nodes; entrants = done } → All (IsEntrant m.nodes horizon) es → horizon ≤ horizon_limit → AllPairs ComesBefore (done ++ es)
     → sum_by (λ n. n.start) m.nodes + sum_by (λ f. f.people) (done ++ es) ≤ people_limit
     → AddsAll taken (map (entrant_said m) es) (record g { nodes = m.nodes; entrants = done ++ es })

@@ -4,8 +4,8 @@ use Rattle.std.specs.List.{All, AllPairs, list_any}
 use Rattle.std.proofs.lemmas.Bool.{lt-leb, ne_eqb}
 use Rattle.std.proofs.lemmas.List.Elements.{All-head, All-tail}
 use Rattle.evac_law.specs.Limits.{floor_limit, floor_number_limit}
-use Rattle.model_text.specs.Grammar.{Said, IsSaid, Floor}
-use Rattle.model_text.specs.Taken.{statement_checks, statement_fault}
+use Rattle.model_text.specs.Grammar.{SaidPart, IsSaidPart, Floor}
+use Rattle.model_text.specs.Taken.{part_checks, part_fault}
 use Rattle.model_text.proofs.ListFacts.{any-map}
 use Rattle.model_writer.specs.Laws.{IsText}
 use Rattle.model_writer.specs.ModelText.{floor_said}
@@ -25,16 +25,15 @@ floor-new : (done : List (ℕ × List ℕ)) (f : ℕ × List ℕ) (fs : List (�
 floor-new done f fs differ =
     any-map (λ x. x == f.0) (λ (g : ℕ × List ℕ). g.0) done ∙ none-before FloorsDiffer (λ g. g.0 == f.0) done f fs (λ g apart. ne_eqb g.0 f.0 apart) differ
 
-floor-adds : (g : Gathered) (done : List (ℕ × List ℕ)) (f : ℕ × List ℕ) (fs : List (ℕ × List ℕ)) (taken : List Said) → gathered taken ≡ record g { floors = done }
+floor-adds : (g : Gathered) (done : List (ℕ × List ℕ)) (f : ℕ × List ℕ) (fs : List (ℕ × List ℕ)) (taken : List SaidPart) → gathered taken ≡ record g { floors = done }
     → IsFloor f → AllPairs FloorsDiffer (done ++ (f ∷ fs)) → length (done ++ (f ∷ fs)) ≤ floor_limit → Adds taken (floor_said f) (record g { floors = done ++ (f ∷ []) })
-unfolding statement_fault
+unfolding part_fault
 floor-adds g done f fs taken is ok differ few =
     let size = length-append done (f ∷ fs) in
-    let said : IsSaid (Floor f.0 f.1) = (ok.number, ok.some) in
+    let said : IsSaidPart (Floor f.0 f.1) = (ok.number, ok.some) in
     record {
-      part = said;
       spelled = (said, ok.text);
-      none = no-code (statement_checks taken (floor_said f)) (
+      none = no-code (part_checks taken (floor_said f)) (
         ap (λ (x : Gathered). list_any (λ n. n == f.0) (map (λ (h : ℕ × List ℕ). h.0) x.floors)) is ∙ floor-new done f fs differ,
         (ap (λ (x : Gathered). nat_le floor_limit (length x.floors)) is ∙ lt-leb floor_limit (length done) (omega arith), tt),
       );
@@ -42,7 +41,7 @@ floor-adds g done f fs taken is ok differ few =
     }
 
 -- floors that differ from those so far and from one another
-pub floors-go : (g : Gathered) (fs done : List (ℕ × List ℕ)) (taken : List Said) → gathered taken ≡ record g { floors = done } → All IsFloor fs → AllPairs FloorsDiffer (done ++ fs)
+pub floors-go : (g : Gathered) (fs done : List (ℕ × List ℕ)) (taken : List SaidPart) → gathered taken ≡ record g { floors = done } → All IsFloor fs → AllPairs FloorsDiffer (done ++ fs)
     → length (done ++ fs) ≤ floor_limit → AddsAll taken (map floor_said fs) (record g { floors = done ++ fs })
 floors-go g [] done taken is ok differ few = adds-none taken _ (is ∙ ap (λ l. record g { floors = l }) (sym (append-nil done)))
 floors-go g (f ∷ fs) done taken is ok differ few =

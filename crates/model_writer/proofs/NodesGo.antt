@@ -11,8 +11,8 @@ use Rattle.evac_law.specs.Names.{is_exit}
 use Rattle.evac_law.specs.declared.entrant.Entrant.{Entrant as Coming}
 use Rattle.evac_law.specs.declared.model.NodeRow.{NodeRow}
 use Rattle.evac_law.specs.declared.name.NodeName.{NodeName}
-use Rattle.model_text.specs.Grammar.{Said, Exit, IsSaid, Node}
-use Rattle.model_text.specs.Taken.{place_of_node, same_name, statement_checks, statement_fault}
+use Rattle.model_text.specs.Grammar.{SaidPart, Exit, IsSaidPart, Node}
+use Rattle.model_text.specs.Taken.{place_of_node, same_name, part_checks, part_fault}
 use Rattle.model_text.proofs.ListFacts.{any-map, same-name-is, same-name-self}
 use Rattle.model_writer.specs.ModelText.{node_said}
 use Rattle.model_writer.proofs.Adding.{Adds, AddsAll, Gathered, adds-is, adds-more, adds-none, gathered, neither, no-code, none-before}
@@ -59,20 +59,19 @@ people-so-far done n ns coming few =
     let more = sum_by-cons (λ (x : NodeRow). x.start) n ns in
     omega arith
 
-node-adds : (g : Gathered) (done : List NodeRow) (n : NodeRow) (ns : List NodeRow) (taken : List Said) (t : Bool) → is_exit n.name.kind ≡ t → gathered taken ≡ record g { nodes = done }
+node-adds : (g : Gathered) (done : List NodeRow) (n : NodeRow) (ns : List NodeRow) (taken : List SaidPart) (t : Bool) → is_exit n.name.kind ≡ t → gathered taken ≡ record g { nodes = done }
     → IsPlainNode g.floors n → AllPairs NamesDiffer (done ++ (n ∷ ns)) → length (done ++ (n ∷ ns)) ≤ node_limit
     → sum_by (λ x. x.start) (done ++ (n ∷ ns)) + sum_by (λ e. e.people) g.entrants ≤ people_limit
     → Adds taken (cond t (Exit n.name) (Node n.name n.capacity n.start)) (record g { nodes = done ++ (n ∷ []) })
-unfolding statement_fault
+unfolding part_fault
 node-adds g done n ns taken true exit is plain differ few people =
     let size = length-append done (n ∷ ns) in
     let node = plain.valid in
     let empty : n.capacity ≡ 0 = node.exit_is_empty exit in
-    let said : IsSaid (Exit n.name) = (node.name, exit) in
+    let said : IsSaidPart (Exit n.name) = (node.name, exit) in
     record {
-      part = said;
       spelled = said;
-      none = no-code (statement_checks taken (Exit n.name)) (
+      none = no-code (part_checks taken (Exit n.name)) (
         ap (λ (x : Gathered). not (list_any (λ f. f == n.name.floor) (map (λ (f : ℕ × List ℕ). f.0) x.floors))) is
             ∙ ap not (any-map (λ f. f == n.name.floor) (λ (f : ℕ × List ℕ). f.0) g.floors ∙ plain.listed),
         (
@@ -87,12 +86,11 @@ node-adds g done n ns taken false room is plain differ few people =
     let size = length-append done (n ∷ ns) in
     let node = plain.valid in
     let start-fits = node.start_fits in
-    let said : IsSaid (Node n.name n.capacity n.start) = (node.name, room, node.capacity_fits, (let fits = node.capacity_fits in omega arith)) in
+    let said : IsSaidPart (Node n.name n.capacity n.start) = (node.name, room, node.capacity_fits, (let fits = node.capacity_fits in omega arith)) in
     let few-people = people-so-far done n ns (sum_by (λ (e : Coming). e.people) g.entrants) people in
     record {
-      part = said;
       spelled = said;
-      none = no-code (statement_checks taken (Node n.name n.capacity n.start)) (
+      none = no-code (part_checks taken (Node n.name n.capacity n.start)) (
         ap (λ (x : Gathered). not (list_any (λ f. f == n.name.floor) (map (λ (f : ℕ × List ℕ). f.0) x.floors))) is
             ∙ ap not (any-map (λ f. f == n.name.floor) (λ (f : ℕ × List ℕ). f.0) g.floors ∙ plain.listed),
         (
@@ -114,7 +112,7 @@ node-adds g done n ns taken false room is plain differ few people =
 -- ---- nodes
 
 -- nodes whose names differ from those so far and from one another
-pub nodes-go : (g : Gathered) (ns done : List NodeRow) (taken : List Said) → gathered taken ≡ record g { nodes = done } → All (IsPlainNode g.floors) ns → AllPairs NamesDiffer (done ++ ns)
+pub nodes-go : (g : Gathered) (ns done : List NodeRow) (taken : List SaidPart) → gathered taken ≡ record g { nodes = done } → All (IsPlainNode g.floors) ns → AllPairs NamesDiffer (done ++ ns)
     → length (done ++ ns) ≤ node_limit → sum_by (λ x. x.start) (done ++ ns) + sum_by (λ e. e.people) g.entrants ≤ people_limit
     → AddsAll taken (map node_said ns) (record g { nodes = done ++ ns })
 nodes-go g [] done taken is plain differ few people = adds-none taken _ (is ∙ ap (λ l. record g { nodes = l }) (sym (append-nil done)))

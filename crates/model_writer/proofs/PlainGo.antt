@@ -1,4 +1,4 @@
--- The statements that say a plain building have no fault, and describe it again.
+-- The parts that say a plain building have no fault, and describe it again.
 use Rattle.std.proofs.Common.{◌≡◌, ℕ, ◌+◌, ◌*◌, Bool, false, not, ◌||◌, nat_lt, List, [], ◌∷◌, ◌++◌, length, map, Some, None, is_none, is_some, unwrap_or, refl, ap, ◌∙◌, arith}
 use Rattle.std.specs.Prelude.{MatchOption, ⊤}
 use Rattle.std.specs.declared.option.Option.{Option}
@@ -10,9 +10,9 @@ use Rattle.evac_law.specs.Limits.{cell_limit}
 use Rattle.evac_law.specs.Names.{is_exit}
 use Rattle.evac_law.specs.declared.model.Model.{Model}
 use Rattle.model_text.specs.Codes.{entrant_late, missing_setting, no_exit, too_large}
-use Rattle.model_text.specs.Grammar.{Said, Horizon, Period, Title}
+use Rattle.model_text.specs.Grammar.{SaidPart, Horizon, Period, Title}
 use Rattle.model_text.specs.Plain.{IsPlain, IsTextBehind}
-use Rattle.model_text.specs.Taken.{Description, description_of, end_fault, first_code, model_taken, statement_checks, statement_fault}
+use Rattle.model_text.specs.Taken.{Description, description_of, end_fault, first_code, model_taken, part_checks, part_fault}
 use Rattle.model_writer.specs.Laws.{AreFine, pushed}
 use Rattle.model_writer.specs.ModelText.{arc_said, entrant_said, floor_said, node_said, parts_said, title_said, windows_said}
 use Rattle.model_writer.proofs.Adding.{Adds, AddsAll, Gathered, adds-append, adds-more, adds-none, all-pairs, gathered, no-code}
@@ -36,28 +36,26 @@ whole d = record (settled d) { floors = d.floors; nodes = d.model.nodes; arcs = 
 -- ---- the settings
 
 title-adds : (limit : ℕ) (title : Option (List ℕ)) → MatchOption title ⊤ (λ text. IsTextBehind limit 6 text) → AddsAll [] (title_said title) (record blank { title = title })
-unfolding statement_fault
+unfolding part_fault
 title-adds limit None is = adds-none [] _ refl
 title-adds limit (Some text) is =
-    adds-more [] (Title text) [] _ _ (record { part = is.some; spelled = (is.some, is.whole); none = refl; is = refl }) (adds-none (Title text ∷ []) _ refl)
+    adds-more [] (Title text) [] _ _ (record { spelled = (is.some, is.whole); none = refl; is = refl }) (adds-none (Title text ∷ []) _ refl)
 
-period-adds : (m : Model) (title : Option (List ℕ)) (taken : List Said) → IsValid m → gathered taken ≡ record blank { title = title }
+period-adds : (m : Model) (title : Option (List ℕ)) (taken : List SaidPart) → IsValid m → gathered taken ≡ record blank { title = title }
     → Adds taken (Period m.seconds) (record blank { title = title; seconds = Some m.seconds })
-unfolding statement_fault
+unfolding part_fault
 period-adds m title taken valid is = record {
-  part = valid.seconds;
   spelled = valid.seconds;
-  none = no-code (statement_checks taken (Period m.seconds)) (ap (λ (x : Gathered). is_some x.seconds) is, tt);
+  none = no-code (part_checks taken (Period m.seconds)) (ap (λ (x : Gathered). is_some x.seconds) is, tt);
   is = ap (λ (x : Gathered). record x { seconds = Some m.seconds }) is;
 }
 
-horizon-adds : (d : Description) (taken : List Said) → IsValid d.model → gathered taken ≡ record blank { title = d.title; seconds = Some d.model.seconds }
+horizon-adds : (d : Description) (taken : List SaidPart) → IsValid d.model → gathered taken ≡ record blank { title = d.title; seconds = Some d.model.seconds }
     → Adds taken (Horizon d.model.horizon) (settled d)
-unfolding statement_fault
+unfolding part_fault
 horizon-adds d taken valid is = record {
-  part = valid.horizon;
   spelled = valid.horizon;
-  none = no-code (statement_checks taken (Horizon d.model.horizon)) (ap (λ (x : Gathered). is_some x.horizon) is, tt);
+  none = no-code (part_checks taken (Horizon d.model.horizon)) (ap (λ (x : Gathered). is_some x.horizon) is, tt);
   is = ap (λ (x : Gathered). record x { horizon = Some d.model.horizon }) is;
 }
 
@@ -69,7 +67,7 @@ named limit d plain = record {
   differ = all-pairs NamesDiffer d.model.nodes no_node plain.valid.names_differ;
 }
 
-entrants-add : (limit : ℕ) (d : Description) → IsPlain limit d → (taken : List Said) → gathered taken ≡ record (settled d) { floors = d.floors; nodes = d.model.nodes; arcs = d.model.arcs }
+entrants-add : (limit : ℕ) (d : Description) → IsPlain limit d → (taken : List SaidPart) → gathered taken ≡ record (settled d) { floors = d.floors; nodes = d.model.nodes; arcs = d.model.arcs }
     → AddsAll taken (map (entrant_said d.model) d.model.entrants) (whole d)
 unfolding people
 entrants-add limit d plain taken is =
@@ -77,7 +75,7 @@ entrants-add limit d plain taken is =
     entrants-go d.model (record (settled d) { floors = d.floors; arcs = d.model.arcs }) d.model.horizon d.model.entrants [] taken (named limit d plain) is
     valid.entrants valid.horizon valid.entrants_sorted valid.people_fit
 
-arcs-add : (limit : ℕ) (d : Description) → IsPlain limit d → (taken : List Said) → gathered taken ≡ record (settled d) { floors = d.floors; nodes = d.model.nodes }
+arcs-add : (limit : ℕ) (d : Description) → IsPlain limit d → (taken : List SaidPart) → gathered taken ≡ record (settled d) { floors = d.floors; nodes = d.model.nodes }
     → AddsAll taken (map (arc_said d.model) d.model.arcs ++ (flat_map (windows_said d.model) d.model.arcs ++ map (entrant_said d.model) d.model.entrants)) (whole d)
 arcs-add limit d plain taken is =
     let m = d.model in
@@ -88,7 +86,7 @@ arcs-add limit d plain taken is =
     (λ before. adds-append _ (flat_map (windows_said m) m.arcs) _ _ _ (windows-go m g m.arcs [] _ (named limit d plain) before each differ)
     (λ then. entrants-add limit d plain _ then))
 
-nodes-add : (limit : ℕ) (d : Description) → IsPlain limit d → (taken : List Said) → gathered taken ≡ record (settled d) { floors = d.floors }
+nodes-add : (limit : ℕ) (d : Description) → IsPlain limit d → (taken : List SaidPart) → gathered taken ≡ record (settled d) { floors = d.floors }
     → AddsAll taken (map node_said d.model.nodes
     ++ (map (arc_said d.model) d.model.arcs ++ (flat_map (windows_said d.model) d.model.arcs ++ map (entrant_said d.model) d.model.entrants))) (whole d)
 unfolding people
@@ -100,7 +98,7 @@ nodes-add limit d plain taken is =
     (nodes-go (record (settled d) { floors = d.floors }) m.nodes [] taken is each (all-pairs NamesDiffer m.nodes no_node plain.valid.names_differ) plain.valid.nodes_fit (omega arith))
     (λ then. arcs-add limit d plain _ then)
 
-floors-add : (limit : ℕ) (d : Description) → IsPlain limit d → (taken : List Said) → gathered taken ≡ settled d
+floors-add : (limit : ℕ) (d : Description) → IsPlain limit d → (taken : List SaidPart) → gathered taken ≡ settled d
     → AddsAll taken (map floor_said d.floors ++ (map node_said d.model.nodes
     ++ (map (arc_said d.model) d.model.arcs ++ (flat_map (windows_said d.model) d.model.arcs ++ map (entrant_said d.model) d.model.entrants)))) (whole d)
 floors-add limit d plain taken is =
@@ -108,7 +106,7 @@ floors-add limit d plain taken is =
     adds-append taken (map floor_said d.floors) _ _ _ (floors-go (settled d) d.floors [] taken is each plain.floors_differ plain.few_floors)
     (λ then. nodes-add limit d plain _ then)
 
--- the statements that say a plain building describe it
+-- the parts that say a plain building describe it
 parts-add : (limit : ℕ) (d : Description) → IsPlain limit d → AddsAll [] (parts_said d) (whole d)
 parts-add limit d plain =
     adds-append [] (title_said d.title) _ _ _ (title-adds limit d.title plain.title)
@@ -132,7 +130,7 @@ end-checks x =
     ∷ (nat_lt cell_limit ((length x.nodes + length x.arcs) * (unwrap_or x.horizon 0 + 1)), too_large)
     ∷ (list_any (λ e. nat_lt (unwrap_or x.horizon 0) e.moment) x.entrants, entrant_late) ∷ []
 
-ends : (limit : ℕ) (d : Description) (taken : List Said) → IsPlain limit d → gathered taken ≡ whole d → end_fault taken ≡ None
+ends : (limit : ℕ) (d : Description) (taken : List SaidPart) → IsPlain limit d → gathered taken ≡ whole d → end_fault taken ≡ None
 unfolding end_fault
 ends limit d taken plain is =
     let m = d.model in
@@ -140,7 +138,7 @@ ends limit d taken plain is =
     ap (λ x. first_code (end-checks x)) is
     ∙ no-code (end-checks (whole d)) (refl, (ap not plain.has_exit, (le-ltb cell_limit _ plain.valid.cells_fit, (list_any_none (λ e. nat_lt m.horizon e.moment) m.entrants on-time, tt))))
 
-describes : (d : Description) (taken : List Said) → gathered taken ≡ whole d → description_of taken ≡ d
+describes : (d : Description) (taken : List SaidPart) → gathered taken ≡ whole d → description_of taken ≡ d
 unfolding model_taken
 describes d taken is =
     ap (λ (x : Gathered). record {

@@ -18,14 +18,14 @@ use Rattle.evac_law.specs.declared.model.NodeRow.{NodeRow}
 use Rattle.evac_law.proofs.MoveLemmas.{All-flat_map_at}
 use Rattle.certificate_text.proofs.LineTexts.{IsField, IsLine, decimal-field, kept-whole, word-kept}
 use Rattle.line_io.specs.Line.{input_limit, is_lf, line_limit}
-use Rattle.model_text.specs.Grammar.{Said, Blank, Header, Title, Period, Horizon, Floor, Node, Exit, Arc, Window, Entrant, End}
+use Rattle.model_text.specs.Grammar.{Said, SaidPart, Header, Part, Title, Period, Horizon, Floor, Node, Exit, Arc, Window, Entrant, End}
 use Rattle.model_text.specs.Plain.{IsPlain, IsTextBehind}
 use Rattle.model_text.specs.Taken.{Description}
 use Rattle.model_text.proofs.TextLemmas.{HasText}
-use Rattle.model_writer.specs.Laws.{AreFine, IsContent, IsSpelled}
-use Rattle.model_writer.specs.ModelText.{arc_said, entrant_said, floor_said, node_said, parts_said, said_line, said_of, said_text, title_said, window_said, windows_said}
+use Rattle.model_writer.specs.Laws.{AreFine, IsContent, IsSpelledPart}
+use Rattle.model_writer.specs.ModelText.{arc_said, entrant_said, floor_said, node_said, part_line, parts_said, said_line, said_of, said_text, title_said, window_said, windows_said}
 use Rattle.model_writer.proofs.EndedLemmas.{ended-size}
-use Rattle.model_writer.proofs.SaidBack.{spells-said}
+use Rattle.model_writer.proofs.SaidBack.{spells-end, spells-header, spells-part}
 
 -- ---- the line of a statement
 
@@ -33,36 +33,33 @@ line-content : (x : List ℕ) → IsLine x → IsContent x
 unfolding line_limit
 line-content x is = (is.short, kept-whole x is.kept)
 
-title-content : (text : List ℕ) → IsTextBehind line_limit 6 text → IsContent (said_line (Title text))
+title-content : (text : List ℕ) → IsTextBehind line_limit 6 text → IsContent (part_line (Title text))
 title-content text is = ((let fits = is.fits in omega arith), is.one_line)
 
-floor-content : (floor : ℕ) (text : List ℕ) → floor ≤ floor_number_limit → IsTextBehind line_limit (7 + length (decimal floor)) text → IsContent (said_line (Floor floor text))
+floor-content : (floor : ℕ) (text : List ℕ) → floor ≤ floor_number_limit → IsTextBehind line_limit (7 + length (decimal floor)) text → IsContent (part_line (Floor floor text))
 unfolding floor_number_limit
 floor-content floor text few is =
     let number : IsField (decimal floor) = decimal-field floor (omega arith) in
     let size = length-append (decimal floor) (32 ∷ text) in
     let fits = is.fits in
-    let short : length (said_line (Floor floor text)) ≤ line_limit = omega arith in (
+    let short : length (part_line (Floor floor text)) ≤ line_limit = omega arith in (
       short,
       list_any-append is_lf (decimal floor) (32 ∷ text) ∙ ap (λ t. t || list_any is_lf (32 ∷ text)) (kept-whole (decimal floor) (word-kept (decimal floor) number.seen))
           ∙ is.one_line,
     )
 
-pub content-said : (s : Said) → IsSpelled s → HasText line_limit s → IsContent (said_line s)
-content-said Blank is text = absurd is
-content-said (Header version) is text = line-content _ (spells-said (Header version) is).line
-content-said (Title text) is fits = title-content text fits
-content-said (Period seconds) is text = line-content _ (spells-said (Period seconds) is).line
-content-said (Horizon moments) is text = line-content _ (spells-said (Horizon moments) is).line
-content-said (Floor floor text) is fits = floor-content floor text is.0.0 fits
-content-said (Node name capacity start) is text = line-content _ (spells-said (Node name capacity start) is).line
-content-said (Exit name) is text = line-content _ (spells-said (Exit name) is).line
-content-said (Arc start finish travel rate) is text = line-content _ (spells-said (Arc start finish travel rate) is).line
-content-said (Window start finish first until) is text = line-content _ (spells-said (Window start finish first until) is).line
-content-said (Entrant name moment people) is text = line-content _ (spells-said (Entrant name moment people) is).line
-content-said End is text = line-content _ (spells-said End is).line
+pub content-part : (p : SaidPart) → IsSpelledPart p → HasText line_limit p → IsContent (part_line p)
+content-part (Title text) is fits = title-content text fits
+content-part (Period seconds) is text = line-content _ (spells-part (Period seconds) is).line
+content-part (Horizon moments) is text = line-content _ (spells-part (Horizon moments) is).line
+content-part (Floor floor text) is fits = floor-content floor text is.0.0 fits
+content-part (Node name capacity start) is text = line-content _ (spells-part (Node name capacity start) is).line
+content-part (Exit name) is text = line-content _ (spells-part (Exit name) is).line
+content-part (Arc start finish travel rate) is text = line-content _ (spells-part (Arc start finish travel rate) is).line
+content-part (Window start finish first until) is text = line-content _ (spells-part (Window start finish first until) is).line
+content-part (Entrant name moment people) is text = line-content _ (spells-part (Entrant name moment people) is).line
 
--- ---- the texts of the statements
+-- ---- the texts of the parts
 
 title-texts : (limit : ℕ) (title : Option (List ℕ)) → MatchOption title ⊤ (λ text. IsTextBehind limit 6 text) → All (HasText limit) (title_said title)
 title-texts limit None is = All-nil (HasText limit)
@@ -96,18 +93,18 @@ parts-texts limit d plain =
 
 -- ---- all lines
 
-fine-content : (taken ss : List Said) → AreFine taken ss → All (HasText line_limit) ss → All (λ s. IsContent (said_line s)) ss
-fine-content taken [] fine texts = All-nil (λ s. IsContent (said_line s))
-fine-content taken (s ∷ ss) fine texts =
-    All-cons (λ s. IsContent (said_line s)) s ss (content-said s fine.1 (All-head (HasText line_limit) s ss texts))
-    (fine-content (s ∷ taken) ss fine.3 (All-tail (HasText line_limit) s ss texts))
+fine-content : (taken ps : List SaidPart) → AreFine taken ps → All (HasText line_limit) ps → All (λ p. IsContent (part_line p)) ps
+fine-content taken [] fine texts = All-nil (λ p. IsContent (part_line p))
+fine-content taken (p ∷ ps) fine texts =
+    All-cons (λ p. IsContent (part_line p)) p ps (content-part p fine.0 (All-head (HasText line_limit) p ps texts))
+    (fine-content (p ∷ taken) ps fine.2 (All-tail (HasText line_limit) p ps texts))
 
 pub contents : (d : Description) → IsPlain line_limit d → AreFine [] (parts_said d) → All (λ s. IsContent (said_line s)) (said_of d)
 contents d plain fine =
     let P : Said → Type 0 = λ s. IsContent (said_line s) in
-    All-cons P (Header 2) (parts_said d ++ (End ∷ [])) (content-said (Header 2) (omega arith) tt)
-    (All-append P (parts_said d) (End ∷ []) (fine-content [] (parts_said d) fine (parts-texts line_limit d plain))
-    (All-cons P End [] (content-said End tt tt) (All-nil P)))
+    let parts : All P (map Part (parts_said d)) = All-map P Part (parts_said d) (fine-content [] (parts_said d) fine (parts-texts line_limit d plain)) in
+    All-cons P (Header 2) (map Part (parts_said d) ++ (End ∷ [])) (line-content _ (spells-header 2 (omega arith)).line)
+    (All-append P (map Part (parts_said d)) (End ∷ []) parts (All-cons P End [] (line-content _ spells-end.line) (All-nil P)))
 
 -- ---- how many they are
 
@@ -165,7 +162,8 @@ few-said limit d plain =
     let b = valid.nodes_fit in
     let c = valid.arcs_fit in
     let e = valid.people_fit in
-    let all = length-append (parts_said d) (End ∷ []) in
+    let all = length-append (map Part (parts_said d)) (End ∷ []) in
+    let same = length-map (parts_said d) Part in
     omega arith
 
 -- lines within the limit, fewer than some number

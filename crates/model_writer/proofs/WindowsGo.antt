@@ -13,8 +13,8 @@ use Rattle.evac_law.specs.Windows.{AreWindows, EndsBefore, IsWindow, overlaps, w
 use Rattle.evac_law.specs.declared.model.ArcRow.{ArcRow}
 use Rattle.evac_law.specs.declared.model.Model.{Model}
 use Rattle.evac_law.specs.declared.window.Window.{Window as Closed}
-use Rattle.model_text.specs.Grammar.{Said, IsSaid, Window}
-use Rattle.model_text.specs.Taken.{arc_windows, closing, joins, place_of_arc, place_of_node, same_name, statement_checks, statement_fault}
+use Rattle.model_text.specs.Grammar.{SaidPart, IsSaidPart, Window}
+use Rattle.model_text.specs.Taken.{arc_windows, closing, joins, place_of_arc, place_of_node, same_name, part_checks, part_fault}
 use Rattle.model_text.proofs.InsertLemmas.{none-passes}
 use Rattle.model_writer.specs.ModelText.{name_at, window_said, windows_said}
 use Rattle.model_writer.proofs.Adding.{Adds, AddsAll, Gathered, adds-append, adds-is, adds-more, adds-none, all-front, all-one, before-one, gathered, no-code, none-before, second-fails}
@@ -74,10 +74,10 @@ closed-place done a ws rest w later =
 apart-windows : (v w : Closed) → EndsBefore v w → overlaps v w ≡ false
 apart-windows v w ended = second-fails (nat_lt v.from w.until) (nat_lt w.from v.until) (le-ltb w.from v.until ended)
 
-window-adds : (m : Model) (g : Gathered) (done rest : List ArcRow) (a : ArcRow) (ws : List Closed) (w : Closed) (more : List Closed) (taken : List Said) → AreNamed m.nodes
+window-adds : (m : Model) (g : Gathered) (done rest : List ArcRow) (a : ArcRow) (ws : List Closed) (w : Closed) (more : List Closed) (taken : List SaidPart) → AreNamed m.nodes
     → gathered taken ≡ record g { nodes = m.nodes; arcs = arcs_around done a ws rest } → IsArc m.nodes a → list_any (joins a.from a.to) done ≡ false → AreWindows (ws ++ (w ∷ more))
     → Adds taken (window_said m a w) (record g { nodes = m.nodes; arcs = arcs_around done a (ws ++ (w ∷ [])) rest })
-unfolding statement_fault
+unfolding part_fault
 window-adds m g done rest a ws w more taken named is valid new are =
     let size = length-append ws (w ∷ more) in
     let arcs = arcs_around done a ws rest in
@@ -89,16 +89,15 @@ window-adds m g done rest a ws w more taken named is valid new are =
     let ordered = window.ordered in
     let fits = window.until_fits in
     let few = are.few in
-    let said : IsSaid (Window from to w.from w.until) = (tail.named, head.named, (let l : w.from ≤ horizon_limit = omega arith in l), (let l : 1 ≤ w.until = omega arith in l), fits) in
+    let said : IsSaidPart (Window from to w.from w.until) = (tail.named, head.named, (let l : w.from ≤ horizon_limit = omega arith in l), (let l : 1 ≤ w.until = omega arith in l), fits) in
     let place : place_of_arc arcs (place_of_node m.nodes from) (place_of_node m.nodes to) ≡ length done =
     ap (λ i. place_of_arc arcs i (place_of_node m.nodes to)) tail.placed ∙ ap (place_of_arc arcs a.from) head.placed ∙ arc-place done a ws rest new in
     let closures : arc_windows arcs (place_of_arc arcs (place_of_node m.nodes from) (place_of_node m.nodes to)) ≡ ws =
     ap (arc_windows arcs) place ∙ ap (λ (x : ArcRow). x.windows.items) (get_or-append_seam done (with_windows a ws) rest no_arc) in
     let windows-of : Gathered → List Closed = λ x. arc_windows x.arcs (place_of_arc x.arcs (place_of_node x.nodes from) (place_of_node x.nodes to)) in
     record {
-      part = said;
       spelled = said;
-      none = no-code (statement_checks taken (window_said m a w)) (
+      none = no-code (part_checks taken (window_said m a w)) (
         ap (λ (x : Gathered). not (list_any (λ n. same_name n.name from) x.nodes)) is ∙ ap not tail.listed,
         (
           ap (λ (x : Gathered). not (list_any (λ n. same_name n.name to) x.nodes)) is ∙ ap not head.listed,
@@ -129,7 +128,7 @@ window-adds m g done rest a ws w more taken named is valid new are =
 -- ---- windows
 
 -- windows of one arc behind those so far
-windows-of-go : (m : Model) (g : Gathered) (done rest : List ArcRow) (a : ArcRow) (more ws : List Closed) (taken : List Said) → AreNamed m.nodes
+windows-of-go : (m : Model) (g : Gathered) (done rest : List ArcRow) (a : ArcRow) (more ws : List Closed) (taken : List SaidPart) → AreNamed m.nodes
     → gathered taken ≡ record g { nodes = m.nodes; arcs = arcs_around done a ws rest } → IsArc m.nodes a → list_any (joins a.from a.to) done ≡ false → AreWindows (ws ++ more)
     → AddsAll taken (map (window_said m a) more) (record g { nodes = m.nodes; arcs = arcs_around done a (ws ++ more) rest })
 windows-of-go m g done rest a [] ws taken named is valid new are =
@@ -146,7 +145,7 @@ whole-arc : (a : ArcRow) → a.shut ≡ false → with_windows a a.windows.items
 whole-arc a unshut = ap (λ b. record a { shut = b }) (sym unshut)
 
 -- the windows of arcs, arc by arc
-pub windows-go : (m : Model) (g : Gathered) (as' done : List ArcRow) (taken : List Said) → AreNamed m.nodes → gathered taken ≡ record g { nodes = m.nodes; arcs = done ++ map bare as' }
+pub windows-go : (m : Model) (g : Gathered) (as' done : List ArcRow) (taken : List SaidPart) → AreNamed m.nodes → gathered taken ≡ record g { nodes = m.nodes; arcs = done ++ map bare as' }
     → All (IsPlainArc m.nodes) as' → AllPairs EndsDiffer (done ++ as') → AddsAll taken (flat_map (windows_said m) as') (record g { nodes = m.nodes; arcs = done ++ as' })
 windows-go m g [] done taken named is plain differ = adds-none taken _ is
 windows-go m g (a ∷ as') done taken named is plain differ =

@@ -3,12 +3,12 @@ use Rattle.std.specs.Prelude.{◌≡◌, ℕ, ◌≤◌, List, [], ◌∷◌, �
 use Rattle.std.specs.List.{All, flat_map}
 use Rattle.line_io.specs.Line.{Line, input_limit, line_limit, lines_of, text_lines}
 use Rattle.model_text.specs.Fields.{text_of}
-use Rattle.model_text.specs.Grammar.{Said, IsSaid, Blank, Header, Title, Floor, End, statement_of}
-use Rattle.building_table.specs.Built.{IsBuilding, IsPart}
+use Rattle.model_text.specs.Grammar.{Said, SaidPart, IsSaidPart, Blank, Header, Part, Title, Floor, End, statement_of}
+use Rattle.building_table.specs.Built.{IsBuilding}
 use Rattle.building_table.specs.declared.building.Building.{Building}
 use Rattle.model_text.specs.Plain.{IsContentWithin}
 use Rattle.model_text.specs.Readings.{Described, model_of}
-use Rattle.model_text.specs.Taken.{Description, description_of, end_fault, statement_fault}
+use Rattle.model_text.specs.Taken.{Description, description_of, end_fault, part_fault}
 use Rattle.model_writer.specs.ModelText.{building_text, ended, model_text, said_line, said_of}
 
 -- bytes that may be a line's content
@@ -24,33 +24,38 @@ LinesReadBack =
 abbrev pub IsText : List ℕ → Type 0
 IsText text = text_of text ≡ text
 
--- a statement that a line may say, with such a text where it has one
+-- a part that a line may say, with such a text where it has one
+abbrev pub IsSpelledPart : SaidPart → Type 0
+IsSpelledPart (Title text) = IsSaidPart (Title text) × IsText text
+IsSpelledPart (Floor floor text) = IsSaidPart (Floor floor text) × IsText text
+IsSpelledPart part = IsSaidPart part
+
+-- the same of a statement
 abbrev pub IsSpelled : Said → Type 0
 IsSpelled Blank = ⊥
 IsSpelled (Header version) = version ≤ 2
-IsSpelled (Title text) = IsSaid (Title text) × IsText text
-IsSpelled (Floor floor text) = IsSaid (Floor floor text) × IsText text
-IsSpelled statement = IsSaid statement
+IsSpelled (Part part) = IsSpelledPart part
+IsSpelled End = ⊤
 
 -- a statement's line says it
 abbrev pub StatementsReadBack : Type 0
 StatementsReadBack = (s : Said) → IsSpelled s → statement_of (said_line s) ≡ Ok s
 
--- statements and those that follow them, the last one first
-abbrev pub pushed : List Said → List Said → List Said
+-- parts and those that follow them, the last one first
+abbrev pub pushed : List SaidPart → List SaidPart → List SaidPart
 pushed taken [] = taken
-pushed taken (s ∷ ss) = pushed (s ∷ taken) ss
+pushed taken (p ∷ ps) = pushed (p ∷ taken) ps
 
 -- parts that are spelled, each without a fault behind those before it
-abbrev pub AreFine : List Said → List Said → Type 0
+abbrev pub AreFine : List SaidPart → List SaidPart → Type 0
 AreFine taken [] = ⊤
-AreFine taken (s ∷ ss) = IsPart s × IsSpelled s × (statement_fault taken s ≡ None) × AreFine (s ∷ taken) ss
+AreFine taken (p ∷ ps) = IsSpelledPart p × (part_fault taken p ≡ None) × AreFine (p ∷ taken) ps
 
--- the lines of a header of version 2, of such statements and of an end describe the building of the statements
-abbrev pub FineStatementsReadBack : Type 0
-FineStatementsReadBack =
-    (ss : List Said) → AreFine [] ss → end_fault (pushed [] ss) ≡ None
-    → model_of (text_lines (map said_line (Header 2 ∷ (ss ++ (End ∷ []))))) ≡ Described (description_of (pushed [] ss)) (length ss + 2) []
+-- the lines of a header of version 2, of such parts and of an end describe the building of the parts
+abbrev pub FinePartsReadBack : Type 0
+FinePartsReadBack =
+    (ps : List SaidPart) → AreFine [] ps → end_fault (pushed [] ps) ≡ None
+    → model_of (text_lines (map said_line (Header 2 ∷ (map Part ps ++ (End ∷ []))))) ≡ Described (description_of (pushed [] ps)) (length ps + 2) []
 
 -- what is written of a building is the text of its description
 abbrev pub TextIsOfDescription : Type 0

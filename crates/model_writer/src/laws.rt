@@ -1,14 +1,14 @@
 // The laws of a building's text, each the contract of a function that does nothing.
-ghost use Rattle.model_writer.specs.Laws.{FineStatementsReadBack, LinesReadBack, StatementsReadBack, TextIsOfDescription, TextsDescribeAgain};
+ghost use Rattle.model_writer.specs.Laws.{FinePartsReadBack, LinesReadBack, StatementsReadBack, TextIsOfDescription, TextsDescribeAgain};
 
 /// The lines of contents with their ends are these contents.
 pub fn lines_read_back()
     ensures { LinesReadBack }
 {}
 
-/// The lines of a header of version 2, of statements without a fault and of an end describe the building of the statements.
-pub fn fine_statements_read_back()
-    ensures { FineStatementsReadBack }
+/// The lines of a header of version 2, of parts without a fault and of an end describe the building of the parts.
+pub fn fine_parts_read_back()
+    ensures { FinePartsReadBack }
 {}
 
 /// A statement's line says it.

@@ -8,7 +8,7 @@ mod line;
 mod model;
 
 pub use laws::{
-    fine_statements_read_back, lines_read_back, statements_read_back, text_is_of_description,
+    fine_parts_read_back, lines_read_back, statements_read_back, text_is_of_description,
     texts_describe_again,
 };
 pub use model::write_model;

@@ -1,22 +1,24 @@
 // Lines of statements, put with their ends.
-ghost use Rattle.std.specs.Prelude.{◌≡◌, ◌≤◌, ◌++◌, ◌∷◌, decimal, length};
+ghost use Rattle.std.specs.Prelude.{◌≡◌, ◌≤◌, ◌+◌, ◌++◌, ◌∷◌, decimal, length};
 ghost use Rattle.std.specs.Option.{option_copied};
 ghost use Rattle.line_io.specs.Causes.{HasCause};
 ghost use Rattle.line_io.specs.Writer.{PutsText};
 ghost use Rattle.evac_law.specs.Names.{IsName, name_text};
-ghost use Rattle.model_text.specs.Reads.{said};
-ghost use Rattle.model_writer.specs.ModelText.{HasNames, ended, line_end, line_with, said_line, said_text};
+ghost use Rattle.model_text.specs.Reads.{said, said_part};
+ghost use Rattle.model_writer.specs.ModelText.{HasNames, SaysNames, ended, line_end, line_with, part_line, part_text, said_line, said_text};
 
 use certificate_text::put_name;
 use evac_law::NodeName;
 use line_io::{Out, Sink, TextLine, WriteFault};
-use model_text::Statement;
+use model_text::{Part, Statement};
+
+// The most bytes of a word of the language.
+const WORD_LIMIT: usize = 8;
 
 // A line of a word and a number.
 fn of_number(word: &[u8], number: u32) -> TextLine
-    requires { length word.now ≤ 10 }
-    ensures value { result ≡ word.now ++ (32 ∷ decimal number) }
-    ensures few { length result ≤ 31 }
+    requires { length word.now ≤ WORD_LIMIT }
+    ensures { result ≡ word.now ++ (32 ∷ decimal number) }
 {
     let mut line = TextLine::new(word);
     line.number(u64::from(number));
@@ -25,10 +27,10 @@ fn of_number(word: &[u8], number: u32) -> TextLine
 
 // A line of a word and a name.
 fn of_name(word: &[u8], name: NodeName) -> TextLine
-    requires word { length word.now ≤ 10 }
+    requires word { length word.now ≤ WORD_LIMIT }
     requires name { IsName name }
     ensures value { result ≡ word.now ++ (32 ∷ name_text name) }
-    ensures few { length result ≤ 21 }
+    ensures few { length result ≤ length word.now + 11 }
 {
     let mut line = TextLine::new(word);
     put_name(&mut line, name);
@@ -37,10 +39,9 @@ fn of_name(word: &[u8], name: NodeName) -> TextLine
 
 // A line of a word, a name and two numbers.
 fn of_name_numbers(word: &[u8], name: NodeName, first: u32, second: u32) -> TextLine
-    requires word { length word.now ≤ 10 }
+    requires word { length word.now ≤ WORD_LIMIT }
     requires name { IsName name }
-    ensures value { result ≡ ((word.now ++ (32 ∷ name_text name)) ++ (32 ∷ decimal first)) ++ (32 ∷ decimal second) }
-    ensures few { length result ≤ 63 }
+    ensures { result ≡ ((word.now ++ (32 ∷ name_text name)) ++ (32 ∷ decimal first)) ++ (32 ∷ decimal second) }
 {
     let mut line = of_name(word, name);
     line.number(u64::from(first));
@@ -50,11 +51,10 @@ fn of_name_numbers(word: &[u8], name: NodeName, first: u32, second: u32) -> Text
 
 // A line of a word, two names and two numbers.
 fn of_names_numbers(word: &[u8], from: NodeName, to: NodeName, first: u32, second: u32) -> TextLine
-    requires word { length word.now ≤ 10 }
+    requires word { length word.now ≤ WORD_LIMIT }
     requires from { IsName from }
     requires to { IsName to }
-    ensures value { result ≡ (((word.now ++ (32 ∷ name_text from)) ++ (32 ∷ name_text to)) ++ (32 ∷ decimal first)) ++ (32 ∷ decimal second) }
-    ensures few { length result ≤ 74 }
+    ensures { result ≡ (((word.now ++ (32 ∷ name_text from)) ++ (32 ∷ name_text to)) ++ (32 ∷ decimal first)) ++ (32 ∷ decimal second) }
 {
     let mut line = of_name(word, from);
     put_name(&mut line, to);
@@ -89,41 +89,51 @@ fn with_text<'a>(fields: TextLine, text: &'a [u8]) -> Line<'a>
     }
 }
 
-// The line of a statement.
-fn line_of(statement: Statement<'_>) -> Line<'_>
-    requires { HasNames (said statement) }
-    ensures { line_with result.fields (option_copied result.text) ≡ said_line (said statement.entry) }
+// The line of a part.
+fn part_line(part: Part<'_>) -> Line<'_>
+    requires { HasNames (said_part part) }
+    ensures { line_with result.fields (option_copied result.text) ≡ part_line (said_part part.entry) }
 {
-    match statement {
-        Statement::Blank => of_fields(TextLine::new(b"")),
-        Statement::Header { version } => of_fields(of_number(b"evacplan", version)),
-        Statement::Title { text } => with_text(TextLine::new(b"title"), text),
-        Statement::Period { seconds } => of_fields(of_number(b"period", u32::from(seconds))),
-        Statement::Horizon { moments } => of_fields(of_number(b"horizon", u32::from(moments))),
-        Statement::Floor { floor, text } => with_text(of_number(b"floor", u32::from(floor)), text),
-        Statement::Node {
+    match part {
+        Part::Title { text } => with_text(TextLine::new(b"title"), text),
+        Part::Period { seconds } => of_fields(of_number(b"period", u32::from(seconds))),
+        Part::Horizon { moments } => of_fields(of_number(b"horizon", u32::from(moments))),
+        Part::Floor { floor, text } => with_text(of_number(b"floor", u32::from(floor)), text),
+        Part::Node {
             name,
             capacity,
             start,
         } => of_fields(of_name_numbers(b"node", name, capacity, start)),
-        Statement::Exit { name } => of_fields(of_name(b"node", name)),
-        Statement::Arc {
+        Part::Exit { name } => of_fields(of_name(b"node", name)),
+        Part::Arc {
             from,
             to,
             travel,
             rate,
         } => of_fields(of_names_numbers(b"arc", from, to, u32::from(travel), rate)),
-        Statement::Window {
+        Part::Window {
             from,
             to,
             first,
             until,
-        } => of_fields(of_names_numbers(b"window", from, to, first, until)),
-        Statement::Entrant {
+        } => of_fields(of_names_numbers(b"window", from, to, u32::from(first), u32::from(until))),
+        Part::Entrant {
             name,
             moment,
             people,
         } => of_fields(of_name_numbers(b"entrant", name, u32::from(moment), people)),
+    }
+}
+
+// The line of a statement.
+fn line_of(statement: Statement<'_>) -> Line<'_>
+    requires { SaysNames (said statement) }
+    ensures { line_with result.fields (option_copied result.text) ≡ said_line (said statement.entry) }
+{
+    match statement {
+        Statement::Blank => of_fields(TextLine::new(b"")),
+        Statement::Header { version } => of_fields(of_number(b"evacplan", version)),
+        Statement::Part(part) => part_line(part),
         Statement::End => of_fields(TextLine::new(b"end")),
     }
 }
@@ -170,7 +180,7 @@ pub(crate) fn write_statement<K: Sink>(
     sink: &mut K,
     statement: Statement<'_>,
 ) -> Result<(), WriteFault>
-    requires { HasNames (said statement) }
+    requires { SaysNames (said statement) }
     ensures text { PutsText (K.held sink.old) out.old (said_text (said statement.entry)) (K.held sink.new) out.new result }
     ensures cause { HasCause (K.faults sink.old) (K.faults sink.new) result }
 {
@@ -179,4 +189,17 @@ pub(crate) fn write_statement<K: Sink>(
         None => put_line(out, sink, line.fields.bytes()),
         Some(text) => put_text_line(out, sink, line.fields.bytes(), text),
     }
+}
+
+/// Puts the line of a part with its end.
+pub(crate) fn write_part<K: Sink>(
+    out: &mut Out,
+    sink: &mut K,
+    part: Part<'_>,
+) -> Result<(), WriteFault>
+    requires { HasNames (said_part part) }
+    ensures text { PutsText (K.held sink.old) out.old (part_text (said_part part.entry)) (K.held sink.new) out.new result }
+    ensures cause { HasCause (K.faults sink.old) (K.faults sink.new) result }
+{
+    write_statement(out, sink, Statement::Part(part))
 }

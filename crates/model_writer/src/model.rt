@@ -5,14 +5,14 @@ ghost use Rattle.evac_law.specs.Building.{IsNode, IsValid};
 ghost use Rattle.evac_law.specs.Sums.{below};
 ghost use Rattle.line_io.specs.Causes.{HasCause};
 ghost use Rattle.line_io.specs.Writer.{PutsText};
-ghost use Rattle.model_text.specs.Reads.{said};
+ghost use Rattle.model_text.specs.Reads.{said_part};
 ghost use Rattle.model_writer.specs.ModelText.{HasNames, arc_text, building_text, entrant_said, entrant_text, floor_text, node_said, node_text, rows_text, settings_text, title_text, window_said, windows_text};
 
-use crate::line::write_statement;
+use crate::line::{write_part, write_statement};
 use building_table::{Building, Names};
 use evac_law::{ArcRow, Entrant, Model, NodeRow, Window};
 use line_io::{Out, Sink, WriteFault};
-use model_text::Statement;
+use model_text::{Part, Statement};
 
 fn write_title<K: Sink>(out: &mut Out, sink: &mut K, names: &Names) -> Result<(), WriteFault>
     ensures text { PutsText (K.held sink.old) out.old (title_text names.now.title) (K.held sink.new) out.new result }
@@ -20,7 +20,7 @@ fn write_title<K: Sink>(out: &mut Out, sink: &mut K, names: &Names) -> Result<()
 {
     match names.title() {
         None => Ok(()),
-        Some(text) => write_statement(out, sink, Statement::Title { text }),
+        Some(text) => write_part(out, sink, Part::Title { text }),
     }
 }
 
@@ -37,7 +37,7 @@ fn write_floor<K: Sink>(
 {
     let floor = names.floors()[place];
     let text = names.floor_text(place);
-    write_statement(out, sink, Statement::Floor { floor, text })
+    write_part(out, sink, Part::Floor { floor, text })
 }
 
 fn write_floors<K: Sink>(out: &mut Out, sink: &mut K, names: &Names) -> Result<(), WriteFault>
@@ -51,15 +51,15 @@ fn write_floors<K: Sink>(out: &mut Out, sink: &mut K, names: &Names) -> Result<(
 }
 
 // What a line says of a node.
-fn said_node<'a>(row: NodeRow) -> Statement<'a>
+fn said_node<'a>(row: NodeRow) -> Part<'a>
     requires { IsNode row }
-    ensures value { said result ≡ node_said row }
-    ensures names { HasNames (said result) }
+    ensures value { said_part result ≡ node_said row }
+    ensures names { HasNames (said_part result) }
 {
     if row.name.kind.is_exit() {
-        Statement::Exit { name: row.name }
+        Part::Exit { name: row.name }
     } else {
-        Statement::Node {
+        Part::Node {
             name: row.name,
             capacity: row.capacity,
             start: row.start,
@@ -73,7 +73,7 @@ fn write_nodes<K: Sink>(out: &mut Out, sink: &mut K, nodes: &[NodeRow]) -> Resul
     ensures cause { HasCause (K.faults sink.old) (K.faults sink.new) result }
 {
     for row in nodes {
-        write_statement(out, sink, said_node(*row))?;
+        write_part(out, sink, said_node(*row))?;
     }
     Ok(())
 }
@@ -90,13 +90,13 @@ fn write_arc<K: Sink>(
     ensures text { PutsText (K.held sink.old) out.old (arc_text model.now row.now) (K.held sink.new) out.new result }
     ensures cause { HasCause (K.faults sink.old) (K.faults sink.new) result }
 {
-    let said = Statement::Arc {
+    let said = Part::Arc {
         from: model.node(row.from).name,
         to: model.node(row.to).name,
         travel: row.travel,
         rate: row.rate,
     };
-    write_statement(out, sink, said)
+    write_part(out, sink, said)
 }
 
 fn write_arcs<K: Sink>(out: &mut Out, sink: &mut K, model: &Model) -> Result<(), WriteFault>
@@ -111,18 +111,18 @@ fn write_arcs<K: Sink>(out: &mut Out, sink: &mut K, model: &Model) -> Result<(),
 }
 
 // What a line says of a window of an arc.
-fn said_window<'a>(model: &Model, row: &ArcRow, window: Window) -> Statement<'a>
+fn said_window<'a>(model: &Model, row: &ArcRow, window: Window) -> Part<'a>
     requires valid { IsValid model.now }
     requires from_in { row.now.from < length model.now.nodes }
     requires to_in { row.now.to < length model.now.nodes }
-    ensures value { said result ≡ window_said model.now row.now window }
-    ensures names { HasNames (said result) }
+    ensures value { said_part result ≡ window_said model.now row.now window }
+    ensures names { HasNames (said_part result) }
 {
-    Statement::Window {
+    Part::Window {
         from: model.node(row.from).name,
         to: model.node(row.to).name,
-        first: u32::from(window.from),
-        until: u32::from(window.until),
+        first: window.from,
+        until: window.until,
     }
 }
 
@@ -139,7 +139,7 @@ fn write_windows_of<K: Sink>(
     ensures cause { HasCause (K.faults sink.old) (K.faults sink.new) result }
 {
     for window in row.windows.as_slice() {
-        write_statement(out, sink, said_window(model, row, *window))?;
+        write_part(out, sink, said_window(model, row, *window))?;
     }
     Ok(())
 }
@@ -156,13 +156,13 @@ fn write_windows<K: Sink>(out: &mut Out, sink: &mut K, model: &Model) -> Result<
 }
 
 // What a line says of an entrant.
-fn said_entrant<'a>(model: &Model, entrant: Entrant) -> Statement<'a>
+fn said_entrant<'a>(model: &Model, entrant: Entrant) -> Part<'a>
     requires valid { IsValid model.now }
     requires node_in { entrant.node < length model.now.nodes }
-    ensures value { said result ≡ entrant_said model.now entrant }
-    ensures names { HasNames (said result) }
+    ensures value { said_part result ≡ entrant_said model.now entrant }
+    ensures names { HasNames (said_part result) }
 {
-    Statement::Entrant {
+    Part::Entrant {
         name: model.node(entrant.node).name,
         moment: entrant.moment,
         people: entrant.people,
@@ -175,7 +175,7 @@ fn write_entrants<K: Sink>(out: &mut Out, sink: &mut K, model: &Model) -> Result
     ensures cause { HasCause (K.faults sink.old) (K.faults sink.new) result }
 {
     for entrant in model.entrants.as_slice() {
-        write_statement(out, sink, said_entrant(model, *entrant))?;
+        write_part(out, sink, said_entrant(model, *entrant))?;
     }
     Ok(())
 }
@@ -191,9 +191,9 @@ fn write_settings<K: Sink>(
     write_statement(out, sink, Statement::Header { version: 2 })?;
     write_title(out, sink, &building.names)?;
     let seconds = building.model.seconds;
-    write_statement(out, sink, Statement::Period { seconds })?;
+    write_part(out, sink, Part::Period { seconds })?;
     let moments = building.model.horizon;
-    write_statement(out, sink, Statement::Horizon { moments })
+    write_part(out, sink, Part::Horizon { moments })
 }
 
 // The nodes, the arcs, the windows and the entrants.

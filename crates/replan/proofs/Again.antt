@@ -15,7 +15,7 @@ use Rattle.evac_law.specs.Sums.{below, moments_to}
 use Rattle.evac_law.proofs.PartLemmas.{flat_map-same}
 use Rattle.evac_law.proofs.SumLemmas.{All-below}
 use Rattle.replan.specs.Committed.{TakesAllOut, moves_before}
-use Rattle.replan.specs.Rest.{emptied, rest, rest_entry}
+use Rattle.replan.specs.Rest.{without_start, rest, rest_entry}
 use Rattle.replan.specs.RestLaws.{IsCarriedOutOnce}
 use Rattle.replan.proofs.Goes.{held_after}
 use Rattle.replan.proofs.LeftOver.{is_left}
@@ -24,9 +24,9 @@ use Rattle.replan.proofs.Shifted.{IsLeft, rest_later, rest_none, rest_now, same_
 
 -- ---- lists
 
-emptied_again : (xs : List NodeRow) → map emptied (map emptied xs) ≡ map emptied xs
+emptied_again : (xs : List NodeRow) → map without_start (map without_start xs) ≡ map without_start xs
 emptied_again [] = refl
-emptied_again (x ∷ xs) = ap (λ (l : List NodeRow). emptied x ∷ l) (emptied_again xs)
+emptied_again (x ∷ xs) = ap (λ (l : List NodeRow). without_start x ∷ l) (emptied_again xs)
 
 kept_all : (t : ℕ) (p : List Move) → All (λ v. v.moment < t) p → moves_before t p ≡ p
 kept_all t [] h = refl
@@ -99,7 +99,7 @@ module _ (m : Model) (p r : List Move) (s t : ℕ) (valid : IsValid m) (first : 
   pub carried_out_once : IsCarriedOutOnce m p s r t
   carried_out_once = record {
     rest_same =
-        let entrants = ap (λ k. table_entrants k m.horizon (rest_entry left r t)) (length-map m.nodes emptied)
+        let entrants = ap (λ k. table_entrants k m.horizon (rest_entry left r t)) (length-map m.nodes without_start)
         ∙ entrants_same (length m.nodes) m.horizon (rest_entry left r t) (rest_entry m whole t) (λ n j i l. entries_same n j i (cases_Bool (is_exit_at m n)) (cases_order j t)) in
         ap₂ (λ (x : List NodeRow) (y : List Entrant). record m { nodes = x; entrants = y }) (emptied_again m.nodes) entrants;
     gone_add = λ k. omega (

@@ -30,7 +30,7 @@ use Rattle.replan.specs.Committed.{TakesAllOut, gone_by, moves_before}
 use Rattle.replan.specs.Replans.{IsAdvanced, ReplanView, is_bad_moment, is_of_people}
 use Rattle.replan.specs.Rest.{rest}
 use Rattle.replan.specs.RestLaws.{IsLeftOver}
-use Rattle.replan.specs.Kept.{IsReplan, IsWithin}
+use Rattle.replan.specs.Kept.{IsReplan, IsReachable}
 use Rattle.replan.specs.Standing.{Stands}
 use Rattle.replan.proofs.RestIs.{best_from, later, left_over}
 
@@ -59,7 +59,7 @@ replan_begun m s gone same none e =
     let h : s.model.horizon ≡ m.horizon = ap (λ (x : Model). x.horizon) same in record {
       size = omega (arith, ap length e, length-replicate {A = ℕ} (m.horizon + 1) 0, h);
       none_gone = λ _ k l. ap (λ (g : List ℕ). get_or g k 0) e ∙ get_or-replicate (m.horizon + 1) k 0 0 (omega (arith, l, h));
-      models = rw none (All-cons (IsWithin s.model.horizon 0 gone) s.model [] (record { horizon_same = refl; few = λ i. absurd (omega (arith, i)) }) (λ i d l. absurd (omega (arith, l))));
+      models = rw none (All-cons (IsReachable s.model.horizon 0 gone) s.model [] (record { horizon_same = refl; few = λ i. absurd (omega (arith, i)) }) (λ i d l. absurd (omega (arith, l))));
     }
 
 -- ---- as its plan is carried out
@@ -72,7 +72,7 @@ pub few_now : (s : SessionState) (moment : ℕ) (gone : List ℕ) → IsReplan s
     → get_or gone k 0 + people s.model ≤ people_limit
 few_now s moment gone replan valid k l = elim (cases_lt moment 1) [
   | inl none ↦ omega (arith, replan.none_gone (omega (arith, none)) k l, valid.people_fit)
-  | inr some ↦ (All-head (IsWithin s.model.horizon moment gone) s.model s.former replan.models).few some k l
+  | inr some ↦ (All-head (IsReachable s.model.horizon moment gone) s.model s.former replan.models).few some k l
 ]
 
 -- also of a model and a list that are the same
@@ -150,7 +150,7 @@ module _ (v : ReplanView) (s : ℕ) (layout left : Model) (replan : IsReplan v.s
     replan_advanced = record {
       size = omega (arith, size, replan.size, h_same);
       none_gone = λ e. absurd (omega (arith, e, good.0));
-      models = rw begins.none_former (All-cons (IsWithin next.state.model.horizon s gone) next.state.model []
+      models = rw begins.none_former (All-cons (IsReachable next.state.model.horizon s gone) next.state.model []
           (record { horizon_same = refl; few = λ _. few_next }) (λ i d l. absurd (omega (arith, l))));
     }
 
@@ -187,8 +187,8 @@ edited_is : (m m' : Model) (e e' : Edit) → applied m e ≡ Ok (m', e') → edi
 edited_is m m' e e' h = ap (λ t. t.0) (unless-Ok (checks m e) (edited m e, inverse_of m e) (m', e') h).1
 
 -- a model of the same horizon, with no more people, may be come to as well
-within_too : (h moment : ℕ) (gone : List ℕ) (m m' : Model) → IsWithin h moment gone m → m'.horizon ≡ m.horizon → (1 ≤ moment → people m' ≡ people m)
-    → IsWithin h moment gone m'
+within_too : (h moment : ℕ) (gone : List ℕ) (m m' : Model) → IsReachable h moment gone m → m'.horizon ≡ m.horizon → (1 ≤ moment → people m' ≡ people m)
+    → IsReachable h moment gone m'
 within_too h moment gone m m' w same few = record {
   horizon_same = same ∙ w.horizon_same;
   few = λ i k l. let e = few i in omega (arith, e, w.few i k l);
@@ -196,11 +196,11 @@ within_too h moment gone m m' w same few = record {
 
 -- what is true over a horizon is true over the same horizon
 replan_at : (s s' : SessionState) (moment : ℕ) (gone : List ℕ) → IsReplan s moment gone → s'.model.horizon ≡ s.model.horizon
-    → All (IsWithin s.model.horizon moment gone) (s'.model ∷ s'.former) → IsReplan s' moment gone
+    → All (IsReachable s.model.horizon moment gone) (s'.model ∷ s'.former) → IsReplan s' moment gone
 replan_at s s' moment gone replan alike models = record {
   size = omega (arith, replan.size, alike);
   none_gone = λ e k l. replan.none_gone e k (omega (arith, l, alike));
-  models = subst (λ (h : ℕ). All (IsWithin h moment gone) (s'.model ∷ s'.former)) (sym alike) models;
+  models = subst (λ (h : ℕ). All (IsReachable h moment gone) (s'.model ∷ s'.former)) (sym alike) models;
 }
 
 pub edit_keeps : (v v' : SessionView) (e : Edit) (r : Result Work EditRefusal) (n moment : ℕ) (gone : List ℕ) → IsEditOf v.state.model e
@@ -212,10 +212,10 @@ edit_keeps v v' e (Ok work) n moment gone i free ends replan =
     let is = edited_is m on.edited e on.inverse on.accepted ∙ sym on.goes_on.gone in
     let same : m'.horizon ≡ m.horizon = sym (ap (λ (x : Model). x.horizon) is) ∙ (edited_keeps_shape m e).horizon in
     let same_people = λ (l : 1 ≤ moment). sym (ap people is) ∙ keeps_people m e i (not_of_people moment (is_of_people e) l free) in
-    let here = All-head (IsWithin m.horizon moment gone) m v.state.former replan.models in
+    let here = All-head (IsReachable m.horizon moment gone) m v.state.former replan.models in
     replan_at v.state v'.state moment gone replan same
-    (All-cons (IsWithin m.horizon moment gone) m' v'.state.former (within_too m.horizon moment gone m m' here same same_people)
-    (rw on.goes_on.kept (All-take (IsWithin m.horizon moment gone) kept_limit (m ∷ v.state.former) replan.models)))
+    (All-cons (IsReachable m.horizon moment gone) m' v'.state.former (within_too m.horizon moment gone m m' here same same_people)
+    (rw on.goes_on.kept (All-take (IsReachable m.horizon moment gone) kept_limit (m ∷ v.state.former) replan.models)))
   where
     not_of_people : (moment : ℕ) (b : Bool) → 1 ≤ moment → (ltb 0 moment && b) ≡ false → b ≡ false
     not_of_people moment b l e = grind (arith, nat_tests)
@@ -229,10 +229,10 @@ pub undo_keeps : (v v' : SessionView) (r : Result Work UndoRefusal) (n moment : 
 undo_keeps v v' (Ok work) n moment gone ends replan =
     let h = v.state.model.horizon in
     let on = ends.0 in
-    let former : All (λ x. IsWithin h moment gone x) (on.before ∷ on.earlier) =
-    rw on.last_kept at (All-tail (λ x. IsWithin h moment gone x) v.state.model v.state.former replan.models) in
+    let former : All (λ x. IsReachable h moment gone x) (on.before ∷ on.earlier) =
+    rw on.last_kept at (All-tail (λ x. IsReachable h moment gone x) v.state.model v.state.former replan.models) in
     let same : v'.state.model.horizon ≡ h =
-    ap (λ (x : Model). x.horizon) on.goes_on.gone ∙ (All-head (λ x. IsWithin h moment gone x) on.before on.earlier former).horizon_same in
+    ap (λ (x : Model). x.horizon) on.goes_on.gone ∙ (All-head (λ x. IsReachable h moment gone x) on.before on.earlier former).horizon_same in
     replan_at v.state v'.state moment gone replan same (rw (on.goes_on.gone, on.goes_on.kept) former)
 undo_keeps v v' (Err NothingToUndo) n moment gone ends replan =
     subst (λ (x : SessionView). IsReplan x.state moment gone) (sym ends.1) replan

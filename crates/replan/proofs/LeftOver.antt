@@ -19,15 +19,15 @@ use Rattle.evac_law.proofs.EntrantTable.{all_of_table, entrants_are_table}
 use Rattle.evac_law.proofs.Entries.{none_late}
 use Rattle.evac_law.proofs.SumLemmas.{sum_by-nothing, sum_by-same, sum_by-same_all}
 use Rattle.replan.specs.Committed.{TakesAllOut, moves_before}
-use Rattle.replan.specs.Rest.{emptied, rest, rest_entry}
+use Rattle.replan.specs.Rest.{without_start, rest, rest_entry}
 use Rattle.replan.proofs.Counted.{arrives, nobody_lost}
 use Rattle.replan.proofs.Parted.{before_is}
 use Rattle.replan.proofs.Shifted.{IsLeft, rest_later, rest_none}
 
 -- ---- nodes
 
-node_is : (m : Model) (p : List Move) (s n : ℕ) → node_at (rest m p s) n ≡ emptied (node_at m n)
-node_is m p s n = get_or-map emptied m.nodes n no_node
+node_is : (m : Model) (p : List Move) (s n : ℕ) → node_at (rest m p s) n ≡ without_start (node_at m n)
+node_is m p s n = get_or-map without_start m.nodes n no_node
 
 -- ---- who comes
 
@@ -97,7 +97,7 @@ module _ (m : Model) (p : List Move) (s : ℕ) (valid : IsValid m) (first : 1 �
   pub is_left : IsLeft m p s left
   is_left = record {
     arcs = refl;
-    size = length-map m.nodes emptied;
+    size = length-map m.nodes without_start;
     horizon = refl;
     exits = λ n. ap (λ (r : NodeRow). is_exit r.name.kind) (node_is m p s n);
     rooms = λ n. ap (λ (r : NodeRow). r.capacity) (node_is m p s n);
@@ -110,9 +110,9 @@ module _ (m : Model) (p : List Move) (s : ℕ) (valid : IsValid m) (first : 1 �
   people_are : people left ≡ sum_by (λ n. sum_by (rest_entry m p s n) (moments_to m.horizon)) (places m.nodes)
   unfolding people
   people_are =
-      let starts : sum_by (λ (n : NodeRow). n.start) (map emptied m.nodes) ≡ 0 =
-      sum_by-same_all (λ (n : NodeRow). n.start) (λ _. 0) (map emptied m.nodes) (All-map (λ (n : NodeRow). n.start ≡ 0) emptied m.nodes (λ i d l. refl))
-      ∙ sum_by-nothing (map emptied m.nodes) in
+      let starts : sum_by (λ (n : NodeRow). n.start) (map without_start m.nodes) ≡ 0 =
+      sum_by-same_all (λ (n : NodeRow). n.start) (λ _. 0) (map without_start m.nodes) (All-map (λ (n : NodeRow). n.start ≡ 0) without_start m.nodes (λ i d l. refl))
+      ∙ sum_by-nothing (map without_start m.nodes) in
       omega (
         arith,
         starts,
@@ -137,11 +137,11 @@ module _ (m : Model) (p : List Move) (s : ℕ) (valid : IsValid m) (first : 1 �
   ]
 
   as_many : length left.nodes ≡ length m.nodes
-  as_many = length-map m.nodes emptied
+  as_many = length-map m.nodes without_start
 
   nodes_valid : All IsNode left.nodes
   nodes_valid =
-      All-map IsNode emptied m.nodes (λ i d l. let n = valid.nodes i d l in record {
+      All-map IsNode without_start m.nodes (λ i d l. let n = valid.nodes i d l in record {
         name = n.name;
         start_fits = omega arith;
         capacity_fits = n.capacity_fits;

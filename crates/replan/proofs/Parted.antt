@@ -14,6 +14,11 @@ use Rattle.evac_law.specs.Sums.{moments_to}
 use Rattle.evac_law.proofs.SumLemmas.{sum_by-add, sum_by-nothing, sum_by-same, sum_by-same_all}
 use Rattle.replan.specs.Committed.{moves_before, moves_from}
 
+-- what two tests let through, one behind the other
+pub both : (a b : Bool) (w : ℕ) → cond a (cond b w 0) 0 ≡ cond (a && b) w 0
+both true b w = refl
+both false b w = refl
+
 -- ---- over what a test keeps
 
 -- a sum over the elements that a test keeps is a guarded sum over all

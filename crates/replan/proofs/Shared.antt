@@ -7,11 +7,7 @@ use Rattle.evac_law.specs.Plans.{moved}
 use Rattle.evac_law.specs.Sums.{below}
 use Rattle.evac_law.proofs.SumLemmas.{All-below, gather, sum2, sum_by-same, sum_by-same_all}
 use Rattle.replan.specs.Committed.{SharesMoves, moves_before, moves_from}
-use Rattle.replan.proofs.Parted.{IsBehind, counted, over_filter, own_behind}
-
-both : (a b : Bool) (w : ℕ) → cond a (cond b w 0) 0 ≡ cond (a && b) w 0
-both true b w = refl
-both false b w = refl
+use Rattle.replan.proofs.Parted.{IsBehind, both, counted, over_filter, own_behind}
 
 -- what a plan's moves before s count, by arc and moment
 by_arc_and_moment : (b : ℕ → ℕ → Bool) (s n : ℕ) (p : List Move) → All (λ v. v.arc < n) p

@@ -13,7 +13,7 @@ use Rattle.route_decompose.specs.Routes.{ends_of, shape_of}
 use Rattle.time_expansion.specs.Expansion.{arcs_from, arcs_to, from_at, no_ends, to_at}
 use Rattle.replan.specs.Committed.{moves_before}
 use Rattle.replan.specs.Standing.{arriving_by}
-use Rattle.replan.proofs.Parted.{over_filter}
+use Rattle.replan.proofs.Parted.{both, over_filter}
 
 -- a sum over the arcs of a node, as a guarded sum over all arcs
 at_node : (m : Model) (at ends : ℕ → ℕ) (n : ℕ) (f : ℕ → ℕ) → ((a : ℕ) → a < length m.arcs → at a ≡ ends a)
@@ -31,10 +31,6 @@ unfolding arcs_from leaving moved
 leaving_is m p n t h =
     at_node m (from_at (shape_of m)) (tail m) n (λ a. moved p a t) (λ a l. ap (λ z. z.from) (get_or-map ends_of m.arcs a no_arc no_ends l))
     ∙ by_place (λ a. eqb (tail m a) n) (λ (v : Move). v.arc) (λ v. v.people) (λ a v. eqb v.moment t) (length m.arcs) p h
-
-both : (a b : Bool) (w : ℕ) → cond a (cond b w 0) 0 ≡ cond (a && b) w 0
-both true b w = refl
-both false b w = refl
 
 in_time : (e : Bool) (x d t s w : ℕ)
     → cond ((e && (leb d t && ltb (t - d) s)) && eqb x (t - d)) w 0 ≡ cond (ltb x s) (cond (e && eqb (x + d) t) w 0) 0

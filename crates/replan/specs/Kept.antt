@@ -7,11 +7,11 @@ use Rattle.evac_law.specs.Limits.{people_limit}
 use Rattle.edit_session.specs.Sessions.{SessionState}
 
 -- a model that a replan may come to: of its horizon, and once a plan was carried out with few enough people beside those who are gone
-pub record IsWithin (horizon moment : ℕ) (gone : List ℕ) (m : Model) : Type 0 where
+pub record IsReachable (horizon moment : ℕ) (gone : List ℕ) (m : Model) : Type 0 where
   pub horizon_same : m.horizon ≡ horizon
   pub few : 1 ≤ moment → (k : ℕ) → k ≤ horizon → slice_index gone k + people m ≤ people_limit
 
 pub record IsReplan (s : SessionState) (moment : ℕ) (gone : List ℕ) : Type 0 where
   pub size : length gone ≡ s.model.horizon + 1
   pub none_gone : moment ≡ 0 → (k : ℕ) → k ≤ s.model.horizon → slice_index gone k ≡ 0
-  pub models : All (IsWithin s.model.horizon moment gone) (s.model ∷ s.former)
+  pub models : All (IsReachable s.model.horizon moment gone) (s.model ∷ s.former)

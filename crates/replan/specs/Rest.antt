@@ -17,12 +17,12 @@ rest_entry m p s n t =
     else entry m n t + coming m (moves_before s p) n t
 
 -- a node in which nobody starts
-abbrev pub emptied : NodeRow → NodeRow
-emptied n = record n { start = 0 }
+abbrev pub without_start : NodeRow → NodeRow
+without_start n = record n { start = 0 }
 
 -- what is left of a building once a plan's moves before s are made: its nodes, in which nobody starts, and whoever comes into them from s on
 abbrev pub rest : Model → List Move → ℕ → Model
 rest m p s = record m {
-  nodes = map emptied m.nodes;
+  nodes = map without_start m.nodes;
   entrants = table_entrants (length m.nodes) m.horizon (rest_entry m p s);
 }

@@ -1,6 +1,6 @@
 // What is left of a building once a plan is carried out up to a moment.
 ghost use Rattle.std.specs.Prelude.{◌≡◌, ◌≤◌, IfOk, map};
-ghost use Rattle.replan.specs.Rest.{emptied, rest};
+ghost use Rattle.replan.specs.Rest.{without_start, rest};
 ghost use Rattle.replan.specs.Standing.{Stands};
 
 use crate::comers::comers;
@@ -20,8 +20,8 @@ fn same_arcs(alloc: Global, arcs: &[ArcRow]) -> Result<Vec<ArcRow>, AllocError>
 }
 
 /// The nodes, in which nobody starts.
-fn emptied(alloc: Global, nodes: &[NodeRow]) -> Result<Vec<NodeRow>, AllocError>
-    ensures { IfOk result (λ r. r.items ≡ map emptied nodes.now) }
+fn without_start(alloc: Global, nodes: &[NodeRow]) -> Result<Vec<NodeRow>, AllocError>
+    ensures { IfOk result (λ r. r.items ≡ map without_start nodes.now) }
 {
     let mut rows = Vec::new(alloc);
     for node in nodes {
@@ -43,7 +43,7 @@ pub(crate) fn rest_of<F: Standing>(
     ensures { IfOk result (λ r. r ≡ rest layout.now (F.stand standing.now).plan from) }
 {
     let model = layout.model();
-    let nodes = emptied(alloc, model.nodes.as_slice())?;
+    let nodes = without_start(alloc, model.nodes.as_slice())?;
     let arcs = same_arcs(alloc, model.arcs.as_slice())?;
     let entrants = comers(alloc, layout, standing, from)?;
     Ok(Model {

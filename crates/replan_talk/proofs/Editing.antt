@@ -8,6 +8,8 @@ use Rattle.line_io.specs.Writer.{PutsText}
 use Rattle.line_io.specs.declared.out.WriteFault.{WriteFault}
 use Rattle.model_text.specs.declared.command.Command.{Command}
 use Rattle.model_text.specs.declared.command.Command.TheVariants as commands
+use Rattle.model_text.specs.declared.command.Report.{Report}
+use Rattle.model_text.specs.declared.fault.TextFault.{TextFault}
 use Rattle.building_table.specs.Names.{NameTable}
 use Rattle.certificate_text.specs.BlockText.{refusal_line}
 use Rattle.edit_session.specs.declared.faults.EditRefusal.{EditRefusal}
@@ -16,15 +18,15 @@ use Rattle.edit_session.specs.declared.work.Work.{Work}
 use Rattle.edit_session.specs.Sessions.{EditEnds, SessionView, UndoEnds}
 use Rattle.replan.specs.declared.faults.ReplanRefusal.{ReplanRefusal}
 use Rattle.replan.specs.Replans.{IsCarriedOutSame, ReplanEdits, ReplanUndoes, ReplanView, is_committed, is_of_people}
-use Rattle.session_talk.specs.Asking.{asked_by}
-use Rattle.session_talk.specs.declared.asks.Asks.TheVariants.{Report}
 use Rattle.session_talk.specs.Desks.{DeskView, IsDesk, desk_state, shown_of}
-use Rattle.session_talk.specs.Sessions.{Edits, Replies, Undoes}
+use Rattle.session_talk.specs.Sessions.{Edits, Replies, Reports, Undoes}
+use Rattle.session_talk.proofs.Saying as saying
 use Rattle.replan_talk.specs.Desks.{EditsUnless, replanned, shown_replan}
-use Rattle.replan_talk.specs.ReplanTalks.{SessionRow}
+use Rattle.replan_talk.specs.ReplanTalks.{SessionRow, asks_of_people}
 use Rattle.replan_talk.proofs.Carrying.{code_said, lifted, widened}
-use Rattle.replan_talk.proofs.Rows.{edits_late, edits_now, report_row, undo_row}
+use Rattle.replan_talk.proofs.Rows.{edits_late, edits_now, session_row}
 use Rattle.talk.specs.Speaking.{SaysSome}
+use Rattle.talk.specs.Talks.{says}
 
 -- an edit that was made, or refused by the session: `w` is the session that stands then
 module _ {T : Type 0} (result : Result T WriteFault) (line n k steps : ℕ) (d d' : DeskView) (v v' : ReplanView) (w : SessionView) (a b : Option (List ℕ)) (p q : List ℕ) (f g : Count) where
@@ -48,7 +50,7 @@ module _ {T : Type 0} (result : Result T WriteFault) (line n k steps : ℕ) (d d
       let P : SessionView → Type 0 = λ x. UndoEnds v.session undone x n → SaysSome Gets result (shown_of d v.session a p f steps) (shown_of d' x b q g (steps + n)) in
       let Q : ℕ → Type 0 = λ i. SaysSome Gets result (shown_of d v.session a p f steps) (shown_of d' v'.session b q g i) in
       let said = subst Q (sym counted) (subst P stands says ends.0) in
-      widened result _ _ _ _ (undo_row names line (replanned d v)) (lifted result Gets d d' v v' a b p q f g steps k ends.1.moment ends.1.gone said)
+      widened result _ _ _ _ (session_row names line (replanned d v) (Ok commands.Undo) refl) (lifted result Gets d d' v v' a b p q f g steps k ends.1.moment ends.1.gone said)
 
 -- an edit that comes too late
 pub late_said : {T : Type 0} (result : Result T WriteFault) (line code n k : ℕ) (d : DeskView) (v v' : ReplanView) (e : Edit) (a b : Option (List ℕ)) (p q : List ℕ) (f g : Count) → is_committed v e ≡ true → v' ≡ v
@@ -74,11 +76,22 @@ edit_stands v e made w w' n is h = let P : SessionView → Type 0 = λ x. EditEn
 pub undo_stands : (v : SessionView) (undone : Result Work UndoRefusal) (w w' : SessionView) (n : ℕ) → w ≡ w' → UndoEnds v undone w' n → UndoEnds v undone w n
 undo_stands v undone w w' n is h = let P : SessionView → Type 0 = λ x. UndoEnds v undone x n in subst P (sym is) h
 
--- a command that asks for a report
-pub report_said : {T : Type 0} (result : Result T WriteFault) (names : NameTable) (line n : ℕ) (c : Command) (d d' : DeskView) (v : ReplanView) (w : SessionView) (a b : Option (List ℕ)) (p q : List ℕ) (f g : Count)
-    → asked_by c ≡ Report → w ≡ v.session
-    → SaysSome (Replies names line (desk_state d w) (Ok c)) result (shown_of d w a p f n) (shown_of d' w b q g n)
-    → SaysSome (SessionRow names line (replanned d v) (Ok c)) result (shown_replan d v a p f n) (shown_replan d' v b q g n)
-report_said result names line n c d d' v w a b p q f g asks is says =
-    let P : SessionView → Type 0 = λ x. SaysSome (Replies names line (desk_state d x) (Ok c)) result (shown_of d x a p f n) (shown_of d' x b q g n) in
-    widened result _ _ _ _ (report_row names line (replanned d v) c asks) (lifted result (Replies names line (desk_state d v.session) (Ok c)) d d' v v a b p q f g n n refl refl (subst P is says))
+-- a report
+pub report_said : {T : Type 0} (result : Result T WriteFault) (names : NameTable) (line n : ℕ) (report : Report) (d d' : DeskView) (v : ReplanView) (w : SessionView) (a b : Option (List ℕ)) (p q : List ℕ) (f g : Count)
+    → w ≡ v.session
+    → SaysSome (Reports names (desk_state d w) report) result (shown_of d w a p f n) (shown_of d' w b q g n)
+    → SaysSome (SessionRow names line (replanned d v) (Ok (commands.Report report))) result (shown_replan d v a p f n) (shown_replan d' v b q g n)
+report_said result names line n report d d' v w a b p q f g is says =
+    let P : SessionView → Type 0 = λ x. SaysSome (Reports names (desk_state d x) report) result (shown_of d x a p f n) (shown_of d' x b q g n) in
+    widened result _ _ _ _ (session_row names line (replanned d v) (Ok (commands.Report report)) refl)
+    (lifted result (Reports names (desk_state d v.session) report) d d' v v a b p q f g n n refl refl (subst P is says))
+
+-- a text that a line which is no edit gets
+pub text_said : {T : Type 0} (result : Result T WriteFault) (names : NameTable) (line n : ℕ) (c : Result Command TextFault) (text : List ℕ) (d : DeskView) (v : ReplanView) (a b : Option (List ℕ)) (p q : List ℕ) (f g : Count)
+    → asks_of_people names c ≡ false → Replies names line (desk_state d v.session) c (says (desk_state d v.session) text)
+    → PutsText a p text b q result → HasCause f g result
+    → SaysSome (SessionRow names line (replanned d v) c) result (shown_replan d v a p f n) (shown_replan d v b q g n)
+text_said result names line n c text d v a b p q f g none gets put cause =
+    widened result _ _ _ _ (session_row names line (replanned d v) c none)
+    (lifted result (Replies names line (desk_state d v.session) c) d d v v a b p q f g n n refl refl
+    (saying.text_said result (Replies names line (desk_state d v.session) c) text n d d v.session a b p q f g (saying.same_desk d) gets put cause))

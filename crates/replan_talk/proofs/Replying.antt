@@ -1,5 +1,6 @@
 -- No line gets more than one block, and a line that is replied to is answered.
 use Rattle.std.proofs.Common.{◌≡◌, ℕ, ◌+◌, ◌≤◌, Bool, true, false, ◌&&◌, nat_lt, List, Result, Ok, Err, sym, ap, subst, arith}
+use Rattle.line_io.specs.declared.hearing.Heard.{Heard}
 use Rattle.line_io.specs.declared.hearing.Heard.TheVariants.{More}
 use Rattle.line_io.specs.declared.out.WriteFault.{WriteFault}
 use Rattle.model_text.specs.declared.command.Command.{Command}
@@ -8,10 +9,10 @@ use Rattle.model_text.specs.Commands.{command_of}
 use Rattle.building_table.specs.Names.{NameTable}
 use Rattle.session_talk.proofs.Replying.{reply-index}
 use Rattle.replan_talk.specs.Desks.{AnswersSome, Behind, Quits, Wants, gets}
-use Rattle.replan_talk.specs.ReplanTalks.{AdvancesTo, AsksAdvance, AsksSession, Replanned, RowOf, SessionRow, WantsMemory, asks_advance, asks_of_people, is_barred, moment_of}
+use Rattle.replan_talk.specs.ReplanTalks.{AdvancesTo, AsksAdvance, AsksSession, Replanned, RowOf, SessionRow, WantsMemory, asks_advance, asks_of_people, is_bad_moment, asked_moment}
 use Rattle.talk.specs.declared.fault.AnswerFault.{AnswerFault}
 use Rattle.talk.specs.declared.fault.AnswerFault.TheVariants.{Write, Memory}
-use Rattle.talk.specs.Speaking.{AnswersLine, SaysSome, Shown}
+use Rattle.talk.specs.Speaking.{AnswersLine, SaysSome, Shown, answered}
 use Rattle.talk.specs.Talks.{Reply, says}
 
 -- ---- no line gets more than one block
@@ -25,7 +26,7 @@ advance-index line s p false r h = omega (arith, h.next)
 
 asks-index : (line : ℕ) (s : Replanned) (named : Result ℕ TextFault) (r : Reply Replanned) → AsksAdvance line s named r → r.after.session.index ≤ s.session.index + 1
 asks-index line s (Err fault) r h = says-no-more s _ r h
-asks-index line s (Ok p) r h = advance-index line s p (is_barred s p) r h
+asks-index line s (Ok p) r h = advance-index line s p (is_bad_moment s p) r h
 
 session-index : (names : NameTable) (line : ℕ) (s : Replanned) (c : Result Command TextFault) (late : Bool) (r : Reply Replanned) → AsksSession names line s c late r
     → r.after.session.index ≤ s.session.index + 1
@@ -35,7 +36,7 @@ session-index names line s c false r h =
 
 -- ---- a row, by whether the line asks to carry the plan out
 
-advance-row : (names : NameTable) (line : ℕ) (s : Replanned) (text : List ℕ) (r : Reply Replanned) → asks_advance text ≡ true → AsksAdvance line s (moment_of text) r → gets names line s text r
+advance-row : (names : NameTable) (line : ℕ) (s : Replanned) (text : List ℕ) (r : Reply Replanned) → asks_advance text ≡ true → AsksAdvance line s (asked_moment text) r → gets names line s text r
 advance-row names line s text r asks h = let P : Bool → Type 0 = λ b. RowOf names line s text b r in subst P (sym asks) h
 
 session-row : (names : NameTable) (line : ℕ) (s : Replanned) (text : List ℕ) (c : Result Command TextFault) (r : Reply Replanned) → asks_advance text ≡ false → c ≡ command_of text
@@ -47,24 +48,27 @@ session-row names line s text c r asks is h =
 -- ---- a line that is replied to is answered
 
 pub advance_more : (x y : Shown NameTable Replanned) (before line : ℕ) (text : List ℕ) (done : Unit {0}) → asks_advance text ≡ true → line ≡ before + 1 → Behind before x.state
-    → AnswersSome (AsksAdvance line x.state (moment_of text)) (WantsMemory x.state text) (Ok done) x y → AnswersLine gets Quits Wants Behind x line text (Ok More) y
+    → AnswersSome (AsksAdvance line x.state (asked_moment text)) (WantsMemory x.state text) (Ok done) x y → AnswersLine gets Quits Wants Behind x line text (Ok More) y
 advance_more x y before line text done asks at few h =
     let e = ap (λ (s : Replanned). s.session.index) h.2.state in
-    (h.0, advance-row x.kept line x.state text h.0 asks h.1, h.2, omega (arith, asks-index line x.state (moment_of text) h.0 h.1, e, few, at))
+    (h.0, advance-row x.kept line x.state text h.0 asks h.1, h.2, omega (arith, asks-index line x.state (asked_moment text) h.0 h.1, e, few, at))
 
 pub advance_err : (x y : Shown NameTable Replanned) (line : ℕ) (text : List ℕ) (fault : AnswerFault) → asks_advance text ≡ true
-    → AnswersSome (AsksAdvance line x.state (moment_of text)) (WantsMemory x.state text) (Err fault) x y → AnswersLine gets Quits Wants Behind x line text (Err fault) y
+    → AnswersSome (AsksAdvance line x.state (asked_moment text)) (WantsMemory x.state text) (Err fault) x y → AnswersLine gets Quits Wants Behind x line text (Err fault) y
 advance_err x y line text (Write fault) asks h = (h.0, advance-row x.kept line x.state text h.0 asks h.1, h.2)
 advance_err x y line text Memory asks h = h
 
-pub session_more : (x y : Shown NameTable Replanned) (before line : ℕ) (text : List ℕ) (c : Result Command TextFault) (done : Unit {0}) → asks_advance text ≡ false → c ≡ command_of text
-    → line ≡ before + 1 → Behind before x.state → SaysSome {N = NameTable} {S = Replanned} {T = Unit {0}} (SessionRow x.kept line x.state c) (Ok done) x y
-    → AnswersLine gets Quits Wants Behind x line text (Ok More) y
-session_more x y before line text c done asks is at few h =
+session-by : (x y : Shown NameTable Replanned) (before line : ℕ) (text : List ℕ) (c : Result Command TextFault) (put : Result (Unit {0}) WriteFault) → asks_advance text ≡ false → c ≡ command_of text
+    → line ≡ before + 1 → Behind before x.state → SaysSome (SessionRow x.kept line x.state c) put x y → AnswersLine gets Quits Wants Behind x line text (answered put) y
+session-by x y before line text c (Ok done) asks is at few h =
     let e = ap (λ (s : Replanned). s.session.index) h.2.state in
     let late = nat_lt 0 x.state.moment && asks_of_people x.kept c in
     (h.0, session-row x.kept line x.state text c h.0 asks is h.1, h.2, omega (arith, session-index x.kept line x.state c late h.0 h.1, e, few, at))
+session-by x y before line text c (Err fault) asks is at few h = (h.0, session-row x.kept line x.state text c h.0 asks is h.1, h.2)
 
-pub session_err : (x y : Shown NameTable Replanned) (line : ℕ) (text : List ℕ) (c : Result Command TextFault) (fault : WriteFault) → asks_advance text ≡ false → c ≡ command_of text
-    → SaysSome {N = NameTable} {S = Replanned} {T = Unit {0}} (SessionRow x.kept line x.state c) (Err fault) x y → AnswersLine gets Quits Wants Behind x line text (Err (Write fault)) y
-session_err x y line text c fault asks is h = (h.0, session-row x.kept line x.state text c h.0 asks is h.1, h.2)
+pub session_answers : (x y : Shown NameTable Replanned) (before line : ℕ) (text : List ℕ) (c : Result Command TextFault) (put : Result (Unit {0}) WriteFault) (result : Result Heard AnswerFault)
+    → asks_advance text ≡ false → c ≡ command_of text → result ≡ answered put → line ≡ before + 1 → Behind before x.state → SaysSome (SessionRow x.kept line x.state c) put x y
+    → AnswersLine gets Quits Wants Behind x line text result y
+session_answers x y before line text c put result asks is made at few h =
+    let P : Result Heard AnswerFault → Type 0 = λ z. AnswersLine gets Quits Wants Behind x line text z y in
+    subst P (sym made) (session-by x y before line text c put asks is at few h)

@@ -6,11 +6,11 @@ use Rattle.evac_law.specs.declared.name.NodeName.{NodeName}
 use Rattle.evac_law.specs.declared.plan.Move.{Move}
 use Rattle.building_table.specs.Names.{NameTable, NamesFit}
 use Rattle.edit_session.specs.Sessions.{Begins, SessionView}
-use Rattle.replan.specs.Rest.{emptied, rest}
+use Rattle.replan.specs.Rest.{without_start, rest}
 use Rattle.session_talk.specs.Desks.{DeskView, HasTables, IsDesk}
 use Rattle.session_talk.proofs.DeskLemmas.{desk_fit, desk_opened}
 
-same-names : (nodes : List NodeRow) → map (λ n. n.name) (map emptied nodes) ≡ map (λ n. n.name) nodes
+same-names : (nodes : List NodeRow) → map (λ n. n.name) (map without_start nodes) ≡ map (λ n. n.name) nodes
 same-names [] = refl
 same-names (n ∷ nodes) = ap (λ (l : List NodeName). n.name ∷ l) (same-names nodes)
 

@@ -4,16 +4,14 @@ use Rattle.evac_law.specs.declared.edit.Edit.{Edit}
 use Rattle.evac_law.specs.Edits.{applied}
 use Rattle.model_text.specs.declared.command.Command.{Command}
 use Rattle.model_text.specs.declared.command.Command.TheVariants as commands
+use Rattle.model_text.specs.declared.named_edit.NamedEdit.{NamedEdit}
 use Rattle.model_text.specs.declared.fault.TextFault.{TextFault}
 use Rattle.model_text.specs.Codes.{text_fault_code}
 use Rattle.building_table.specs.declared.faults.NameFault.{NameFault}
-use Rattle.building_table.specs.EditNames.{IsEdit, edit_named}
+use Rattle.building_table.specs.EditNames.{edit_named}
 use Rattle.building_table.specs.Names.{NameTable}
 use Rattle.replan.specs.Replans.{is_of_people}
-use Rattle.session_talk.specs.Asking.{asked_by}
-use Rattle.session_talk.specs.declared.asks.Asks.TheVariants.{Report, Undo}
 use Rattle.session_talk.specs.Sessions.{AsksEdit, Edits, Replies}
-use Rattle.session_talk.proofs.Saying.{asks_edit}
 use Rattle.replan_talk.specs.Desks.{EditsUnless}
 use Rattle.replan_talk.specs.ReplanTalks.{AsksSession, Replanned, SessionRow, asks_of_people, is_named_of_people}
 use Rattle.replan_talk.proofs.Carrying.{Carries}
@@ -24,22 +22,6 @@ never : (b : Bool) → (b && false) ≡ false
 never true = refl
 never false = refl
 
--- a command that doesn't ask for an edit is none of people
-report_free : (names : NameTable) (c : Command) → asked_by c ≡ Report → asks_of_people names (Ok c) ≡ false
-unfolding edit_named
-report_free names commands.Blank is = refl
-report_free names (commands.Cut k) is = refl
-report_free names commands.Routes is = refl
-report_free names commands.Clearing is = refl
-report_free names commands.Bottlenecks is = refl
-report_free names commands.Summary is = refl
-report_free names commands.Work is = refl
-report_free names _ is = cc
-
-undo_free : (names : NameTable) → asks_of_people names (Ok commands.Undo) ≡ false
-unfolding edit_named
-undo_free names = refl
-
 -- ---- a row by whether it comes too late
 
 free-row : (names : NameTable) (line : ℕ) (s : Replanned) (c : Result Command TextFault) (people : Bool) (r : Reply Replanned) → people ≡ false → Carries s (Replies names line s.session c) r
@@ -47,44 +29,37 @@ free-row : (names : NameTable) (line : ℕ) (s : Replanned) (c : Result Command 
 free-row names line s c people r none h =
     let P : Bool → Type 0 = λ b. AsksSession names line s c b r in subst P (sym (ap (λ (b : Bool). nat_lt 0 s.moment && b) none ∙ never (nat_lt 0 s.moment))) h
 
-pub report_row : (names : NameTable) (line : ℕ) (s : Replanned) (c : Command) → asked_by c ≡ Report → (r : Reply Replanned) → Carries s (Replies names line s.session (Ok c)) r
-    → SessionRow names line s (Ok c) r
-report_row names line s c is r h = free-row names line s (Ok c) (asks_of_people names (Ok c)) r (report_free names c is) h
-
-pub undo_row : (names : NameTable) (line : ℕ) (s : Replanned) (r : Reply Replanned) → Carries s (Replies names line s.session (Ok commands.Undo)) r → SessionRow names line s (Ok commands.Undo) r
-undo_row names line s r h = free-row names line s (Ok commands.Undo) (asks_of_people names (Ok commands.Undo)) r (undo_free names) h
+-- a line that is no edit of people gets what a session says
+pub session_row : (names : NameTable) (line : ℕ) (s : Replanned) (c : Result Command TextFault) → asks_of_people names c ≡ false → (r : Reply Replanned)
+    → Carries s (Replies names line s.session c) r → SessionRow names line s c r
+session_row names line s c none r h = free-row names line s c (asks_of_people names c) r none h
 
 pub fault_row : (names : NameTable) (line : ℕ) (s : Replanned) (fault : TextFault) → SessionRow names line s (Err fault) (refuses s (text_fault_code fault) line)
 fault_row names line s fault =
     free-row names line s (Err fault) false (refuses s (text_fault_code fault) line) refl (refuses s.session (text_fault_code fault) line, refl, refl)
 
--- ---- a command that edits, by what it names
+-- ---- an edit by names, by what they name
 
-edit-row : (names : NameTable) (line : ℕ) (s : Replanned) (c : Command) (late : Bool) (e : Edit) (r : Reply Replanned) → IsEdit c → edit_named names c ≡ Ok e → EditsUnless line s e late r
-    → AsksSession names line s (Ok c) late r
-edit-row names line s c true e r is named h = h
-edit-row names line s c false e r is named h =
-    let P : Result Edit NameFault → Type 0 = λ x. AsksEdit line s.session x h.0 in (h.0, asks_edit names line s.session c h.0 is (subst P (sym named) h.1), h.2)
+edit-row : (names : NameTable) (line : ℕ) (s : Replanned) (c : NamedEdit) (late : Bool) (e : Edit) (r : Reply Replanned) → edit_named names c ≡ Ok e → EditsUnless line s e late r
+    → AsksSession names line s (Ok (commands.Edit c)) late r
+edit-row names line s c true e r named h = h
+edit-row names line s c false e r named h =
+    let P : Result Edit NameFault → Type 0 = λ x. AsksEdit line s.session x h.0 in (h.0, subst P (sym named) h.1, h.2)
 
-pub named_row : (names : NameTable) (line : ℕ) (s : Replanned) (c : Command) (e : Edit) (made : Result Edit NameFault) → IsEdit c → made ≡ Ok e → made ≡ edit_named names c → (r : Reply Replanned)
-    → EditsUnless line s e (nat_lt 0 s.moment && is_of_people e) r → SessionRow names line s (Ok c) r
-named_row names line s c e made is ok edit r h =
+pub named_row : (names : NameTable) (line : ℕ) (s : Replanned) (c : NamedEdit) (e : Edit) (made : Result Edit NameFault) → made ≡ Ok e → made ≡ edit_named names c → (r : Reply Replanned)
+    → EditsUnless line s e (nat_lt 0 s.moment && is_of_people e) r → SessionRow names line s (Ok (commands.Edit c)) r
+named_row names line s c e made ok edit r h =
     let named : edit_named names c ≡ Ok e = sym edit ∙ ok in
-    let P : Result Edit NameFault → Type 0 = λ x. AsksSession names line s (Ok c) (nat_lt 0 s.moment && is_named_of_people x) r in
-    subst P (sym named) (edit-row names line s c (nat_lt 0 s.moment && is_of_people e) e r is named h)
+    let P : Result Edit NameFault → Type 0 = λ x. AsksSession names line s (Ok (commands.Edit c)) (nat_lt 0 s.moment && is_named_of_people x) r in
+    subst P (sym named) (edit-row names line s c (nat_lt 0 s.moment && is_of_people e) e r named h)
 
-pub unknown_row : (names : NameTable) (line : ℕ) (s : Replanned) (c : Command) (fault : NameFault) (made : Result Edit NameFault) → IsEdit c → made ≡ Err fault → made ≡ edit_named names c
-    → SessionRow names line s (Ok c) (refuses s (name_code fault) line)
-unknown_row names line s c fault made is err edit =
+pub unknown_row : (names : NameTable) (line : ℕ) (s : Replanned) (c : NamedEdit) (fault : NameFault) (made : Result Edit NameFault) → made ≡ Err fault → made ≡ edit_named names c
+    → SessionRow names line s (Ok (commands.Edit c)) (refuses s (name_code fault) line)
+unknown_row names line s c fault made err edit =
     let named : edit_named names c ≡ Err fault = sym edit ∙ err in
-    let people : asks_of_people names (Ok c) ≡ false = ap is_named_of_people named in
     let q = refuses s.session (name_code fault) line in
     let P : Result Edit NameFault → Type 0 = λ x. AsksEdit line s.session x q in
-    free-row names line s (Ok c) (asks_of_people names (Ok c)) (refuses s (name_code fault) line) people (q, asks_edit names line s.session c q is (subst P (sym named) refl), refl)
-
--- the same rows, by an equal command
-pub as_made : (names : NameTable) (line : ℕ) (s : Replanned) (made c : Result Command TextFault) (r : Reply Replanned) → c ≡ made → SessionRow names line s made r → SessionRow names line s c r
-as_made names line s made c r is h = let P : Result Command TextFault → Type 0 = λ x. SessionRow names line s x r in subst P (sym is) h
+    session_row names line s (Ok (commands.Edit c)) (ap is_named_of_people named) (refuses s (name_code fault) line) (q, subst P (sym named) refl, refl)
 
 -- an edit that doesn't come too late, and one that does
 pub edits_now : (line : ℕ) (s : Replanned) (e : Edit) (late : Bool) → late ≡ false → (r : Reply Replanned) → Carries s (Edits line s.session (applied s.session.standing.model e)) r → EditsUnless line s e late r

@@ -7,7 +7,7 @@ use Rattle.evac_law.specs.declared.model.Model.{Model}
 use Rattle.evac_law.specs.Sums.{moments_to}
 use Rattle.line_io.specs.Text.{line_text}
 use Rattle.model_text.specs.declared.command.Command.{Command}
-use Rattle.model_text.specs.declared.command.Command.TheVariants.{Quit}
+use Rattle.model_text.specs.declared.command.Command.TheVariants as commands
 use Rattle.model_text.specs.declared.fault.TextFault.{TextFault}
 use Rattle.model_text.specs.Codes.{text_fault_code}
 use Rattle.model_text.specs.Commands.{command_of}
@@ -53,8 +53,8 @@ abbrev pub asks_advance : List ℕ → Bool
 asks_advance line = is_advance_word (fields_of line)
 
 -- the moment that it names, or the first fault of the line
-abbrev pub moment_of : List ℕ → Result ℕ TextFault
-moment_of line = one_field (fields_of (behind_field line)) >>= λ f. number_field f
+abbrev pub asked_moment : List ℕ → Result ℕ TextFault
+asked_moment line = one_field (fields_of (behind_field line)) >>= λ f. number_field f
 
 -- whether a command names an edit of people, and all its names are there
 abbrev pub is_named_of_people : Result Edit NameFault → Bool
@@ -62,8 +62,8 @@ is_named_of_people (Ok e) = is_of_people e
 is_named_of_people (Err fault) = false
 
 abbrev pub asks_of_people : NameTable → Result Command TextFault → Bool
-asks_of_people names (Ok command) = is_named_of_people (edit_named names command)
-asks_of_people names (Err fault) = false
+asks_of_people names (Ok (commands.Edit edit)) = is_named_of_people (edit_named names edit)
+asks_of_people names other = false
 
 -- ---- texts
 
@@ -88,8 +88,8 @@ gone_text p gone last = advance_line p ++ flat_map (gone_line gone) (moments_to 
 -- ---- replies
 
 -- whether a plan can't be carried out up to a moment: to 0, past the horizon, or to before where it was carried out to
-abbrev pub is_barred : Replanned → ℕ → Bool
-is_barred s p = (p == 0) || (nat_lt s.session.standing.model.horizon p || nat_lt p s.moment)
+abbrev pub is_bad_moment : Replanned → ℕ → Bool
+is_bad_moment s p = (p == 0) || (nat_lt s.session.standing.model.horizon p || nat_lt p s.moment)
 
 -- the plan is carried out up to a moment, who is gone is said, and the next block is the best plan of what is left
 pub record CarriesOut (s : Replanned) (p : ℕ) (r : Reply Replanned) : Type 0 where
@@ -115,7 +115,7 @@ AdvancesTo line s p false r = CarriesOut s p r
 -- a line that asks to carry the plan out, by what it names
 abbrev pub AsksAdvance : ℕ → Replanned → Result ℕ TextFault → Reply Replanned → Type 0
 AsksAdvance line s (Err fault) r = r ≡ refuses s (text_fault_code fault) line
-AsksAdvance line s (Ok p) r = AdvancesTo line s p (is_barred s p) r
+AsksAdvance line s (Ok p) r = AdvancesTo line s p (is_bad_moment s p) r
 
 -- what a session says, with all that was carried out as before
 abbrev pub carried_on : Replanned → Reply State → Reply Replanned
@@ -131,7 +131,7 @@ SessionRow names line s command r = AsksSession names line s command (nat_lt 0 s
 
 -- a line, by whether it asks to carry the plan out
 abbrev pub RowOf : NameTable → ℕ → Replanned → List ℕ → Bool → Reply Replanned → Type 0
-RowOf names line s text true r = AsksAdvance line s (moment_of text) r
+RowOf names line s text true r = AsksAdvance line s (asked_moment text) r
 RowOf names line s text false r = SessionRow names line s (command_of text) r
 
 abbrev pub ReplanReplies : NameTable → ℕ → Replanned → List ℕ → Reply Replanned → Type 0
@@ -151,8 +151,8 @@ ReplanOpens m r = (q : Reply State) × Opens m q × (r ≡ record { text = q.tex
 pub record WantsMemory (s : Replanned) (text : List ℕ) : Type 0 where
   pub moment : ℕ
   pub asks : IsTrue (asks_advance text)
-  pub named : moment_of text ≡ Ok moment
-  pub free : IsFalse (is_barred s moment)
+  pub named : asked_moment text ≡ Ok moment
+  pub free : IsFalse (is_bad_moment s moment)
 
 -- a replan on a model, whose commands name by these names
 abbrev pub replan : NameTable → Model → Talk Replanned
@@ -160,6 +160,6 @@ replan names m = record {
   Opens = ReplanOpens m;
   Refuses = OpensShort m;
   Gets = λ line s text r. ReplanReplies names line s text r;
-  Quits = λ text. command_of text ≡ Ok Quit;
+  Quits = λ text. command_of text ≡ Ok commands.Quit;
   Wants = λ line s text. WantsMemory s text;
 }

@@ -1,6 +1,6 @@
 // What a line of a replan asks for.
 ghost use Rattle.std.specs.Prelude.{◌≡◌};
-ghost use Rattle.replan_talk.specs.ReplanTalks.{asks_advance, moment_of};
+ghost use Rattle.replan_talk.specs.ReplanTalks.{asks_advance, asked_moment};
 
 use model_text::{Fields, TextFault, is_word, read_number};
 
@@ -16,7 +16,7 @@ pub(crate) fn asks_advance(line: &[u8]) -> bool
 
 /// The moment that such a line names, or its first fault.
 pub(crate) fn read_moment(line: &[u8]) -> Result<u32, TextFault>
-    ensures { result ≡ moment_of line.now }
+    ensures { result ≡ asked_moment line.now }
 {
     let mut fields = Fields::new(line);
     let _word = fields.next();

@@ -1,8 +1,7 @@
 // A replan answers the lines of a talk.
-ghost use Rattle.std.specs.Prelude.{◌≡◌, ◌≢◌, ◌<◌, ◌≤◌, ◌+◌, ◌++◌, ◌&&◌, ℕ, nat_lt, Ok, OnOk, IsTrue, IsFalse};
+ghost use Rattle.std.specs.Prelude.{◌≡◌, ◌<◌, ◌≤◌, ◌+◌, ◌++◌, ◌&&◌, ℕ, nat_lt, Ok, OnOk, IsTrue, IsFalse};
 ghost use Rattle.evac_law.specs.Building.{IsValid};
 ghost use Rattle.evac_law.specs.Edits.{IsEditOf};
-ghost use Rattle.building_table.specs.EditNames.{IsEdit};
 ghost use Rattle.building_table.specs.Names.{NamesFit};
 ghost use Rattle.line_io.specs.Causes.{HasCause};
 ghost use Rattle.line_io.specs.Line.{input_limit};
@@ -11,7 +10,7 @@ ghost use Rattle.replan.specs.Replans.{is_of_people};
 ghost use Rattle.session_text.specs.StateTexts.{block_text};
 ghost use Rattle.session_talk.specs.Desks.{IsDesk};
 ghost use Rattle.replan_talk.specs.Desks.{AnswersSome, EditsUnless, by_write, replanned, shown_replan};
-ghost use Rattle.replan_talk.specs.ReplanTalks.{AdvancesTo, AsksAdvance, IsLastGone, SessionRow, WantsMemory, asks_advance, gone_text, is_barred, moment_of};
+ghost use Rattle.replan_talk.specs.ReplanTalks.{AdvancesTo, AsksAdvance, IsLastGone, SessionRow, WantsMemory, asks_advance, gone_text, is_bad_moment, asked_moment};
 ghost use Rattle.talk.specs.Speaking.{SaysSome};
 
 use crate::gone::write_gone;
@@ -21,13 +20,14 @@ use certificate_text::write_refusal;
 use edit_session::BeginFault;
 use evac_law::{Edit, Steps};
 use line_io::{Heard, Out, Sink, WriteFault};
-use model_text::{Command, TextFault, read_command};
+use model_text::{Command, NamedEdit, read_command};
 use replan::{AdvanceFault, Replan, ReplanRefusal};
-use session_talk::{Asks, Desk, asked_by, reply_edited, reply_report, reply_undone};
+use session_talk::{Desk, reply_cut, reply_edited, reply_report, reply_undone};
+use session_text::write_work;
 use std::alloc::Global;
 use std::sync::ledger::Ledger;
 use talk::codes::name_code;
-use talk::{AnswerFault, Speaker};
+use talk::{AnswerFault, Speaker, answered};
 
 const BAD_MOMENT: u8 = 41;
 
@@ -122,7 +122,7 @@ fn reply_moment<K: Sink, L: Ledger>(
     requires desk { IsDesk talk.old.desk talk.old.replan.session }
     requires line { line ≤ input_limit }
     ensures says { talk.old.desk.index < line → let s = replanned talk.old.desk talk.old.replan in
-        AnswersSome (AdvancesTo line s moment (is_barred s moment)) (IsFalse (is_barred s moment)) result
+        AnswersSome (AdvancesTo line s moment (is_bad_moment s moment)) (IsFalse (is_bad_moment s moment)) result
         (shown_replan talk.old.desk talk.old.replan (K.held sink.old) out.old (K.faults sink.old) steps.old)
         (shown_replan talk.new.desk talk.new.replan (K.held sink.new) out.new (K.faults sink.new) steps.new) }
     ensures desk { OnOk result (IsDesk talk.new.desk talk.new.replan.session) }
@@ -147,7 +147,7 @@ fn reply_advance<K: Sink, L: Ledger>(
     requires asks { IsTrue (asks_advance text.now) }
     requires line { line ≤ input_limit }
     ensures says { talk.old.desk.index < line → let s = replanned talk.old.desk talk.old.replan in
-        AnswersSome (AsksAdvance line s (moment_of text.now)) (WantsMemory s text.now) result
+        AnswersSome (AsksAdvance line s (asked_moment text.now)) (WantsMemory s text.now) result
         (shown_replan talk.old.desk talk.old.replan (K.held sink.old) out.old (K.faults sink.old) steps.old)
         (shown_replan talk.new.desk talk.new.replan (K.held sink.new) out.new (K.faults sink.new) steps.new) }
     ensures desk { OnOk result (IsDesk talk.new.desk talk.new.replan.session) }
@@ -189,24 +189,23 @@ fn reply_edit<K: Sink, L: Ledger>(
     }
 }
 
-// A command that edits.
+// An edit by names.
 fn reply_named<K: Sink, L: Ledger>(
     talk: &mut ReplanTalk,
     out: &mut Out,
     sink: &mut K,
     steps: &mut Steps<L>,
-    command: Command,
+    named: NamedEdit,
     line: u32,
 ) -> Result<(), WriteFault>
     requires desk { IsDesk talk.old.desk talk.old.replan.session }
-    requires edit { IsEdit command }
     requires line { line ≤ input_limit }
-    ensures says { talk.old.desk.index < line → SaysSome (SessionRow talk.old.desk.names line (replanned talk.old.desk talk.old.replan) (Ok command)) result
+    ensures says { talk.old.desk.index < line → SaysSome (SessionRow talk.old.desk.names line (replanned talk.old.desk talk.old.replan) (Ok (Command.Edit named))) result
         (shown_replan talk.old.desk talk.old.replan (K.held sink.old) out.old (K.faults sink.old) steps.old)
         (shown_replan talk.new.desk talk.new.replan (K.held sink.new) out.new (K.faults sink.new) steps.new) }
     ensures desk { IsDesk talk.new.desk talk.new.replan.session }
 {
-    match talk.desk.edit_of(command) {
+    match talk.desk.edit_of(named) {
         Ok(edit) => reply_edit(talk, out, sink, steps, edit, line),
         Err(fault) => write_refusal(out, sink, name_code(fault), line),
     }
@@ -230,57 +229,6 @@ fn reply_undo<K: Sink, L: Ledger>(
     let undone = talk.replan.undo(steps);
     let session = talk.replan.session();
     reply_undone(&mut talk.desk, session, out, sink, undone, line)
-}
-
-// A command that doesn't quit.
-fn reply_command<K: Sink, L: Ledger>(
-    talk: &mut ReplanTalk,
-    out: &mut Out,
-    sink: &mut K,
-    steps: &mut Steps<L>,
-    command: Command,
-    line: u32,
-) -> Result<(), WriteFault>
-    requires desk { IsDesk talk.old.desk talk.old.replan.session }
-    requires goes_on { command ≢ Command.Quit }
-    requires line { line ≤ input_limit }
-    ensures says { talk.old.desk.index < line → SaysSome (SessionRow talk.old.desk.names line (replanned talk.old.desk talk.old.replan) (Ok command)) result
-        (shown_replan talk.old.desk talk.old.replan (K.held sink.old) out.old (K.faults sink.old) steps.old)
-        (shown_replan talk.new.desk talk.new.replan (K.held sink.new) out.new (K.faults sink.new) steps.new) }
-    ensures desk { IsDesk talk.new.desk talk.new.replan.session }
-{
-    match asked_by(command) {
-        Asks::Report => {
-            let session = talk.replan.session();
-            reply_report(&mut talk.desk, session, out, sink, command, line)
-        }
-        Asks::Edit => reply_named(talk, out, sink, steps, command, line),
-        Asks::Undo => reply_undo(talk, out, sink, steps, line),
-        Asks::Quit => unreachable!(),
-    }
-}
-
-// Any other line than one that asks to carry the plan out, by what it commands; it doesn't quit.
-fn reply<K: Sink, L: Ledger>(
-    talk: &mut ReplanTalk,
-    out: &mut Out,
-    sink: &mut K,
-    steps: &mut Steps<L>,
-    command: Result<Command, TextFault>,
-    line: u32,
-) -> Result<(), WriteFault>
-    requires desk { IsDesk talk.old.desk talk.old.replan.session }
-    requires goes_on { command ≢ Ok Command.Quit }
-    requires line { line ≤ input_limit }
-    ensures says { talk.old.desk.index < line → SaysSome (SessionRow talk.old.desk.names line (replanned talk.old.desk talk.old.replan) command) result
-        (shown_replan talk.old.desk talk.old.replan (K.held sink.old) out.old (K.faults sink.old) steps.old)
-        (shown_replan talk.new.desk talk.new.replan (K.held sink.new) out.new (K.faults sink.new) steps.new) }
-    ensures desk { IsDesk talk.new.desk talk.new.replan.session }
-{
-    match command {
-        Ok(command) => reply_command(talk, out, sink, steps, command, line),
-        Err(fault) => write_refusal(out, sink, fault.code(), line),
-    }
 }
 
 impl Speaker for ReplanTalk {
@@ -326,11 +274,18 @@ impl Speaker for ReplanTalk {
             reply_advance(self, out, sink, steps, text, line)?;
             return Ok(Heard::More);
         }
-        let command = read_command(text);
-        if let Ok(Command::Quit) = command {
-            return Ok(Heard::Last);
+        let session = self.replan.session();
+        match read_command(text) {
+            Ok(Command::Blank) => Ok(Heard::More),
+            Ok(Command::Edit(named)) => answered(reply_named(self, out, sink, steps, named, line)),
+            Ok(Command::Undo) => answered(reply_undo(self, out, sink, steps, line)),
+            Ok(Command::Cut { period }) => answered(reply_cut(out, sink, session, period, line)),
+            Ok(Command::Report(report)) => {
+                answered(reply_report(&mut self.desk, session, out, sink, report))
+            }
+            Ok(Command::Work) => answered(write_work(out, sink, session)),
+            Ok(Command::Quit) => Ok(Heard::Last),
+            Err(fault) => answered(write_refusal(out, sink, fault.code(), line)),
         }
-        reply(self, out, sink, steps, command, line)?;
-        Ok(Heard::More)
     }
 }

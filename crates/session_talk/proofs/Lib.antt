@@ -1,6 +1,5 @@
 pub mod Same
 pub mod Bridge
-pub mod AskLemmas
 pub mod DeskLemmas
 pub mod Saying
 pub mod Replying

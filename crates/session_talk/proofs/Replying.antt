@@ -1,23 +1,25 @@
 -- No line gets more than one block, and a line that is replied to is answered.
-use Rattle.std.proofs.Common.{◌≡◌, ℕ, ◌+◌, ◌≤◌, List, [], ◌∷◌, Result, Ok, Err, ap, subst, ◌∙◌, arith, inl, inr}
+use Rattle.std.proofs.Common.{◌≡◌, ℕ, ◌+◌, ◌≤◌, List, [], ◌∷◌, Result, Ok, Err, sym, ap, subst, ◌∙◌, arith, inl, inr}
 use Rattle.evac_law.specs.declared.edit.Edit.{Edit}
 use Rattle.evac_law.specs.declared.edit.EditFault.{EditFault}
 use Rattle.evac_law.specs.declared.model.Model.{Model}
 use Rattle.evac_law.specs.Edits.{applied}
-use Rattle.line_io.specs.declared.hearing.Heard.TheVariants.{More}
+use Rattle.line_io.specs.declared.hearing.Heard.{Heard}
 use Rattle.line_io.specs.declared.out.WriteFault.{WriteFault}
 use Rattle.model_text.specs.declared.command.Command.{Command}
 use Rattle.model_text.specs.declared.command.Command.TheVariants as commands
+use Rattle.model_text.specs.declared.command.Report.{Report}
+use Rattle.model_text.specs.declared.command.Report.TheVariants.{Routes, Clearing, Bottlenecks, Summary}
 use Rattle.model_text.specs.declared.fault.TextFault.{TextFault}
 use Rattle.model_text.specs.Commands.{command_of}
 use Rattle.building_table.specs.declared.faults.NameFault.{NameFault}
 use Rattle.building_table.specs.EditNames.{edit_named}
 use Rattle.building_table.specs.Names.{NameTable}
 use Rattle.session_talk.specs.Desks.{Behind, Quits, gets}
-use Rattle.session_talk.specs.Sessions.{AsksEdit, Edits, Replies, State, Undoes}
+use Rattle.session_talk.specs.Sessions.{AsksEdit, Edits, Replies, Reports, State, Undoes}
 use Rattle.session_talk.proofs.Same.{cut_stays}
-use Rattle.talk.specs.Speaking.{AnswersLine, SaysSome, Shown}
-use Rattle.talk.specs.declared.fault.AnswerFault.TheVariants.{Write}
+use Rattle.talk.specs.Speaking.{AnswersLine, SaysSome, Shown, answered}
+use Rattle.talk.specs.declared.fault.AnswerFault.{AnswerFault}
 use Rattle.talk.specs.Talks.{Reply, WantsNone, says}
 
 -- ---- no line gets more than one block
@@ -41,29 +43,36 @@ undo-index : (line : ℕ) (s : State) (former : List Model) (r : Reply State) �
 undo-index line s [] r h = says-no-more s _ r h
 undo-index line s (m ∷ earlier) r h = omega (arith, h.next)
 
+report-index : (names : NameTable) (s : State) (report : Report) (r : Reply State) → Reports names s report r → r.after.index ≤ s.index + 1
+report-index names s Routes r h = says-no-more s h.0 r h.2
+report-index names s Clearing r h = says-no-more s _ r h
+report-index names s Bottlenecks r h = says-no-more s _ r h
+report-index names s Summary r h = says-no-more s h.0 r h.2
+
 pub reply-index : (names : NameTable) (line : ℕ) (s : State) (c : Result Command TextFault) (r : Reply State) → Replies names line s c r → r.after.index ≤ s.index + 1
 reply-index names line s (Err fault) r h = says-no-more s _ r h
 reply-index names line s (Ok commands.Blank) r h = says-no-more s _ r h
+reply-index names line s (Ok (commands.Edit edit)) r h = named-index line s (edit_named names edit) r h
 reply-index names line s (Ok commands.Undo) r h = undo-index line s s.standing.former r h
 reply-index names line s (Ok (commands.Cut k)) r h = no-more s r (ap (λ (x : Reply State). x.after) h ∙ cut_stays line s k)
-reply-index names line s (Ok commands.Routes) r h = says-no-more s h.0 r h.2
-reply-index names line s (Ok commands.Clearing) r h = says-no-more s _ r h
-reply-index names line s (Ok commands.Bottlenecks) r h = says-no-more s _ r h
-reply-index names line s (Ok commands.Summary) r h = says-no-more s h.0 r h.2
+reply-index names line s (Ok (commands.Report report)) r h = report-index names s report r h
 reply-index names line s (Ok commands.Work) r h = says-no-more s _ r h
 reply-index names line s (Ok commands.Quit) r h = absurd h
-reply-index names line s (Ok c) r h = named-index line s (edit_named names c) r h
 
 -- ---- a line that is replied to is answered
 
-pub answered_more : (x y : Shown NameTable State) (before line : ℕ) (text : List ℕ) (c : Result Command TextFault) (done : Unit {0}) → c ≡ command_of text → line ≡ before + 1
-    → Behind before x.state → SaysSome {N = NameTable} {S = State} {T = Unit {0}} (Replies x.kept line x.state c) (Ok done) x y → AnswersLine gets Quits WantsNone Behind x line text (Ok More) y
-answered_more x y before line text c done is at few h =
+answers-by : (x y : Shown NameTable State) (before line : ℕ) (text : List ℕ) (c : Result Command TextFault) (put : Result (Unit {0}) WriteFault) → c ≡ command_of text
+    → line ≡ before + 1 → Behind before x.state → SaysSome (Replies x.kept line x.state c) put x y → AnswersLine gets Quits WantsNone Behind x line text (answered put) y
+answers-by x y before line text c (Ok done) is at few h =
     let P : Result Command TextFault → Type 0 = λ z. Replies x.kept line x.state z h.0 in
     let e = ap (λ (s : State). s.index) h.2.state in
     (h.0, subst P is h.1, h.2, omega (arith, reply-index x.kept line x.state c h.0 h.1, e, few, at))
-
-pub answered_err : (x y : Shown NameTable State) (line : ℕ) (text : List ℕ) (c : Result Command TextFault) (fault : WriteFault) → c ≡ command_of text
-    → SaysSome {N = NameTable} {S = State} {T = Unit {0}} (Replies x.kept line x.state c) (Err fault) x y → AnswersLine gets Quits WantsNone Behind x line text (Err (Write fault)) y
-answered_err x y line text c fault is h =
+answers-by x y before line text c (Err fault) is at few h =
     let P : Result Command TextFault → Type 0 = λ z. Replies x.kept line x.state z h.0 in (h.0, subst P is h.1, h.2)
+
+pub answers : (x y : Shown NameTable State) (before line : ℕ) (text : List ℕ) (c : Result Command TextFault) (put : Result (Unit {0}) WriteFault) (result : Result Heard AnswerFault)
+    → c ≡ command_of text → result ≡ answered put → line ≡ before + 1 → Behind before x.state → SaysSome (Replies x.kept line x.state c) put x y
+    → AnswersLine gets Quits WantsNone Behind x line text result y
+answers x y before line text c put result is made at few h =
+    let P : Result Heard AnswerFault → Type 0 = λ z. AnswersLine gets Quits WantsNone Behind x line text z y in
+    subst P (sym made) (answers-by x y before line text c put is at few h)

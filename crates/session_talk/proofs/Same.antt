@@ -14,9 +14,11 @@ use Rattle.building_table.specs.EditNames.{edit_named}
 use Rattle.edit_session.specs.Sessions.{with_former, kept_limit}
 use Rattle.model_text.specs.declared.command.Command.{Command}
 use Rattle.model_text.specs.declared.command.Command.TheVariants as commands
+use Rattle.model_text.specs.declared.command.Report.{Report}
+use Rattle.model_text.specs.declared.command.Report.TheVariants.{Routes, Clearing, Bottlenecks, Summary}
 use Rattle.model_text.specs.declared.fault.TextFault.{TextFault}
 use Rattle.model_text.specs.Commands.{command_of}
-use Rattle.session_talk.specs.Sessions.{Advances, AsksEdit, Edits, Opens, Replies, State, StaysBefore, Undoes, cut_reply, session}
+use Rattle.session_talk.specs.Sessions.{Advances, AsksEdit, Edits, Opens, Replies, Reports, State, StaysBefore, Undoes, cut_reply, session}
 use Rattle.talk.specs.Talks.{RepliesTo, Reply, says}
 use Rattle.session_talk.specs.SessionLaws.{AreAlike, EditsApart, SessionsAgree}
 use Rattle.evac_law.proofs.Optimal.{certified_plans_agree, certified_is_clearable}
@@ -86,22 +88,27 @@ either false s x y e f = f
 pub cut_stays : (line : ℕ) (s : State) (k : ℕ) → (cut_reply line s k).after ≡ s
 cut_stays line s k = either (nat_lt s.standing.model.horizon k) s _ _ refl refl
 
+-- a report
+reports : (names : NameTable) (s t : State) (report : Report) (r q : Reply State) → AreAlike s t → Reports names s report r → Reports names t report q
+    → AreAlike r.after q.after
+reports names s t Routes r q same h g = said s t h.0 g.0 r q same h.2 g.2
+reports names s t Clearing r q same h g = said s t _ _ r q same h g
+reports names s t Bottlenecks r q same h g = said s t _ _ r q same h g
+reports names s t Summary r q same h g = said s t h.0 g.0 r q same h.2 g.2
+
 -- a line
 pub one_line : CertifiedPlansAgree → CertifiedIsClearable → (names : NameTable) (line : ℕ) (s t : State) (c : Result Command TextFault) (r q : Reply State) → AreAlike s t
     → Replies names line s c r → Replies names line t c q → AreAlike r.after q.after
 one_line law can names line s t (Err fault) r q same h g = said s t _ _ r q same h g
 one_line law can names line s t (Ok commands.Blank) r q same h g = said s t _ _ r q same h g
+one_line law can names line s t (Ok (commands.Edit edit)) r q same h g = named law can line s t (edit_named names edit) r q same h g
 one_line law can names line s t (Ok commands.Undo) r q same h g =
     let P : List Model → Type 0 = λ l. Undoes line t l q in undoes law line s t s.standing.former r q same h (subst P (sym same.former) g)
 one_line law can names line s t (Ok (commands.Cut k)) r q same h g =
     stays s t r.after q.after same (ap (λ (a : Reply State). a.after) h ∙ cut_stays line s k) (ap (λ (a : Reply State). a.after) g ∙ cut_stays line t k)
-one_line law can names line s t (Ok commands.Routes) r q same h g = said s t h.0 g.0 r q same h.2 g.2
-one_line law can names line s t (Ok commands.Clearing) r q same h g = said s t _ _ r q same h g
-one_line law can names line s t (Ok commands.Bottlenecks) r q same h g = said s t _ _ r q same h g
-one_line law can names line s t (Ok commands.Summary) r q same h g = said s t h.0 g.0 r q same h.2 g.2
+one_line law can names line s t (Ok (commands.Report report)) r q same h g = reports names s t report r q same h g
 one_line law can names line s t (Ok commands.Work) r q same h g = said s t _ _ r q same h g
 one_line law can names line s t (Ok commands.Quit) r q same h g = absurd h
-one_line law can names line s t (Ok c) r q same h g = named law can line s t (edit_named names c) r q same h g
 
 -- all lines
 pub all_lines : CertifiedPlansAgree → CertifiedIsClearable → (names : NameTable) (m : Model) (before : ℕ) (s t : State) (lines : List (List ℕ)) (r q : Reply State) → AreAlike s t

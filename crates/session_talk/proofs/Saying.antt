@@ -13,11 +13,8 @@ use Rattle.line_io.specs.Causes.{Count, HasCause}
 use Rattle.line_io.specs.Line.{input_limit}
 use Rattle.line_io.specs.Writer.{PutsText}
 use Rattle.line_io.specs.declared.out.WriteFault.{WriteFault}
-use Rattle.model_text.specs.declared.command.Command.{Command}
-use Rattle.model_text.specs.declared.command.Command.TheVariants as commands
-use Rattle.model_text.specs.declared.fault.TextFault.{TextFault}
+use Rattle.model_text.specs.declared.command.Report.{Report}
 use Rattle.building_table.specs.declared.faults.NameFault.{NameFault}
-use Rattle.building_table.specs.EditNames.{IsEdit, edit_named}
 use Rattle.building_table.specs.Names.{NameTable}
 use Rattle.certificate_text.specs.Block.{number_field_limit}
 use Rattle.certificate_text.specs.BlockLaws.{BlockReadsBack}
@@ -32,7 +29,7 @@ use Rattle.session_text.specs.StateTexts.{block_text, cut_of}
 use Rattle.session_text.proofs.Serving.{edit_serves}
 use Rattle.session_talk.specs.Desks.{DeskView, IsSameDesk, desk_state, shown_of}
 use Rattle.talk.specs.Speaking.{SaysBy, SaysSome, Shown}
-use Rattle.session_talk.specs.Sessions.{AsksEdit, Edits, Replies, State, Undoes, cut_reply, no_undo_code}
+use Rattle.session_talk.specs.Sessions.{AsksEdit, Edits, Reports, State, Undoes, cut_reply, no_undo_code}
 use Rattle.talk.specs.Codes.{no_period_code}
 use Rattle.talk.proofs.Answering as answering
 use Rattle.talk.specs.Talks.{Reply, refuses, says}
@@ -57,7 +54,8 @@ same_desk d = record { names = refl; index = refl }
 
 -- ---- edits
 
-few_blocks : (index line : ℕ) → index < line → line ≤ input_limit → index + 1 ≤ number_field_limit
+-- a line behind a block leaves the next block a number that its field can hold
+pub few_blocks : (index line : ℕ) → index < line → line ≤ input_limit → index + 1 ≤ number_field_limit
 unfolding input_limit number_field_limit
 few_blocks index line before short = omega (arith, before, short)
 
@@ -148,33 +146,11 @@ undo_none result NothingToUndo line steps n d v v' a b p q f g ends put cause =
           (ap (λ (i : ℕ). n + i) ends.2),
     )
 
--- ---- a command that edits
+-- ---- an edit by names
 
 pub asks_named : {T : Type 0} (result : Result T WriteFault) (line : ℕ) (s : State) (made named : Result Edit NameFault) (x y : Shown NameTable State) → made ≡ named
     → SaysSome (AsksEdit line s made) result x y → SaysSome (AsksEdit line s named) result x y
 asks_named result line s made named x y is h = let P : Result Edit NameFault → Type 0 = λ z. SaysSome (AsksEdit line s z) result x y in subst P is h
-
-pub asks_edit : (names : NameTable) (line : ℕ) (s : State) (c : Command) (r : Reply State) → IsEdit c → AsksEdit line s (edit_named names c) r → Replies names line s (Ok c) r
-asks_edit names line s commands.Blank r is h = absurd is
-asks_edit names line s (commands.Shut a b) r is h = h
-asks_edit names line s (commands.Reopen a b) r is h = h
-asks_edit names line s (commands.ShutExit a) r is h = h
-asks_edit names line s (commands.OpenExit a) r is h = h
-asks_edit names line s (commands.Rate a b n) r is h = h
-asks_edit names line s (commands.Room a n) r is h = h
-asks_edit names line s (commands.Shift a b n) r is h = h
-asks_edit names line s (commands.Enter a n) r is h = h
-asks_edit names line s (commands.Leave a n) r is h = h
-asks_edit names line s (commands.Window a b p q) r is h = h
-asks_edit names line s (commands.Unwindow a b p q) r is h = h
-asks_edit names line s commands.Undo r is h = absurd is
-asks_edit names line s (commands.Cut k) r is h = absurd is
-asks_edit names line s commands.Routes r is h = absurd is
-asks_edit names line s commands.Clearing r is h = absurd is
-asks_edit names line s commands.Bottlenecks r is h = absurd is
-asks_edit names line s commands.Summary r is h = absurd is
-asks_edit names line s commands.Work r is h = absurd is
-asks_edit names line s commands.Quit r is h = absurd is
 
 -- ---- cuts
 
@@ -205,21 +181,12 @@ pub text_said : {T : Type 0} (result : Result T WriteFault) (Gets : Reply State 
     → IsSameDesk d d' → Gets (says (desk_state d v) text) → PutsText a p text b q result → HasCause f g result → SaysSome Gets result (shown_of d v a p f n) (shown_of d' v b q g n)
 text_said result Gets text n d d' v a b p q f g same gets put cause = (says (desk_state d v) text, gets, said_here result d d' v text a b p q f g n same put cause)
 
--- the same replies, by an equal command
-pub as_command : {T : Type 0} (result : Result T WriteFault) (names : NameTable) (line : ℕ) (s : State) (made c : Result Command TextFault) (x y : Shown NameTable State) → c ≡ made
-    → SaysSome (Replies names line s made) result x y → SaysSome (Replies names line s c) result x y
-as_command result names line s made c x y is h = let P : Result Command TextFault → Type 0 = λ z. SaysSome (Replies names line s z) result x y in subst P (sym is) h
-
-pub as_made : {T : Type 0} (result : Result T WriteFault) (names : NameTable) (line : ℕ) (s : State) (made c : Command) (x y : Shown NameTable State) → c ≡ made
-    → SaysSome (Replies names line s (Ok made)) result x y → SaysSome (Replies names line s (Ok c)) result x y
-as_made result names line s made c x y is h = let P : Command → Type 0 = λ z. SaysSome (Replies names line s (Ok z)) result x y in subst P (sym is) h
+-- the same replies, by an equal report
+pub as_made : {T : Type 0} (result : Result T WriteFault) (names : NameTable) (s : State) (made report : Report) (x y : Shown NameTable State) → report ≡ made
+    → SaysSome (Reports names s made) result x y → SaysSome (Reports names s report) result x y
+as_made result names s made report x y is h = let P : Report → Type 0 = λ z. SaysSome (Reports names s z) result x y in subst P (sym is) h
 
 -- the steps counted, spelled otherwise
 pub with_steps : {T : Type 0} (result : Result T WriteFault) (Gets : Reply State → Type 0) (x : Shown NameTable State) (d : DeskView) (v : SessionView) (a : Option (List ℕ)) (p : List ℕ) (f : Count) (n k : ℕ)
     → k ≡ n → SaysSome Gets result x (shown_of d v a p f n) → SaysSome Gets result x (shown_of d v a p f k)
 with_steps result Gets x d v a p f n k is h = let P : ℕ → Type 0 = λ i. SaysSome Gets result x (shown_of d v a p f i) in subst P (sym is) h
-
--- the replies to an edit are those to its command
-pub edit_said : {T : Type 0} (result : Result T WriteFault) (names : NameTable) (line : ℕ) (s : State) (c : Command) (x y : Shown NameTable State) → IsEdit c
-    → SaysSome (AsksEdit line s (edit_named names c)) result x y → SaysSome (Replies names line s (Ok c)) result x y
-edit_said result names line s c x y is h = (h.0, asks_edit names line s c h.0 is h.1, h.2)

@@ -9,7 +9,6 @@ pub use Rattle.talk.specs.Speaking
 pub use Rattle.talk.specs.Talks
 pub mod Sessions
 pub mod SessionLaws
-pub mod Asking
 pub mod Desks
 pub mod Talking
 pub mod Held

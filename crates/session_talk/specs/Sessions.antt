@@ -7,7 +7,9 @@ use Rattle.evac_law.specs.declared.plan.Move.{Move}
 use Rattle.evac_law.specs.Edits.{applied, fault_code}
 use Rattle.evac_law.specs.Plans.{IsFeasible, out_by}
 use Rattle.model_text.specs.declared.command.Command.{Command}
-use Rattle.model_text.specs.declared.command.Command.TheVariants.{Blank, Undo, Cut as CutAt, Routes, Clearing, Bottlenecks, Summary, Work, Quit}
+use Rattle.model_text.specs.declared.command.Command.TheVariants as commands
+use Rattle.model_text.specs.declared.command.Report.{Report}
+use Rattle.model_text.specs.declared.command.Report.TheVariants.{Routes, Clearing, Bottlenecks, Summary}
 use Rattle.model_text.specs.declared.fault.TextFault.{TextFault}
 use Rattle.model_text.specs.Codes.{text_fault_code}
 use Rattle.model_text.specs.Commands.{command_of}
@@ -71,7 +73,7 @@ abbrev pub Edits : ℕ → State → Result (Model × Edit) EditFault → Reply 
 Edits line s (Err fault) r = r ≡ refuses s (fault_code fault) line
 Edits line s (Ok edited) r = Advances s edited.0 (with_former s.standing) r ⊎ StaysBefore s edited.0 line r
 
--- a command that edits, by the edit that it names
+-- an edit by names, by the edit at their places
 abbrev pub AsksEdit : ℕ → State → Result Edit NameFault → Reply State → Type 0
 AsksEdit line s (Err fault) r = r ≡ refuses s (name_code fault) line
 AsksEdit line s (Ok e) r = Edits line s (applied s.standing.model e) r
@@ -85,19 +87,23 @@ Undoes line s (m ∷ earlier) r = Advances s m earlier r
 abbrev pub cut_reply : ℕ → State → ℕ → Reply State
 cut_reply line s k = if nat_lt s.standing.model.horizon k then refuses s no_period_code line else says s (cut_of s.standing k)
 
+-- a report on the plan that stands
+abbrev pub Reports : NameTable → State → Report → Reply State → Type 0
+Reports names s Routes r = (text : List ℕ) × SaysRoutesOf s.index s.standing text × (r ≡ says s text)
+Reports names s Clearing r = r ≡ says s (clearing_of names s.index s.standing)
+Reports names s Bottlenecks r = r ≡ says s (bottlenecks_of s.index s.standing)
+Reports names s Summary r = (text : List ℕ) × SaysSummary names s.index s.standing text × (r ≡ says s text)
+
 -- what a line gets, by what it commands; a line that quits gets nothing
 abbrev pub Replies : NameTable → ℕ → State → Result Command TextFault → Reply State → Type 0
 Replies names line s (Err fault) r = r ≡ refuses s (text_fault_code fault) line
-Replies names line s (Ok Blank) r = r ≡ says s []
-Replies names line s (Ok Undo) r = Undoes line s s.standing.former r
-Replies names line s (Ok (CutAt k)) r = r ≡ cut_reply line s k
-Replies names line s (Ok Routes) r = (text : List ℕ) × SaysRoutesOf s.index s.standing text × (r ≡ says s text)
-Replies names line s (Ok Clearing) r = r ≡ says s (clearing_of names s.index s.standing)
-Replies names line s (Ok Bottlenecks) r = r ≡ says s (bottlenecks_of s.index s.standing)
-Replies names line s (Ok Summary) r = (text : List ℕ) × SaysSummary names s.index s.standing text × (r ≡ says s text)
-Replies names line s (Ok Work) r = r ≡ says s (work_of s.standing)
-Replies names line s (Ok Quit) r = ⊥
-Replies names line s (Ok edit) r = AsksEdit line s (edit_named names edit) r
+Replies names line s (Ok commands.Blank) r = r ≡ says s []
+Replies names line s (Ok (commands.Edit edit)) r = AsksEdit line s (edit_named names edit) r
+Replies names line s (Ok commands.Undo) r = Undoes line s s.standing.former r
+Replies names line s (Ok (commands.Cut k)) r = r ≡ cut_reply line s k
+Replies names line s (Ok (commands.Report report)) r = Reports names s report r
+Replies names line s (Ok commands.Work) r = r ≡ says s (work_of s.standing)
+Replies names line s (Ok commands.Quit) r = ⊥
 
 -- ---- runs
 
@@ -107,7 +113,7 @@ session names m = record {
   Opens = Opens m;
   Refuses = OpensShort m;
   Gets = λ line s text r. Replies names line s (command_of text) r;
-  Quits = λ text. command_of text ≡ Ok Quit;
+  Quits = λ text. command_of text ≡ Ok commands.Quit;
   Wants = WantsNone;
 }
 

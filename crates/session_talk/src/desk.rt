@@ -5,7 +5,7 @@ ghost use Rattle.evac_law.specs.Edits.{IsEditOf};
 ghost use Rattle.evac_law.specs.declared.model.Model.{Model as ModelValue};
 ghost use Rattle.line_io.specs.Causes.{HasCause};
 ghost use Rattle.line_io.specs.Writer.{PutsText};
-ghost use Rattle.building_table.specs.EditNames.{IsEdit, edit_named};
+ghost use Rattle.building_table.specs.EditNames.{edit_named};
 ghost use Rattle.building_table.specs.Names.{NamesFit};
 ghost use Rattle.session_text.specs.Spaces.{IsSpace};
 ghost use Rattle.session_text.specs.StateTexts.{SaysRoutesOf, SaysSummary, block_text, bottlenecks_of, clearing_of};
@@ -15,7 +15,7 @@ use building_table::{NameFault, Names, edit_of};
 use edit_session::Session;
 use evac_law::Edit;
 use line_io::{Out, Sink, WriteFault};
-use model_text::Command;
+use model_text::NamedEdit;
 use route_decompose::Routes;
 use session_text::{
     ReportSpace, write_block, write_bottlenecks, write_clearing, write_routes, write_summary,
@@ -89,13 +89,12 @@ impl Desk {
         Ok(())
     }
 
-    /// The edit that a command names, or the first name that has no place.
-    pub fn edit_of(&self, command: Command) -> Result<Edit, NameFault>
-        requires { IsEdit command }
-        ensures edit { result ≡ edit_named self.now.names command }
+    /// The edit at the places of its names, or the first name that has no place.
+    pub fn edit_of(&self, named: NamedEdit) -> Result<Edit, NameFault>
+        ensures edit { result ≡ edit_named self.now.names named }
         ensures within { IfOk result (λ edit. (m : ModelValue) → NamesFit self.now.names m → IsEditOf m edit) }
     {
-        edit_of(&self.names, command)
+        edit_of(&self.names, named)
     }
 
     /// Counts a block.

@@ -6,15 +6,13 @@
 //! on a `Desk` too.
 #![tactic(auto)]
 
-mod asks;
 mod desk;
 mod hold;
 mod laws;
 mod reply;
 mod speaker;
 
-pub use asks::{Asks, asked_by};
 pub use desk::Desk;
 pub use hold::hold_session;
 pub use laws::{edits_apart, sessions_agree, sessions_part};
-pub use reply::{reply_edited, reply_report, reply_undone};
+pub use reply::{reply_cut, reply_edited, reply_report, reply_undone};

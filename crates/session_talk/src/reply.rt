@@ -1,29 +1,27 @@
-// What a command gets, put behind the pending bytes.
-ghost use Rattle.std.specs.Prelude.{◌≡◌, ◌<◌, ◌≤◌, ◌+◌, ℕ, Ok, Err};
+// What commands get, put behind the pending bytes.
+ghost use Rattle.std.specs.Prelude.{◌≡◌, ◌<◌, ◌≤◌, ◌+◌, ℕ, Err};
 ghost use Rattle.evac_law.specs.Edits.{applied};
 ghost use Rattle.evac_law.specs.declared.edit.Edit.{Edit as EditValue};
 ghost use Rattle.line_io.specs.Causes.{HasCause};
 ghost use Rattle.line_io.specs.Line.{input_limit};
 ghost use Rattle.line_io.specs.Writer.{PutsText};
 ghost use Rattle.edit_session.specs.Sessions.{EditEnds, SessionView, UndoEnds};
-ghost use Rattle.session_talk.specs.Asking.{asked_by};
 ghost use Rattle.session_talk.specs.Desks.{DeskView, IsDesk, desk_state, shown_of};
-ghost use Rattle.session_talk.specs.Sessions.{Edits, Replies, State, Undoes, cut_reply};
+ghost use Rattle.session_talk.specs.Sessions.{Edits, Reports, State, Undoes, cut_reply};
 ghost use Rattle.talk.specs.Speaking.{SaysSome};
 
-use crate::asks::Asks;
 use crate::desk::Desk;
 use certificate_text::write_refusal;
 use edit_session::{EditRefusal, Session, UndoRefusal, Work};
 use line_io::{Out, Sink, WriteFault};
-use model_text::Command;
-use session_text::{write_barred, write_cut, write_work};
+use model_text::Report;
+use session_text::{write_barred, write_cut};
 use talk::codes::NO_PERIOD;
 
 const NOTHING_TO_UNDO: u8 = 39;
 
-// The cut of a period, where there is the period.
-fn reply_cut<K: Sink>(
+/// Puts the cut of a period, where there is the period.
+pub fn reply_cut<K: Sink>(
     out: &mut Out,
     sink: &mut K,
     session: &Session,
@@ -40,31 +38,25 @@ fn reply_cut<K: Sink>(
     }
 }
 
-/// Puts what a command gets that asks for a report or for nothing.
+/// Puts a report on the plan that stands.
 pub fn reply_report<K: Sink>(
     desk: &mut Desk,
     session: &Session,
     out: &mut Out,
     sink: &mut K,
-    command: Command,
-    line: u32,
+    report: Report,
 ) -> Result<(), WriteFault>
-    requires desk { IsDesk desk.old session.now }
-    requires asks { asked_by command ≡ Asks.Report }
-    ensures says { (steps : ℕ) → SaysSome (Replies desk.old.names line (desk_state desk.old session.now) (Ok command)) result
+    requires { IsDesk desk.old session.now }
+    ensures says { (steps : ℕ) → SaysSome (Reports desk.old.names (desk_state desk.old session.now) report) result
         (shown_of desk.old session.now (K.held sink.old) out.old (K.faults sink.old) steps)
         (shown_of desk.new session.now (K.held sink.new) out.new (K.faults sink.new) steps) }
     ensures desk { IsDesk desk.new session.now }
 {
-    match command {
-        Command::Blank => Ok(()),
-        Command::Cut { period } => reply_cut(out, sink, session, period, line),
-        Command::Routes => desk.write_routes(out, sink, session),
-        Command::Clearing => desk.write_clearing(out, sink, session),
-        Command::Bottlenecks => desk.write_bottlenecks(out, sink, session),
-        Command::Summary => desk.write_summary(out, sink, session),
-        Command::Work => write_work(out, sink, session),
-        _ => unreachable!(),
+    match report {
+        Report::Routes => desk.write_routes(out, sink, session),
+        Report::Clearing => desk.write_clearing(out, sink, session),
+        Report::Bottlenecks => desk.write_bottlenecks(out, sink, session),
+        Report::Summary => desk.write_summary(out, sink, session),
     }
 }
 

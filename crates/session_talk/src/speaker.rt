@@ -1,26 +1,26 @@
 // A session answers the lines of a talk.
-ghost use Rattle.std.specs.Prelude.{◌≡◌, ◌≢◌, ◌<◌, ◌≤◌, ◌+◌, ℕ, Ok};
+ghost use Rattle.std.specs.Prelude.{◌≡◌, ◌<◌, ◌≤◌, ◌+◌, ℕ};
 ghost use Rattle.evac_law.specs.Building.{IsValid};
-ghost use Rattle.building_table.specs.EditNames.{IsEdit, edit_named};
+ghost use Rattle.building_table.specs.EditNames.{edit_named};
 ghost use Rattle.building_table.specs.Names.{NamesFit};
 ghost use Rattle.line_io.specs.Line.{input_limit};
 ghost use Rattle.session_talk.specs.Desks.{IsDesk, desk_state, shown_of};
-ghost use Rattle.session_talk.specs.Sessions.{AsksEdit, Replies, Undoes};
+ghost use Rattle.session_talk.specs.Sessions.{AsksEdit, Undoes};
 ghost use Rattle.talk.specs.Speaking.{SaysSome};
 
-use crate::asks::{Asks, asked_by};
 use crate::desk::Desk;
-use crate::reply::{reply_edited, reply_report, reply_undone};
+use crate::reply::{reply_cut, reply_edited, reply_report, reply_undone};
 use building_table::Building;
 use certificate_text::write_refusal;
 use edit_session::{BeginFault, Session};
 use evac_law::Steps;
 use line_io::{Heard, Out, Sink, WriteFault};
-use model_text::{Command, TextFault, read_command};
+use model_text::{Command, NamedEdit, read_command};
+use session_text::write_work;
 use std::alloc::Global;
 use std::sync::ledger::Ledger;
 use talk::codes::name_code;
-use talk::{AnswerFault, Speaker};
+use talk::{AnswerFault, Speaker, answered};
 
 /// A session with the desk at which its replies are made.
 #[derive(Drop)]
@@ -57,25 +57,24 @@ impl SessionTalk {
     }
 }
 
-// A command that edits gets the next block, or a refusal with all as it was.
+// An edit gets the next block, or a refusal with all as it was.
 fn reply_edit<K: Sink, L: Ledger>(
     talk: &mut SessionTalk,
     out: &mut Out,
     sink: &mut K,
     steps: &mut Steps<L>,
-    command: Command,
+    named: NamedEdit,
     line: u32,
 ) -> Result<(), WriteFault>
     requires desk { IsDesk talk.old.desk talk.old.session }
-    requires edit { IsEdit command }
     requires line { line ≤ input_limit }
     ensures says { talk.old.desk.index < line
-        → SaysSome (AsksEdit line (desk_state talk.old.desk talk.old.session) (edit_named talk.old.desk.names command)) result
+        → SaysSome (AsksEdit line (desk_state talk.old.desk talk.old.session) (edit_named talk.old.desk.names named)) result
         (shown_of talk.old.desk talk.old.session (K.held sink.old) out.old (K.faults sink.old) steps.old)
         (shown_of talk.new.desk talk.new.session (K.held sink.new) out.new (K.faults sink.new) steps.new) }
     ensures desk { IsDesk talk.new.desk talk.new.session }
 {
-    match talk.desk.edit_of(command) {
+    match talk.desk.edit_of(named) {
         Ok(edit) => {
             let edited = talk.session.edit(edit, steps);
             reply_edited(&mut talk.desk, &talk.session, out, sink, edited, line)
@@ -102,56 +101,6 @@ fn reply_undo<K: Sink, L: Ledger>(
 {
     let undone = talk.session.undo(steps);
     reply_undone(&mut talk.desk, &talk.session, out, sink, undone, line)
-}
-
-// A command that doesn't quit.
-fn reply_command<K: Sink, L: Ledger>(
-    talk: &mut SessionTalk,
-    out: &mut Out,
-    sink: &mut K,
-    steps: &mut Steps<L>,
-    command: Command,
-    line: u32,
-) -> Result<(), WriteFault>
-    requires desk { IsDesk talk.old.desk talk.old.session }
-    requires goes_on { command ≢ Command.Quit }
-    requires line { line ≤ input_limit }
-    ensures says { talk.old.desk.index < line
-        → SaysSome (Replies talk.old.desk.names line (desk_state talk.old.desk talk.old.session) (Ok command)) result
-        (shown_of talk.old.desk talk.old.session (K.held sink.old) out.old (K.faults sink.old) steps.old)
-        (shown_of talk.new.desk talk.new.session (K.held sink.new) out.new (K.faults sink.new) steps.new) }
-    ensures desk { IsDesk talk.new.desk talk.new.session }
-{
-    match asked_by(command) {
-        Asks::Report => reply_report(&mut talk.desk, &talk.session, out, sink, command, line),
-        Asks::Edit => reply_edit(talk, out, sink, steps, command, line),
-        Asks::Undo => reply_undo(talk, out, sink, steps, line),
-        Asks::Quit => unreachable!(),
-    }
-}
-
-// What a line gets, by what it commands; it doesn't quit.
-fn reply<K: Sink, L: Ledger>(
-    talk: &mut SessionTalk,
-    out: &mut Out,
-    sink: &mut K,
-    steps: &mut Steps<L>,
-    command: Result<Command, TextFault>,
-    line: u32,
-) -> Result<(), WriteFault>
-    requires desk { IsDesk talk.old.desk talk.old.session }
-    requires goes_on { command ≢ Ok Command.Quit }
-    requires line { line ≤ input_limit }
-    ensures says { talk.old.desk.index < line
-        → SaysSome (Replies talk.old.desk.names line (desk_state talk.old.desk talk.old.session) command) result
-        (shown_of talk.old.desk talk.old.session (K.held sink.old) out.old (K.faults sink.old) steps.old)
-        (shown_of talk.new.desk talk.new.session (K.held sink.new) out.new (K.faults sink.new) steps.new) }
-    ensures desk { IsDesk talk.new.desk talk.new.session }
-{
-    match command {
-        Ok(command) => reply_command(talk, out, sink, steps, command, line),
-        Err(fault) => write_refusal(out, sink, fault.code(), line),
-    }
 }
 
 impl Speaker for SessionTalk {
@@ -193,11 +142,23 @@ impl Speaker for SessionTalk {
         text: &[u8],
         line: u32,
     ) -> Result<Heard, AnswerFault> {
-        let command = read_command(text);
-        if let Ok(Command::Quit) = command {
-            return Ok(Heard::Last);
+        match read_command(text) {
+            Ok(Command::Blank) => Ok(Heard::More),
+            Ok(Command::Edit(named)) => answered(reply_edit(self, out, sink, steps, named, line)),
+            Ok(Command::Undo) => answered(reply_undo(self, out, sink, steps, line)),
+            Ok(Command::Cut { period }) => {
+                answered(reply_cut(out, sink, &self.session, period, line))
+            }
+            Ok(Command::Report(report)) => answered(reply_report(
+                &mut self.desk,
+                &self.session,
+                out,
+                sink,
+                report,
+            )),
+            Ok(Command::Work) => answered(write_work(out, sink, &self.session)),
+            Ok(Command::Quit) => Ok(Heard::Last),
+            Err(fault) => answered(write_refusal(out, sink, fault.code(), line)),
         }
-        reply(self, out, sink, steps, command, line)?;
-        Ok(Heard::More)
     }
 }

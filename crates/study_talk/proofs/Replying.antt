@@ -4,7 +4,7 @@ use Rattle.std.proofs.Math.Nat.{add-zero}
 use Rattle.std.specs.declared.option.Option.{Option}
 use Rattle.line_io.specs.Causes.{Count, HasCause}
 use Rattle.line_io.specs.Writer.{PutsText}
-use Rattle.line_io.specs.declared.hearing.Heard.TheVariants.{More}
+use Rattle.line_io.specs.declared.hearing.Heard.{Heard}
 use Rattle.line_io.specs.declared.out.WriteFault.{WriteFault}
 use Rattle.model_text.specs.declared.study.StudyCommand.{StudyCommand}
 use Rattle.model_text.specs.declared.fault.TextFault.{TextFault}
@@ -18,8 +18,8 @@ use Rattle.exit_study.specs.declared.rates.Least.{Least}
 use Rattle.study_talk.specs.StudyTexts.{SaysLeast}
 use Rattle.study_talk.specs.Studies.{AsksLeast, LeastReply, StudyReplies}
 use Rattle.talk.specs.Codes.{no_period_code}
-use Rattle.talk.specs.Speaking.{AnswersLine, SaysSome, Shown}
-use Rattle.talk.specs.declared.fault.AnswerFault.TheVariants.{Write}
+use Rattle.talk.specs.Speaking.{AnswersLine, SaysSome, Shown, answered}
+use Rattle.talk.specs.declared.fault.AnswerFault.{AnswerFault}
 use Rattle.talk.specs.Talks.{Reply, WantsNone, refuses}
 use Rattle.talk.proofs.Answering.{said}
 
@@ -60,23 +60,16 @@ pub asks_named : {T : Type 0} (result : Result T WriteFault) (m : Model) (line k
     → SaysSome (AsksLeast m line k made) result x y → SaysSome (AsksLeast m line k named) result x y
 asks_named result m line k made named x y is h = let P : Result ℕ NameFault → Type 0 = λ z. SaysSome (AsksLeast m line k z) result x y in subst P is h
 
--- the same replies, by an equal command
-pub as_command : {T : Type 0} (result : Result T WriteFault) (names : NameTable) (m : Model) (line : ℕ) (made c : Result StudyCommand TextFault) (x y : Shown Kept (Unit {0})) → c ≡ made
-    → SaysSome (StudyReplies names m line made) result x y → SaysSome (StudyReplies names m line c) result x y
-as_command result names m line made c x y is h = let P : Result StudyCommand TextFault → Type 0 = λ z. SaysSome (StudyReplies names m line z) result x y in subst P (sym is) h
-
-pub as_made : {T : Type 0} (result : Result T WriteFault) (names : NameTable) (m : Model) (line : ℕ) (made c : StudyCommand) (x y : Shown Kept (Unit {0})) → c ≡ made
-    → SaysSome (StudyReplies names m line (Ok made)) result x y → SaysSome (StudyReplies names m line (Ok c)) result x y
-as_made result names m line made c x y is h = let P : StudyCommand → Type 0 = λ z. SaysSome (StudyReplies names m line (Ok z)) result x y in subst P (sym is) h
-
 -- ---- a line that is replied to is answered
 
-pub answered_more : (x y : Shown Kept (Unit {0})) (line : ℕ) (text : List ℕ) (c : Result StudyCommand TextFault) (done : Unit {0}) → c ≡ study_command_of text
-    → SaysSome {N = Kept} {S = Unit {0}} {T = Unit {0}} (StudyReplies x.kept.0 x.kept.1 line c) (Ok done) x y → AnswersLine gets Quits WantsNone Behind x line text (Ok More) y
-answered_more x y line text c done is h =
+answers-by : (x y : Shown Kept (Unit {0})) (line : ℕ) (text : List ℕ) (c : Result StudyCommand TextFault) (put : Result (Unit {0}) WriteFault) → c ≡ study_command_of text
+    → SaysSome (StudyReplies x.kept.0 x.kept.1 line c) put x y → AnswersLine gets Quits WantsNone Behind x line text (answered put) y
+answers-by x y line text c (Ok done) is h =
     let P : Result StudyCommand TextFault → Type 0 = λ z. StudyReplies x.kept.0 x.kept.1 line z h.0 in (h.0, subst P is h.1, h.2, tt)
-
-pub answered_err : (x y : Shown Kept (Unit {0})) (line : ℕ) (text : List ℕ) (c : Result StudyCommand TextFault) (fault : WriteFault) → c ≡ study_command_of text
-    → SaysSome {N = Kept} {S = Unit {0}} {T = Unit {0}} (StudyReplies x.kept.0 x.kept.1 line c) (Err fault) x y → AnswersLine gets Quits WantsNone Behind x line text (Err (Write fault)) y
-answered_err x y line text c fault is h =
+answers-by x y line text c (Err fault) is h =
     let P : Result StudyCommand TextFault → Type 0 = λ z. StudyReplies x.kept.0 x.kept.1 line z h.0 in (h.0, subst P is h.1, h.2)
+
+pub answers : (x y : Shown Kept (Unit {0})) (line : ℕ) (text : List ℕ) (c : Result StudyCommand TextFault) (put : Result (Unit {0}) WriteFault) (result : Result Heard AnswerFault) → c ≡ study_command_of text
+    → result ≡ answered put → SaysSome (StudyReplies x.kept.0 x.kept.1 line c) put x y → AnswersLine gets Quits WantsNone Behind x line text result y
+answers x y line text c put result is made h =
+    let P : Result Heard AnswerFault → Type 0 = λ z. AnswersLine gets Quits WantsNone Behind x line text z y in subst P (sym made) (answers-by x y line text c put is h)

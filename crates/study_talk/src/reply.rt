@@ -1,5 +1,5 @@
 // What a line of a study gets, put behind the pending bytes.
-ghost use Rattle.std.specs.Prelude.{◌≡◌, ◌≢◌, ◌<◌, ◌≤◌, ℕ, Ok, length, nat_lt};
+ghost use Rattle.std.specs.Prelude.{◌<◌, ◌≤◌, ℕ, Ok, length, nat_lt};
 ghost use Rattle.building_table.specs.EditNames.{named_arc};
 ghost use Rattle.study_talk.specs.Desks.{shown_study};
 ghost use Rattle.study_talk.specs.Studies.{AsksLeast, LeastReply, StudyReplies};
@@ -9,7 +9,7 @@ use crate::desk::StudyDesk;
 use certificate_text::write_refusal;
 use evac_law::{NodeName, Steps};
 use line_io::{Out, Sink, WriteFault};
-use model_text::{StudyCommand, TextFault};
+use model_text::StudyCommand;
 use std::sync::ledger::Ledger;
 use talk::codes::{NO_PERIOD, name_code};
 
@@ -34,8 +34,8 @@ fn reply_arc<K: Sink, L: Ledger>(
     }
 }
 
-// The least rate of a named arc.
-fn reply_least<K: Sink, L: Ledger>(
+/// Puts the least rate of a named arc.
+pub(crate) fn reply_least<K: Sink, L: Ledger>(
     desk: &mut StudyDesk,
     out: &mut Out,
     sink: &mut K,
@@ -54,8 +54,8 @@ fn reply_least<K: Sink, L: Ledger>(
     }
 }
 
-// What the model comes to without each of its exits.
-fn reply_exits<K: Sink, L: Ledger>(
+/// Puts what the model comes to without each of its exits.
+pub(crate) fn reply_exits<K: Sink, L: Ledger>(
     desk: &mut StudyDesk,
     out: &mut Out,
     sink: &mut K,
@@ -65,46 +65,4 @@ fn reply_exits<K: Sink, L: Ledger>(
         (shown_study desk.old (K.held sink.old) out.old (K.faults sink.old) steps.old) (shown_study desk.new (K.held sink.new) out.new (K.faults sink.new) steps.new) }
 {
     desk.write_exits(out, sink, steps)
-}
-
-// A command that doesn't quit.
-fn reply_command<K: Sink, L: Ledger>(
-    desk: &mut StudyDesk,
-    out: &mut Out,
-    sink: &mut K,
-    steps: &mut Steps<L>,
-    command: StudyCommand,
-    line: u32,
-) -> Result<(), WriteFault>
-    requires { command ≢ StudyCommand.Quit }
-    ensures { SaysSome (StudyReplies desk.old.names desk.old.session.state.model line (Ok command)) result
-        (shown_study desk.old (K.held sink.old) out.old (K.faults sink.old) steps.old) (shown_study desk.new (K.held sink.new) out.new (K.faults sink.new) steps.new) }
-{
-    match command {
-        StudyCommand::Blank => Ok(()),
-        StudyCommand::Exits => reply_exits(desk, out, sink, steps),
-        StudyCommand::Least { from, to, by } => {
-            reply_least(desk, out, sink, steps, from, to, by, line)
-        }
-        StudyCommand::Quit => unreachable!(),
-    }
-}
-
-/// Puts what a line gets, by what it commands; it doesn't quit.
-pub(crate) fn reply<K: Sink, L: Ledger>(
-    desk: &mut StudyDesk,
-    out: &mut Out,
-    sink: &mut K,
-    steps: &mut Steps<L>,
-    command: Result<StudyCommand, TextFault>,
-    line: u32,
-) -> Result<(), WriteFault>
-    requires { command ≢ Ok StudyCommand.Quit }
-    ensures { SaysSome (StudyReplies desk.old.names desk.old.session.state.model line command) result
-        (shown_study desk.old (K.held sink.old) out.old (K.faults sink.old) steps.old) (shown_study desk.new (K.held sink.new) out.new (K.faults sink.new) steps.new) }
-{
-    match command {
-        Ok(command) => reply_command(desk, out, sink, steps, command, line),
-        Err(fault) => write_refusal(out, sink, fault.code(), line),
-    }
 }

@@ -2,12 +2,13 @@
 ghost use Rattle.std.specs.Prelude.{◌≡◌};
 
 use crate::desk::StudyDesk;
-use crate::reply::reply;
+use crate::reply::{reply_exits, reply_least};
+use certificate_text::write_refusal;
 use evac_law::Steps;
 use line_io::{Heard, Out, Sink, WriteFault};
 use model_text::{StudyCommand, read_study_command};
 use std::sync::ledger::Ledger;
-use talk::{AnswerFault, Speaker};
+use talk::{AnswerFault, Speaker, answered};
 
 impl Speaker for StudyDesk {
     ghost use Rattle.std.specs.Prelude.{[], ⊤};
@@ -46,11 +47,14 @@ impl Speaker for StudyDesk {
         text: &[u8],
         line: u32,
     ) -> Result<Heard, AnswerFault> {
-        let command = read_study_command(text);
-        if let Ok(StudyCommand::Quit) = command {
-            return Ok(Heard::Last);
+        match read_study_command(text) {
+            Ok(StudyCommand::Blank) => Ok(Heard::More),
+            Ok(StudyCommand::Exits) => answered(reply_exits(self, out, sink, steps)),
+            Ok(StudyCommand::Least { from, to, by }) => {
+                answered(reply_least(self, out, sink, steps, from, to, by, line))
+            }
+            Ok(StudyCommand::Quit) => Ok(Heard::Last),
+            Err(fault) => answered(write_refusal(out, sink, fault.code(), line)),
         }
-        reply(self, out, sink, steps, command, line)?;
-        Ok(Heard::More)
     }
 }

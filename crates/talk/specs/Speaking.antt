@@ -63,6 +63,11 @@ AnswersLine gets Quits Wants Behind s line text (Ok Last) s' = Quits text × (s'
 AnswersLine gets Quits Wants Behind s line text (Err (Write fault)) s' = (r : Reply _) × gets s.kept line s.state text r × SaysFront s r s'
 AnswersLine gets Quits Wants Behind s line text (Err Memory) s' = Wants line s.state text × SaysNothing s s'
 
+-- what a line comes to that was answered by a text
+abbrev pub answered : Result (Unit {0}) WriteFault → Result Heard AnswerFault
+answered (Ok done) = Ok More
+answered (Err fault) = Err (Write fault)
+
 -- the same, where nothing is left pending behind a reply
 abbrev pub HearsText : {N S : Type 0} → (N → Replying S) → (List ℕ → Type 0) → Wanting S → (ℕ → S → Type 0) → Shown N S → ℕ → List ℕ → Result Heard AnswerFault → Shown N S → Type 0
 HearsText gets Quits Wants Behind s line text (Ok More) s' =

@@ -16,4 +16,4 @@ mod talker;
 pub use fault::AnswerFault;
 pub use hold::hold_talk;
 pub use short::refuse_building;
-pub use speaker::Speaker;
+pub use speaker::{Speaker, answered};

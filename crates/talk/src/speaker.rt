@@ -3,7 +3,7 @@ ghost use Rattle.std.specs.Prelude.{◌≡◌, ◌≤◌, ◌+◌, ℕ, List, le
 ghost use Rattle.line_io.specs.Causes.{HasCause};
 ghost use Rattle.line_io.specs.Line.{input_limit, line_limit};
 ghost use Rattle.line_io.specs.Writer.{PutsText};
-ghost use Rattle.talk.specs.Speaking.{AnswersLine, shown};
+ghost use Rattle.talk.specs.Speaking.{AnswersLine, answered, shown};
 ghost use Rattle.talk.specs.Talks.{Replying, Wanting};
 
 use crate::fault::AnswerFault;
@@ -62,4 +62,14 @@ pub trait Speaker {
             (shown (kept self.old) (state self.old) (K.held sink.old) out.old (K.faults sink.old) steps.old) line text.now result
             (shown (kept self.new) (state self.new) (K.held sink.new) out.new (K.faults sink.new) steps.new) }
         ensures more { result ≡ Ok Heard.More → ready self.new };
+}
+
+/// What a line comes to that was answered by a text: the talk goes on, unless the sink failed.
+pub fn answered(put: Result<(), WriteFault>) -> Result<Heard, AnswerFault>
+    ensures { result ≡ answered put }
+{
+    match put {
+        Ok(()) => Ok(Heard::More),
+        Err(fault) => Err(AnswerFault::Write(fault)),
+    }
 }

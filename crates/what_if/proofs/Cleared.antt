@@ -14,7 +14,7 @@ use Rattle.evac_law.specs.Plans.{IsFeasible, out_by}
 use Rattle.evac_law.proofs.Optimal.{certified_is_best, out_le_out}
 use Rattle.evac_law.proofs.ShapeLemmas.{applied_keeps_shape}
 use Rattle.line_io.specs.Line.{Line, lines_of}
-use Rattle.model_text.specs.declared.command.Command.TheVariants.{ShutExit}
+use Rattle.model_text.specs.declared.named_edit.NamedEdit.TheVariants.{ShutExit}
 use Rattle.model_text.specs.Readings.{Described, model_of}
 use Rattle.model_text.specs.Taken.{Description}
 use Rattle.building_table.specs.declared.building.Building.{Building}

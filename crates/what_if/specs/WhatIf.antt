@@ -10,7 +10,7 @@ use Rattle.evac_law.specs.Edits.{applied}
 use Rattle.evac_law.specs.LabelTable.{LabelTable}
 use Rattle.evac_law.specs.Plans.{IsFeasible, out_by}
 use Rattle.line_io.specs.Line.{Line, lines_of}
-use Rattle.model_text.specs.declared.command.Command.TheVariants.{ShutExit}
+use Rattle.model_text.specs.declared.named_edit.NamedEdit.TheVariants.{ShutExit}
 use Rattle.model_text.specs.Readings.{Described, Refused, model_of}
 use Rattle.model_text.specs.Taken.{Description}
 use Rattle.building_table.specs.declared.building.Building.{Building}

@@ -10,7 +10,7 @@ use building_table::{Building, ModelFault, Names, edit_of, read_model};
 use edit_session::{BeginFault, EditRefusal, Session};
 use evac_law::{Model, NodeName, Standing, Steps};
 use line_io::{CleanSource, Lines};
-use model_text::Command;
+use model_text::NamedEdit;
 use plan_checker::Verdict;
 use std::alloc::Global;
 use std::marker::Brand;
@@ -47,7 +47,7 @@ fn shut<L: Ledger>(
     // a session has a plan that is certified
     let _ = session.model();
     let before = session.cleared();
-    let edit = match edit_of(names, Command::ShutExit { node: exit }) {
+    let edit = match edit_of(names, NamedEdit::ShutExit { node: exit }) {
         Ok(edit) => edit,
         Err(fault) => return Err(WhatIfFault::Name(fault)),
     };

@@ -3,7 +3,7 @@ ghost use Rattle.std.specs.Prelude.{◌≤◌};
 ghost use Rattle.evac_law.specs.Building.{IsValid};
 
 use building_table::Names;
-use drill_building::{Figures, drill_model, write_drill};
+use drill_building::{Figures, STOREY_LIMIT, drill_model, write_drill};
 use evac_law::{Kind, Model, NodeName};
 use line_io::{MemSink, Out};
 use std::alloc::{AllocError, Global};
@@ -16,7 +16,7 @@ fn check_sizes(
     number: u32,
     want: (u32, u32, u32),
 ) -> Result<(), AllocError>
-    requires { number ≤ 40 }
+    requires { number ≤ STOREY_LIMIT }
 {
     let model = drill_model(rt.alloc(), number)?.model;
     assert_eq!(rt;

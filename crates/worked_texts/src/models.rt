@@ -1,11 +1,9 @@
 // Texts of models, the buildings that they describe, and their first faults.
-ghost use Rattle.building_table.specs.EditNames.{IsEdit};
-
 use crate::buildings::building;
 use building_table::{ModelFault, NameFault, Names, edit_of, read_model};
 use evac_law::{Edit, Kind, NodeName};
 use line_io::{Lines, MemSource};
-use model_text::Command;
+use model_text::NamedEdit;
 use std::alloc::{AllocError, Global};
 use std::process::Abort;
 use std::test::Fail;
@@ -111,29 +109,27 @@ fn check_names(rt: &impl Abort, names: &Names) {
     assert_eq!(rt; names.title(), Some(b"Two rooms".as_slice()));
 }
 
-// A command is this edit of a building with these names, or has this fault.
-fn check_edit(rt: &impl Abort, names: &Names, command: Command, want: Result<Edit, NameFault>)
-    requires { IsEdit command }
-{
-    assert_eq!(rt; edit_of(names, command), want);
+// An edit by names is this edit of a building with these names, or has this fault.
+fn check_edit(rt: &impl Abort, names: &Names, named: NamedEdit, want: Result<Edit, NameFault>) {
+    assert_eq!(rt; edit_of(names, named), want);
 }
 
-// The edits that commands are in the building of two exits.
+// Edits by names in the building of two exits.
 fn check_edits(rt: &impl Abort, names: &Names) {
-    let rate = Command::Rate {
+    let rate = NamedEdit::Rate {
         from: ROOM,
         to: FAR,
         rate: 9,
     };
     check_edit(rt, names, rate, Ok(Edit::Rate { arc: 0, rate: 9 }));
-    let shut = Command::Shut {
+    let shut = NamedEdit::Shut {
         from: ROOM,
         to: NEAR,
     };
     check_edit(rt, names, shut, Err(NameFault::NoArc));
-    let open = Command::OpenExit { node: FAR };
-    check_edit(rt, names, open, Ok(Edit::ReopenExit { node: 2 }));
-    let enter = Command::Enter {
+    let reopen = NamedEdit::ReopenExit { node: FAR };
+    check_edit(rt, names, reopen, Ok(Edit::ReopenExit { node: 2 }));
+    let enter = NamedEdit::Enter {
         node: NodeName { floor: 2, ..ROOM },
         people: 1,
     };

@@ -1,12 +1,21 @@
 // Lines of the language, and what they say.
 use evac_law::{Kind, NodeName};
 use model_text::{
-    Command, Fields, Statement, TextFault, read_command, read_line, read_name, read_number,
+    Command, Fields, NamedEdit, Part, Report, Statement, TextFault, read_command, read_later_line,
+    read_line, read_name, read_number,
 };
 
 // The code of a line's fault, or 0.
 fn line_code(line: &str) -> u8 {
     match read_line(line.as_bytes()) {
+        Ok(_) => 0,
+        Err(fault) => fault.code(),
+    }
+}
+
+// The same behind the header of a version.
+fn later_code(version: u32, line: &str) -> u8 {
+    match read_later_line(version, line.as_bytes()) {
         Ok(_) => 0,
         Err(fault) => fault.code(),
     }
@@ -75,6 +84,25 @@ fn lines_have_their_first_fault(rt: HostRuntime) {
     }
 }
 
+const LATER: &[(u32, &str, u8)] = &[
+    (1, "", 0),
+    (1, " end", 0),
+    (2, "period 0", 7),
+    (1, "evacplan one", 4),
+    (2, "evacplan 2", 4),
+    (1, "window", 4),
+    (2, "window", 5),
+    (1, "entrant WP1.1 x 1", 4),
+    (2, "entrant WP1.1 x 1", 6),
+];
+
+#[test]
+fn an_unknown_word_is_refused_before_its_fields(rt: HostRuntime) {
+    for (version, line, code) in LATER {
+        assert_eq!(rt; later_code(*version, line), *code, "at {line}");
+    }
+}
+
 const LOBBY: NodeName = NodeName {
     kind: Kind::Lobby,
     number: 12,
@@ -84,33 +112,33 @@ const LOBBY: NodeName = NodeName {
 const SAID: &[(&str, Statement<'static>)] = &[
     (
         " title  Three \t storey office \t",
-        Statement::Title {
+        Statement::Part(Part::Title {
             text: b"Three \t storey office",
-        },
+        }),
     ),
     (
         "floor 007 Second#floor  ",
-        Statement::Floor {
+        Statement::Part(Part::Floor {
             floor: 7,
             text: b"Second#floor",
-        },
+        }),
     ),
     (
         "node\tLO12.0\t40 0",
-        Statement::Node {
+        Statement::Part(Part::Node {
             name: LOBBY,
             capacity: 40,
             start: 0,
-        },
+        }),
     ),
     (
         "arc LO12.0 LO12.0 3 4",
-        Statement::Arc {
+        Statement::Part(Part::Arc {
             from: LOBBY,
             to: LOBBY,
             travel: 3,
             rate: 4,
-        },
+        }),
     ),
     ("evacplan 2", Statement::Header { version: 2 }),
 ];
@@ -221,21 +249,25 @@ const HALL: NodeName = NodeName {
 const MEANT: &[(&str, Command)] = &[
     (
         "shift WP1.2 HA3.4 005",
-        Command::Shift {
+        Command::Edit(NamedEdit::Shift {
             from: WORK,
             to: HALL,
             people: 5,
-        },
+        }),
     ),
     (
         "room HA3.4 6",
-        Command::Room {
+        Command::Edit(NamedEdit::Room {
             node: HALL,
             capacity: 6,
-        },
+        }),
     ),
     ("cut 7", Command::Cut { period: 7 }),
-    ("openexit HA3.4", Command::OpenExit { node: HALL }),
+    (
+        "openexit HA3.4",
+        Command::Edit(NamedEdit::ReopenExit { node: HALL }),
+    ),
+    ("clearing", Command::Report(Report::Clearing)),
 ];
 
 #[test]

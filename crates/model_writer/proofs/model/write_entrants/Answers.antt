@@ -2,7 +2,7 @@ use Rattle.std.proofs.Common.{◌≡◌, ◌<◌, length, get_or, ap, ◌∙◌,
 use Rattle.std.proofs.lemmas.List.{get_or_default}
 use Rattle.line_io.proofs.TextLemmas.{front-each, front-is, puts-each, puts-is, text-failed}
 use Rattle.model_text.specs.Taken.{entrant_of}
-use Rattle.model_writer.specs.ModelText.{entrant_text, said_text}
+use Rattle.model_writer.specs.ModelText.{entrant_text, part_text}
 use Rattle.model_writer.proofs.model.write_entrants.Goals as goal
 
 pub loop-entrant-preserved : goal.loop-entrant-preserved
@@ -12,19 +12,19 @@ loop-entrant-preserved g c =
     let e : c.as_slice-entrant-items.result.now ≡ rows = c.as_slice-entrant-items.ensures in
     let within : i < length rows = omega (arith, c.loop-entrant-test.true, ap length e) in
     let inside : i < length c.as_slice-entrant-items.result.now = omega (arith, c.loop-entrant-test.true) in
-    let same = ap said_text c.said_entrant.ensures.value ∙ ap (entrant_text c.args.model.now) (get_or_default c.as_slice-entrant-items.result.now i _ (entrant_of 0 0 0) inside ∙ ap (λ l. get_or l i (entrant_of 0 0 0)) e) in
+    let same = ap part_text c.said_entrant.ensures.value ∙ ap (entrant_text c.args.model.now) (get_or_default c.as_slice-entrant-items.result.now i _ (entrant_of 0 0 0) inside ∙ ap (λ l. get_or l i (entrant_of 0 0 0)) e) in
     record {
-      text = puts-each (entrant_text c.args.model.now) rows i (entrant_of 0 0 0) within c.loop-entrant.invariant.text (puts-is same c.in_ok-write_statement.ensures.text.ok);
-      faults = c.in_ok-write_statement.ensures.cause.same ∙ c.loop-entrant.invariant.faults;
+      text = puts-each (entrant_text c.args.model.now) rows i (entrant_of 0 0 0) within c.loop-entrant.invariant.text (puts-is same c.in_ok-write_part.ensures.text.ok);
+      faults = c.in_ok-write_part.ensures.cause.same ∙ c.loop-entrant.invariant.faults;
     }
 
-pub returns-in_err-write_statement-clause-text : goal.returns-in_err-write_statement-clause-text
-returns-in_err-write_statement-clause-text g c =
+pub returns-in_err-write_part-clause-text : goal.returns-in_err-write_part-clause-text
+returns-in_err-write_part-clause-text g c =
     let rows = c.args.model.now.entrants in
     let i = c.loop-entrant.entrant-index in
     let e : c.as_slice-entrant-items.result.now ≡ rows = c.as_slice-entrant-items.ensures in
     let within : i < length rows = omega (arith, c.loop-entrant-test.true, ap length e) in
     let inside : i < length c.as_slice-entrant-items.result.now = omega (arith, c.loop-entrant-test.true) in
-    let same = ap said_text c.said_entrant.ensures.value ∙ ap (entrant_text c.args.model.now) (get_or_default c.as_slice-entrant-items.result.now i _ (entrant_of 0 0 0) inside ∙ ap (λ l. get_or l i (entrant_of 0 0 0)) e) in
+    let same = ap part_text c.said_entrant.ensures.value ∙ ap (entrant_text c.args.model.now) (get_or_default c.as_slice-entrant-items.result.now i _ (entrant_of 0 0 0) inside ∙ ap (λ l. get_or l i (entrant_of 0 0 0)) e) in
     text-failed c.from_residual.result c.from_residual.ensures.0
-    (front-each (entrant_text c.args.model.now) rows i (entrant_of 0 0 0) within c.loop-entrant.invariant.text (front-is same c.in_err-write_statement.ensures.text.err))
+    (front-each (entrant_text c.args.model.now) rows i (entrant_of 0 0 0) within c.loop-entrant.invariant.text (front-is same c.in_err-write_part.ensures.text.err))

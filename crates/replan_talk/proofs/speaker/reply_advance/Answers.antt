@@ -1,6 +1,6 @@
 use Rattle.std.proofs.Common.{Err, Ok, refl}
 use Rattle.replan_talk.specs.Desks.{replanned}
-use Rattle.replan_talk.specs.ReplanTalks.{AsksAdvance, moment_of}
+use Rattle.replan_talk.specs.ReplanTalks.{AsksAdvance, asked_moment}
 use Rattle.replan_talk.proofs.Advancing.{asks_fault, asks_moment}
 use Rattle.replan_talk.proofs.Carrying.{answered_by, code_said}
 use Rattle.replan_talk.proofs.speaker.reply_advance.Goals as goal
@@ -16,5 +16,5 @@ returns-in-Err-clause-says g c =
     let t = c.args.talk.now in
     let s = replanned t.desk t.replan in
     λ before. answered_by c.write_refusal.result c.by_write.result _ _ _ _ c.by_write.ensures
-    (code_said c.write_refusal.result (AsksAdvance c.args.line s (moment_of c.args.text.now)) c.args.line _ _ t.desk t.replan _ _ _ _ _ _ _ c.code.ensures
+    (code_said c.write_refusal.result (AsksAdvance c.args.line s (asked_moment c.args.text.now)) c.args.line _ _ t.desk t.replan _ _ _ _ _ _ _ c.code.ensures
     (asks_fault c.args.line s c.args.text.now c.in-Err.fault (Err c.in-Err.fault) refl c.in-Err.ensures) c.write_refusal.ensures.text c.write_refusal.ensures.cause)
