@@ -22,7 +22,7 @@ use Rattle.building_table.specs.Names.{NameTable, names_of}
 use Rattle.certificate_text.proofs.AnswerBack.{reads_back}
 use Rattle.edit_session.specs.Sessions.{IsSolved, with_former}
 use Rattle.edit_session.specs.Thrift.{IsThrifty, IsThriftyOpening}
-use Rattle.replan_talk.specs.ReplanTalks.{AdvancesTo, AsksAdvance, AsksSession, CarriesOut, ReplanReplies, Replanned, RowOf, asks_advance, asks_of_people, is_bad_moment, asked_moment, replan}
+use Rattle.replan_talk.specs.ReplanTalks.{AdvancesTo, AsksAdvance, AsksSession, CarriesOut, ReplanReplies, Replanned, RowOf, asks_advance, asks_of_people, bars_moment, asked_moment, replan}
 use Rattle.session_talk.specs.Sessions.{Advances, AsksEdit, Edits, IsAnswerText, Replies, Reports, State, Undoes, session}
 use Rattle.talk.specs.Talks.{EndsAt, RepliesTo, Reply, TalkRun, says}
 use Rattle.session_talk.proofs.Bridge.{answer_of}
@@ -166,7 +166,7 @@ advanced-to line s p false r h = inl (carries-out s p r h)
 
 asked-advance : (line : ℕ) (s : Replanned) (named : Result ℕ TextFault) (r : Reply Replanned) → AsksAdvance line s named r → KeepsCarried s r
 asked-advance line s (Err fault) r h = stays-there s _ r h
-asked-advance line s (Ok p) r h = advanced-to line s p (is_bad_moment s p) r h
+asked-advance line s (Ok p) r h = advanced-to line s p (bars_moment s p) r h
 
 asked-session : (names : NameTable) (line : ℕ) (s : Replanned) (c : Result Command TextFault) (late : Bool) (r : Reply Replanned) → AsksSession names line s c late r → KeepsCarried s r
 asked-session names line s c true r h = stays-there s _ r h

@@ -87,7 +87,7 @@ few_in v layout slice replan valid same same_gone k l =
     )
 
 module _ (v : ReplanView) (s : ℕ) (layout left : Model) (replan : IsReplan v.session.state v.moment v.gone) (solved : IsSolved v.session.state)
-    (fair : is_bad_moment v s ≡ false) (same : layout ≡ v.session.state.model) (is_rest : left ≡ rest layout v.session.state.plan s) where
+    (fair : is_bad_moment s v.session.state.model.horizon v.moment ≡ false) (same : layout ≡ v.session.state.model) (is_rest : left ≡ rest layout v.session.state.plan s) where
   abbrev m : Model
   m = v.session.state.model
 

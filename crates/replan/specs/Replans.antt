@@ -39,8 +39,8 @@ ReplanBegins m (Err fault) steps = BeginEnds m (Err fault) steps
 -- ---- carrying out
 
 -- whether a plan can't be carried out up to a moment: to 0, past the horizon, or to before where it was carried out to
-abbrev pub is_bad_moment : ReplanView → ℕ → Bool
-is_bad_moment v s = (s == 0) || (nat_lt v.session.state.model.horizon s || nat_lt s v.moment)
+abbrev pub is_bad_moment : ℕ → ℕ → ℕ → Bool
+is_bad_moment moment horizon last = (moment == 0) || (nat_lt horizon moment || nat_lt moment last)
 
 -- the plan is carried out up to a moment, and what is left is planned from nothing
 pub record IsAdvanced (v : ReplanView) (s : ℕ) (v' : ReplanView) : Type 0 where
@@ -53,9 +53,9 @@ pub record IsAdvanced (v : ReplanView) (s : ℕ) (v' : ReplanView) : Type 0 wher
   pub best : IsBestFrom v.session.state.model v.session.state.plan s v'.session.state.plan
 
 abbrev pub AdvanceEnds : ReplanView → ℕ → Result (Unit {0}) AdvanceFault → ReplanView → ℕ → Type 0
-AdvanceEnds v s (Ok done) v' steps = IsFalse (is_bad_moment v s) × IsAdvanced v s v' × (steps ≡ v'.session.state.work.pushes)
-AdvanceEnds v s (Err BadMoment) v' steps = IsTrue (is_bad_moment v s) × (v' ≡ v) × (steps ≡ 0)
-AdvanceEnds v s (Err Memory) v' steps = IsFalse (is_bad_moment v s) × (v' ≡ v)
+AdvanceEnds v s (Ok done) v' steps = IsFalse (is_bad_moment s v.session.state.model.horizon v.moment) × IsAdvanced v s v' × (steps ≡ v'.session.state.work.pushes)
+AdvanceEnds v s (Err BadMoment) v' steps = IsTrue (is_bad_moment s v.session.state.model.horizon v.moment) × (v' ≡ v) × (steps ≡ 0)
+AdvanceEnds v s (Err Memory) v' steps = IsFalse (is_bad_moment s v.session.state.model.horizon v.moment) × (v' ≡ v)
 
 -- ---- edits and undos
 

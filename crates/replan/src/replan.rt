@@ -1,5 +1,5 @@
 // A session whose plan is carried out step by step: what is made stays, and the rest is planned anew.
-ghost use Rattle.std.specs.Prelude.{◌≡◌, ℕ, ◌+◌, ◌≤◌, ◌&&◌, ◌||◌, ◌==◌, nat_lt, IfOk, IsFalse, OnErr};
+ghost use Rattle.std.specs.Prelude.{◌≡◌, ℕ, ◌+◌, ◌≤◌, ◌&&◌, nat_lt, IfOk, IsFalse, OnErr};
 ghost use Rattle.evac_law.specs.Building.{IsValid};
 ghost use Rattle.evac_law.specs.Edits.{IsEditOf};
 ghost use Rattle.replan.specs.Replans.{AdvanceEnds, IsAdvanced, ReplanBegins, ReplanEdits, ReplanUndoes, gone_at, is_bad_moment, is_committed, is_of_people};
@@ -34,7 +34,7 @@ impl std::marker::Model for Replan {
 
 /// Whether a plan can't be carried out up to a moment: to 0, past the horizon, or to before where plans were carried out to.
 fn is_bad_moment(moment: u16, horizon: u16, last: u16) -> bool
-    ensures { result ≡ ((moment == 0) || (nat_lt horizon moment || nat_lt moment last)) }
+    ensures { result ≡ is_bad_moment moment horizon last }
 {
     moment == 0 || moment > horizon || moment < last
 }
@@ -92,7 +92,7 @@ impl Replan {
         moment: u16,
         steps: &mut Steps<L>,
     ) -> Result<Replan, AllocError>
-        requires { IsFalse (is_bad_moment self.now moment) }
+        requires { IsFalse (is_bad_moment moment self.now.session.state.model.horizon self.now.moment) }
         ensures { (n : ℕ) × (steps.new ≡ steps.old + n) × IfOk result (λ r. IsAdvanced self.now moment r × (n ≡ r.session.state.work.pushes)) }
     {
         let layout = Layout::new(alloc, self.session.model())?;

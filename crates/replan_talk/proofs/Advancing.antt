@@ -18,7 +18,7 @@ use Rattle.session_talk.proofs.Bridge.{answer_of}
 use Rattle.session_talk.proofs.Saying.{few_blocks}
 use Rattle.replan_talk.specs.declared.speaker.ReplanTalk.{ReplanTalk}
 use Rattle.replan_talk.specs.Desks.{AnswersSome, replanned, shown_replan}
-use Rattle.replan_talk.specs.ReplanTalks.{AdvancesTo, AsksAdvance, CarriesOut, IsLastGone, Replanned, WantsMemory, asks_advance, gone_text, is_bad_moment, asked_moment}
+use Rattle.replan_talk.specs.ReplanTalks.{AdvancesTo, AsksAdvance, CarriesOut, IsLastGone, Replanned, WantsMemory, asks_advance, gone_text, bars_moment, asked_moment}
 use Rattle.replan_talk.specs.Talking.{GoesUpTo}
 use Rattle.replan_talk.proofs.Carrying.{code_said}
 use Rattle.talk.specs.declared.fault.AnswerFault.{AnswerFault}
@@ -36,10 +36,10 @@ free-moment : (line : ℕ) (s : Replanned) (p : ℕ) (barred : Bool) (r : Reply 
 free-moment line s p barred r free h = let P : Bool → Type 0 = λ b. AdvancesTo line s p b r in subst P (sym free) h
 
 pub advance_said : BlockReadsBack → {T : Type 0} (result : Result T WriteFault) (line p last steps n k : ℕ) (t t' : ReplanTalk) (a b : Option (List ℕ)) (u w : List ℕ) (f g : Count)
-    → t.desk.index < line → line ≤ input_limit → is_bad_moment (replanned t.desk t.replan) p ≡ false → GoesUpTo t p t' → steps ≡ t'.replan.session.state.work.pushes → k ≡ n + steps
+    → t.desk.index < line → line ≤ input_limit → bars_moment (replanned t.desk t.replan) p ≡ false → GoesUpTo t p t' → steps ≡ t'.replan.session.state.work.pushes → k ≡ n + steps
     → IsLastGone t'.replan.gone t'.replan.session.state.model.horizon last
     → PutsText a u (gone_text t'.replan.moment t'.replan.gone last ++ block_text t'.desk.index t'.replan.session.state) b w result → HasCause f g result
-    → SaysSome (AdvancesTo line (replanned t.desk t.replan) p (is_bad_moment (replanned t.desk t.replan) p)) result (shown_replan t.desk t.replan a u f n) (shown_replan t'.desk t'.replan b w g k)
+    → SaysSome (AdvancesTo line (replanned t.desk t.replan) p (bars_moment (replanned t.desk t.replan) p)) result (shown_replan t.desk t.replan a u f n) (shown_replan t'.desk t'.replan b w g k)
 advance_said back result line p last steps n k t t' a b u w f g before short free goes counted all last_gone put cause =
     let s = replanned t.desk t.replan in
     let s' = replanned t'.desk t'.replan in
@@ -67,18 +67,18 @@ advance_said back result line p last steps n k t t' a b u w f g before short fre
     } in
     let said = subst (λ (i : ℕ). PutsText a u (gone_text i v'.gone last ++ block) b w result) goes.advanced.moment put in (
       r,
-      free-moment line s p (is_bad_moment s p) r free out,
+      free-moment line s p (bars_moment s p) r free out,
       answering.said result t.desk.names t'.desk.names s s' r a b u w f g n k goes.names_same refl said cause all,
     )
 
 -- a moment that is barred
 pub barred_said : {T : Type 0} (result : Result T WriteFault) (line code p steps n k : ℕ) (t t' : ReplanTalk) (a b : Option (List ℕ)) (u w : List ℕ) (f g : Count)
-    → is_bad_moment (replanned t.desk t.replan) p ≡ true → t'.desk ≡ t.desk → t'.replan ≡ t.replan → steps ≡ 0 → k ≡ n + steps → code ≡ 41
+    → bars_moment (replanned t.desk t.replan) p ≡ true → t'.desk ≡ t.desk → t'.replan ≡ t.replan → steps ≡ 0 → k ≡ n + steps → code ≡ 41
     → PutsText a u (refusal_line code line) b w result → HasCause f g result
-    → SaysSome (AdvancesTo line (replanned t.desk t.replan) p (is_bad_moment (replanned t.desk t.replan) p)) result (shown_replan t.desk t.replan a u f n) (shown_replan t'.desk t'.replan b w g k)
+    → SaysSome (AdvancesTo line (replanned t.desk t.replan) p (bars_moment (replanned t.desk t.replan) p)) result (shown_replan t.desk t.replan a u f n) (shown_replan t'.desk t'.replan b w g k)
 barred_said result line code p steps n k t t' a b u w f g barred desk replan none counted is put cause =
     let s = replanned t.desk t.replan in
-    let Gets = AdvancesTo line s p (is_bad_moment s p) in
+    let Gets = AdvancesTo line s p (bars_moment s p) in
     let gets : Gets (refuses s 41 line) = (let P : Bool → Type 0 = λ b. AdvancesTo line s p b (refuses s 41 line) in subst P (sym barred) refl) in
     let D : DeskView → Type 0 = λ x. SaysSome Gets result (shown_replan t.desk t.replan a u f n) (shown_replan x t'.replan b w g k) in
     let V : ReplanView → Type 0 = λ x. SaysSome Gets result (shown_replan t.desk t.replan a u f n) (shown_replan t.desk x b w g k) in
@@ -89,15 +89,15 @@ barred_said result line code p steps n k t t' a b u w f g barred desk replan non
 -- ---- what a line asks for
 
 pub asks_moment : (line : ℕ) (s : Replanned) (text : List ℕ) (p : ℕ) (named : Result ℕ TextFault) (result : Result (Unit {0}) AnswerFault) {N : Type 0} (x y : Shown N Replanned)
-    → asks_advance text ≡ true → named ≡ Ok p → named ≡ asked_moment text → AnswersSome (AdvancesTo line s p (is_bad_moment s p)) (is_bad_moment s p ≡ false) result x y
+    → asks_advance text ≡ true → named ≡ Ok p → named ≡ asked_moment text → AnswersSome (AdvancesTo line s p (bars_moment s p)) (bars_moment s p ≡ false) result x y
     → AnswersSome (AsksAdvance line s (asked_moment text)) (WantsMemory s text) result x y
 asks_moment line s text p named result x y asks ok is h =
     let e : asked_moment text ≡ Ok p = sym is ∙ ok in
     let P : Result ℕ TextFault → Type 0 = λ m. AnswersSome (AsksAdvance line s m) (WantsMemory s text) result x y in
     subst P (sym e) (by_result result h)
   where
-    by_result : (result : Result (Unit {0}) AnswerFault) → AnswersSome (AdvancesTo line s p (is_bad_moment s p)) (is_bad_moment s p ≡ false) result x y
-        → AnswersSome (AdvancesTo line s p (is_bad_moment s p)) (WantsMemory s text) result x y
+    by_result : (result : Result (Unit {0}) AnswerFault) → AnswersSome (AdvancesTo line s p (bars_moment s p)) (bars_moment s p ≡ false) result x y
+        → AnswersSome (AdvancesTo line s p (bars_moment s p)) (WantsMemory s text) result x y
     by_result (Ok done) h = h
     by_result (Err (Write fault)) h = h
     by_result (Err Memory) h = (record { moment = p; asks = asks; named = sym is ∙ ok; free = h.0 }, h.1)

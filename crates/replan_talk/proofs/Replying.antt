@@ -9,7 +9,7 @@ use Rattle.model_text.specs.Commands.{command_of}
 use Rattle.building_table.specs.Names.{NameTable}
 use Rattle.session_talk.proofs.Replying.{reply-index}
 use Rattle.replan_talk.specs.Desks.{AnswersSome, Behind, Quits, Wants, gets}
-use Rattle.replan_talk.specs.ReplanTalks.{AdvancesTo, AsksAdvance, AsksSession, Replanned, RowOf, SessionRow, WantsMemory, asks_advance, asks_of_people, is_bad_moment, asked_moment}
+use Rattle.replan_talk.specs.ReplanTalks.{AdvancesTo, AsksAdvance, AsksSession, Replanned, RowOf, SessionRow, WantsMemory, asks_advance, asks_of_people, bars_moment, asked_moment}
 use Rattle.talk.specs.declared.fault.AnswerFault.{AnswerFault}
 use Rattle.talk.specs.declared.fault.AnswerFault.TheVariants.{Write, Memory}
 use Rattle.talk.specs.Speaking.{AnswersLine, SaysSome, Shown, answered}
@@ -26,7 +26,7 @@ advance-index line s p false r h = omega (arith, h.next)
 
 asks-index : (line : ℕ) (s : Replanned) (named : Result ℕ TextFault) (r : Reply Replanned) → AsksAdvance line s named r → r.after.session.index ≤ s.session.index + 1
 asks-index line s (Err fault) r h = says-no-more s _ r h
-asks-index line s (Ok p) r h = advance-index line s p (is_bad_moment s p) r h
+asks-index line s (Ok p) r h = advance-index line s p (bars_moment s p) r h
 
 session-index : (names : NameTable) (line : ℕ) (s : Replanned) (c : Result Command TextFault) (late : Bool) (r : Reply Replanned) → AsksSession names line s c late r
     → r.after.session.index ≤ s.session.index + 1

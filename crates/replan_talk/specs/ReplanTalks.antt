@@ -1,5 +1,5 @@
 -- A replan over lines: what each line gets, by what it asks for. The rows of a session stand behind those of a replan.
-use Rattle.std.specs.Prelude.{◌≡◌, ◌≢◌, ℕ, ◌+◌, ◌<◌, ◌≤◌, Bool, true, false, ◌&&◌, ◌||◌, ◌==◌, nat_lt, List, [], ◌∷◌, ◌++◌, length, slice_index, codes, decimal, Result, Ok, Err, IsTrue, IsFalse}
+use Rattle.std.specs.Prelude.{◌≡◌, ◌≢◌, ℕ, ◌+◌, ◌<◌, ◌≤◌, Bool, true, false, ◌&&◌, nat_lt, List, [], ◌∷◌, ◌++◌, length, slice_index, codes, decimal, Result, Ok, Err, IsTrue, IsFalse}
 use Rattle.std.specs.List.{flat_map}
 use Rattle.std.specs.Str.{bytes_eq}
 use Rattle.evac_law.specs.declared.edit.Edit.{Edit}
@@ -20,7 +20,7 @@ use Rattle.certificate_text.specs.BlockText.{end_line}
 use Rattle.edit_session.specs.Sessions.{Begins}
 use Rattle.report_text.specs.ReportText.{number_line}
 use Rattle.replan.specs.Committed.{gone_by}
-use Rattle.replan.specs.Replans.{is_of_people, nobody_gone}
+use Rattle.replan.specs.Replans.{is_bad_moment, is_of_people, nobody_gone}
 use Rattle.replan.specs.Rest.{rest}
 use Rattle.replan.specs.RestLaws.{IsBestFrom}
 use Rattle.session_talk.specs.Sessions.{IsAnswerText, Opens, Replies, State}
@@ -88,8 +88,8 @@ gone_text p gone last = advance_line p ++ flat_map (gone_line gone) (moments_to 
 -- ---- replies
 
 -- whether a plan can't be carried out up to a moment: to 0, past the horizon, or to before where it was carried out to
-abbrev pub is_bad_moment : Replanned → ℕ → Bool
-is_bad_moment s p = (p == 0) || (nat_lt s.session.standing.model.horizon p || nat_lt p s.moment)
+abbrev pub bars_moment : Replanned → ℕ → Bool
+bars_moment s p = is_bad_moment p s.session.standing.model.horizon s.moment
 
 -- the plan is carried out up to a moment, who is gone is said, and the next block is the best plan of what is left
 pub record CarriesOut (s : Replanned) (p : ℕ) (r : Reply Replanned) : Type 0 where
@@ -115,7 +115,7 @@ AdvancesTo line s p false r = CarriesOut s p r
 -- a line that asks to carry the plan out, by what it names
 abbrev pub AsksAdvance : ℕ → Replanned → Result ℕ TextFault → Reply Replanned → Type 0
 AsksAdvance line s (Err fault) r = r ≡ refuses s (text_fault_code fault) line
-AsksAdvance line s (Ok p) r = AdvancesTo line s p (is_bad_moment s p) r
+AsksAdvance line s (Ok p) r = AdvancesTo line s p (bars_moment s p) r
 
 -- what a session says, with all that was carried out as before
 abbrev pub carried_on : Replanned → Reply State → Reply Replanned
@@ -152,7 +152,7 @@ pub record WantsMemory (s : Replanned) (text : List ℕ) : Type 0 where
   pub moment : ℕ
   pub asks : IsTrue (asks_advance text)
   pub named : asked_moment text ≡ Ok moment
-  pub free : IsFalse (is_bad_moment s moment)
+  pub free : IsFalse (bars_moment s moment)
 
 -- a replan on a model, whose commands name by these names
 abbrev pub replan : NameTable → Model → Talk Replanned

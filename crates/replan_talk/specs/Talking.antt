@@ -10,7 +10,7 @@ use Rattle.replan.specs.Replans.{IsAdvanced, ReplanBegins}
 use Rattle.session_talk.specs.Desks.{IsDesk}
 use Rattle.replan_talk.specs.declared.speaker.ReplanTalk.{ReplanTalk}
 use Rattle.replan_talk.specs.Desks.{replanned}
-use Rattle.replan_talk.specs.ReplanTalks.{is_bad_moment}
+use Rattle.replan_talk.specs.ReplanTalks.{bars_moment}
 
 -- a replan begins with a building's model, and the desk serves it, with the building's names and at block 0
 pub record BeginsTalk (names : NameTable) (m : Model) (t : ReplanTalk) (steps : ℕ) : Type 0 where
@@ -34,7 +34,7 @@ pub record GoesUpTo (t : ReplanTalk) (p : ℕ) (t' : ReplanTalk) : Type 0 where
 -- or the moment is barred, with all as it was, or there is no memory
 abbrev pub TalkAdvances : ReplanTalk → ℕ → Result (Unit {0}) AdvanceFault → ReplanTalk → ℕ → Type 0
 TalkAdvances t p (Ok done) t' steps =
-    IsFalse (is_bad_moment (replanned t.desk t.replan) p) × GoesUpTo t p t' × (steps ≡ t'.replan.session.state.work.pushes)
+    IsFalse (bars_moment (replanned t.desk t.replan) p) × GoesUpTo t p t' × (steps ≡ t'.replan.session.state.work.pushes)
 TalkAdvances t p (Err BadMoment) t' steps =
-    IsTrue (is_bad_moment (replanned t.desk t.replan) p) × (t'.desk ≡ t.desk) × (t'.replan ≡ t.replan) × (steps ≡ 0)
-TalkAdvances t p (Err Memory) t' steps = IsFalse (is_bad_moment (replanned t.desk t.replan) p) × (t'.desk.names ≡ t.desk.names)
+    IsTrue (bars_moment (replanned t.desk t.replan) p) × (t'.desk ≡ t.desk) × (t'.replan ≡ t.replan) × (steps ≡ 0)
+TalkAdvances t p (Err Memory) t' steps = IsFalse (bars_moment (replanned t.desk t.replan) p) × (t'.desk.names ≡ t.desk.names)

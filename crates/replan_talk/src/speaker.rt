@@ -10,7 +10,7 @@ ghost use Rattle.replan.specs.Replans.{is_of_people};
 ghost use Rattle.session_text.specs.StateTexts.{block_text};
 ghost use Rattle.session_talk.specs.Desks.{IsDesk};
 ghost use Rattle.replan_talk.specs.Desks.{AnswersSome, EditsUnless, by_write, replanned, shown_replan};
-ghost use Rattle.replan_talk.specs.ReplanTalks.{AdvancesTo, AsksAdvance, IsLastGone, SessionRow, WantsMemory, asks_advance, gone_text, is_bad_moment, asked_moment};
+ghost use Rattle.replan_talk.specs.ReplanTalks.{AdvancesTo, AsksAdvance, IsLastGone, SessionRow, WantsMemory, asks_advance, gone_text, bars_moment, asked_moment};
 ghost use Rattle.talk.specs.Speaking.{SaysSome};
 
 use crate::gone::write_gone;
@@ -122,7 +122,7 @@ fn reply_moment<K: Sink, L: Ledger>(
     requires desk { IsDesk talk.old.desk talk.old.replan.session }
     requires line { line ≤ input_limit }
     ensures says { talk.old.desk.index < line → let s = replanned talk.old.desk talk.old.replan in
-        AnswersSome (AdvancesTo line s moment (is_bad_moment s moment)) (IsFalse (is_bad_moment s moment)) result
+        AnswersSome (AdvancesTo line s moment (bars_moment s moment)) (IsFalse (bars_moment s moment)) result
         (shown_replan talk.old.desk talk.old.replan (K.held sink.old) out.old (K.faults sink.old) steps.old)
         (shown_replan talk.new.desk talk.new.replan (K.held sink.new) out.new (K.faults sink.new) steps.new) }
     ensures desk { OnOk result (IsDesk talk.new.desk talk.new.replan.session) }

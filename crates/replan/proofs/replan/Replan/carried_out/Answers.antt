@@ -20,14 +20,14 @@ rest_of-requires-clause-stands g c =
 pub begin-requires : goal.begin-requires
 begin-requires g c =
     let v : ReplanView = record { session = c.self.inside.session; moment = c.self.inside.moment; gone = c.self.inside.gone.items } in
-    let fair = subst (λ (x : ReplanView). is_bad_moment x c.args.moment ≡ false) (sym c.self.view_is) c.requires in
+    let fair = subst (λ (x : ReplanView). is_bad_moment c.args.moment x.session.state.model.horizon x.moment ≡ false) (sym c.self.view_is) c.requires in
     left_is_valid v c.args.moment c.in_ok-layout.layout c.in_ok-rest.rest c.self.invariant c.model.ensures.solved fair
     (c.in_ok-layout.ensures ∙ c.model.ensures.model) c.in_ok-rest.ensures
 
 pub invariant_of-result : goal.invariant_of-result
 invariant_of-result g c =
     let v : ReplanView = record { session = c.self.inside.session; moment = c.self.inside.moment; gone = c.self.inside.gone.items } in
-    let fair = subst (λ (x : ReplanView). is_bad_moment x c.args.moment ≡ false) (sym c.self.view_is) c.requires in
+    let fair = subst (λ (x : ReplanView). is_bad_moment c.args.moment x.session.state.model.horizon x.moment ≡ false) (sym c.self.view_is) c.requires in
     replan_advanced v c.args.moment c.in_ok-layout.layout c.in_ok-rest.rest c.self.invariant c.model.ensures.solved fair
     (c.in_ok-layout.ensures ∙ c.model.ensures.model) c.in_ok-rest.ensures c.in-Ok.session c.in_ok-gone.gone.items c.as_slice.result.now c.in-Ok.ensures.0 c.in-Ok.ensures.2
     c.as_slice.ensures.value c.in_ok-gone.ensures.size c.in_ok-gone.ensures.more
@@ -35,7 +35,7 @@ invariant_of-result g c =
 pub returns-in-Ok : goal.returns-in-Ok
 returns-in-Ok g c =
     let v : ReplanView = record { session = c.self.inside.session; moment = c.self.inside.moment; gone = c.self.inside.gone.items } in
-    let fair = subst (λ (x : ReplanView). is_bad_moment x c.args.moment ≡ false) (sym c.self.view_is) c.requires in
+    let fair = subst (λ (x : ReplanView). is_bad_moment c.args.moment x.session.state.model.horizon x.moment ≡ false) (sym c.self.view_is) c.requires in
     let advanced = is_advanced v c.args.moment c.in_ok-layout.layout c.in_ok-rest.rest c.self.invariant c.model.ensures.solved fair
     (c.in_ok-layout.ensures ∙ c.model.ensures.model) c.in_ok-rest.ensures c.in-Ok.session c.in_ok-gone.gone.items c.as_slice.result.now c.in-Ok.ensures.0 c.in-Ok.ensures.2
     c.as_slice.ensures.value c.in_ok-gone.ensures.size c.in_ok-gone.ensures.more in
@@ -46,7 +46,7 @@ returns-in-Ok g c =
 pub unreachable-requires : goal.unreachable-requires
 unreachable-requires g c =
     let v : ReplanView = record { session = c.self.inside.session; moment = c.self.inside.moment; gone = c.self.inside.gone.items } in
-    let fair = subst (λ (x : ReplanView). is_bad_moment x c.args.moment ≡ false) (sym c.self.view_is) c.requires in
+    let fair = subst (λ (x : ReplanView). is_bad_moment c.args.moment x.session.state.model.horizon x.moment ≡ false) (sym c.self.view_is) c.requires in
     never_short c.in_ok-rest.rest c.in-Err-NotCleared.field-0 c.in-Err-NotCleared.field-0-0 c.in-Err-NotCleared.ensures.0 c.in-Err-NotCleared.field-0-is
     c.in-Err-NotCleared.ensures.2
     (left_is_clearable v c.args.moment c.in_ok-layout.layout c.in_ok-rest.rest c.self.invariant c.model.ensures.solved fair
