@@ -6,6 +6,7 @@
 - In DEFINITIONS.md each name must be defined in a file that its paragraph links.
 - In the tables of PROVED.md each name in the right column must be a definition, a function, a clause or a field of a crate of its section.
 - In every document each link must lead to a file, and to a heading of it.
+- The tables of statuses in FORMATS.md and in the README must have just the numbers of `Status`, each once.
 
     python3 docs/check_promises.py
 
@@ -124,12 +125,32 @@ def missing_links(document):
             yield f"{document.name}: no {target}"
 
 
+def rows_of(document, title):
+    """The numbers in the first column of a document's tables whose first heading is this."""
+    tables = re.findall(rf"(?m)^\| {title} \|.*\n\|[-| :]+\|\n((?:\|.*\n)*)", document.read_text())
+    return [int(number) for table in tables for number in re.findall(r"(?m)^\| (\d+) \|", table)]
+
+
+def wrong_numbers(title, specification, function, documents):
+    """What differs between the numbers that a definition gives by cases and those of the documents' tables with this heading."""
+    cases = [int(number) for number in re.findall(rf"(?m)^{function} \w+ = (\d+)$", (TOP / "crates" / specification).read_text())]
+    if not cases:
+        yield f"{specification}: no number of {function}"
+    yield from (f"{specification}: {number} stands twice in {function}" for number in sorted(set(cases)) if cases.count(number) > 1)
+    for document in documents:
+        rows = rows_of(document, title)
+        yield from (f"{document.name}: no row {number} in a table headed {title}" for number in sorted(set(cases) - set(rows)))
+        yield from (f"{document.name}: {function} has no {number}, which a table headed {title} has" for number in sorted(set(rows) - set(cases)))
+
+
 def main():
     documents = [TOP / "README.md", *sorted((TOP / "docs").glob("*.md"))]
     missing = [fault for document in documents for fault in missing_links(document)]
     missing += missing_promises(TOP / "docs/PROMISES.md")
     missing += missing_definitions(TOP / "docs/DEFINITIONS.md")
     missing += missing_rows(TOP / "docs/PROVED.md")
+    formats, readme = TOP / "docs/FORMATS.md", TOP / "README.md"
+    missing += wrong_numbers("Status", "talk/specs/Statuses.antt", "status_number", [formats, readme])
     print("\n".join(missing) if missing else "all that is named is there")
     return 1 if missing else 0
 

@@ -1,3 +1,4 @@
+pub use Rattle.talk.specs.Statuses
 pub mod Accounts
 pub mod Answers
 pub mod Check

@@ -7,47 +7,48 @@ ghost use Rattle.evac_top.specs.Check.{IsChecked, verdict_status};
 ghost use Rattle.evac_top.specs.Runs.{Runs};
 ghost use Rattle.evac_top.specs.Tells.{Tells};
 ghost use Rattle.evac_top.specs.declared.words.Mode.TheVariants.{Check};
+ghost use Rattle.talk.specs.Statuses.{status_number};
 
 use crate::claim::read_claim;
-use crate::status::{DONE, NO_MEMORY, REFUSED};
-use crate::stop::{status_after, stop};
+use crate::stop::stop;
 use crate::verdict::send_verdict;
 use certificate_text::Block;
 use evac_law::Model;
 use line_io::{Lines, Out, Sink, Source};
 use plan_checker::Verdict;
 use std::alloc::Global;
+use talk::{Status, status_after};
 
-fn status_of(verdict: Verdict) -> u8
-    ensures { result ≡ verdict_status verdict }
+fn status_of(verdict: Verdict) -> Status
+    ensures { status_number result ≡ verdict_status verdict }
 {
     match verdict {
-        Verdict::Yes => DONE,
-        _ => REFUSED,
+        Verdict::Yes => Status::Done,
+        _ => Status::Refused,
     }
 }
 
 // Sends what the checker says of a block.
-fn judge<K: Sink>(alloc: Global, out: &mut Out, sink: &mut K, model: &Model, block: &Block) -> u8
+fn judge<K: Sink>(alloc: Global, out: &mut Out, sink: &mut K, model: &Model, block: &Block) -> Status
     requires fresh { out.old ≡ [] }
     requires valid { IsValid model.now }
     requires block { IsBlockOf model.now block.now }
-    ensures { Tells (IsChecked model.now block.now) result 0 (side (K.held sink.old) (K.faults sink.old)) (side (K.held sink.new) (K.faults sink.new)) }
+    ensures { Tells (IsChecked model.now block.now) (status_number result) 0 (side (K.held sink.old) (K.faults sink.old)) (side (K.held sink.new) (K.faults sink.new)) }
 {
     let Ok(verdict) = plan_checker::check(alloc, model, block) else {
-        return NO_MEMORY;
+        return Status::NoMemory;
     };
     status_after(send_verdict(out, sink, model, verdict), status_of(verdict))
 }
 
 /// Runs the mode. It counts no steps.
-pub(crate) fn check<S: Source, K: Sink>(alloc: Global, source: &mut S, sink: &mut K) -> u8
-    ensures { (steps : ℕ) → Runs (Some Check) result
+pub(crate) fn check<S: Source, K: Sink>(alloc: Global, source: &mut S, sink: &mut K) -> Status
+    ensures { (steps : ℕ) → Runs (Some Check) (status_number result)
         (record { source = side (S.left source.old) (S.faults source.old); sink = side (K.held sink.old) (K.faults sink.old); steps = steps })
         (record { source = side (S.left source.new) (S.faults source.new); sink = side (K.held sink.new) (K.faults sink.new); steps = steps }) }
 {
     let (Ok(mut lines), Ok(mut out)) = (Lines::new(alloc), Out::new(alloc)) else {
-        return NO_MEMORY;
+        return Status::NoMemory;
     };
     match read_claim(alloc, &mut lines, source) {
         Ok(claim) => {

@@ -12,10 +12,10 @@ ghost use Rattle.evac_top.specs.Runs.{Runs};
 ghost use Rattle.evac_top.specs.Sends.{Sends};
 ghost use Rattle.evac_top.specs.Tells.{HasBegun, Tells};
 ghost use Rattle.evac_top.specs.declared.words.Mode.TheVariants.{Drill};
+ghost use Rattle.talk.specs.Statuses.{status_number};
 
 use crate::reply::flush_behind;
-use crate::status::{DONE, NO_MEMORY};
-use crate::stop::{status_after, stop_short};
+use crate::stop::stop_short;
 use clearing_report::Clearing;
 use drill_building::{Figures, STOREY_LIMIT, drill_model, write_drill};
 use edit_session::{BeginFault, Session};
@@ -23,6 +23,7 @@ use evac_law::{Model, Standing, Steps};
 use line_io::{Out, Sink, WriteFault};
 use std::alloc::{AllocError, Global};
 use std::sync::ledger::Ledger;
+use talk::{Status, status_after};
 
 // The figures of a session's plan.
 fn figures_of(alloc: Global, session: &Session) -> Result<Figures, AllocError>
@@ -62,17 +63,17 @@ fn answer_drill<K: Sink>(
     sink: &mut K,
     number: u32,
     session: &Session,
-) -> u8
+) -> Status
     requires fresh { out.old ≡ [] }
     requires begins { Begins (drill_model number) session.now.state }
-    ensures { Tells (IsDrilled number) result session.now.state.work.pushes
+    ensures { Tells (IsDrilled number) (status_number result) session.now.state.work.pushes
         (side (K.held sink.old) (K.faults sink.old)) (side (K.held sink.new) (K.faults sink.new)) }
 {
     let Ok(figures) = figures_of(alloc, session) else {
-        return NO_MEMORY;
+        return Status::NoMemory;
     };
     let model = session.model();
-    status_after(send_drill(out, sink, number, model, figures), DONE)
+    status_after(send_drill(out, sink, number, model, figures), Status::Done)
 }
 
 // Sends the same, and ends the session.
@@ -82,10 +83,10 @@ fn answer_begun<K: Sink>(
     sink: &mut K,
     number: u32,
     session: Session,
-) -> u8
+) -> Status
     requires fresh { out.old ≡ [] }
     requires begins { Begins (drill_model number) session.state }
-    ensures { Tells (IsDrilled number) result session.state.work.pushes
+    ensures { Tells (IsDrilled number) (status_number result) session.state.work.pushes
         (side (K.held sink.old) (K.faults sink.old)) (side (K.held sink.new) (K.faults sink.new)) }
 {
     let status = answer_drill(alloc, out, sink, number, &session);
@@ -100,10 +101,10 @@ fn tell<K: Sink>(
     sink: &mut K,
     number: u32,
     begun: Result<Session, BeginFault>,
-) -> u8
+) -> Status
     requires fresh { out.old ≡ [] }
     requires begun { HasBegun (drill_model number) begun }
-    ensures { (steps : ℕ) → BeginEnds (drill_model number) begun steps → Tells (IsDrillSolved number) result steps
+    ensures { (steps : ℕ) → BeginEnds (drill_model number) begun steps → Tells (IsDrillSolved number) (status_number result) steps
         (side (K.held sink.old) (K.faults sink.old)) (side (K.held sink.new) (K.faults sink.new)) }
 {
     match begun {
@@ -118,14 +119,14 @@ pub(crate) fn drill<K: Sink, L: Ledger>(
     number: u32,
     sink: &mut K,
     steps: &mut Steps<L>,
-) -> u8
+) -> Status
     requires { number ≤ STOREY_LIMIT }
-    ensures { (source : Side) → Runs (Some (Drill number)) result
+    ensures { (source : Side) → Runs (Some (Drill number)) (status_number result)
         (record { source = source; sink = side (K.held sink.old) (K.faults sink.old); steps = steps.old })
         (record { source = source; sink = side (K.held sink.new) (K.faults sink.new); steps = steps.new }) }
 {
     let (Ok(mut out), Ok(building)) = (Out::new(alloc), drill_model(alloc, number)) else {
-        return NO_MEMORY;
+        return Status::NoMemory;
     };
     drop(building.names);
     let begun = Session::begin(alloc, building.model, steps);

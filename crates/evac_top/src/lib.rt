@@ -15,7 +15,6 @@ mod replanning;
 mod reply;
 mod session;
 mod solve;
-mod status;
 mod stop;
 mod study;
 mod tables;

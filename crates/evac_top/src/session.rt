@@ -3,8 +3,8 @@ ghost use Rattle.std.specs.Prelude.{◌≡◌, Some};
 ghost use Rattle.evac_top.specs.Accounts.{side};
 ghost use Rattle.evac_top.specs.Runs.{Runs};
 ghost use Rattle.evac_top.specs.declared.words.Mode.TheVariants.{Session};
+ghost use Rattle.talk.specs.Statuses.{status_number};
 
-use crate::status::NO_MEMORY;
 use crate::stop::stop;
 use building_table::read_model;
 use evac_law::Steps;
@@ -12,6 +12,7 @@ use line_io::{Lines, Out, Sink, Source};
 use session_talk::hold_session;
 use std::alloc::Global;
 use std::sync::ledger::Ledger;
+use talk::Status;
 
 /// Runs the mode.
 pub(crate) fn session<S: Source, K: Sink, L: Ledger>(
@@ -19,13 +20,13 @@ pub(crate) fn session<S: Source, K: Sink, L: Ledger>(
     source: &mut S,
     sink: &mut K,
     steps: &mut Steps<L>,
-) -> u8
-    ensures { Runs (Some Session) result
+) -> Status
+    ensures { Runs (Some Session) (status_number result)
         (record { source = side (S.left source.old) (S.faults source.old); sink = side (K.held sink.old) (K.faults sink.old); steps = steps.old })
         (record { source = side (S.left source.new) (S.faults source.new); sink = side (K.held sink.new) (K.faults sink.new); steps = steps.new }) }
 {
     let (Ok(mut lines), Ok(mut out)) = (Lines::new(alloc), Out::new(alloc)) else {
-        return NO_MEMORY;
+        return Status::NoMemory;
     };
     match read_model(alloc, &mut lines, source) {
         Ok(building) => hold_session(alloc, &mut lines, source, &mut out, sink, building, steps),

@@ -8,11 +8,11 @@ ghost use Rattle.evac_top.specs.Runs.{Runs};
 ghost use Rattle.evac_top.specs.Solve.{IsPlanned, IsPlannedOrShort};
 ghost use Rattle.evac_top.specs.Tells.{HasBegun, Tells};
 ghost use Rattle.evac_top.specs.declared.words.Mode.TheVariants.{Solve};
+ghost use Rattle.talk.specs.Statuses.{status_number};
 
 use crate::plan::send_plan;
 use crate::read::{Input, read_input};
-use crate::status::{DONE, NO_MEMORY};
-use crate::stop::{status_after, stop, stop_short};
+use crate::stop::{stop, stop_short};
 use crate::tables::Tables;
 use crate::words::Flags;
 use building_table::Names;
@@ -21,6 +21,7 @@ use evac_law::Steps;
 use line_io::{Lines, Out, Sink, Source};
 use std::alloc::Global;
 use std::sync::ledger::Ledger;
+use talk::{Status, status_after};
 
 // Sends the plan with which a session begins. All memory is taken before.
 fn answer_plan<K: Sink>(
@@ -30,16 +31,16 @@ fn answer_plan<K: Sink>(
     sink: &mut K,
     session: &Session,
     names: &Names,
-) -> u8
+) -> Status
     requires fresh { out.old ≡ [] }
     requires begins { Begins session.now.state.model session.now.state }
-    ensures { Tells (IsPlanned flags names.now session.now.state.model) result session.now.state.work.pushes
+    ensures { Tells (IsPlanned flags names.now session.now.state.model) (status_number result) session.now.state.work.pushes
         (side (K.held sink.old) (K.faults sink.old)) (side (K.held sink.new) (K.faults sink.new)) }
 {
     let Ok(mut tables) = Tables::new(alloc, flags, session, names) else {
-        return NO_MEMORY;
+        return Status::NoMemory;
     };
-    status_after(send_plan(out, sink, session, names, &mut tables), DONE)
+    status_after(send_plan(out, sink, session, names, &mut tables), Status::Done)
 }
 
 // Sends the plan with which a session begins, and ends the session.
@@ -50,10 +51,10 @@ fn answer_begun<K: Sink>(
     sink: &mut K,
     session: Session,
     names: &Names,
-) -> u8
+) -> Status
     requires fresh { out.old ≡ [] }
     requires begins { Begins session.state.model session.state }
-    ensures { Tells (IsPlanned flags names.now session.state.model) result session.state.work.pushes
+    ensures { Tells (IsPlanned flags names.now session.state.model) (status_number result) session.state.work.pushes
         (side (K.held sink.old) (K.faults sink.old)) (side (K.held sink.new) (K.faults sink.new)) }
 {
     let status = answer_plan(alloc, flags, out, sink, &session, names);
@@ -70,10 +71,10 @@ fn tell<K: Sink>(
     begun: Result<Session, BeginFault>,
     names: &Names,
     line: u32,
-) -> u8
+) -> Status
     requires fresh { out.old ≡ [] }
     requires begun { (m : ModelValue) × HasBegun m begun }
-    ensures { (m : ModelValue) (steps : ℕ) → BeginEnds m begun steps → Tells (IsPlannedOrShort flags names.now m line) result steps
+    ensures { (m : ModelValue) (steps : ℕ) → BeginEnds m begun steps → Tells (IsPlannedOrShort flags names.now m line) (status_number result) steps
         (side (K.held sink.old) (K.faults sink.old)) (side (K.held sink.new) (K.faults sink.new)) }
 {
     match begun {
@@ -90,10 +91,10 @@ fn answer<K: Sink, L: Ledger>(
     sink: &mut K,
     input: Input,
     steps: &mut Steps<L>,
-) -> u8
+) -> Status
     requires fresh { out.old ≡ [] }
     requires valid { IsValid input.building.model }
-    ensures { (count : ℕ) × (steps.new ≡ steps.old + count) × Tells (IsPlannedOrShort flags input.building.names input.building.model input.last) result count
+    ensures { (count : ℕ) × (steps.new ≡ steps.old + count) × Tells (IsPlannedOrShort flags input.building.names input.building.model input.last) (status_number result) count
         (side (K.held sink.old) (K.faults sink.old)) (side (K.held sink.new) (K.faults sink.new)) }
 {
     let names = input.building.names;
@@ -108,13 +109,13 @@ pub(crate) fn solve<S: Source, K: Sink, L: Ledger>(
     source: &mut S,
     sink: &mut K,
     steps: &mut Steps<L>,
-) -> u8
-    ensures { Runs (Some (Solve flags)) result
+) -> Status
+    ensures { Runs (Some (Solve flags)) (status_number result)
         (record { source = side (S.left source.old) (S.faults source.old); sink = side (K.held sink.old) (K.faults sink.old); steps = steps.old })
         (record { source = side (S.left source.new) (S.faults source.new); sink = side (K.held sink.new) (K.faults sink.new); steps = steps.new }) }
 {
     let (Ok(mut lines), Ok(mut out)) = (Lines::new(alloc), Out::new(alloc)) else {
-        return NO_MEMORY;
+        return Status::NoMemory;
     };
     match read_input(alloc, &mut lines, source) {
         Ok(input) => answer(alloc, flags, &mut out, sink, input, steps),

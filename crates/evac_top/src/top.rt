@@ -3,15 +3,13 @@ ghost use Rattle.std.specs.Prelude.{◌≡◌, ℕ, [], None, false, map, string
 ghost use Rattle.evac_top.specs.Accounts.{Side, side};
 ghost use Rattle.evac_top.specs.Runs.{Runs};
 ghost use Rattle.evac_top.specs.Words.{mode_of, reads};
+ghost use Rattle.talk.specs.Statuses.{status_number};
 
 use crate::check::check;
 use crate::drill::drill;
 use crate::replanning::replan;
-use crate::reply::send_refusal;
 use crate::session::session;
 use crate::solve::solve;
-use crate::status::{NO_MEMORY, WORDS_REFUSED};
-use crate::stop::status_after;
 use crate::study::study;
 use crate::upgrade::upgrade;
 use crate::words::{Mode, mode_of};
@@ -19,19 +17,19 @@ use evac_law::Steps;
 use line_io::{Out, Sink, Source};
 use std::alloc::Global;
 use std::sync::ledger::Ledger;
+use talk::{Status, send_refusal, status_after};
 
 const UNKNOWN_WORDS: u8 = 40;
 
-/// Does what the words ask for, and answers the status: 0 done, 1 refused or the checker's no, 2 the words are refused, 3 the source
-/// failed, 4 the sink failed, 5 want of memory. The words are those after the program's name.
+/// Does what the words ask for, and answers how that ended. The words are those after the program's name.
 pub fn run<S: Source, K: Sink, L: Ledger>(
     alloc: Global,
     words: &[String],
     source: &mut S,
     sink: &mut K,
     steps: &mut Steps<L>,
-) -> u8
-    ensures run { Runs (mode_of (map string_bytes words.now)) result
+) -> Status
+    ensures run { Runs (mode_of (map string_bytes words.now)) (status_number result)
         (record { source = side (S.left source.old) (S.faults source.old); sink = side (K.held sink.old) (K.faults sink.old); steps = steps.old })
         (record { source = side (S.left source.new) (S.faults source.new); sink = side (K.held sink.new) (K.faults sink.new); steps = steps.new }) }
     ensures untouched { reads (mode_of (map string_bytes words.now)) ≡ false → source.new ≡ source.old }
@@ -49,14 +47,14 @@ pub fn run<S: Source, K: Sink, L: Ledger>(
 }
 
 // Refuses the words, whatever the source has and the steps are.
-fn refuse_words<K: Sink>(alloc: Global, sink: &mut K) -> u8
-    ensures { (source : Side) (steps : ℕ) → Runs None result
+fn refuse_words<K: Sink>(alloc: Global, sink: &mut K) -> Status
+    ensures { (source : Side) (steps : ℕ) → Runs None (status_number result)
         (record { source = source; sink = side (K.held sink.old) (K.faults sink.old); steps = steps })
         (record { source = source; sink = side (K.held sink.new) (K.faults sink.new); steps = steps }) }
 {
     let Ok(mut out) = Out::new(alloc) else {
-        return NO_MEMORY;
+        return Status::NoMemory;
     };
     let sent = send_refusal(&mut out, sink, UNKNOWN_WORDS, 0);
-    status_after(sent, WORDS_REFUSED)
+    status_after(sent, Status::WordsRefused)
 }

@@ -9,15 +9,16 @@ ghost use Rattle.evac_top.specs.Sends.{Sends};
 ghost use Rattle.evac_top.specs.Upgrade.{IsUpgraded};
 ghost use Rattle.evac_top.specs.Tells.{Tells};
 ghost use Rattle.evac_top.specs.declared.words.Mode.TheVariants.{Upgrade};
+ghost use Rattle.talk.specs.Statuses.{status_number};
 
 use crate::read::read_input;
 use crate::reply::flush_behind;
-use crate::status::{DONE, NO_MEMORY};
-use crate::stop::{status_after, stop};
+use crate::stop::stop;
 use building_table::Building;
 use line_io::{Lines, Out, Sink, Source, WriteFault};
 use model_writer::write_model;
 use std::alloc::Global;
+use talk::{Status, status_after};
 
 // Sends the text of a building.
 fn send_model<K: Sink>(out: &mut Out, sink: &mut K, building: &Building) -> Result<(), WriteFault>
@@ -31,24 +32,24 @@ fn send_model<K: Sink>(out: &mut Out, sink: &mut K, building: &Building) -> Resu
 }
 
 // Sends the same, and drops the building.
-fn answer<K: Sink>(out: &mut Out, sink: &mut K, building: Building) -> u8
+fn answer<K: Sink>(out: &mut Out, sink: &mut K, building: Building) -> Status
     requires fresh { out.old ≡ [] }
     requires valid { IsValid building.model }
-    ensures { Tells (IsUpgraded building) result 0 (side (K.held sink.old) (K.faults sink.old)) (side (K.held sink.new) (K.faults sink.new)) }
+    ensures { Tells (IsUpgraded building) (status_number result) 0 (side (K.held sink.old) (K.faults sink.old)) (side (K.held sink.new) (K.faults sink.new)) }
 {
-    let status = status_after(send_model(out, sink, &building), DONE);
+    let status = status_after(send_model(out, sink, &building), Status::Done);
     drop(building);
     status
 }
 
 /// Runs the mode. It counts no steps.
-pub(crate) fn upgrade<S: Source, K: Sink>(alloc: Global, source: &mut S, sink: &mut K) -> u8
-    ensures { (steps : ℕ) → Runs (Some Upgrade) result
+pub(crate) fn upgrade<S: Source, K: Sink>(alloc: Global, source: &mut S, sink: &mut K) -> Status
+    ensures { (steps : ℕ) → Runs (Some Upgrade) (status_number result)
         (record { source = side (S.left source.old) (S.faults source.old); sink = side (K.held sink.old) (K.faults sink.old); steps = steps })
         (record { source = side (S.left source.new) (S.faults source.new); sink = side (K.held sink.new) (K.faults sink.new); steps = steps }) }
 {
     let (Ok(mut lines), Ok(mut out)) = (Lines::new(alloc), Out::new(alloc)) else {
-        return NO_MEMORY;
+        return Status::NoMemory;
     };
     match read_input(alloc, &mut lines, source) {
         Ok(input) => answer(&mut out, sink, input.building),

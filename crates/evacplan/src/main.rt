@@ -1,7 +1,7 @@
 //! Plans how a building empties: `evacplan solve` reads a model from standard input and writes the answer to standard output.
 //!
-//! The statuses and texts are those of `evac_top::run`. Where the system can't give the words, nothing is written: the status is 5 for want
-//! of memory, and 6 where a word isn't UTF-8.
+//! The texts are those of `evac_top::run`, and the status is the number of what it answers. Where the system can't give the words, nothing is
+//! written: the status is that of `NoMemory`, and where a word isn't UTF-8 that of `NoWords`.
 #![tactic(auto)]
 
 ghost use Rattle.std.specs.Prelude.{◌≡◌};
@@ -14,10 +14,7 @@ use std::marker::Brand;
 use std::process::ExitCode;
 use std::sync::ledger::{Blank, Ledger};
 use std::{env, io};
-
-const NO_MEMORY: u8 = 5;
-
-const NO_WORDS: u8 = 6;
+use talk::Status;
 
 // Runs with a counter of steps that nobody reads.
 fn run_uncounted<S: Source, K: Sink, L: Ledger>(
@@ -26,7 +23,7 @@ fn run_uncounted<S: Source, K: Sink, L: Ledger>(
     source: &mut S,
     sink: &mut K,
     blank: Blank,
-) -> u8
+) -> Status
     requires name { blank.name ≡ L.name }
     requires parts { blank.parts ≡ L.parts }
     requires one { blank.parts ≡ 1 }
@@ -39,12 +36,12 @@ fn main(rt: HostRuntime) -> ExitCode {
     let words = match env::args(&rt) {
         Ok(args) => args.skip(1).collect::<Vec<String>>(rt.alloc()),
         Err(error) if error.kind() == io::ErrorKind::InvalidData => {
-            return ExitCode::from(NO_WORDS);
+            return ExitCode::from(Status::NoWords.number());
         }
         Err(_) => Err(AllocError),
     };
     let Ok(words) = words else {
-        return ExitCode::from(NO_MEMORY);
+        return ExitCode::from(Status::NoMemory.number());
     };
     let mut source = StdSource::new(rt.reader());
     let mut sink = StdSink::new(io::writer(&rt));
@@ -55,5 +52,5 @@ fn main(rt: HostRuntime) -> ExitCode {
         &mut sink,
         Blank::new(1),
     );
-    ExitCode::from(status)
+    ExitCode::from(status.number())
 }

@@ -8,6 +8,7 @@ pub use Rattle.replan.specs.RestLaws
 pub use Rattle.session_talk.specs.Sessions
 pub use Rattle.talk.specs.Held as TalkHeld
 pub use Rattle.talk.specs.Short
+pub use Rattle.talk.specs.Statuses
 pub use Rattle.talk.specs.Talks
 pub mod ReplanTalks
 pub mod Desks

@@ -6,6 +6,7 @@ pub use Rattle.talk.specs.Held as TalkHeld
 pub use Rattle.talk.specs.Parts
 pub use Rattle.talk.specs.Short
 pub use Rattle.talk.specs.Speaking
+pub use Rattle.talk.specs.Statuses
 pub use Rattle.talk.specs.Talks
 pub mod Sessions
 pub mod SessionLaws

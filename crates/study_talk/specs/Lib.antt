@@ -6,6 +6,7 @@ pub use Rattle.exit_study.specs.Exits
 pub use Rattle.exit_study.specs.Rates
 pub use Rattle.talk.specs.Held as TalkHeld
 pub use Rattle.talk.specs.Short
+pub use Rattle.talk.specs.Statuses
 pub use Rattle.talk.specs.Talks
 pub mod Stays
 pub mod StudyTexts

@@ -7,3 +7,4 @@ pub mod Parts
 pub mod Speaking
 pub mod Held
 pub mod Short
+pub mod Statuses

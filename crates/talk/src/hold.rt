@@ -4,14 +4,15 @@ ghost use Rattle.line_io.specs.Calls.{Asks};
 ghost use Rattle.line_io.specs.Line.{input_limit};
 ghost use Rattle.line_io.specs.Reader.{Drained};
 ghost use Rattle.certificate_text.specs.BlockText.{refusal_line};
-ghost use Rattle.talk.specs.Held.{ConcludesTalk, HoldsTalk, RefusesBy, SendsBy, around, status_after};
+ghost use Rattle.talk.specs.Held.{ConcludesTalk, HoldsTalk, RefusesBy, SendsBy, around};
 ghost use Rattle.talk.specs.Speaking.{opened, talk_from};
+ghost use Rattle.talk.specs.Statuses.{status_number};
 
 use crate::fault::AnswerFault;
+use crate::send::send_refusal;
 use crate::speaker::Speaker;
-use crate::status::{DONE, NO_MEMORY, REFUSED, SINK_FAILED, SOURCE_FAILED};
+use crate::status::{Status, status_after};
 use crate::talker::converse;
-use certificate_text::write_refusal;
 use evac_law::Steps;
 use line_io::{Ending, LineFault, Lines, Out, Sink, Source, WriteFault};
 use std::sync::ledger::Ledger;
@@ -19,16 +20,6 @@ use std::sync::ledger::Ledger;
 const LINE_TOO_LONG: u8 = 2;
 
 const INPUT_TOO_LONG: u8 = 3;
-
-// The status behind a text that was sent.
-pub(crate) fn status_after(sent: Result<(), WriteFault>, status: u8) -> u8
-    ensures { result ≡ status_after sent status }
-{
-    match sent {
-        Ok(()) => status,
-        Err(_) => SINK_FAILED,
-    }
-}
 
 // Sends the text that opens a talk.
 fn send_opening<K: Sink, T: Speaker>(
@@ -43,40 +34,31 @@ fn send_opening<K: Sink, T: Speaker>(
     out.flush(sink)
 }
 
-// Sends the refusal of a line.
-fn send_refusal<K: Sink>(out: &mut Out, sink: &mut K, code: u8, line: u32) -> Result<(), WriteFault>
-    ensures { SendsBy result (refusal_line code line)
-        (K.held sink.old) out.old (K.faults sink.old) (K.held sink.new) out.new (K.faults sink.new) }
-{
-    write_refusal(out, sink, code, line)?;
-    out.flush(sink)
-}
-
 // Refuses a line for good.
-fn refuse<K: Sink>(out: &mut Out, sink: &mut K, code: u8, line: u32) -> u8
-    ensures { RefusesBy (refusal_line code line) result (K.held sink.old) out.old (K.faults sink.old) (K.held sink.new) out.new (K.faults sink.new) }
+fn refuse<K: Sink>(out: &mut Out, sink: &mut K, code: u8, line: u32) -> Status
+    ensures { RefusesBy (refusal_line code line) (status_number result) (K.held sink.old) out.old (K.faults sink.old) (K.held sink.new) out.new (K.faults sink.new) }
 {
-    status_after(send_refusal(out, sink, code, line), REFUSED)
+    status_after(send_refusal(out, sink, code, line), Status::Refused)
 }
 
 // Ends a talk over so many lines: one that has a fault is refused.
 #[tactic(auto, unfolding(line_io::specs::Line::input_limit))]
-fn conclude<K: Sink>(out: &mut Out, sink: &mut K, ending: Ending<AnswerFault>, number: u32) -> u8
+fn conclude<K: Sink>(out: &mut Out, sink: &mut K, ending: Ending<AnswerFault>, number: u32) -> Status
     requires { number ≤ input_limit }
-    ensures { ConcludesTalk ending number result (K.held sink.old) out.old (K.faults sink.old) (K.held sink.new) out.new (K.faults sink.new) }
+    ensures { ConcludesTalk ending number (status_number result) (K.held sink.old) out.old (K.faults sink.old) (K.held sink.new) out.new (K.faults sink.new) }
 {
     match ending {
-        Ending::Finished | Ending::InputEnded => DONE,
-        Ending::Failed(AnswerFault::Write(_)) => SINK_FAILED,
-        Ending::Failed(AnswerFault::Memory) => NO_MEMORY,
-        Ending::Fault(LineFault::ReadFault) => SOURCE_FAILED,
+        Ending::Finished | Ending::InputEnded => Status::Done,
+        Ending::Failed(AnswerFault::Write(_)) => Status::SinkFailed,
+        Ending::Failed(AnswerFault::Memory) => Status::NoMemory,
+        Ending::Fault(LineFault::ReadFault) => Status::SourceFailed,
         Ending::Fault(LineFault::LineTooLong) => refuse(out, sink, LINE_TOO_LONG, number + 1),
         Ending::Fault(LineFault::InputTooLong) => refuse(out, sink, INPUT_TOO_LONG, number + 1),
     }
 }
 
-/// Opens a talk and answers the lines of a source, each before it reads on. Answers 0 where the input ended or a line quit, 1 where a line
-/// was refused for good, 3 where the source failed, 4 where the sink failed, and 5 where a line wanted memory that wasn't there.
+/// Opens a talk and answers the lines of a source, each before it reads on. It is `Done` where the input ended or a line quit, and `Refused`
+/// where a line was refused for good; else the source or the sink failed, or a line wanted memory that wasn't there.
 pub fn hold_talk<S: Source, K: Sink, L: Ledger, T: Speaker + Drop>(
     lines: &mut Lines,
     source: &mut S,
@@ -84,16 +66,16 @@ pub fn hold_talk<S: Source, K: Sink, L: Ledger, T: Speaker + Drop>(
     sink: &mut K,
     mut speaker: T,
     steps: &mut Steps<L>,
-) -> u8
+) -> Status
     requires fresh { out.old ≡ [] }
     requires ready { T.ready speaker }
     requires behind { T.Behind lines.old.number (T.state speaker) }
     ensures held { (n k : ℕ) → steps.old ≡ k + n → HoldsTalk
-        (talk_from (opened (T.opening speaker) (T.state speaker) n) (T.gets (T.kept speaker)) T.Quits T.Wants) result
+        (talk_from (opened (T.opening speaker) (T.state speaker) n) (T.gets (T.kept speaker)) T.Quits T.Wants) (status_number result)
         (around lines.old (S.left source.old) (S.faults source.old) (K.held sink.old) (K.faults sink.old) k)
         (around lines.new (S.left source.new) (S.faults source.new) (K.held sink.new) (K.faults sink.new) steps.new) }
     // only a line wants memory
-    ensures memory { result ≡ NO_MEMORY → lines.old.number < lines.new.number }
+    ensures memory { result ≡ Status.NoMemory → lines.old.number < lines.new.number }
     ensures drained { Drained lines.old (S.left source.old) → Drained lines.new (S.left source.new) }
     ensures asks { Asks S.takes lines.old.ended source.old lines.new.ended source.new }
 {
@@ -105,7 +87,7 @@ pub fn hold_talk<S: Source, K: Sink, L: Ledger, T: Speaker + Drop>(
         }
         Err(_) => {
             drop(speaker);
-            SINK_FAILED
+            Status::SinkFailed
         }
     }
 }

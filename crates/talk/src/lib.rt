@@ -8,12 +8,15 @@
 pub mod codes;
 mod fault;
 mod hold;
+mod send;
 mod short;
 mod speaker;
-pub mod status;
+mod status;
 mod talker;
 
 pub use fault::AnswerFault;
 pub use hold::hold_talk;
+pub use send::{send_refusal, send_short};
 pub use short::refuse_building;
 pub use speaker::{Speaker, answered};
+pub use status::{Status, status_after};

@@ -23,7 +23,7 @@ fn run_uncounted<S: Source, K: Sink, L: Ledger>(
     requires one { blank.parts ≡ 1 }
 {
     let mut steps: Steps<L> = Steps::new(blank);
-    run(alloc, words, source, sink, &mut steps)
+    run(alloc, words, source, sink, &mut steps).number()
 }
 
 // A list of words.

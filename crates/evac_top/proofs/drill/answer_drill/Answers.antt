@@ -3,6 +3,7 @@ use Rattle.drill_building.specs.Summary.{drill_text}
 use Rattle.evac_top.specs.Drill.{IsDrilled}
 use Rattle.evac_top.proofs.SolveLemmas.{lent-drilled}
 use Rattle.evac_top.proofs.TellLemmas.{tells-nothing, tells-sent}
+use Rattle.talk.specs.Statuses.{status_number}
 use Rattle.evac_top.proofs.drill.answer_drill.Goals as goal
 
 pub returns-in_default : goal.returns-in_default
@@ -16,6 +17,6 @@ returns g c =
     let known = c.in-Ok.ensures in
     let lent : c.model-model.result.now ≡ s.model = c.model-model.ensures.model in
     let text = drill_text number c.model-model.result.now f in
-    tells-sent (IsDrilled number) 0 s.work.pushes text c.send_drill.result _ _ c.status_after.result c.status_after.ensures (omega arith)
+    tells-sent (IsDrilled number) 0 s.work.pushes text c.send_drill.result _ _ (status_number c.status_after.result) c.status_after.ensures (omega arith)
     c.send_drill.ensures.text c.send_drill.ensures.cause
     (λ taken. lent-drilled number s f c.model-model.result.now taken lent c.requires.begins known.0 known.1)

@@ -6,6 +6,7 @@ use Rattle.evac_law.specs.Building.{IsValid}
 use Rattle.evac_top.specs.Drill.{IsDrillSolved}
 use Rattle.evac_top.proofs.SolveLemmas.{drilled-few}
 use Rattle.evac_top.proofs.TellLemmas.{drill-told, tells-nothing}
+use Rattle.talk.specs.Statuses.{status_number}
 use Rattle.evac_top.proofs.drill.drill.Goals as goal
 
 pub returns-in_default : goal.returns-in_default
@@ -27,4 +28,4 @@ returns g c = λ source.
     let b = c.begin-begun.ensures in
     let same : made.building.model ≡ drill_model n = made.ensures'.building.model in
     let ends = subst (λ (m : Model). BeginEnds m c.begin-begun.result b.0) same b.2 in
-    drill-told n c.tell-status.result b.0 source _ _ c.args.steps.now c.begin-begun.new.steps b.1 (drilled-few n) (c.tell-status.ensures b.0 ends)
+    drill-told n (status_number c.tell-status.result) b.0 source _ _ c.args.steps.now c.begin-begun.new.steps b.1 (drilled-few n) (c.tell-status.ensures b.0 ends)

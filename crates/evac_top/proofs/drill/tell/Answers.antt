@@ -2,6 +2,7 @@ use Rattle.std.proofs.Common.{inr}
 use Rattle.drill_building.specs.Drill.{drill_model}
 use Rattle.evac_top.specs.Drill.{IsDrillSolved}
 use Rattle.evac_top.proofs.SolveLemmas.{begun-as, fault-as, told-drilled, told-short}
+use Rattle.talk.specs.Statuses.{status_number}
 use Rattle.evac_top.proofs.drill.tell.Goals as goal
 
 pub answer_begun-requires-clause-begins : goal.answer_begun-requires-clause-begins
@@ -17,10 +18,10 @@ pub returns-in-Ok : goal.returns-in-Ok
 returns-in-Ok g c = λ steps ends.
     let v = c.in-Ok.session in
     let h = begun-as (drill_model c.args.number) steps c.args.begun v c.in-Ok.is ends in
-    told-drilled c.args.number v.state steps c.answer_begun.result _ _ h.2 c.answer_begun.ensures
+    told-drilled c.args.number v.state steps (status_number c.answer_begun.result) _ _ h.2 c.answer_begun.ensures
 
 pub returns-in-Err : goal.returns-in-Err
 returns-in-Err g c = λ steps ends.
     let m = drill_model c.args.number in
-    told-short (IsDrillSolved c.args.number) m 0 steps c.stop_short.result _ _ (λ x h. inr h)
+    told-short (IsDrillSolved c.args.number) m 0 steps (status_number c.stop_short.result) _ _ (λ x h. inr h)
     (c.stop_short.ensures m steps (fault-as m steps c.args.begun c.in-Err.fault c.in-Err.is ends))

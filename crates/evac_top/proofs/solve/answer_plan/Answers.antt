@@ -2,6 +2,7 @@ use Rattle.std.proofs.Common.{arith}
 use Rattle.evac_top.specs.Solve.{IsPlanned}
 use Rattle.evac_top.proofs.SolveLemmas.{planned}
 use Rattle.evac_top.proofs.TellLemmas.{tells-nothing, tells-sent}
+use Rattle.talk.specs.Statuses.{status_number}
 use Rattle.evac_top.proofs.solve.answer_plan.Goals as goal
 
 pub returns-in_default : goal.returns-in_default
@@ -14,5 +15,5 @@ returns g c =
     let names = c.args.names.now in
     let s = c.args.session.now.state in
     let sent = c.send_plan.ensures.text flags c.in-Ok.ensures in
-    tells-sent (IsPlanned flags names s.model) 0 s.work.pushes sent.0 c.send_plan.result _ _ c.status_after.result c.status_after.ensures (omega arith)
+    tells-sent (IsPlanned flags names s.model) 0 s.work.pushes sent.0 c.send_plan.result _ _ (status_number c.status_after.result) c.status_after.ensures (omega arith)
     sent.2 c.send_plan.ensures.cause (λ taken. planned flags names s.model s sent.0 taken c.requires.begins sent.1)

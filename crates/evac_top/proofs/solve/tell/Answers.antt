@@ -1,6 +1,7 @@
 use Rattle.std.proofs.Common.{inr}
 use Rattle.evac_top.specs.Solve.{IsPlannedOrShort}
 use Rattle.evac_top.proofs.SolveLemmas.{begins-own, begun-as, fault-as, told-planned, told-short}
+use Rattle.talk.specs.Statuses.{status_number}
 use Rattle.evac_top.proofs.solve.tell.Goals as goal
 
 pub answer_begun-requires-clause-begins : goal.answer_begun-requires-clause-begins
@@ -17,10 +18,10 @@ pub returns-in-Ok : goal.returns-in-Ok
 returns-in-Ok g c = λ m steps ends.
     let v = c.in-Ok.session in
     let h = begun-as m steps c.args.begun v c.in-Ok.is ends in
-    told-planned c.args.flags c.args.names.now m c.args.line v.state steps c.answer_begun.result _ _ h.0 h.2 c.answer_begun.ensures
+    told-planned c.args.flags c.args.names.now m c.args.line v.state steps (status_number c.answer_begun.result) _ _ h.0 h.2 c.answer_begun.ensures
 
 pub returns-in-Err : goal.returns-in-Err
 returns-in-Err g c = λ m steps ends.
     let line = c.args.line in
-    told-short (IsPlannedOrShort c.args.flags c.args.names.now m line) m line steps c.stop_short.result _ _ (λ x h. inr h)
+    told-short (IsPlannedOrShort c.args.flags c.args.names.now m line) m line steps (status_number c.stop_short.result) _ _ (λ x h. inr h)
     (c.stop_short.ensures m steps (fault-as m steps c.args.begun c.in-Err.fault c.in-Err.is ends))

@@ -4,6 +4,7 @@ use Rattle.evac_top.specs.declared.words.Mode.TheVariants.{Study}
 use Rattle.evac_top.proofs.TakeLemmas.{fresh-drained}
 use Rattle.evac_top.proofs.TalkLemmas.{not-read, study-talks, talk-held, talk-reads}
 use Rattle.evac_top.proofs.TellLemmas.{no-memory}
+use Rattle.talk.specs.Statuses.{status_number}
 use Rattle.evac_top.proofs.study.study.Goals as goal
 
 pub returns-in_default : goal.returns-in_default
@@ -13,7 +14,7 @@ pub returns-in-Ok : goal.returns-in-Ok
 returns-in-Ok g c =
     let read = c.in-Ok.ensures in
     let fresh = c.in-Ok-Ok.ensures in
-    talk-held Study study study-talks c.in-Ok.building c.hold_study.result c.in-Ok-Ok.lines c.read_model.new.lines c.hold_study.new.lines _ _ _ _ (record {
+    talk-held Study study study-talks c.in-Ok.building (status_number c.hold_study.result) c.in-Ok-Ok.lines c.read_model.new.lines c.hold_study.new.lines _ _ _ _ (record {
       fresh = fresh;
       read = read.bytes;
       reading = read.reading;
@@ -25,5 +26,5 @@ returns-in-Ok g c =
 pub returns : goal.returns
 returns g c =
     let read = c.in-Err.ensures in
-    not-read Study study study-talks c.in-Err.fault c.stop.result c.in-Ok-Ok.lines c.read_model.new.lines _ _ c.in-Ok-Ok.ensures read.bytes read.reading
+    not-read Study study study-talks c.in-Err.fault (status_number c.stop.result) c.in-Ok-Ok.lines c.read_model.new.lines _ _ c.in-Ok-Ok.ensures read.bytes read.reading
     read.unfinished read.failed read.quiet refl c.stop.ensures

@@ -1,5 +1,5 @@
 use Rattle.talk.proofs.Sending.{sent}
-use Rattle.talk.proofs.hold.send_refusal.Goals as goal
+use Rattle.talk.proofs.send.send_refusal.Goals as goal
 
 pub returns : goal.returns
 returns g c =

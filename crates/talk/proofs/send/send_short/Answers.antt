@@ -1,6 +1,6 @@
 use Rattle.std.proofs.Common.{refl, sym}
 use Rattle.talk.proofs.Sending.{sent}
-use Rattle.talk.proofs.short.send_short.Goals as goal
+use Rattle.talk.proofs.send.send_short.Goals as goal
 
 pub returns : goal.returns
 returns g c =
