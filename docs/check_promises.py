@@ -6,7 +6,8 @@
 - In DEFINITIONS.md each name must be defined in a file that its paragraph links.
 - In the tables of PROVED.md each name in the right column must be a definition, a function, a clause or a field of a crate of its section.
 - In every document each link must lead to a file, and to a heading of it.
-- The tables of statuses in FORMATS.md and in the README must have just the numbers of `Status`, each once.
+- The tables of codes and of statuses in FORMATS.md, and that of statuses in the README, must have just the numbers of `Code` and of `Status`, and
+  these have each number once.
 
     python3 docs/check_promises.py
 
@@ -150,6 +151,7 @@ def main():
     missing += missing_definitions(TOP / "docs/DEFINITIONS.md")
     missing += missing_rows(TOP / "docs/PROVED.md")
     formats, readme = TOP / "docs/FORMATS.md", TOP / "README.md"
+    missing += wrong_numbers("Code", "evac_law/specs/Codes.antt", "code_number", [formats])
     missing += wrong_numbers("Status", "talk/specs/Statuses.antt", "status_number", [formats, readme])
     print("\n".join(missing) if missing else "all that is named is there")
     return 1 if missing else 0

@@ -4,6 +4,9 @@ use Rattle.std.specs.Prelude.{⊤}
 use Rattle.std.specs.declared.option.Option.{Option}
 use Rattle.std.specs.Option.{option_and_then}
 use Rattle.std.proofs.lemmas.List.{length-append}
+use Rattle.evac_law.specs.declared.code.Code.{Code}
+use Rattle.evac_law.specs.declared.code.Code.TheVariants as codes
+use Rattle.evac_law.specs.declared.code.Code.TheVariants.{BadBlock}
 use Rattle.evac_law.specs.declared.model.Model.{Model}
 use Rattle.evac_law.specs.Building.{IsValid}
 use Rattle.line_io.specs.Line.{Line, text_lines}
@@ -27,7 +30,7 @@ use Rattle.certificate_text.specs.declared.block.Block.{Block}
 use Rattle.block_reader.specs.declared.fault.BlockFault.{BlockFault}
 use Rattle.block_reader.specs.declared.fault.BlockFault.TheVariants as faults
 use Rattle.certificate_text.specs.Block.{HasAllLabels, IsBlockOf}
-use Rattle.certificate_text.specs.BlockReadings.{BlockReading, EndsBlock, ReadsAs, Refused, Refuses, Says, Stated, bad_block, says_something}
+use Rattle.certificate_text.specs.BlockReadings.{BlockReading, EndsBlock, ReadsAs, Refused, Refuses, Says, Stated, says_something}
 use Rattle.block_reader.specs.BlockReads.{IsFault, IsBlockReading, ReadsBlock, ReadsBlockLines}
 use Rattle.block_reader.specs.DraftFacts.{IsDraft}
 use Rattle.block_reader.specs.Drafts.{Draft, no_draft, with_entry}
@@ -76,7 +79,7 @@ reads-none m {ending} {from} {to} {a} {c} h valid w is rest r ends = record {
 
 -- a line is refused, of the lines that went by: with those that are left, and with those of the bytes that are pending
 pub record RefusesBlock (m : Model) (first : ℕ) (fault : BlockFault) (r : Reader) (before after : Option (List Line)) (texts : List (List ℕ)) : Type 0 where
-  pub code : ℕ
+  pub code : Code
   pub line : ℕ
   pub rest : List Line
   pub fault_is : IsFault fault code line
@@ -87,7 +90,7 @@ pub record RefusesBlock (m : Model) (first : ℕ) (fault : BlockFault) (r : Read
 -- the answer of a call, for the lines that went by and those that are left
 abbrev pub AnswersBlock : Model → ℕ → Result Block BlockFault → Reader → Option (List Line) → Option (List Line) → List (List ℕ) → Type 0
 AnswersBlock m first (Ok block) r before after texts = IsBlockOf m block × HasAllLabels block × ((rest : List Line) → ReadsAs m first (text_lines texts ++ rest) (Stated block r.number rest))
-AnswersBlock m first (Err faults.ReadFault) r before after texts = ReadsAs m first (text_lines texts) (Refused bad_block (r.number + 1))
+AnswersBlock m first (Err faults.ReadFault) r before after texts = ReadsAs m first (text_lines texts) (Refused BadBlock (r.number + 1))
 AnswersBlock m first (Err faults.Memory) r before after texts = ⊤
 AnswersBlock m first (Err fault) r before after texts = RefusesBlock m first fault r before after texts
 
@@ -97,7 +100,7 @@ pub record ReadsBlockBy (m : Model) (result : Result Block BlockFault) (before a
   pub passes : Passes before after left left' texts
   pub answer : AnswersBlock m before.number result after (lines_left before left) (lines_left after left') texts
 
-refuses : (m : Model) (fault : BlockFault) (code line : ℕ) {ending : Ending TakeFault} {from to : BlockReader} {a c : Reader} {l n : Option (List ℕ)} (h : Listens HearsBlock ending from to a c l n)
+refuses : (m : Model) (fault : BlockFault) (code : Code) (line : ℕ) {ending : Ending TakeFault} {from to : BlockReader} {a c : Reader} {l n : Option (List ℕ)} (h : Listens HearsBlock ending from to a c l n)
     (Behind : List Line → Type 0) → IsFault fault code line → ((rest : List Line) → Behind rest → ReadsAs m a.number (text_lines (h.texts ++ h.last) ++ rest) (Refused code line)) → Behind h.rest
     → Behind (pending_lines c) → RefusesBlock m a.number fault c (lines_left a l) (lines_left c n) (h.texts ++ h.last)
 refuses m fault code line {ending} {from} {to} {a} {c} h behind is refused left pending = record {
@@ -111,7 +114,7 @@ refuses m fault code line {ending} {from} {to} {a} {c} h behind is refused left 
 }
 
 -- where the next line has a fault of its own
-refuses-fault : (m : Model) (fault : BlockFault) (code : ℕ) {ending : Ending TakeFault} {from to : BlockReader} {a c : Reader} {l n : Option (List ℕ)} (h : Listens HearsBlock ending from to a c l n)
+refuses-fault : (m : Model) (fault : BlockFault) (code : Code) {ending : Ending TakeFault} {from to : BlockReader} {a c : Reader} {l n : Option (List ℕ)} (h : Listens HearsBlock ending from to a c l n)
     → IsValid m → IsHearing m h.at h.texts → IsFault fault code (c.number + 1) → h.last ≡ [] → h.rest ≡ Err code ∷ [] → pending_lines c ≡ Err code ∷ []
     → RefusesBlock m a.number fault c (lines_left a l) (lines_left c n) (h.texts ++ h.last)
 refuses-fault m fault code {ending} {from} {to} {a} {c} h valid w is none left pending =
@@ -137,28 +140,28 @@ answer-by m (endings.Failed Bad) from to a c l n h valid w result done =
     bad : (text : List ℕ) × (h.last ≡ text ∷ []) × HearsBlock h.at (a.number + length h.texts + 1) text (Err Bad) to
         → AnswersBlock m a.number (Err (faults.Bad c.number)) c (lines_left a l) (lines_left c n) (h.texts ++ h.last)
     bad (text, last, (same, none)) =
-        refuses m (faults.Bad c.number) bad_block c.number h (λ _. Unit {0}) (refl, refl)
-        (λ rest _. reads-last m h valid w text last rest (Refused bad_block c.number)
+        refuses m (faults.Bad c.number) BadBlock c.number h (λ _. Unit {0}) (refl, refl)
+        (λ rest _. reads-last m h valid w text last rest (Refused BadBlock c.number)
         (refl, (refl, heard-refused m h.at.builder h.texts text valid w.so_far (subst (λ (x : Model). option_and_then (with_entry x h.at.builder) (entry_of text) ≡ None) w.of_model none)))) tt tt
 answer-by m (endings.Failed Memory) from to a c l n h valid w result done =
     subst (λ (r : Result Block BlockFault). AnswersBlock m a.number r c (lines_left a l) (lines_left c n) (h.texts ++ h.last)) (sym done) tt
 answer-by m endings.InputEnded from to a c l n h valid w result done =
     subst (λ (r : Result Block BlockFault). AnswersBlock m a.number r c (lines_left a l) (lines_left c n) (h.texts ++ h.last)) (sym done)
-    (refuses m (faults.Bad (c.number + 1)) bad_block (c.number + 1) h (λ rest. rest ≡ []) (refl, refl)
-    (λ rest none. reads-none m h valid w h.ends.0 rest (Refused bad_block (c.number + 1)) (refl, subst (λ (x : List Line). Refuses m h.texts x bad_block) (sym none) refl)) h.ends.1 (none-pending-lines c h.rests.1))
+    (refuses m (faults.Bad (c.number + 1)) BadBlock (c.number + 1) h (λ rest. rest ≡ []) (refl, refl)
+    (λ rest none. reads-none m h valid w h.ends.0 rest (Refused BadBlock (c.number + 1)) (refl, subst (λ (x : List Line). Refuses m h.texts x BadBlock) (sym none) refl)) h.ends.1 (none-pending-lines c h.rests.1))
 answer-by m (endings.Fault line_faults.LineTooLong) from to a c l n h valid w result done =
     subst (λ (r : Result Block BlockFault). AnswersBlock m a.number r c (lines_left a l) (lines_left c n) (h.texts ++ h.last)) (sym done)
-    (refuses-fault m (faults.LineTooLong (c.number + 1)) 2 h valid w (refl, refl) h.ends.0 h.ends.1 h.rests)
+    (refuses-fault m (faults.LineTooLong (c.number + 1)) codes.LineTooLong h valid w (refl, refl) h.ends.0 h.ends.1 h.rests)
 answer-by m (endings.Fault line_faults.InputTooLong) from to a c l n h valid w result done =
     subst (λ (r : Result Block BlockFault). AnswersBlock m a.number r c (lines_left a l) (lines_left c n) (h.texts ++ h.last)) (sym done)
-    (refuses-fault m (faults.InputTooLong (c.number + 1)) 3 h valid w (refl, refl) h.ends.0 h.ends.1 h.rests)
+    (refuses-fault m (faults.InputTooLong (c.number + 1)) codes.InputTooLong h valid w (refl, refl) h.ends.0 h.ends.1 h.rests)
 answer-by m (endings.Fault line_faults.ReadFault) from to a c l n h valid w result done =
     subst (λ (r : Result Block BlockFault). AnswersBlock m a.number r c (lines_left a l) (lines_left c n) (h.texts ++ h.last)) (sym done) undecided
   where
     undecided : AnswersBlock m a.number (Err faults.ReadFault) c (lines_left a l) (lines_left c n) (h.texts ++ h.last)
     undecided =
-        subst (λ (x : List Line). ReadsAs m a.number x (Refused bad_block (c.number + 1))) (append-nil (text_lines (h.texts ++ h.last)))
-        (reads-none m h valid w h.ends.0 [] (Refused bad_block (c.number + 1)) (refl, refl))
+        subst (λ (x : List Line). ReadsAs m a.number x (Refused BadBlock (c.number + 1))) (append-nil (text_lines (h.texts ++ h.last)))
+        (reads-none m h valid w h.ends.0 [] (Refused BadBlock (c.number + 1)) (refl, refl))
 
 pub reads-all : (m : Model) (ending : Ending TakeFault) (from to : BlockReader) (a c : Reader) (l n : Option (List ℕ)) → Listens HearsBlock ending from to a c l n → IsValid m → IsStart m from
     → (result : Result Block BlockFault) (k : ℕ) → ConcludesBlock m ending to.builder k result → k ≡ c.number → ReadsBlockBy m result a c l n
@@ -190,11 +193,11 @@ ready-on (Err f) m d new text is heard q = cc
 
 -- ---- what the answers say
 
-fault-line : (m : Model) (first last : ℕ) (f : BlockFault) (before : List Line) (code line : ℕ) → IsFault f code line → ReadsAs m first before (Refused code line) → (after : List Line)
+fault-line : (m : Model) (first last : ℕ) (f : BlockFault) (before : List Line) (code : Code) (line : ℕ) → IsFault f code line → ReadsAs m first before (Refused code line) → (after : List Line)
     → IsBlockReading m (Err f) first last before after
-fault-line m first last (faults.Bad line) before code number f e after = subst (ReadsAs m first before) (ap (λ k. Refused k number) f.0 ∙ ap (λ k. Refused bad_block k) (sym f.1)) e
-fault-line m first last (faults.LineTooLong line) before code number f e after = subst (ReadsAs m first before) (ap (λ k. Refused k number) f.0 ∙ ap (λ k. Refused 2 k) (sym f.1)) e
-fault-line m first last (faults.InputTooLong line) before code number f e after = subst (ReadsAs m first before) (ap (λ k. Refused k number) f.0 ∙ ap (λ k. Refused 3 k) (sym f.1)) e
+fault-line m first last (faults.Bad line) before code number f e after = subst (ReadsAs m first before) (ap (λ k. Refused k number) f.0 ∙ ap (λ k. Refused BadBlock k) (sym f.1)) e
+fault-line m first last (faults.LineTooLong line) before code number f e after = subst (ReadsAs m first before) (ap (λ k. Refused k number) f.0 ∙ ap (λ k. Refused codes.LineTooLong k) (sym f.1)) e
+fault-line m first last (faults.InputTooLong line) before code number f e after = subst (ReadsAs m first before) (ap (λ k. Refused k number) f.0 ∙ ap (λ k. Refused codes.InputTooLong k) (sym f.1)) e
 fault-line m first last faults.ReadFault before code number f e after = tt
 fault-line m first last faults.Memory before code number f e after = tt
 
@@ -220,7 +223,7 @@ pub reads-block : (m : Model) (a c : Reader) (l n : Option (List ℕ)) (result :
 reads-block m a c l n result r = reading-by m a.number c (lines_left a l) (lines_left c n) r.texts result r.passes.follows r.answer
 
 -- a fault has one code and one line
-one-fault : (f g : BlockFault) (code line k at : ℕ) → f ≡ g → IsFault f code line → IsFault g k at → Refused code line ≡ Refused k at
+one-fault : (f g : BlockFault) (code : Code) (line : ℕ) (k : Code) (at : ℕ) → f ≡ g → IsFault f code line → IsFault g k at → Refused code line ≡ Refused k at
 one-fault (faults.Bad x) (faults.Bad y) code line k at e f g = let same : x ≡ y = cc in cc
 one-fault (faults.LineTooLong x) (faults.LineTooLong y) code line k at e f g = let same : x ≡ y = cc in cc
 one-fault (faults.InputTooLong x) (faults.InputTooLong y) code line k at e f g = let same : x ≡ y = cc in cc

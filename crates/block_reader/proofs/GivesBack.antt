@@ -1,6 +1,7 @@
 -- A call that reads the text of an answer gives that answer.
 use Rattle.std.proofs.Common.{◌≡◌, ℕ, List, ◌++◌, Result, Ok, Err, Some, None, ap, subst}
 use Rattle.std.specs.declared.option.Option.{Option}
+use Rattle.evac_law.specs.declared.code.Code.{Code}
 use Rattle.evac_law.specs.declared.model.Model.{Model}
 use Rattle.evac_law.specs.declared.plan.Move.{Move}
 use Rattle.evac_law.specs.Building.{IsValid}
@@ -17,7 +18,7 @@ use Rattle.certificate_text.specs.BlockText.{answer_text}
 use Rattle.certificate_text.proofs.AnswerBack.{reads_back}
 use Rattle.block_reader.proofs.OneReading.{one-reading}
 
-stated-not : (m : Model) (first : ℕ) (lines : List Line) (block : Block) (at : ℕ) (behind : List Line) (code line : ℕ) → IsValid m → ReadsAs m first lines (Stated block at behind)
+stated-not : (m : Model) (first : ℕ) (lines : List Line) (block : Block) (at : ℕ) (behind : List Line) (code : Code) (line : ℕ) → IsValid m → ReadsAs m first lines (Stated block at behind)
     → ReadsAs m first lines (Refused code line) → ⊥
 stated-not m first lines block at behind code line valid is h =
     let same : Stated block at behind ≡ Refused code line = one-reading m first lines (Stated block at behind) (Refused code line) valid is h in cc

@@ -2,6 +2,7 @@
 use Rattle.std.proofs.Common.{◌≡◌, ℕ, ◌+◌, ◌⊎◌, true, false, List, [], ◌∷◌, ◌++◌, length, map, Ok, Err, Some, refl, sym, subst, ap, ap₂, ◌∙◌, inl, inr, append_assoc, append-nil}
 use Rattle.std.specs.List.{All, enumerate_from}
 use Rattle.std.proofs.lemmas.List.Elements.{All-append, All-cons, All-head, All-map, All-nil, All-tail}
+use Rattle.evac_law.specs.declared.code.Code.{Code}
 use Rattle.evac_law.specs.declared.model.Model.{Model}
 use Rattle.evac_law.specs.Building.{IsValid}
 use Rattle.evac_law.specs.LabelTable.{label_at}
@@ -123,12 +124,12 @@ too-far m xs ys a b number r h begins g =
 
 -- ---- one end
 
-one-code : (m : Model) (xs : List (List ℕ)) (lines : List Line) (code other : ℕ) → Refuses m xs lines code → Refuses m xs lines other → code ≡ other
+one-code : (m : Model) (xs : List (List ℕ)) (lines : List Line) (code other : Code) → Refuses m xs lines code → Refuses m xs lines other → code ≡ other
 one-code m xs [] code other h g = h ∙ sym g
 one-code m xs (Err fault ∷ lines) code other h g = h ∙ sym g
 one-code m xs (Ok text ∷ lines) code other h g = h.0 ∙ sym g.0
 
-stated-or : (m : Model) (xs : List (List ℕ)) (lines : List Line) (number : ℕ) (block : Block) (last : ℕ) (rest : List Line) (code : ℕ)
+stated-or : (m : Model) (xs : List (List ℕ)) (lines : List Line) (number : ℕ) (block : Block) (last : ℕ) (rest : List Line) (code : Code)
     → EndsBlock m xs lines number (Stated block last rest) → Refuses m xs lines code → ⊥
 stated-or m xs lines number block last rest code h refuses = (subst (λ (l : List Line). Refuses m xs l code) h.1.1 refuses).1 block [] h.1.2
 

@@ -5,7 +5,6 @@ use Rattle.line_io.specs.declared.hearing.Heard.{Heard}
 use Rattle.line_io.specs.declared.hearing.Heard.TheVariants.{More, Last}
 use Rattle.line_io.specs.declared.hearing.Refusal.{Refusal}
 use Rattle.line_io.specs.declared.hearing.Refusal.TheVariants as refusals
-use Rattle.line_io.specs.declared.hearing.Refusal.TheVariants.{Code}
 use Rattle.building_table.specs.declared.read.ModelReader.{ModelReader}
 use Rattle.building_table.specs.Built.{built_of}
 use Rattle.building_table.specs.Reads.{TakesStep, HearsFirst, HearsModel, HearsStep}
@@ -19,7 +18,7 @@ later-at : (result : Result Heard Refusal) (step : Step) (version : ℕ) (taken 
     → HearsStep result step new
 later-at (Ok More) step version taken new are still h = (InModel version h.0, h.1, (still, h.2, h.3))
 later-at (Ok Last) step version taken new are still h = (taken, h.0, are, h.1)
-later-at (Err (Code code)) step version taken new are still h = h
+later-at (Err (refusals.Code code)) step version taken new are still h = h
 later-at (Err refusals.Memory) step version taken new are still h = tt
 
 -- a line behind the header of a version

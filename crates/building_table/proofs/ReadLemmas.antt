@@ -1,8 +1,10 @@
 -- Reading a model, line by line.
 use Rattle.std.proofs.Common.{◌≡◌, ℕ, ◌+◌, List, [], ◌∷◌, ◌++◌, length, Result, Ok, Err, Some, None, IfOk, refl, sym, ap, subst, ◌∙◌, append-nil}
 use Rattle.std.specs.declared.option.Option.{Option}
+use Rattle.evac_law.specs.declared.code.Code.{Code}
+use Rattle.evac_law.specs.declared.code.Code.TheVariants.{LineTooLong, InputTooLong, MissingEnd}
 use Rattle.line_io.specs.Hearing.{Listens}
-use Rattle.line_io.specs.Line.{input_too_long, line_too_long, text_lines}
+use Rattle.line_io.specs.Line.{text_lines}
 use Rattle.line_io.specs.Passes.{Follows, IsLeft, Passes}
 use Rattle.line_io.specs.Reader.{lines_left, pending_lines}
 use Rattle.line_io.specs.View.{Reader}
@@ -10,7 +12,6 @@ use Rattle.line_io.specs.declared.hearing.Ending.{Ending}
 use Rattle.line_io.specs.declared.hearing.Ending.TheVariants.{Finished, Failed, InputEnded, Fault}
 use Rattle.line_io.specs.declared.hearing.Refusal.{Refusal}
 use Rattle.line_io.specs.declared.hearing.Refusal.TheVariants as refusals
-use Rattle.line_io.specs.declared.hearing.Refusal.TheVariants.{Code}
 use Rattle.line_io.specs.declared.lines.LineFault.TheVariants as line_faults
 use Rattle.line_io.proofs.HearingLemmas.{Comes, GoesOn, comes, last-number, means-last, means-rest}
 use Rattle.line_io.proofs.PassLemmas.{none-pending-lines, passes-none, passes-taken}
@@ -24,7 +25,6 @@ use Rattle.building_table.specs.Built.{IsBuilding}
 use Rattle.building_table.specs.Names.{NameTable, NamesFit, arc_ends, node_names}
 use Rattle.building_table.specs.Passes.{ReadsLines, ReadsModel}
 use Rattle.building_table.specs.Reads.{IsInState, HearsModel, Finishes, AnswersBy, ReadsBy, ConcludesModel}
-use Rattle.model_text.specs.Codes.{missing_end}
 use Rattle.model_text.specs.Grammar.{SaidPart}
 use Rattle.model_text.specs.Readings.{Line, Refused, ReadingState, AtStart, Step, Ended, Stopped, step_unless, end_step, step_at, after_step, reading_at, opening_of}
 use Rattle.model_text.specs.Taken.{Description, description_of}
@@ -35,11 +35,11 @@ line-step : (x : ReadingState) (n : ℕ) (t : List ℕ) (rest : List Line) → r
 unfolding reading_at
 line-step x n t rest = refl
 
-no-line : (x : ReadingState) (n : ℕ) → reading_at x n [] ≡ Refused missing_end (n + 1)
+no-line : (x : ReadingState) (n : ℕ) → reading_at x n [] ≡ Refused MissingEnd (n + 1)
 unfolding reading_at
 no-line x n = refl
 
-bad-line : (x : ReadingState) (n k : ℕ) → reading_at x n (Err k ∷ []) ≡ Refused k (n + 1)
+bad-line : (x : ReadingState) (n : ℕ) (k : Code) → reading_at x n (Err k ∷ []) ≡ Refused k (n + 1)
 unfolding reading_at
 bad-line x n k = refl
 
@@ -75,7 +75,7 @@ ends-model a c l n texts taken rest p left means (Err ReadFault) h = absurd h
 ends-model a c l n texts taken rest p left means (Err Memory) h = record { texts = texts; passes = p; answer = tt }
 
 -- the lines are refused, where such lines follow those that went by
-refuses : (code line : ℕ) {ending : Ending Refusal} {from to : ModelReader} {a c : Reader} {l n : Option (List ℕ)} (h : Listens HearsModel ending from to a c l n) (Behind : List Line → Type 0)
+refuses : (code : Code) (line : ℕ) {ending : Ending Refusal} {from to : ModelReader} {a c : Reader} {l n : Option (List ℕ)} (h : Listens HearsModel ending from to a c l n) (Behind : List Line → Type 0)
     → ((rest : List Line) → Behind rest → opening_of a.number (text_lines (h.texts ++ h.last) ++ rest) ≡ Refused code line) → Behind h.rest → Behind (pending_lines c)
     → (result : Result Building ModelFault) → result ≡ Err (Named code line) → ReadsBy result a c l n
 refuses code line {ending} {from} {to} {a} {c} {l} {n} h behind refused left pending result is = subst (λ (r : Result Building ModelFault). ReadsBy r a c l n) (sym is) (record {
@@ -90,19 +90,19 @@ reads-by Finished a c l n from to h w result done =
     let t = h.ends.0 in
     let heard = h.ends.2 w.place w.is in
     ends-model a c l n (h.texts ++ h.last) heard.0 h.rest h.passes h.is_left (step-last h w t h.ends.1 (end_step heard.0) heard.1) result (done heard.0 heard.2 heard.3)
-reads-by (Failed (Code code)) a c l n from to h w result done =
+reads-by (Failed (refusals.Code code)) a c l n from to h w result done =
     let heard = h.ends.2 w.place w.is in
     refuses code c.number h (λ _. Unit {0}) (λ rest _. step-last h w h.ends.0 h.ends.1 (Stopped code) heard rest) tt tt result done
 reads-by (Failed refusals.Memory) a c l n from to h w result done =
     subst (λ (r : Result Building ModelFault). ReadsBy r a c l n) (sym done) (record { texts = h.texts ++ h.last; passes = h.passes; answer = tt })
 reads-by InputEnded a c l n from to h w result done =
-    refuses missing_end (c.number + 1) h (λ rest. rest ≡ []) (λ rest none. means-rest IsInState reading_at h AtStart w h.ends.0 rest ∙ ap (reading_at w.place c.number) none ∙ no-line w.place c.number)
+    refuses MissingEnd (c.number + 1) h (λ rest. rest ≡ []) (λ rest none. means-rest IsInState reading_at h AtStart w h.ends.0 rest ∙ ap (reading_at w.place c.number) none ∙ no-line w.place c.number)
     h.ends.1 (none-pending-lines c h.rests.1) result done
 reads-by (Fault line_faults.LineTooLong) a c l n from to h w result done =
-    refuses line_too_long (c.number + 1) h (λ rest. rest ≡ Err line_too_long ∷ []) (λ rest bad. means-rest IsInState reading_at h AtStart w h.ends.0 rest ∙ ap (reading_at w.place c.number) bad ∙ bad-line w.place c.number line_too_long)
+    refuses LineTooLong (c.number + 1) h (λ rest. rest ≡ Err LineTooLong ∷ []) (λ rest bad. means-rest IsInState reading_at h AtStart w h.ends.0 rest ∙ ap (reading_at w.place c.number) bad ∙ bad-line w.place c.number LineTooLong)
     h.ends.1 h.rests result done
 reads-by (Fault line_faults.InputTooLong) a c l n from to h w result done =
-    refuses input_too_long (c.number + 1) h (λ rest. rest ≡ Err input_too_long ∷ []) (λ rest bad. means-rest IsInState reading_at h AtStart w h.ends.0 rest ∙ ap (reading_at w.place c.number) bad ∙ bad-line w.place c.number input_too_long)
+    refuses InputTooLong (c.number + 1) h (λ rest. rest ≡ Err InputTooLong ∷ []) (λ rest bad. means-rest IsInState reading_at h AtStart w h.ends.0 rest ∙ ap (reading_at w.place c.number) bad ∙ bad-line w.place c.number InputTooLong)
     h.ends.1 h.rests result done
 reads-by (Fault line_faults.ReadFault) a c l n from to h w result done =
     subst (λ (r : Result Building ModelFault). ReadsBy r a c l n) (sym done) (record {

@@ -1,26 +1,27 @@
 -- What a part does to what a builder holds is what it does to the parts.
 use Rattle.std.proofs.Common.{◌≡◌, ℕ, Bool, nat_le, List, [], ◌∷◌, ◌++◌, map, Result, Ok, Err, Some, None, OnOk, IfErr, refl, sym, ap, subst, ◌∙◌}
 use Rattle.std.proofs.lemmas.List.{length-map, map-append}
+use Rattle.evac_law.specs.declared.code.Code.{Code}
+use Rattle.evac_law.specs.declared.code.Code.TheVariants.{RepeatedSetting, TooMany}
 use Rattle.evac_law.specs.Limits.{floor_limit}
 use Rattle.evac_law.specs.declared.name.NodeName.{NodeName}
 use Rattle.building_table.specs.declared.faults.BuildFault.{BuildFault}
 use Rattle.building_table.specs.Built.{Built, built_of, build_code}
 use Rattle.building_table.specs.Taking.{Takes, title_checks, period_checks, horizon_checks, floor_checks, room_checks, exit_checks, arc_checks, window_checks, entrant_checks, with_floor, adding_node, adding_arc, adding_window, adding_entrant, holds_floor}
-use Rattle.model_text.specs.Codes.{repeated_setting, too_many}
 use Rattle.model_text.specs.Grammar.{SaidPart, Title, Period, Horizon, Floor, Node, Exit, Arc, Window, Entrant}
 use Rattle.model_text.specs.Taken.{first_code, part_fault, floors_of}
 
 -- the checks and what is held then are those of the parts
-pub IsSame : SaidPart → List (Bool × ℕ) → Built → Built → Type 0
+pub IsSame : SaidPart → List (Bool × Code) → Built → Built → Type 0
 IsSame s checks old after = (before : List SaidPart) → old ≡ built_of before → (part_fault before s ≡ first_code checks) × (after ≡ built_of (s ∷ before))
 
-pub take-ok : (result : Result (Unit {0}) BuildFault) (s : SaidPart) (checks : List (Bool × ℕ)) (old new after : Built) → Takes result checks old new after → IsSame s checks old after
+pub take-ok : (result : Result (Unit {0}) BuildFault) (s : SaidPart) (checks : List (Bool × Code)) (old new after : Built) → Takes result checks old new after → IsSame s checks old after
     → OnOk result ((before : List SaidPart) → old ≡ built_of before → (part_fault before s ≡ None) × (new ≡ built_of (s ∷ before)))
 unfolding IsSame
 take-ok (Ok u) s checks old new after t same = λ before e. let k = same before e in (k.0 ∙ t.right, t.made ∙ k.1)
 take-ok (Err f) s checks old new after t same = tt
 
-pub take-fault : (result : Result (Unit {0}) BuildFault) (s : SaidPart) (checks : List (Bool × ℕ)) (old new after : Built) → Takes result checks old new after → IsSame s checks old after
+pub take-fault : (result : Result (Unit {0}) BuildFault) (s : SaidPart) (checks : List (Bool × Code)) (old new after : Built) → Takes result checks old new after → IsSame s checks old after
     → IfErr result (λ f. (before : List SaidPart) → old ≡ built_of before → part_fault before s ≡ build_code f)
 unfolding IsSame
 take-fault (Ok u) s checks old new after t same = tt
@@ -56,7 +57,7 @@ same-floor f t old = λ before e.
     let P : Built → Type 0 = λ b. (part_fault before (Floor f t) ≡ first_code (floor_checks b f)) × (with_floor b f t ≡ built_of (Floor f t ∷ before)) in
     let b = built_of before in
     subst P (sym e)
-    (ap (λ n. first_code ((holds_floor b f, repeated_setting) ∷ (nat_le floor_limit n, too_many) ∷ [])) (sym (length-map (floors_of before) (λ (x : ℕ × List ℕ). x.0))), floor-held f t before)
+    (ap (λ n. first_code ((holds_floor b f, RepeatedSetting) ∷ (nat_le floor_limit n, TooMany) ∷ [])) (sym (length-map (floors_of before) (λ (x : ℕ × List ℕ). x.0))), floor-held f t before)
 
 pub same-room : (name : NodeName) (capacity start : ℕ) (old : Built) → IsSame (Node name capacity start) (room_checks old name capacity start) old (adding_node old name capacity start)
 unfolding IsSame part_fault

@@ -1,6 +1,8 @@
 -- What a builder holds after some parts, and the faults of a part and of an end.
 use Rattle.std.specs.Prelude.{◌≡◌, ℕ, List, map, Some, None}
 use Rattle.std.specs.declared.option.Option.{Option}
+use Rattle.evac_law.specs.declared.code.Code.{Code}
+use Rattle.evac_law.specs.declared.code.Code.TheVariants.{RepeatedSetting, UnknownFloor, RepeatedNode, OverFull, UnknownNode, SameNode, FromExit, RepeatedArc, TooMany, MissingSetting, NoExit, TooLarge, BadWindow, WindowOverlap, TooManyWindows, EntrantLate, RepeatedEntrant, NoArc, ExitNamed}
 use Rattle.evac_law.specs.declared.entrant.Entrant.{Entrant}
 use Rattle.evac_law.specs.declared.model.ArcRow.{ArcRow}
 use Rattle.evac_law.specs.declared.model.NodeRow.{NodeRow}
@@ -9,8 +11,9 @@ use Rattle.building_table.specs.declared.faults.BuildFault.{BuildFault}
 use Rattle.building_table.specs.declared.faults.BuildFault.TheVariants as build
 use Rattle.building_table.specs.declared.faults.EndFault.{EndFault}
 use Rattle.building_table.specs.declared.faults.EndFault.TheVariants as ends
+use Rattle.building_table.specs.declared.faults.NameFault.{NameFault}
+use Rattle.building_table.specs.declared.faults.NameFault.TheVariants as name_faults
 use Rattle.building_table.specs.Names.{names_of}
-use Rattle.model_text.specs.Codes.{repeated_setting, unknown_floor, repeated_node, over_full, unknown_node, self_arc, from_exit, repeated_arc, too_many, missing_setting, no_exit, too_large, unknown_arc, bad_window, window_overlap, too_many_windows, exit_named, repeated_entrant, entrant_late}
 use Rattle.model_text.specs.Grammar.{SaidPart}
 use Rattle.model_text.specs.Taken.{Description, title_of, seconds_of, horizon_of, floors_of, nodes_of, arcs_of, entrants_of}
 
@@ -40,30 +43,35 @@ built_of taken =
     }
 
 -- the code of a fault; want of memory has none, and comes only where there is no other fault
-abbrev pub build_code : BuildFault → Option ℕ
-build_code build.RepeatedSetting = Some repeated_setting
-build_code build.UnknownFloor = Some unknown_floor
-build_code build.RepeatedNode = Some repeated_node
-build_code build.OverFull = Some over_full
-build_code build.UnknownNode = Some unknown_node
-build_code build.SelfArc = Some self_arc
-build_code build.FromExit = Some from_exit
-build_code build.RepeatedArc = Some repeated_arc
-build_code build.TooMany = Some too_many
-build_code build.NoArc = Some unknown_arc
-build_code build.BadWindow = Some bad_window
-build_code build.WindowOverlap = Some window_overlap
-build_code build.TooManyWindows = Some too_many_windows
-build_code build.ExitNamed = Some exit_named
-build_code build.RepeatedEntrant = Some repeated_entrant
+abbrev pub build_code : BuildFault → Option Code
+build_code build.RepeatedSetting = Some RepeatedSetting
+build_code build.UnknownFloor = Some UnknownFloor
+build_code build.RepeatedNode = Some RepeatedNode
+build_code build.OverFull = Some OverFull
+build_code build.UnknownNode = Some UnknownNode
+build_code build.SelfArc = Some SameNode
+build_code build.FromExit = Some FromExit
+build_code build.RepeatedArc = Some RepeatedArc
+build_code build.TooMany = Some TooMany
+build_code build.NoArc = Some NoArc
+build_code build.BadWindow = Some BadWindow
+build_code build.WindowOverlap = Some WindowOverlap
+build_code build.TooManyWindows = Some TooManyWindows
+build_code build.ExitNamed = Some ExitNamed
+build_code build.RepeatedEntrant = Some RepeatedEntrant
 build_code build.Memory = None
 
-abbrev pub end_code : EndFault → Option ℕ
-end_code ends.MissingSetting = Some missing_setting
-end_code ends.NoExit = Some no_exit
-end_code ends.TooLarge = Some too_large
-end_code ends.EntrantLate = Some entrant_late
+abbrev pub end_code : EndFault → Option Code
+end_code ends.MissingSetting = Some MissingSetting
+end_code ends.NoExit = Some NoExit
+end_code ends.TooLarge = Some TooLarge
+end_code ends.EntrantLate = Some EntrantLate
 end_code ends.Memory = None
+
+-- the code of a name that isn't there
+abbrev pub name_code : NameFault → Code
+name_code name_faults.UnknownNode = UnknownNode
+name_code name_faults.NoArc = NoArc
 
 -- a building with the model and the names of a description
 pub record IsBuilding (b : Building) (d : Description) : Type 0 where

@@ -1,6 +1,8 @@
 -- What reading a model answers.
 use Rattle.std.specs.Prelude.{◌≡◌, ℕ, ◌+◌, List, [], Result, Ok, Err, Some, None, IfOk, ⊤}
 use Rattle.std.specs.declared.option.Option.{Option}
+use Rattle.evac_law.specs.declared.code.Code.{Code}
+use Rattle.evac_law.specs.declared.code.Code.TheVariants.{MissingEnd}
 use Rattle.line_io.specs.Line.{text_lines}
 use Rattle.line_io.specs.Passes.{Passes}
 use Rattle.line_io.specs.Reader.{taken_lines}
@@ -9,7 +11,6 @@ use Rattle.building_table.specs.declared.building.Building.{Building}
 use Rattle.building_table.specs.declared.faults.ModelFault.{ModelFault}
 use Rattle.building_table.specs.declared.faults.ModelFault.TheVariants.{Named, ReadFault, Memory}
 use Rattle.building_table.specs.Built.{IsBuilding}
-use Rattle.model_text.specs.Codes.{missing_end}
 use Rattle.model_text.specs.Readings.{Line, Described, Refused, opening_of}
 use Rattle.model_text.specs.Taken.{Description}
 
@@ -17,9 +18,9 @@ use Rattle.model_text.specs.Taken.{Description}
 pub record ReadsLines (result : Result Building ModelFault) (before after : Reader) (left left' : Option (List ℕ)) : Type 0 where
   pub texts : List (List ℕ)
   pub passes : Passes before after left left' texts
-  pub undecided : result ≡ Err ReadFault → opening_of before.number (text_lines texts) ≡ Refused missing_end (after.number + 1)
+  pub undecided : result ≡ Err ReadFault → opening_of before.number (text_lines texts) ≡ Refused MissingEnd (after.number + 1)
   -- a first fault is that of the lines of the bytes taken
-  pub refused : (code line : ℕ) → result ≡ Err (Named code line) → opening_of before.number (taken_lines before passes.taken) ≡ Refused code line
+  pub refused : (code : Code) (line : ℕ) → result ≡ Err (Named code line) → opening_of before.number (taken_lines before passes.taken) ≡ Refused code line
   pub described : IfOk result (λ building. (d : Description) × (opening_of before.number (text_lines texts) ≡ Described d after.number []) × IsBuilding building d)
 
 -- the building or the first fault of the lines left before, behind `first` lines; `last` is the line of the model's end, with `after` behind it

@@ -1,6 +1,8 @@
 -- What a part does to what a builder holds.
 use Rattle.std.specs.Prelude.{◌≡◌, ℕ, ◌+◌, ◌*◌, ◌≤◌, Bool, not, ◌||◌, ◌==◌, nat_lt, nat_le, List, [], ◌∷◌, ◌++◌, length, map, is_some, is_none, unwrap_or, Result, None, OnOk, OnErr, IfErr}
 use Rattle.std.specs.List.{list_any, sum_by}
+use Rattle.evac_law.specs.declared.code.Code.{Code}
+use Rattle.evac_law.specs.declared.code.Code.TheVariants.{RepeatedSetting, UnknownFloor, RepeatedNode, OverFull, UnknownNode, SameNode, FromExit, RepeatedArc, TooMany, MissingSetting, NoExit, TooLarge, BadWindow, WindowOverlap, TooManyWindows, EntrantLate, RepeatedEntrant, NoArc, ExitNamed}
 use Rattle.evac_law.specs.Limits.{floor_limit, node_limit, arc_limit, people_limit, cell_limit, window_limit}
 use Rattle.evac_law.specs.Building.{arc_row, node_row}
 use Rattle.evac_law.specs.Names.{is_exit}
@@ -13,7 +15,6 @@ use Rattle.evac_law.specs.declared.window.Window.{Window}
 use Rattle.building_table.specs.declared.faults.BuildFault.{BuildFault}
 use Rattle.building_table.specs.Built.{Built, build_code}
 use Rattle.building_table.specs.Names.{NameLists}
-use Rattle.model_text.specs.Codes.{repeated_setting, unknown_floor, repeated_node, over_full, unknown_node, self_arc, from_exit, repeated_arc, too_many, missing_setting, no_exit, too_large, unknown_arc, bad_window, window_overlap, too_many_windows, exit_named, repeated_entrant, entrant_late}
 use Rattle.model_text.specs.Taken.{closing, entrant_of, first_code, is_coming, joins, place_of_arc, place_of_node, same_name, arc_windows, with_entrant}
 
 -- whether it holds a floor of a number, a node of a name, an arc between two names, an entrant at a node and a moment
@@ -41,54 +42,54 @@ abbrev pub people_held : List NodeRow → List Entrant → ℕ
 people_held nodes entrants = sum_by (λ n. n.start) nodes + sum_by (λ e. e.people) entrants
 
 -- the checks of a part in their order, each with its code
-abbrev pub title_checks : Built → List (Bool × ℕ)
-title_checks b = (is_some b.title, repeated_setting) ∷ []
+abbrev pub title_checks : Built → List (Bool × Code)
+title_checks b = (is_some b.title, RepeatedSetting) ∷ []
 
-abbrev pub period_checks : Built → List (Bool × ℕ)
-period_checks b = (is_some b.seconds, repeated_setting) ∷ []
+abbrev pub period_checks : Built → List (Bool × Code)
+period_checks b = (is_some b.seconds, RepeatedSetting) ∷ []
 
-abbrev pub horizon_checks : Built → List (Bool × ℕ)
-horizon_checks b = (is_some b.horizon, repeated_setting) ∷ []
+abbrev pub horizon_checks : Built → List (Bool × Code)
+horizon_checks b = (is_some b.horizon, RepeatedSetting) ∷ []
 
-abbrev pub floor_checks : Built → ℕ → List (Bool × ℕ)
-floor_checks b floor = (holds_floor b floor, repeated_setting) ∷ (nat_le floor_limit (length b.floors), too_many) ∷ []
+abbrev pub floor_checks : Built → ℕ → List (Bool × Code)
+floor_checks b floor = (holds_floor b floor, RepeatedSetting) ∷ (nat_le floor_limit (length b.floors), TooMany) ∷ []
 
-abbrev pub room_checks : Built → NodeName → ℕ → ℕ → List (Bool × ℕ)
+abbrev pub room_checks : Built → NodeName → ℕ → ℕ → List (Bool × Code)
 room_checks b name capacity start =
-    (not (holds_floor b name.floor), unknown_floor) ∷ (holds_node b name, repeated_node) ∷ (nat_lt capacity start, over_full)
-    ∷ (nat_le node_limit (length b.nodes) || nat_lt people_limit (people_held b.nodes b.entrants + start), too_many) ∷ []
+    (not (holds_floor b name.floor), UnknownFloor) ∷ (holds_node b name, RepeatedNode) ∷ (nat_lt capacity start, OverFull)
+    ∷ (nat_le node_limit (length b.nodes) || nat_lt people_limit (people_held b.nodes b.entrants + start), TooMany) ∷ []
 
-abbrev pub exit_checks : Built → NodeName → List (Bool × ℕ)
+abbrev pub exit_checks : Built → NodeName → List (Bool × Code)
 exit_checks b name =
-    (not (holds_floor b name.floor), unknown_floor) ∷ (holds_node b name, repeated_node) ∷ (nat_le node_limit (length b.nodes), too_many) ∷ []
+    (not (holds_floor b name.floor), UnknownFloor) ∷ (holds_node b name, RepeatedNode) ∷ (nat_le node_limit (length b.nodes), TooMany) ∷ []
 
-abbrev pub arc_checks : Built → NodeName → NodeName → List (Bool × ℕ)
+abbrev pub arc_checks : Built → NodeName → NodeName → List (Bool × Code)
 arc_checks b start finish =
-    (not (holds_node b start), unknown_node) ∷ (not (holds_node b finish), unknown_node) ∷ (same_name start finish, self_arc)
-    ∷ (is_exit start.kind, from_exit) ∷ (holds_arc b start finish, repeated_arc) ∷ (nat_le arc_limit (length b.arcs), too_many) ∷ []
+    (not (holds_node b start), UnknownNode) ∷ (not (holds_node b finish), UnknownNode) ∷ (same_name start finish, SameNode)
+    ∷ (is_exit start.kind, FromExit) ∷ (holds_arc b start finish, RepeatedArc) ∷ (nat_le arc_limit (length b.arcs), TooMany) ∷ []
 
-abbrev pub window_checks : Built → NodeName → NodeName → ℕ → ℕ → List (Bool × ℕ)
+abbrev pub window_checks : Built → NodeName → NodeName → ℕ → ℕ → List (Bool × Code)
 window_checks b start finish first until =
-    (not (holds_node b start), unknown_node) ∷ (not (holds_node b finish), unknown_node) ∷ (not (holds_arc b start finish), unknown_arc)
-    ∷ (nat_le until first, bad_window) ∷ (list_any (λ v. overlaps v (window_of first until)) (windows_held b start finish), window_overlap)
-    ∷ (nat_le window_limit (length (windows_held b start finish)), too_many_windows) ∷ []
+    (not (holds_node b start), UnknownNode) ∷ (not (holds_node b finish), UnknownNode) ∷ (not (holds_arc b start finish), NoArc)
+    ∷ (nat_le until first, BadWindow) ∷ (list_any (λ v. overlaps v (window_of first until)) (windows_held b start finish), WindowOverlap)
+    ∷ (nat_le window_limit (length (windows_held b start finish)), TooManyWindows) ∷ []
 
 -- the last two of these, of the windows of the arc
-abbrev pub close_checks : List Window → Window → List (Bool × ℕ)
+abbrev pub close_checks : List Window → Window → List (Bool × Code)
 close_checks windows window =
-    (list_any (λ v. overlaps v window) windows, window_overlap) ∷ (nat_le window_limit (length windows), too_many_windows) ∷ []
+    (list_any (λ v. overlaps v window) windows, WindowOverlap) ∷ (nat_le window_limit (length windows), TooManyWindows) ∷ []
 
-abbrev pub entrant_checks : Built → NodeName → ℕ → ℕ → List (Bool × ℕ)
+abbrev pub entrant_checks : Built → NodeName → ℕ → ℕ → List (Bool × Code)
 entrant_checks b name moment people =
-    (not (holds_node b name), unknown_node) ∷ (is_exit name.kind, exit_named) ∷ (holds_entrant b name moment, repeated_entrant)
-    ∷ (nat_lt people_limit (people_held b.nodes b.entrants + people), too_many) ∷ []
+    (not (holds_node b name), UnknownNode) ∷ (is_exit name.kind, ExitNamed) ∷ (holds_entrant b name moment, RepeatedEntrant)
+    ∷ (nat_lt people_limit (people_held b.nodes b.entrants + people), TooMany) ∷ []
 
 -- the checks of the end
-abbrev pub end_checks : Built → List (Bool × ℕ)
+abbrev pub end_checks : Built → List (Bool × Code)
 end_checks b =
-    (is_none b.seconds || is_none b.horizon, missing_setting) ∷ (not (list_any (λ n. is_exit n.name.kind) b.nodes), no_exit)
-    ∷ (nat_lt cell_limit ((length b.nodes + length b.arcs) * (unwrap_or b.horizon 0 + 1)), too_large)
-    ∷ (list_any (λ e. nat_lt (unwrap_or b.horizon 0) e.moment) b.entrants, entrant_late) ∷ []
+    (is_none b.seconds || is_none b.horizon, MissingSetting) ∷ (not (list_any (λ n. is_exit n.name.kind) b.nodes), NoExit)
+    ∷ (nat_lt cell_limit ((length b.nodes + length b.arcs) * (unwrap_or b.horizon 0 + 1)), TooLarge)
+    ∷ (list_any (λ e. nat_lt (unwrap_or b.horizon 0) e.moment) b.entrants, EntrantLate) ∷ []
 
 -- with one more floor, node, arc, window or entrant
 abbrev pub with_floor : Built → ℕ → List ℕ → Built
@@ -109,7 +110,7 @@ adding_entrant b name moment people =
     record b { entrants = with_entrant b.entrants (entrant_of (place_of_node b.nodes name) moment people) }
 
 -- `Ok` comes where no check holds, and the builder then holds what it should; a fault is that of the first check that holds, and changes nothing
-pub record Takes (result : Result (Unit {0}) BuildFault) (checks : List (Bool × ℕ)) (old new after : Built) : Type 0 where
+pub record Takes (result : Result (Unit {0}) BuildFault) (checks : List (Bool × Code)) (old new after : Built) : Type 0 where
   pub right : OnOk result (first_code checks ≡ None)
   pub made : OnOk result (new ≡ after)
   pub fault : IfErr result (λ f. first_code checks ≡ build_code f)

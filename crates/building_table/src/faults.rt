@@ -1,7 +1,8 @@
 // Why a part, a model or a name is refused.
 ghost use Rattle.std.specs.Prelude.{◌≡◌};
-ghost use Rattle.building_table.specs.Built.{build_code, end_code};
+ghost use Rattle.building_table.specs.Built.{build_code, end_code, name_code};
 
+use evac_law::Code;
 use thiserror::Error;
 
 /// Why a part is refused among those before it.
@@ -59,8 +60,8 @@ pub enum EndFault {
 /// Why lines give no building.
 #[derive(Clone, Copy, PartialEq, Eq, Debug)]
 pub enum ModelFault {
-    /// The first fault of the lines, by its number and its line.
-    Named { code: u8, line: u32 },
+    /// The first fault of the lines, by its code and its line.
+    Named { code: Code, line: u32 },
     /// The source failed.
     ReadFault,
     /// There is no memory.
@@ -77,42 +78,54 @@ pub enum NameFault {
 }
 
 impl BuildFault {
-    /// The number by which a refusal names the fault; want of memory has none.
-    pub fn code(self) -> Option<u8>
+    /// The code by which a refusal names the fault; want of memory has none.
+    pub fn code(self) -> Option<Code>
         ensures { result ≡ build_code self }
     {
         match self {
-            BuildFault::RepeatedSetting => Some(9),
-            BuildFault::UnknownFloor => Some(10),
-            BuildFault::RepeatedNode => Some(11),
-            BuildFault::OverFull => Some(12),
-            BuildFault::UnknownNode => Some(13),
-            BuildFault::SelfArc => Some(14),
-            BuildFault::FromExit => Some(15),
-            BuildFault::RepeatedArc => Some(16),
-            BuildFault::TooMany => Some(17),
-            BuildFault::NoArc => Some(32),
-            BuildFault::BadWindow => Some(24),
-            BuildFault::WindowOverlap => Some(25),
-            BuildFault::TooManyWindows => Some(26),
-            BuildFault::ExitNamed => Some(37),
-            BuildFault::RepeatedEntrant => Some(29),
+            BuildFault::RepeatedSetting => Some(Code::RepeatedSetting),
+            BuildFault::UnknownFloor => Some(Code::UnknownFloor),
+            BuildFault::RepeatedNode => Some(Code::RepeatedNode),
+            BuildFault::OverFull => Some(Code::OverFull),
+            BuildFault::UnknownNode => Some(Code::UnknownNode),
+            BuildFault::SelfArc => Some(Code::SameNode),
+            BuildFault::FromExit => Some(Code::FromExit),
+            BuildFault::RepeatedArc => Some(Code::RepeatedArc),
+            BuildFault::TooMany => Some(Code::TooMany),
+            BuildFault::NoArc => Some(Code::NoArc),
+            BuildFault::BadWindow => Some(Code::BadWindow),
+            BuildFault::WindowOverlap => Some(Code::WindowOverlap),
+            BuildFault::TooManyWindows => Some(Code::TooManyWindows),
+            BuildFault::ExitNamed => Some(Code::ExitNamed),
+            BuildFault::RepeatedEntrant => Some(Code::RepeatedEntrant),
             BuildFault::Memory => None,
         }
     }
 }
 
 impl EndFault {
-    /// The number by which a refusal names the fault; want of memory has none.
-    pub fn code(self) -> Option<u8>
+    /// The code by which a refusal names the fault; want of memory has none.
+    pub fn code(self) -> Option<Code>
         ensures { result ≡ end_code self }
     {
         match self {
-            EndFault::MissingSetting => Some(18),
-            EndFault::NoExit => Some(19),
-            EndFault::TooLarge => Some(20),
-            EndFault::EntrantLate => Some(28),
+            EndFault::MissingSetting => Some(Code::MissingSetting),
+            EndFault::NoExit => Some(Code::NoExit),
+            EndFault::TooLarge => Some(Code::TooLarge),
+            EndFault::EntrantLate => Some(Code::EntrantLate),
             EndFault::Memory => None,
+        }
+    }
+}
+
+impl NameFault {
+    /// The code by which a refusal names the fault.
+    pub fn code(self) -> Code
+        ensures { result ≡ name_code self }
+    {
+        match self {
+            NameFault::UnknownNode => Code::UnknownNode,
+            NameFault::NoArc => Code::NoArc,
         }
     }
 }

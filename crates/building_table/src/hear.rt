@@ -11,12 +11,10 @@ ghost use Rattle.model_text.specs.Taken.{AreTaken};
 use crate::builder::Builder;
 use crate::building::Building;
 use crate::faults::ModelFault;
+use evac_law::Code;
 use line_io::{Heard, Refusal};
 use model_text::{Part, Statement, TextFault, read_later_line, read_line};
 use std::alloc::Global;
-
-// The code of a first line that is no header.
-const FIRST_LINE: u8 = 1;
 
 // Takes a part into a builder.
 fn hear_part(alloc: Global, builder: &mut Builder, part: Part<'_>) -> Result<Heard, Refusal>
@@ -58,7 +56,7 @@ pub(crate) fn hear_first(text: &[u8]) -> Result<Option<u32>, Refusal>
         Ok(Statement::Blank) => Ok(None),
         Ok(Statement::Header { version: 1 }) => Ok(Some(1)),
         Ok(Statement::Header { version: 2 }) => Ok(Some(2)),
-        _ => Err(Refusal::Code(FIRST_LINE)),
+        _ => Err(Refusal::Code(Code::FirstLine)),
     }
 }
 

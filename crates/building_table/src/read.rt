@@ -13,15 +13,9 @@ use crate::builder::Builder;
 use crate::building::Building;
 use crate::faults::ModelFault;
 use crate::hear::{finish, hear, hear_first};
+use evac_law::Code;
 use line_io::{Ending, Heard, LineFault, Lines, Listener, Refusal, Source, listen};
 use std::alloc::Global;
-
-// The codes of the faults that only the end of the lines tells.
-const LINE_TOO_LONG: u8 = 2;
-
-const INPUT_TOO_LONG: u8 = 3;
-
-const MISSING_END: u8 = 21;
 
 // What takes the lines of a model.
 #[derive(Drop)]
@@ -73,9 +67,9 @@ fn conclude(
             return Err(ModelFault::Named { code, line: number });
         }
         Ending::Failed(Refusal::Memory) => return Err(ModelFault::Memory),
-        Ending::InputEnded => MISSING_END,
-        Ending::Fault(LineFault::LineTooLong) => LINE_TOO_LONG,
-        Ending::Fault(LineFault::InputTooLong) => INPUT_TOO_LONG,
+        Ending::InputEnded => Code::MissingEnd,
+        Ending::Fault(LineFault::LineTooLong) => Code::LineTooLong,
+        Ending::Fault(LineFault::InputTooLong) => Code::InputTooLong,
         Ending::Fault(LineFault::ReadFault) => return Err(ModelFault::ReadFault),
     };
     Err(ModelFault::Named {

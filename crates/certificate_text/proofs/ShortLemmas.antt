@@ -5,6 +5,7 @@ use Rattle.std.specs.List.{flat_map}
 use Rattle.std.proofs.Math.ListN.{get_or-map}
 use Rattle.std.proofs.Math.Path.{fun_ext}
 use Rattle.std.proofs.lemmas.List.{length-map}
+use Rattle.evac_law.specs.declared.code.Code.TheVariants.{NotCleared}
 use Rattle.evac_law.specs.declared.model.Model.{Model}
 use Rattle.evac_law.specs.declared.model.NodeRow.{NodeRow}
 use Rattle.evac_law.specs.declared.name.NodeName.{NodeName}
@@ -13,7 +14,7 @@ use Rattle.evac_law.specs.Certificates.{label_cut}
 use Rattle.evac_law.specs.LabelTable.{LabelTable, label_at}
 use Rattle.evac_law.specs.Names.{is_exit, name_text}
 use Rattle.evac_law.specs.Sums.{below, moments_to}
-use Rattle.certificate_text.specs.BlockText.{end_line, in_line, in_lines, most_line, not_cleared, opens_run, people_line, refusal_line, run_end, shortfall_text}
+use Rattle.certificate_text.specs.BlockText.{end_line, in_line, in_lines, most_line, opens_run, people_line, refusal_line, run_end, shortfall_text}
 use Rattle.certificate_text.specs.Short.{HasSameNames}
 
 -- the cut of moment k by labels, of nodes with these names, in lines
@@ -40,13 +41,13 @@ lines-same m other l k same =
 
 -- the short block of a model with so many people in the place of its own
 unfoldable pub short_text : ℕ → Model → ℕ → LabelTable → ℕ → List ℕ
-short_text line m all l most = refusal_line not_cleared line ++ people_line all ++ most_line most ++ in_lines m (label_cut m l m.horizon) ++ end_line
+short_text line m all l most = refusal_line NotCleared line ++ people_line all ++ most_line most ++ in_lines m (label_cut m l m.horizon) ++ end_line
 
 pub short-same : (line : ℕ) (m other : Model) (all : ℕ) (l : LabelTable) (most : ℕ) → HasSameNames m other → people other ≡ all
     → short_text line m all l most ≡ shortfall_text line other (label_cut other l other.horizon) most
 unfolding short_text shortfall_text
 short-same line m other all l most same few =
-    ap₂ (λ (p : ℕ) (x : List ℕ). refusal_line not_cleared line ++ people_line p ++ most_line most ++ x ++ end_line) (sym few)
+    ap₂ (λ (p : ℕ) (x : List ℕ). refusal_line NotCleared line ++ people_line p ++ most_line most ++ x ++ end_line) (sym few)
     (lines-same m other l m.horizon same ∙ ap (λ (k : ℕ). in_lines other (label_cut other l k)) (sym same.horizon))
 
 -- a model itself has its names

@@ -2,6 +2,8 @@
 use Rattle.std.specs.Prelude.{◌≡◌, ℕ, ◌+◌, Bool, true, false, List, [], ◌∷◌, ◌++◌, length, map, Ok, Err, Some}
 use Rattle.std.specs.declared.option.Option.{Option}
 use Rattle.std.specs.List.{filter}
+use Rattle.evac_law.specs.declared.code.Code.TheVariants.{BadBlock}
+use Rattle.evac_law.specs.declared.code.Code.{Code}
 use Rattle.evac_law.specs.declared.model.Model.{Model}
 use Rattle.line_io.specs.Line.{Line, text_lines}
 use Rattle.certificate_text.specs.declared.block.Block.{Block}
@@ -10,10 +12,6 @@ use Rattle.certificate_text.specs.declared.entry.Entry.TheVariants.{Blank}
 use Rattle.certificate_text.specs.Block.{HasAllLabels, IsBlockOf}
 use Rattle.certificate_text.specs.BlockEntries.{entries_of}
 use Rattle.certificate_text.specs.Entries.{entry_of}
-
--- the code of a line that no block has there
-abbrev pub bad_block : ℕ
-bad_block = 51
 
 -- whether a line says anything: a blank one doesn't, and None is said by a line that no block has anywhere
 abbrev pub says_something : Option Entry → Bool
@@ -42,15 +40,15 @@ pub record Begins (m : Model) (texts : List (List ℕ)) : Type 0 where
   pub says : Says m texts block (next ∷ left)
 
 -- the first of the lines behind others is refused by a code: with it they begin no block of the model's, or it has a fault of its own, or there is none
-abbrev pub Refuses : Model → List (List ℕ) → List Line → ℕ → Type 0
-Refuses m texts [] code = code ≡ bad_block
+abbrev pub Refuses : Model → List (List ℕ) → List Line → Code → Type 0
+Refuses m texts [] code = code ≡ BadBlock
 Refuses m texts (Err fault ∷ lines) code = code ≡ fault
-Refuses m texts (Ok text ∷ lines) code = (code ≡ bad_block) × ((b : Block) (left : List Entry) → ¬ Says m (texts ++ (text ∷ [])) b left)
+Refuses m texts (Ok text ∷ lines) code = (code ≡ BadBlock) × ((b : Block) (left : List Entry) → ¬ Says m (texts ++ (text ∷ [])) b left)
 
 -- lines state a block and end it at the line `last`, with `rest` behind it; or they are refused, by a code and at a line
 pub data BlockReading : Type 0 where
   Stated : (block : Block) → (last : ℕ) → (rest : List Line) → BlockReading
-  Refused : (code : ℕ) → (line : ℕ) → BlockReading
+  Refused : (code : Code) → (line : ℕ) → BlockReading
 
 -- how lines behind those of `texts` end the block by their first, which has this number
 abbrev pub EndsBlock : Model → List (List ℕ) → List Line → ℕ → BlockReading → Type 0

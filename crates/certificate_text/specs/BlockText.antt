@@ -1,10 +1,13 @@
 -- The texts of blocks: of an answer, and of a cut that shows that not everybody can get out.
 use Rattle.std.specs.Prelude.{ℕ, zero, suc, ◌+◌, ◌-◌, Bool, not, ◌&&◌, ◌||◌, ◌==◌, if◌then◌else◌, min, List, [], ◌∷◌, ◌++◌, codes, decimal}
 use Rattle.std.specs.List.{flat_map}
+use Rattle.evac_law.specs.declared.code.Code.TheVariants.{NotCleared}
+use Rattle.evac_law.specs.declared.code.Code.{Code}
 use Rattle.line_io.specs.Text.{line_text}
 use Rattle.evac_law.specs.declared.model.Model.{Model}
 use Rattle.evac_law.specs.declared.plan.Move.{Move}
 use Rattle.evac_law.specs.Building.{is_exit_at, head, node_at, people, tail}
+use Rattle.evac_law.specs.Codes.{code_number}
 use Rattle.evac_law.specs.Cuts.{Cut}
 use Rattle.evac_law.specs.LabelTable.{LabelTable, label_at}
 use Rattle.evac_law.specs.Names.{name_text}
@@ -42,8 +45,8 @@ unfoldable pub end_line : List ℕ
 end_line = line_text (codes "end" ∷ [])
 
 -- a refusal by its code, at a line of the input
-unfoldable pub refusal_line : ℕ → ℕ → List ℕ
-refusal_line code line = line_text (codes "refused" ∷ decimal code ∷ decimal line ∷ [])
+unfoldable pub refusal_line : Code → ℕ → List ℕ
+refusal_line code line = line_text (codes "refused" ∷ decimal (code_number code) ∷ decimal line ∷ [])
 
 -- the value of a cut at the horizon
 unfoldable pub most_line : ℕ → List ℕ
@@ -116,10 +119,6 @@ node_in m x n = if is_exit_at m n then [] else flat_map (in_part m x n) (moments
 abbrev pub in_lines : Model → Cut → List ℕ
 in_lines m x = flat_map (node_in m x) (places m.nodes)
 
--- the code of a refusal because not everybody can get out in time
-abbrev pub not_cleared : ℕ
-not_cleared = 22
-
 -- the refusal of a model at a line, with a cut that is worth `most` at the horizon
 unfoldable pub shortfall_text : ℕ → Model → Cut → ℕ → List ℕ
-shortfall_text line m x most = refusal_line not_cleared line ++ people_line (people m) ++ most_line most ++ in_lines m x ++ end_line
+shortfall_text line m x most = refusal_line NotCleared line ++ people_line (people m) ++ most_line most ++ in_lines m x ++ end_line

@@ -5,7 +5,7 @@ ghost use Rattle.line_io.specs.Causes.{HasCause};
 ghost use Rattle.line_io.specs.Writer.{PutsText};
 ghost use Rattle.certificate_text.specs.BlockText.{answer_line, cleared_line, end_line, in_line, label_line, most_line, move_line, out_line, people_line, refusal_line};
 
-use evac_law::NodeName;
+use evac_law::{Code, NodeName};
 use line_io::{Out, Sink, TextLine, WriteFault};
 
 /// Puts a space and a name behind.
@@ -152,14 +152,14 @@ pub fn write_end<K: Sink>(out: &mut Out, sink: &mut K) -> Result<(), WriteFault>
 pub fn write_refusal<K: Sink>(
     out: &mut Out,
     sink: &mut K,
-    code: u8,
+    code: Code,
     line: u32,
 ) -> Result<(), WriteFault>
     ensures text { PutsText (K.held sink.old) out.old (refusal_line code line) (K.held sink.new) out.new result }
     ensures cause { HasCause (K.faults sink.old) (K.faults sink.new) result }
 {
     let mut text = TextLine::new(b"refused");
-    text.number(u64::from(code));
+    text.number(u64::from(code.number()));
     text.number(u64::from(line));
     text.put(out, sink)
 }

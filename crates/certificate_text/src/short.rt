@@ -11,11 +11,8 @@ ghost use Rattle.certificate_text.specs.BlockText.{in_lines, in_part, node_in, o
 ghost use Rattle.certificate_text.specs.Short.{HasSameNames};
 
 use crate::lines::{write_end, write_in, write_most, write_people, write_refusal};
-use evac_law::{Labels, Model};
+use evac_law::{Code, Labels, Model};
 use line_io::{Out, Sink, WriteFault};
-
-// The code of a refusal because not everybody can get out in time.
-const NOT_CLEARED: u8 = 22;
 
 // Whether a node is in the cut of moment k.
 fn is_inside(model: &Model, labels: &Labels, k: u16, node: u32, moment: u16) -> bool
@@ -156,7 +153,7 @@ pub fn write_short<K: Sink>(
         → PutsText (K.held sink.old) out.old (shortfall_text line of (label_cut of labels.now of.horizon) most) (K.held sink.new) out.new result }
     ensures cause { HasCause (K.faults sink.old) (K.faults sink.new) result }
 {
-    write_refusal(out, sink, NOT_CLEARED, line)?;
+    write_refusal(out, sink, Code::NotCleared, line)?;
     write_people(out, sink, people)?;
     write_most(out, sink, most)?;
     write_ins(out, sink, model, labels, model.horizon)?;

@@ -1,6 +1,8 @@
 -- What an edit does to a model, when it is refused, and which edit undoes it.
 use Rattle.std.specs.Prelude.{ℕ, ◌+◌, ◌-◌, ◌<◌, Bool, true, false, not, ◌||◌, if◌then◌else◌, ◌==◌, nat_le, nat_lt, List, [], ◌∷◌, length, slice_set, Result, Ok, Err}
 use Rattle.std.specs.List.{list_any}
+use Rattle.evac_law.specs.declared.code.Code.{Code}
+use Rattle.evac_law.specs.declared.code.Code.TheVariants as codes
 use Rattle.evac_law.specs.declared.model.NodeRow.{NodeRow}
 use Rattle.evac_law.specs.declared.model.ArcRow.{ArcRow}
 use Rattle.evac_law.specs.declared.model.Model.{Model}
@@ -115,18 +117,18 @@ inverse_of m (Unwindow a p q) = Window a p q
 abbrev pub applied : Model → Edit → Result (Model × Edit) EditFault
 applied m e = unless (checks m e) (edited m e, inverse_of m e)
 
--- the number by which a refusal names a fault
-abbrev pub fault_code : EditFault → ℕ
-fault_code OutOfRange = 7
-fault_code OverFull = 12
-fault_code SameNode = 14
-fault_code TooMany = 17
-fault_code AlreadyShut = 34
-fault_code AlreadyOpen = 35
-fault_code NotExit = 36
-fault_code ExitNamed = 37
-fault_code TooFew = 38
-fault_code BadWindow = 24
-fault_code WindowOverlap = 25
-fault_code TooManyWindows = 26
-fault_code NoWindow = 27
+-- the code by which a refusal names a fault
+abbrev pub fault_code : EditFault → Code
+fault_code OutOfRange = codes.OutOfRange
+fault_code OverFull = codes.OverFull
+fault_code SameNode = codes.SameNode
+fault_code TooMany = codes.TooMany
+fault_code AlreadyShut = codes.AlreadyShut
+fault_code AlreadyOpen = codes.AlreadyOpen
+fault_code NotExit = codes.NotExit
+fault_code ExitNamed = codes.ExitNamed
+fault_code TooFew = codes.TooFew
+fault_code BadWindow = codes.BadWindow
+fault_code WindowOverlap = codes.WindowOverlap
+fault_code TooManyWindows = codes.TooManyWindows
+fault_code NoWindow = codes.NoWindow

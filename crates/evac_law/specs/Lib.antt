@@ -1,5 +1,6 @@
 pub mod Building
 pub mod Certificates
+pub mod Codes
 pub mod Cuts
 pub mod Edits
 pub mod Entrants

@@ -4,6 +4,7 @@ ghost use Rattle.evac_law.specs.Building.{IsValid};
 ghost use Rattle.evac_law.specs.Edits.{IsEditOf, applied, fault_code};
 ghost use Rattle.evac_law.specs.Shapes.{HasSameShape};
 
+use crate::code::Code;
 use crate::limits::{CAPACITY_LIMIT, HORIZON_LIMIT, PEOPLE_LIMIT, RATE_LIMIT};
 use crate::model::Model;
 use crate::window::{Window, place_of};
@@ -57,24 +58,24 @@ pub enum EditFault {
 }
 
 impl EditFault {
-    /// The number by which a refusal names the fault.
-    pub fn code(self) -> u8
+    /// The code by which a refusal names the fault.
+    pub fn code(self) -> Code
         ensures { result ≡ fault_code self }
     {
         match self {
-            EditFault::OutOfRange => 7,
-            EditFault::OverFull => 12,
-            EditFault::SameNode => 14,
-            EditFault::TooMany => 17,
-            EditFault::AlreadyShut => 34,
-            EditFault::AlreadyOpen => 35,
-            EditFault::NotExit => 36,
-            EditFault::ExitNamed => 37,
-            EditFault::TooFew => 38,
-            EditFault::BadWindow => 24,
-            EditFault::WindowOverlap => 25,
-            EditFault::TooManyWindows => 26,
-            EditFault::NoWindow => 27,
+            EditFault::OutOfRange => Code::OutOfRange,
+            EditFault::OverFull => Code::OverFull,
+            EditFault::SameNode => Code::SameNode,
+            EditFault::TooMany => Code::TooMany,
+            EditFault::AlreadyShut => Code::AlreadyShut,
+            EditFault::AlreadyOpen => Code::AlreadyOpen,
+            EditFault::NotExit => Code::NotExit,
+            EditFault::ExitNamed => Code::ExitNamed,
+            EditFault::TooFew => Code::TooFew,
+            EditFault::BadWindow => Code::BadWindow,
+            EditFault::WindowOverlap => Code::WindowOverlap,
+            EditFault::TooManyWindows => Code::TooManyWindows,
+            EditFault::NoWindow => Code::NoWindow,
         }
     }
 }

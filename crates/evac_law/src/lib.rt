@@ -4,6 +4,7 @@
 //! crate speaks of buildings and plans by these definitions alone.
 #![tactic(auto)]
 
+mod code;
 mod cut;
 mod edit;
 mod entrant;
@@ -18,6 +19,7 @@ mod standing;
 mod steps;
 mod window;
 
+pub use code::Code;
 pub use cut::CutItem;
 pub use edit::{Edit, EditFault, apply};
 pub use entrant::Entrant;

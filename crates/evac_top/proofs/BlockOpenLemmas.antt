@@ -1,6 +1,8 @@
 -- Where the source failed, no whole line of a block ended the run.
 use Rattle.std.proofs.Common.{◌≡◌, ℕ, ◌+◌, List, [], ◌++◌, Result, Ok, Err, refl, sym, ap, subst, ◌∙◌, append_assoc}
 use Rattle.std.specs.declared.option.Option.{Option}
+use Rattle.evac_law.specs.declared.code.Code.{Code}
+use Rattle.evac_law.specs.declared.code.Code.TheVariants.{BadBlock}
 use Rattle.evac_law.specs.declared.model.Model.{Model}
 use Rattle.line_io.specs.Line.{Line, text_lines}
 use Rattle.line_io.specs.View.{Reader}
@@ -15,7 +17,7 @@ use Rattle.certificate_text.specs.declared.block.Block.{Block}
 use Rattle.block_reader.specs.declared.fault.BlockFault.{BlockFault}
 use Rattle.block_reader.specs.declared.fault.BlockFault.TheVariants as block_faults
 use Rattle.certificate_text.specs.BlockReadings as blocks
-use Rattle.certificate_text.specs.BlockReadings.{ReadsAs, bad_block}
+use Rattle.certificate_text.specs.BlockReadings.{ReadsAs}
 use Rattle.block_reader.specs.BlockReads.{ReadsBlockLines}
 use Rattle.evac_top.specs.Inputs.{Claimed, ClaimsBehind, IsClaimOf, IsOpenClaim, unless_fault}
 use Rattle.evac_top.specs.Reads.{IsFresh, PassesTail}
@@ -25,7 +27,7 @@ use Rattle.evac_top.proofs.TakeLemmas.{lines-count}
 -- ---- in the block
 
 -- the claim of a building's lines with further ones
-claim-further : (xs ys : List Line) (d : Description) (n : ℕ) (claim : Result Claimed (ℕ × ℕ)) → opening_of 0 xs ≡ Described d n [] → ClaimsBehind (Described d n ys) claim → IsClaimOf (xs ++ ys) claim
+claim-further : (xs ys : List Line) (d : Description) (n : ℕ) (claim : Result Claimed (Code × ℕ)) → opening_of 0 xs ≡ Described d n [] → ClaimsBehind (Described d n ys) claim → IsClaimOf (xs ++ ys) claim
 claim-further xs ys d n claim e h = subst (λ r. ClaimsBehind r claim) (sym (opening-further 0 xs ys d n [] e)) h
 
 pub open-in-block : (r0 r1 r2 : Reader) (l0 l1 l2 : Option (List ℕ)) (building : Building) (fault : BlockFault) → IsFresh r0 → (h : ReadsLines (Ok building) r0 r1 l0 l1)
@@ -34,12 +36,12 @@ open-in-block r0 r1 r2 l0 l1 l2 building fault fresh h g is =
     let d = h.described.0 in
     let texts = h.texts ++ g.texts in
     let p = passes-then r0 r1 r2 l0 l1 l2 h.texts g.texts h.passes g.passes in
-    let claim : Result Claimed (ℕ × ℕ) = Err (bad_block, r2.number + 1) in
-    let undecided : ReadsAs d.model r1.number (text_lines g.texts) (blocks.Refused bad_block (r2.number + 1)) =
-    subst (λ (m : Model). ReadsAs m r1.number (text_lines g.texts) (blocks.Refused bad_block (r2.number + 1))) h.described.2.model (g.undecided (ap Err is)) in
+    let claim : Result Claimed (Code × ℕ) = Err (BadBlock, r2.number + 1) in
+    let undecided : ReadsAs d.model r1.number (text_lines g.texts) (blocks.Refused BadBlock (r2.number + 1)) =
+    subst (λ (m : Model). ReadsAs m r1.number (text_lines g.texts) (blocks.Refused BadBlock (r2.number + 1))) h.described.2.model (g.undecided (ap Err is)) in
     let claimed : IsClaimOf (text_lines texts) claim =
     subst (λ l. IsClaimOf l claim) (sym (text_lines-append h.texts g.texts))
-    (claim-further (text_lines h.texts) (text_lines g.texts) d r1.number claim (described-lines r0 r1 l0 l1 building fresh h) (blocks.Refused bad_block (r2.number + 1), undecided, refl)) in
+    (claim-further (text_lines h.texts) (text_lines g.texts) d r1.number claim (described-lines r0 r1 l0 l1 building fresh h) (blocks.Refused BadBlock (r2.number + 1), undecided, refl)) in
     (claim, claimed, ap (λ k. k + 1) (lines-count r0 r2 l0 l2 texts fresh p))
 
 -- ---- behind the block

@@ -1,6 +1,7 @@
 -- What an input with a block says, by its parts, and how a checked block ends a run.
 use Rattle.std.proofs.Common.{◌≡◌, ◌≤◌, arith, ℕ, List, Ok, Err, Some, None, refl, sym, ap, subst}
 use Rattle.std.specs.declared.option.Option.{Option}
+use Rattle.evac_law.specs.declared.code.Code.{Code}
 use Rattle.line_io.specs.Line.{Line, lines_of}
 use Rattle.evac_law.specs.declared.model.Model.{Model}
 use Rattle.evac_law.specs.Building.{IsValid}
@@ -47,13 +48,13 @@ said-claim building block n1 n2 bytes (Some x) (Some y) (d, e, is) stated none =
     )
 
 -- the model is refused
-pub said-model-fault : (code line n1 : ℕ) (bytes : List ℕ) (b : Option (List Line)) → ReadsModel (Err (Named code line)) 0 n1 (Some (lines_of bytes)) b
+pub said-model-fault : (code : Code) (line n1 : ℕ) (bytes : List ℕ) (b : Option (List Line)) → ReadsModel (Err (Named code line)) 0 n1 (Some (lines_of bytes)) b
     → ClaimIs (Err (Named code line)) bytes
 said-model-fault code line n1 bytes None h = absurd h
 said-model-fault code line n1 bytes (Some x) h = subst (λ r. ClaimsBehind r (Err (code, line))) (sym h) refl
 
 -- the block is refused
-block-refused : (building : Building) (n1 code line : ℕ) (bytes : List ℕ) (x y : List Line) → ReadsModel (Ok building) 0 n1 (Some (lines_of bytes)) (Some x)
+block-refused : (building : Building) (n1 : ℕ) (code : Code) (line : ℕ) (bytes : List ℕ) (x y : List Line) → ReadsModel (Ok building) 0 n1 (Some (lines_of bytes)) (Some x)
     → ReadsAs building.model n1 x (blocks.Refused code line) → ClaimIs (Err (Named code line)) bytes
 block-refused building n1 code line bytes x y (d, e, is) refused =
     let here = subst (λ (m : Model). ReadsAs m n1 x (blocks.Refused code line)) is.model refused in
@@ -78,7 +79,7 @@ failed-reading block_faults.ReadFault e = refl
 failed-reading block_faults.Memory e = cc
 
 -- a line behind the block is refused
-said-tail-fault : (building : Building) (block : Block) (code line n1 n2 : ℕ) (bytes : List ℕ) (b c : Option (List Line))
+said-tail-fault : (building : Building) (block : Block) (code : Code) (line n1 n2 : ℕ) (bytes : List ℕ) (b c : Option (List Line))
     → ReadsModel (Ok building) 0 n1 (Some (lines_of bytes)) b → ReadsBlock building.model (Ok block) n1 n2 b c → ReadsTail (Err (Named code line)) n2 c
     → ClaimIs (Err (Named code line)) bytes
 said-tail-fault building block code line n1 n2 bytes None c h g f = absurd h

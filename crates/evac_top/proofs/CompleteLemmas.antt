@@ -1,6 +1,7 @@
 -- A run in which neither count of faults rose answers its input.
 use Rattle.std.proofs.Common.{◌≡◌, ℕ, ◌+◌, ◌≤◌, List, [], ◌∷◌, ◌++◌, length, Result, Ok, Err, Some, None, refl, sym, ap, ◌∙◌, arith, inl, inr}
 use Rattle.std.specs.declared.option.Option.{Option}
+use Rattle.evac_law.specs.declared.code.Code.{Code}
 use Rattle.evac_law.specs.declared.model.Model.{Model}
 use Rattle.evac_law.specs.Building.{IsValid}
 use Rattle.evac_law.specs.Certificates.{IsClearable}
@@ -40,7 +41,7 @@ plans-all flags names m line x (inl h) =
     (λ can. h.done, λ cannot. absurd (cannot clearable), λ one. absurd (omega (arith, h.done, one)))
 plans-all flags names m line x (inr h) = (λ can. absurd (h.barred can), λ cannot. h.refused, λ one. h)
 
-solves-all : (flags : Flags) (input : List ℕ) (result : Result Asked (ℕ × ℕ)) (x : Account) → Solves flags input result x → SolvesAll result x
+solves-all : (flags : Flags) (input : List ℕ) (result : Result Asked (Code × ℕ)) (x : Account) → Solves flags input result x → SolvesAll result x
 solves-all flags input (Ok asked) x h = plans-all flags (names_of asked.building) asked.building.model asked.last x h.1
 solves-all flags input (Err fault) x h = h
 
@@ -56,21 +57,21 @@ checks-block claimed x h =
     let few = status-few h.verdict in
     (h.right, λ wrong. (let not_yes : x.status ≡ 0 → ⊥ = λ e. wrong (h.yes e) in omega (arith, ends, few, not_yes)))
 
-checks-all : (input : List ℕ) (result : Result Claimed (ℕ × ℕ)) (x : Account) → Checks input result x → ChecksAll result x
+checks-all : (input : List ℕ) (result : Result Claimed (Code × ℕ)) (x : Account) → Checks input result x → ChecksAll result x
 checks-all input (Ok claimed) x h = checks-block claimed x h.1
 checks-all input (Err fault) x h = h
 
 -- lines are read in one way
-one-claim : (r : Reading) → ((d : Description) (last : ℕ) (rest : List Line) → r ≡ Described d last rest → IsValid d.model) → (one other : Result Claimed (ℕ × ℕ)) → ClaimsBehind r one
+one-claim : (r : Reading) → ((d : Description) (last : ℕ) (rest : List Line) → r ≡ Described d last rest → IsValid d.model) → (one other : Result Claimed (Code × ℕ)) → ClaimsBehind r one
     → ClaimsBehind r other → other ≡ one
 one-claim (Described d last rest) valid one other h g = g.2 ∙ ap (claim_by d) (one-reading d.model last rest g.0 h.0 (valid d last rest refl) g.1 h.1) ∙ sym h.2
 one-claim (Refused code line) valid one other h g = g ∙ sym h
 
-one-claim-of : (lines : List Line) (one other : Result Claimed (ℕ × ℕ)) → IsClaimOf lines one → IsClaimOf lines other → other ≡ one
+one-claim-of : (lines : List Line) (one other : Result Claimed (Code × ℕ)) → IsClaimOf lines one → IsClaimOf lines other → other ≡ one
 one-claim-of lines one other h g = one-claim (model_of lines) (λ d last rest e. opening-valid lines 0 d last rest e) one other h g
 
 -- no fault stands among lines that have none
-never-fault : (texts answered : List (List ℕ)) (code : ℕ) (rest : List Line) → text_lines texts ≡ text_lines answered ++ (Err code ∷ rest) → ⊥
+never-fault : (texts answered : List (List ℕ)) (code : Code) (rest : List Line) → text_lines texts ≡ text_lines answered ++ (Err code ∷ rest) → ⊥
 never-fault [] [] code rest e = cc
 never-fault [] (a ∷ more) code rest e = cc
 never-fault (t ∷ texts) [] code rest e = cc
@@ -107,7 +108,7 @@ replans-all : (r : Reading) (x : Account) → Talks replan r x → TalksAll repl
 replans-all r x h =
     talks-all replan (λ names m reply opens. opening-clears m opens.0.after.standing opens.1.begins) (λ names m line y refused. refused) r x h
 
-upgrades-all : (input : List ℕ) (result : Result Asked (ℕ × ℕ)) (x : Account) → Upgrades input result x → UpgradesAll result x
+upgrades-all : (input : List ℕ) (result : Result Asked (Code × ℕ)) (x : Account) → Upgrades input result x → UpgradesAll result x
 upgrades-all input (Ok asked) x h = h.1.over
 upgrades-all input (Err fault) x h = h
 

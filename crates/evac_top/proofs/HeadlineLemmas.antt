@@ -1,6 +1,7 @@
 -- Every run of a session and every plan that is written keeps the headline.
 use Rattle.std.specs.declared.option.Option.{Option}
 use Rattle.std.proofs.Common.{◌≡◌, ◌≢◌, Some, ℕ, ◌+◌, ◌≤◌, Bool, true, false, ◌&&◌, nat_lt, List, [], ◌∷◌, length, Result, Ok, Err, refl, sym, ap, subst, ◌∙◌, arith, inl, inr}
+use Rattle.evac_law.specs.declared.code.Code.{Code}
 use Rattle.evac_law.specs.declared.edit.Edit.{Edit}
 use Rattle.evac_law.specs.declared.edit.EditFault.{EditFault}
 use Rattle.evac_law.specs.declared.model.Model.{Model}
@@ -224,7 +225,7 @@ keeps-block flags names m x h =
       says = h.says;
     }
 
-keeps-plan : (flags : Flags) (input : List ℕ) (result : Result Asked (ℕ × ℕ)) (x : Account) → Solves flags input result x → KeepsPlan flags result x
+keeps-plan : (flags : Flags) (input : List ℕ) (result : Result Asked (Code × ℕ)) (x : Account) → Solves flags input result x → KeepsPlan flags result x
 keeps-plan flags input (Ok asked) x (all, inl h) = λ can. keeps-block flags (names_of asked.building) asked.building.model x h
 keeps-plan flags input (Ok asked) x (all, inr short) = λ can. absurd (short.barred can)
 keeps-plan flags input (Err fault) x h = tt

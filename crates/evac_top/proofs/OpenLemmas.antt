@@ -1,6 +1,7 @@
 -- Where the source failed, no whole line of a model ended the run.
 use Rattle.std.proofs.Common.{◌≡◌, ℕ, ◌+◌, List, [], ◌++◌, length, Result, Ok, Err, None, refl, sym, ap, subst, ◌∙◌, append-nil}
 use Rattle.std.specs.declared.option.Option.{Option}
+use Rattle.evac_law.specs.declared.code.Code.TheVariants.{MissingEnd}
 use Rattle.line_io.specs.Line.{Line, text_lines}
 use Rattle.line_io.specs.View.{Reader}
 use Rattle.line_io.proofs.PassLemmas.{text_lines-append}
@@ -8,7 +9,6 @@ use Rattle.building_table.specs.Passes.{ReadsLines}
 use Rattle.building_table.specs.declared.building.Building.{Building}
 use Rattle.building_table.specs.declared.faults.ModelFault.{ModelFault}
 use Rattle.building_table.specs.declared.faults.ModelFault.TheVariants.{ReadFault}
-use Rattle.model_text.specs.Codes.{missing_end}
 use Rattle.model_text.specs.Readings.{Described, Refused, AtStart, IsUndecided, opening_of}
 use Rattle.model_text.specs.Taken.{Description}
 use Rattle.model_text.proofs.ReadingLemmas.{reading-further}
@@ -21,13 +21,13 @@ use Rattle.evac_top.proofs.TakeLemmas.{lines-count}
 pub model-missing : (r0 r1 : Reader) (l0 l1 : Option (List ℕ)) (result : Result Building ModelFault) → IsFresh r0 → (h : ReadsLines result r0 r1 l0 l1)
     → result ≡ Err ReadFault → IsUndecided (text_lines h.texts)
 model-missing r0 r1 l0 l1 result fresh h is =
-    ap (λ r. opening_of r.number (text_lines h.texts)) (sym fresh) ∙ h.undecided is ∙ ap (λ n. Refused missing_end (n + 1)) (lines-count r0 r1 l0 l1 h.texts fresh h.passes)
+    ap (λ r. opening_of r.number (text_lines h.texts)) (sym fresh) ∙ h.undecided is ∙ ap (λ n. Refused MissingEnd (n + 1)) (lines-count r0 r1 l0 l1 h.texts fresh h.passes)
 
 pub missing-input : (lines : List Line) → IsUndecided lines → IsOpenInput lines
 missing-input lines e = subst (λ r. NoneRefused r (length lines)) (sym (ap input_by e)) refl
 
 pub missing-claim : (lines : List Line) → IsUndecided lines → IsOpenClaim lines
-missing-claim lines e = (Err (missing_end, length lines + 1), subst (λ r. ClaimsBehind r (Err (missing_end, length lines + 1))) (sym e) refl, refl)
+missing-claim lines e = (Err (MissingEnd, length lines + 1), subst (λ r. ClaimsBehind r (Err (MissingEnd, length lines + 1))) (sym e) refl, refl)
 
 -- ---- behind the model
 

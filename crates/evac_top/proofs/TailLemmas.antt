@@ -1,6 +1,8 @@
 -- The lines behind a model's end, one by one.
 use Rattle.std.proofs.Common.{◌≡◌, ℕ, ◌+◌, false, List, [], ◌∷◌, ◌++◌, length, Result, Ok, Err, Some, None, refl, sym, ap, subst, ◌∙◌}
 use Rattle.std.specs.declared.option.Option.{Option}
+use Rattle.evac_law.specs.declared.code.Code.TheVariants as codes
+use Rattle.evac_law.specs.declared.code.Code.{Code}
 use Rattle.line_io.specs.Hearing.{Hearing, Listens}
 use Rattle.line_io.specs.Line.{text_lines}
 use Rattle.line_io.specs.Passes.{Follows, IsLeft}
@@ -25,14 +27,14 @@ Hears tail line text result new = HearsTail (statement_of text) result
 abbrev pub IsAt : Tail → Unit {0} → Type 0
 IsAt r u = Unit {0}
 
-abbrev pub meaning : Unit {0} → ℕ → List Line → Option (ℕ × ℕ)
+abbrev pub meaning : Unit {0} → ℕ → List Line → Option (Code × ℕ)
 meaning u n lines = tail_fault n lines
 
 goes-on : GoesOn Hears IsAt meaning
 unfolding tail_fault
 goes-on s s' x n t is heard = (tt, tt, λ rest. rw heard refl)
 
-found-text : (n : ℕ) (t : List ℕ) (rest : List Line) → says_nothing (statement_of t) ≡ false → tail_fault n (Ok t ∷ rest) ≡ Some (23, n + 1)
+found-text : (n : ℕ) (t : List ℕ) (rest : List Line) → says_nothing (statement_of t) ≡ false → tail_fault n (Ok t ∷ rest) ≡ Some (codes.TextAfterEnd, n + 1)
 unfolding tail_fault
 found-text n t rest e = rw e refl
 
@@ -40,7 +42,7 @@ no-line : (n : ℕ) → tail_fault n [] ≡ None
 unfolding tail_fault
 no-line n = refl
 
-bad-line : (n k : ℕ) → tail_fault n (Err k ∷ []) ≡ Some (k, n + 1)
+bad-line : (n : ℕ) (k : Code) → tail_fault n (Err k ∷ []) ≡ Some (k, n + 1)
 unfolding tail_fault
 bad-line n k = refl
 
@@ -49,9 +51,9 @@ tail-is : (ending : Ending TextFound) (from to : Tail) (a c : Reader) (l n : Opt
 tail-is InputEnded from to a c l n h w = means-rest IsAt meaning h tt w h.ends.0 h.rest ∙ ap (tail_fault c.number) h.ends.1 ∙ no-line c.number
 tail-is Finished from to a c l n h w = absurd h.ends.2
 tail-is (Failed f) from to a c l n h w =
-    means-last IsAt meaning h tt w h.ends.0 h.ends.1 h.rest ∙ found-text (a.number + length h.texts) h.ends.0 h.rest h.ends.2 ∙ ap (λ k. Some (23, k)) (last-number h h.ends.0 h.ends.1)
-tail-is (Fault faults.LineTooLong) from to a c l n h w = means-rest IsAt meaning h tt w h.ends.0 h.rest ∙ ap (tail_fault c.number) h.ends.1 ∙ bad-line c.number 2
-tail-is (Fault faults.InputTooLong) from to a c l n h w = means-rest IsAt meaning h tt w h.ends.0 h.rest ∙ ap (tail_fault c.number) h.ends.1 ∙ bad-line c.number 3
+    means-last IsAt meaning h tt w h.ends.0 h.ends.1 h.rest ∙ found-text (a.number + length h.texts) h.ends.0 h.rest h.ends.2 ∙ ap (λ k. Some (codes.TextAfterEnd, k)) (last-number h h.ends.0 h.ends.1)
+tail-is (Fault faults.LineTooLong) from to a c l n h w = means-rest IsAt meaning h tt w h.ends.0 h.rest ∙ ap (tail_fault c.number) h.ends.1 ∙ bad-line c.number codes.LineTooLong
+tail-is (Fault faults.InputTooLong) from to a c l n h w = means-rest IsAt meaning h tt w h.ends.0 h.rest ∙ ap (tail_fault c.number) h.ends.1 ∙ bad-line c.number codes.InputTooLong
 tail-is (Fault faults.ReadFault) from to a c l n h w = tt
 
 tail-told : (texts : List (List ℕ)) (k : ℕ) (x y : Option (List Line)) (rest : List Line) (result : Result (Unit {0}) ModelFault) → Follows texts x y → IsLeft x y rest

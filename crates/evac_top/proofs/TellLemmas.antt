@@ -3,6 +3,7 @@ use Rattle.std.proofs.Common.{◌≡◌, ℕ, ◌+◌, ◌≤◌, Bool, true, fa
 use Rattle.std.specs.declared.option.Option.{Option}
 use Rattle.std.specs.Io.KnownBytes.{Appends, Consumes, IsAtEnd}
 use Rattle.std.proofs.KnownBytes.{Appends-nil, Consumes-nil}
+use Rattle.evac_law.specs.declared.code.Code.{Code}
 use Rattle.line_io.specs.Causes.{HasCause, Rose}
 use Rattle.line_io.specs.Line.{Line, input_limit, lines_of, whole_part}
 use Rattle.line_io.specs.declared.limits.TheConstants.{BUFFER_SIZE}
@@ -61,7 +62,7 @@ tells-sent Holds status steps text r before after ended is few sent cause holds 
     subst (λ (s : ℕ). Tells Holds s steps before after) (sym is) (sent-told Holds status steps text r before after few sent cause holds)
 
 -- the line of a fault was sent, or a front of it
-pub stops-named : {T E : Type 0} (fault : ModelFault) (code line : ℕ) (r : Result T E) (before after : Side) (ended : ℕ) → fault ≡ Named code line
+pub stops-named : {T E : Type 0} (fault : ModelFault) (code : Code) (line : ℕ) (r : Result T E) (before after : Side) (ended : ℕ) → fault ≡ Named code line
     → ended ≡ status_after r 1 → Sends before.bytes after.bytes (refusal_line code line) r → HasCause before.faults after.faults r → Stops fault ended before after
 stops-named fault code line r before after ended named is sent cause =
     subst (λ (f : ModelFault). Stops f ended before after) (sym named)

@@ -1,6 +1,7 @@
 -- A building that was read is written as a text that describes it again.
 use Rattle.std.proofs.Common.{◌≡◌, ℕ, ◌≤◌, List, Ok, Err, Some, None, sym, ap, subst, ◌∙◌, arith}
 use Rattle.std.specs.declared.option.Option.{Option}
+use Rattle.evac_law.specs.declared.code.Code.{Code}
 use Rattle.line_io.specs.Line.{Line, lines_of}
 use Rattle.building_table.specs.declared.building.Building.{Building}
 use Rattle.building_table.specs.declared.faults.ModelFault.{ModelFault}
@@ -25,7 +26,7 @@ building-of (Described d last rest) asked e = (rest, by_tail (tail_fault last re
     here : Asked
     here = record { building = d; last = last }
 
-    by_tail : (fault : Option (ℕ × ℕ)) → unless_fault fault here ≡ Ok asked → Described d last rest ≡ Described asked.building asked.last rest
+    by_tail : (fault : Option (Code × ℕ)) → unless_fault fault here ≡ Ok asked → Described d last rest ≡ Described asked.building asked.last rest
     by_tail None e = let same : here ≡ asked = cc in ap (λ (a : Asked). Described a.building a.last rest) same
     by_tail (Some fault) e = cc
 building-of (Refused code line) asked e = cc

@@ -1,6 +1,7 @@
 -- What a run meets outside, and what it did.
 use Rattle.std.specs.Prelude.{◌≡◌, ℕ, List, ◌++◌, Some, None, ⊤}
 use Rattle.std.specs.declared.option.Option.{Option}
+use Rattle.evac_law.specs.declared.code.Code.{Code}
 use Rattle.line_io.specs.Causes.{Count}
 use Rattle.certificate_text.specs.BlockText.{refusal_line}
 
@@ -37,7 +38,7 @@ pub record Ends (x : Account) (status : ℕ) (text : List ℕ) (steps : ℕ) : T
   pub counted : x.steps ≡ steps
 
 -- the run is over with the line of a fault, a code with a line
-abbrev pub IsRefusal : ℕ × ℕ → Account → Type 0
+abbrev pub IsRefusal : Code × ℕ → Account → Type 0
 IsRefusal fault x = Ends x 1 (refusal_line fault.0 fault.1) 0
 
 -- what was written is the front of a text that an account of this kind has

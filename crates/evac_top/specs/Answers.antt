@@ -1,6 +1,8 @@
 -- What a run does, by its mode and its input. Each mode is one case of each definition.
 use Rattle.std.specs.Prelude.{◌≡◌, ℕ, List, [], length, Result, Some, None}
 use Rattle.std.specs.declared.option.Option.{Option}
+use Rattle.evac_law.specs.declared.code.Code.{Code}
+use Rattle.evac_law.specs.declared.code.Code.TheVariants.{UnknownWords}
 use Rattle.line_io.specs.Line.{Line, lines_of}
 use Rattle.model_text.specs.Readings.{model_of}
 use Rattle.certificate_text.specs.BlockText.{refusal_line}
@@ -19,7 +21,7 @@ use Rattle.evac_top.specs.declared.words.Mode.TheVariants.{Solve, Check, Session
 
 -- the text for words that ask for nothing
 abbrev pub words_text : List ℕ
-words_text = refusal_line 40 0
+words_text = refusal_line UnknownWords 0
 
 -- words that ask for nothing are refused, and nothing is read
 abbrev pub RefusesWords : Account → Type 0
@@ -29,7 +31,7 @@ RefusesWords x = (x.taken ≡ []) × Ends x 2 words_text 0
 abbrev pub Answers : Option Mode → List ℕ → Account → Type 0
 Answers None input x = RefusesWords x
 Answers (Some (Solve flags)) input x = Solves flags input (input_of (lines_of input)) x
-Answers (Some Check) input x = (claim : Result Claimed (ℕ × ℕ)) × IsClaimOf (lines_of input) claim × Checks input claim x
+Answers (Some Check) input x = (claim : Result Claimed (Code × ℕ)) × IsClaimOf (lines_of input) claim × Checks input claim x
 Answers (Some Session) input x = Talks session (model_of (lines_of input)) x × ReadsOn session input x
 Answers (Some Study) input x = Talks study (model_of (lines_of input)) x × ReadsOn study input x
 Answers (Some Replan) input x = Talks replan (model_of (lines_of input)) x × ReadsOn replan input x

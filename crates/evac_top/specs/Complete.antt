@@ -1,6 +1,7 @@
 -- What a run must answer in which neither count of faults rose and there was memory.
 use Rattle.std.specs.Prelude.{◌≡◌, ◌≢◌, ℕ, List, Result, Ok, Err, None, Some}
 use Rattle.std.specs.declared.option.Option.{Option}
+use Rattle.evac_law.specs.declared.code.Code.{Code}
 use Rattle.evac_law.specs.declared.model.Model.{Model}
 use Rattle.evac_law.specs.Certificates.{IsClearable}
 use Rattle.line_io.specs.Causes.{Rose}
@@ -28,25 +29,25 @@ abbrev pub PlansAll : Model → ℕ → Account → Type 0
 PlansAll m line x = (IsClearable m → x.status ≡ 0) × (¬ IsClearable m → x.status ≡ 1) × (x.status ≡ 1 → IsShort m line x)
 
 -- the building of an input is planned or refused; an input with a fault is refused by it
-abbrev pub SolvesAll : Result Asked (ℕ × ℕ) → Account → Type 0
+abbrev pub SolvesAll : Result Asked (Code × ℕ) → Account → Type 0
 SolvesAll (Ok asked) x = PlansAll asked.building.model asked.last x
 SolvesAll (Err fault) x = IsRefusal fault x
 
 -- the building of an input is written; an input with a fault is refused by it
-abbrev pub UpgradesAll : Result Asked (ℕ × ℕ) → Account → Type 0
+abbrev pub UpgradesAll : Result Asked (Code × ℕ) → Account → Type 0
 UpgradesAll (Ok asked) x = x.status ≡ 0
 UpgradesAll (Err fault) x = IsRefusal fault x
 
 -- a block is answered by yes exactly where it is right, and else by no; an input with a fault is refused by it
-abbrev pub ChecksAll : Result Claimed (ℕ × ℕ) → Account → Type 0
+abbrev pub ChecksAll : Result Claimed (Code × ℕ) → Account → Type 0
 ChecksAll (Ok claimed) x = let m = claimed.building.model in (IsRight m claimed.block → x.status ≡ 0) × (¬ IsRight m claimed.block → x.status ≡ 1)
 ChecksAll (Err fault) x = IsRefusal fault x
 
 -- lines are read as a building with a block behind it, or as a first fault, in one way alone, and that is answered
 pub record ChecksLines (lines : List Line) (x : Account) : Type 0 where
-  pub claim : Result Claimed (ℕ × ℕ)
+  pub claim : Result Claimed (Code × ℕ)
   pub of_lines : IsClaimOf lines claim
-  pub alone : (other : Result Claimed (ℕ × ℕ)) → IsClaimOf lines other → other ≡ claim
+  pub alone : (other : Result Claimed (Code × ℕ)) → IsClaimOf lines other → other ≡ claim
   pub answered : ChecksAll claim x
 
 -- a building is opened and the lines behind it are answered up to the end, exactly where it can be cleared, and it is refused with its shortfall exactly

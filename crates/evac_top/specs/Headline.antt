@@ -1,5 +1,6 @@
 -- The headline: what every run of a session and every plan that is written keeps, in the law's words.
 use Rattle.std.specs.Prelude.{◌≡◌, ◌≢◌, ℕ, ◌+◌, ◌≤◌, List, ◌++◌, length, Result, Ok, Err, Some, ◌⊎◌, ⊤}
+use Rattle.evac_law.specs.declared.code.Code.{Code}
 use Rattle.evac_law.specs.declared.model.Model.{Model}
 use Rattle.evac_law.specs.declared.plan.Move.{Move}
 use Rattle.evac_law.specs.Building.{people}
@@ -130,7 +131,7 @@ pub record KeepsBlock (flags : Flags) (names : NameTable) (m : Model) (x : Accou
   pub says : SaysPlan flags names opening x.written
 
 -- a building that can be cleared, with nothing behind it
-abbrev pub KeepsPlan : Flags → Result Asked (ℕ × ℕ) → Account → Type 0
+abbrev pub KeepsPlan : Flags → Result Asked (Code × ℕ) → Account → Type 0
 KeepsPlan flags (Ok asked) x = IsClearable asked.building.model → KeepsBlock flags (names_of asked.building) asked.building.model x
 KeepsPlan flags (Err fault) x = ⊤
 

@@ -2,7 +2,8 @@
 use Rattle.std.specs.Prelude.{◌≡◌, ℕ, ◌+◌, ◌≤◌, true, false, List, [], ◌++◌, length, Result, Ok, Err, OnOk, Some, None, ⊤}
 use Rattle.std.specs.declared.option.Option.{Option}
 use Rattle.std.specs.Io.KnownBytes.{Consumes, IsAtEnd}
-use Rattle.line_io.specs.Line.{Line, input_limit, input_too_long, line_too_long, lines_of, text_lines, whole_part}
+use Rattle.evac_law.specs.declared.code.Code.TheVariants.{LineTooLong, InputTooLong, TextAfterEnd, BadBlock}
+use Rattle.line_io.specs.Line.{Line, input_limit, lines_of, text_lines, whole_part}
 use Rattle.line_io.specs.declared.limits.TheConstants.{BUFFER_SIZE}
 use Rattle.line_io.specs.View.{Reader}
 use Rattle.building_table.specs.Built.{IsBuilding}
@@ -11,7 +12,6 @@ use Rattle.building_table.specs.declared.faults.ModelFault.{ModelFault}
 use Rattle.building_table.specs.declared.faults.ModelFault.TheVariants.{Named, ReadFault, Memory}
 use Rattle.block_reader.specs.declared.fault.BlockFault.{BlockFault}
 use Rattle.block_reader.specs.declared.fault.BlockFault.TheVariants as block_faults
-use Rattle.certificate_text.specs.BlockReadings.{bad_block}
 use Rattle.evac_top.specs.declared.claim.Claim.{Claim}
 use Rattle.evac_top.specs.declared.read.Input.{Input}
 use Rattle.line_io.specs.declared.hearing.Ending.{Ending}
@@ -22,7 +22,7 @@ use Rattle.line_io.specs.declared.lines.LineFault.TheVariants as line_faults
 use Rattle.model_text.specs.declared.fault.TextFault.{TextFault}
 use Rattle.model_text.specs.Grammar.{Said}
 use Rattle.evac_top.specs.declared.read.TextFound.{TextFound}
-use Rattle.evac_top.specs.Inputs.{Asked, Claimed, IsClaimOf, input_of, says_nothing, tail_fault, text_after_end}
+use Rattle.evac_top.specs.Inputs.{Asked, Claimed, IsClaimOf, input_of, says_nothing, tail_fault}
 
 -- the first fault behind a model's end, by the lines left before the call
 abbrev pub TailIs : Result (Unit {0}) ModelFault → ℕ → List Line → Type 0
@@ -45,10 +45,10 @@ HearsTail said (Err found) = says_nothing said ≡ false
 -- the answer where so many lines went by
 abbrev pub tail_by : Ending TextFound → ℕ → Result (Unit {0}) ModelFault
 tail_by endings.InputEnded number = Ok tt
-tail_by endings.Finished number = Err (Named text_after_end number)
-tail_by (endings.Failed found) number = Err (Named text_after_end number)
-tail_by (endings.Fault line_faults.LineTooLong) number = Err (Named line_too_long (number + 1))
-tail_by (endings.Fault line_faults.InputTooLong) number = Err (Named input_too_long (number + 1))
+tail_by endings.Finished number = Err (Named TextAfterEnd number)
+tail_by (endings.Failed found) number = Err (Named TextAfterEnd number)
+tail_by (endings.Fault line_faults.LineTooLong) number = Err (Named LineTooLong (number + 1))
+tail_by (endings.Fault line_faults.InputTooLong) number = Err (Named InputTooLong (number + 1))
 tail_by (endings.Fault line_faults.ReadFault) number = Err ReadFault
 
 -- a reader went on by some lines behind a model's end; where the source failed, they say nothing
@@ -75,9 +75,9 @@ InputIs (Err Memory) bytes = ⊤
 
 -- the fault of an input with a block that isn't read
 abbrev pub block_fault : BlockFault → ModelFault
-block_fault (block_faults.Bad line) = Named bad_block line
-block_fault (block_faults.LineTooLong line) = Named line_too_long line
-block_fault (block_faults.InputTooLong line) = Named input_too_long line
+block_fault (block_faults.Bad line) = Named BadBlock line
+block_fault (block_faults.LineTooLong line) = Named LineTooLong line
+block_fault (block_faults.InputTooLong line) = Named InputTooLong line
 block_fault block_faults.ReadFault = ReadFault
 block_fault block_faults.Memory = Memory
 

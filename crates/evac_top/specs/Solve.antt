@@ -1,5 +1,6 @@
 -- What a run in the mode `solve` does: the block of a building's best plan with the reports that are asked for, or the block of its shortfall.
 use Rattle.std.specs.Prelude.{◌≡◌, ℕ, ◌+◌, ◌*◌, ◌≤◌, Bool, true, false, List, [], ◌++◌, Result, Ok, Err, ◌⊎◌}
+use Rattle.evac_law.specs.declared.code.Code.{Code}
 use Rattle.evac_law.specs.declared.model.Model.{Model}
 use Rattle.evac_law.specs.declared.plan.Move.{Move}
 use Rattle.evac_law.specs.Certificates.{IsClearable, IsShortfall}
@@ -54,6 +55,6 @@ abbrev pub IsPlannedOrShort : Flags → NameTable → Model → ℕ → Account 
 IsPlannedOrShort flags names m line x = IsPlanned flags names m x ⊎ IsShort m line x
 
 -- all of an input of `solve` is read, and its building is planned or refused; or its first fault is named
-abbrev pub Solves : Flags → List ℕ → Result Asked (ℕ × ℕ) → Account → Type 0
+abbrev pub Solves : Flags → List ℕ → Result Asked (Code × ℕ) → Account → Type 0
 Solves flags input (Ok asked) x = (x.taken ≡ input) × IsPlannedOrShort flags (names_of asked.building) asked.building.model asked.last x
 Solves flags input (Err fault) x = IsRefusal fault x

@@ -1,8 +1,8 @@
 -- What a run does that holds a talk on its building: in each of these modes a model is read, and each line behind it gets a reply.
 use Rattle.std.specs.Prelude.{◌≡◌, ℕ, ◌+◌, List, [], ◌∷◌, ◌++◌, Ok, ◌⊎◌}
+use Rattle.evac_law.specs.declared.code.Code.TheVariants.{MissingEnd}
 use Rattle.evac_law.specs.declared.model.Model.{Model}
 use Rattle.line_io.specs.Line.{Line, lines_of, text_lines, whole_part}
-use Rattle.model_text.specs.Codes.{missing_end}
 use Rattle.model_text.specs.Readings.{Reading, Described, Refused, model_of}
 use Rattle.building_table.specs.Names.{NameTable, names_of}
 use Rattle.talk.specs.Talks.{Spoken, Talk, TalkAnswers, TalkFront, TalkGoesOn, TalkWants}
@@ -36,7 +36,7 @@ ReadsOn talk input x = x.status ≡ 0 → (x.taken ≡ input) ⊎ HasQuit talk (
 abbrev pub TalksSoFar : {S : Type 0} → TalkOn S → Reading → ℕ → Account → Type 0
 TalksSoFar talk (Described d last rest) count x =
     (answered : List (List ℕ)) × (rest ≡ text_lines answered) × TalkGoesOn (talk (names_of d) d.model) last answered (spoken x)
-TalksSoFar talk (Refused code line) count x = (code ≡ missing_end) × (line ≡ count + 1) × (x.written ≡ []) × (x.steps ≡ 0)
+TalksSoFar talk (Refused code line) count x = (code ≡ MissingEnd) × (line ≡ count + 1) × (x.written ≡ []) × (x.steps ≡ 0)
 
 -- a talk whose sink failed: a front of it, or of the replies to the lines that it came to
 abbrev pub TalksFront : {S : Type 0} → TalkOn S → Reading → Account → Type 0

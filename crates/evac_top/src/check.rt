@@ -29,7 +29,13 @@ fn status_of(verdict: Verdict) -> Status
 }
 
 // Sends what the checker says of a block.
-fn judge<K: Sink>(alloc: Global, out: &mut Out, sink: &mut K, model: &Model, block: &Block) -> Status
+fn judge<K: Sink>(
+    alloc: Global,
+    out: &mut Out,
+    sink: &mut K,
+    model: &Model,
+    block: &Block,
+) -> Status
     requires fresh { out.old ≡ [] }
     requires valid { IsValid model.now }
     requires block { IsBlockOf model.now block.now }

@@ -7,14 +7,13 @@ ghost use Rattle.evac_top.specs.Inputs.{IsOpenClaim};
 ghost use Rattle.evac_top.specs.Accounts.{Told};
 ghost use Rattle.evac_top.specs.Reads.{ClaimIs, IsFresh, Takes, block_fault};
 
-use crate::read::{INPUT_TOO_LONG, LINE_TOO_LONG, read_tail};
+use crate::read::read_tail;
 use block_reader::{BlockFault, read_block};
 use building_table::{Building, ModelFault, read_model};
 use certificate_text::Block;
+use evac_law::Code;
 use line_io::{Lines, Source};
 use std::alloc::Global;
-
-const BAD_BLOCK: u8 = 51;
 
 /// A building with the answer block that stands behind it.
 #[derive(Drop)]
@@ -28,9 +27,9 @@ fn block_fault(fault: BlockFault) -> ModelFault
     ensures { result ≡ block_fault fault }
 {
     let (code, line) = match fault {
-        BlockFault::Bad { line } => (BAD_BLOCK, line),
-        BlockFault::LineTooLong { line } => (LINE_TOO_LONG, line),
-        BlockFault::InputTooLong { line } => (INPUT_TOO_LONG, line),
+        BlockFault::Bad { line } => (Code::BadBlock, line),
+        BlockFault::LineTooLong { line } => (Code::LineTooLong, line),
+        BlockFault::InputTooLong { line } => (Code::InputTooLong, line),
         BlockFault::ReadFault => return ModelFault::ReadFault,
         BlockFault::Memory => return ModelFault::Memory,
     };

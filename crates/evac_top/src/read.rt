@@ -10,15 +10,10 @@ ghost use Rattle.evac_top.specs.Reads.{InputIs, IsFresh, PassesTail, ReadsTail, 
 ghost use Rattle.line_io.specs.Line.{input_limit};
 
 use building_table::{Building, ModelFault, read_model};
+use evac_law::Code;
 use line_io::{Ending, Heard, LineFault, Lines, Listener, Source, listen};
 use model_text::{Statement, read_line};
 use std::alloc::Global;
-
-pub(crate) const LINE_TOO_LONG: u8 = 2;
-
-pub(crate) const INPUT_TOO_LONG: u8 = 3;
-
-const TEXT_AFTER_END: u8 = 23;
 
 fn says_nothing(line: &[u8]) -> bool
     ensures { result ≡ says_nothing (statement_of line.now) }
@@ -67,12 +62,12 @@ fn conclude_tail(ending: Ending<TextFound>, number: u32) -> Result<(), ModelFaul
         Ending::InputEnded => return Ok(()),
         Ending::Failed(_) | Ending::Finished => {
             return Err(ModelFault::Named {
-                code: TEXT_AFTER_END,
+                code: Code::TextAfterEnd,
                 line: number,
             });
         }
-        Ending::Fault(LineFault::LineTooLong) => LINE_TOO_LONG,
-        Ending::Fault(LineFault::InputTooLong) => INPUT_TOO_LONG,
+        Ending::Fault(LineFault::LineTooLong) => Code::LineTooLong,
+        Ending::Fault(LineFault::InputTooLong) => Code::InputTooLong,
         Ending::Fault(LineFault::ReadFault) => return Err(ModelFault::ReadFault),
     };
     Err(ModelFault::Named {

@@ -40,7 +40,10 @@ fn answer_plan<K: Sink>(
     let Ok(mut tables) = Tables::new(alloc, flags, session, names) else {
         return Status::NoMemory;
     };
-    status_after(send_plan(out, sink, session, names, &mut tables), Status::Done)
+    status_after(
+        send_plan(out, sink, session, names, &mut tables),
+        Status::Done,
+    )
 }
 
 // Sends the plan with which a session begins, and ends the session.

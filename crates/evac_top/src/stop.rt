@@ -27,14 +27,22 @@ pub(crate) fn stop<K: Sink>(out: &mut Out, sink: &mut K, fault: ModelFault) -> S
 }
 
 /// Ends a run in which no session begins, on a building whose end is at a line: a shortfall is answered by its block.
-pub(crate) fn stop_short<K: Sink>(out: &mut Out, sink: &mut K, line: u32, fault: BeginFault) -> Status
+pub(crate) fn stop_short<K: Sink>(
+    out: &mut Out,
+    sink: &mut K,
+    line: u32,
+    fault: BeginFault,
+) -> Status
     requires fresh { out.old ≡ [] }
     requires begun { (m : Model) × HasBegun m (Err fault) }
     ensures { (m : Model) (steps : ℕ) → BeginEnds m (Err fault) steps → Tells (IsShort m line) (status_number result) steps
         (side (K.held sink.old) (K.faults sink.old)) (side (K.held sink.new) (K.faults sink.new)) }
 {
     match fault {
-        BeginFault::NotCleared(short) => status_after(send_short(out, sink, &short, line), Status::Refused),
+        BeginFault::NotCleared(short) => status_after(
+            send_short(out, sink, &short, line),
+            Status::Refused,
+        ),
         BeginFault::Memory => Status::NoMemory,
     }
 }

@@ -13,13 +13,11 @@ use crate::solve::solve;
 use crate::study::study;
 use crate::upgrade::upgrade;
 use crate::words::{Mode, mode_of};
-use evac_law::Steps;
+use evac_law::{Code, Steps};
 use line_io::{Out, Sink, Source};
 use std::alloc::Global;
 use std::sync::ledger::Ledger;
 use talk::{Status, send_refusal, status_after};
-
-const UNKNOWN_WORDS: u8 = 40;
 
 /// Does what the words ask for, and answers how that ended. The words are those after the program's name.
 pub fn run<S: Source, K: Sink, L: Ledger>(
@@ -55,6 +53,6 @@ fn refuse_words<K: Sink>(alloc: Global, sink: &mut K) -> Status
     let Ok(mut out) = Out::new(alloc) else {
         return Status::NoMemory;
     };
-    let sent = send_refusal(&mut out, sink, UNKNOWN_WORDS, 0);
+    let sent = send_refusal(&mut out, sink, Code::UnknownWords, 0);
     status_after(sent, Status::WordsRefused)
 }

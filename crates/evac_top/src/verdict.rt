@@ -8,29 +8,17 @@ ghost use Rattle.evac_top.specs.Sends.{Sends};
 
 use crate::reply::flush_behind;
 use certificate_text::put_name;
-use evac_law::Model;
+use evac_law::{Code, Model};
 use line_io::{Out, Sink, TextLine, WriteFault};
 use plan_checker::Verdict;
 
-const PEOPLE_WRONG: u64 = 52;
-
-const RATE_BROKEN: u64 = 53;
-
-const HELD_BROKEN: u64 = 54;
-
-const NOT_ALL_OUT: u64 = 55;
-
-const OUT_WRONG: u64 = 56;
-
-const CUT_WRONG: u64 = 57;
-
 // A line that says no, with a code.
-fn no(code: u64) -> TextLine
+fn no(code: Code) -> TextLine
     ensures line { result ≡ fields (no_fields code []) }
     ensures few { length result ≤ 23 }
 {
     let mut line = TextLine::new(b"no");
-    line.number(code);
+    line.number(u64::from(code.number()));
     line
 }
 
@@ -42,29 +30,29 @@ fn line_of(model: &Model, verdict: Verdict) -> TextLine
 {
     match verdict {
         Verdict::Yes => TextLine::new(b"yes"),
-        Verdict::PeopleWrong => no(PEOPLE_WRONG),
+        Verdict::PeopleWrong => no(Code::PeopleWrong),
         Verdict::RateBroken { moment, arc } => {
             let row = model.arc(arc);
-            let mut line = no(RATE_BROKEN);
+            let mut line = no(Code::RateBroken);
             line.number(u64::from(moment));
             put_name(&mut line, model.node(row.from).name);
             put_name(&mut line, model.node(row.to).name);
             line
         }
         Verdict::HeldBroken { moment, node } => {
-            let mut line = no(HELD_BROKEN);
+            let mut line = no(Code::HeldBroken);
             line.number(u64::from(moment));
             put_name(&mut line, model.node(node).name);
             line
         }
-        Verdict::NotAllOut => no(NOT_ALL_OUT),
+        Verdict::NotAllOut => no(Code::NotAllOut),
         Verdict::OutWrong { period } => {
-            let mut line = no(OUT_WRONG);
+            let mut line = no(Code::OutWrong);
             line.number(u64::from(period));
             line
         }
         Verdict::CutWrong { period } => {
-            let mut line = no(CUT_WRONG);
+            let mut line = no(Code::CutWrong);
             line.number(u64::from(period));
             line
         }

@@ -2,6 +2,7 @@
 use Rattle.std.proofs.Common.{◌≡◌, ℕ, ◌+◌, true, false, List, [], ◌∷◌, ◌++◌, length, Result, Ok, Err, Some, None, refl, sym, ap, subst, ◌∙◌, arith, append-nil, append_assoc}
 use Rattle.std.specs.declared.option.Option.{Option}
 use Rattle.std.proofs.lemmas.List.{length-append}
+use Rattle.evac_law.specs.declared.code.Code.TheVariants as codes
 use Rattle.line_io.specs.Causes.{Count, Rose}
 use Rattle.line_io.specs.Hearing.{Hearing, HearsAll, IsCaused, Rests, Listens}
 use Rattle.line_io.specs.Line.{Line, text_lines}
@@ -145,23 +146,23 @@ listens-fault hears from at ReadFault a b c l m n w p answers stays open_line = 
 listens-fault hears from at LineTooLong a b c l m n w p answers stays open_line = record {
   texts = w.texts;
   last = [];
-  rest = Err 2 ∷ [];
+  rest = Err codes.LineTooLong ∷ [];
   at = at;
   goes = w.goes;
   ends = (refl, refl, refl);
   passes = passes-then a b c l m n w.texts [] w.passes p;
-  is_left = left-from w.texts (lines_left a l) (lines_left b m) (lines_left c n) (Err 2 ∷ []) w.passes.follows (left-long c.text (lines_left b m) (lines_left c n) answers);
+  is_left = left-from w.texts (lines_left a l) (lines_left b m) (lines_left c n) (Err codes.LineTooLong ∷ []) w.passes.follows (left-long c.text (lines_left b m) (lines_left c n) answers);
   rests = pending-long c stays;
 }
 listens-fault hears from at InputTooLong a b c l m n w p answers stays open_line = record {
   texts = w.texts;
   last = [];
-  rest = Err 3 ∷ [];
+  rest = Err codes.InputTooLong ∷ [];
   at = at;
   goes = w.goes;
   ends = (refl, refl, refl);
   passes = passes-then a b c l m n w.texts [] w.passes p;
-  is_left = left-from w.texts (lines_left a l) (lines_left b m) (lines_left c n) (Err 3 ∷ []) w.passes.follows (left-far c.text (lines_left b m) (lines_left c n) answers);
+  is_left = left-from w.texts (lines_left a l) (lines_left b m) (lines_left c n) (Err codes.InputTooLong ∷ []) w.passes.follows (left-far c.text (lines_left b m) (lines_left c n) answers);
   rests = pending-far c stays;
 }
 

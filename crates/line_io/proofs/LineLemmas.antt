@@ -3,6 +3,8 @@ use Rattle.std.proofs.Common.{◌≡◌, ℕ, suc, ◌+◌, ◌<◌, true, false
 use Rattle.std.proofs.lemmas.Bool.{or_parts, leb-false}
 use Rattle.std.proofs.lemmas.List.Sums.{sum_by-cons}
 use Rattle.std.specs.List.{list_any}
+use Rattle.evac_law.specs.declared.code.Code.{Code}
+use Rattle.evac_law.specs.declared.code.Code.TheVariants as codes
 use Rattle.line_io.specs.Line.{Line, is_lf, pieces, onto_first, IsPiece, line_of, then_lines, lines_after, lines_of, text_lines, whole_part, onto_whole, IsWhole, line_limit}
 use Rattle.line_io.specs.Reader.{IsGiven, is_settled, answer_at, settled_answer, fault_of}
 use Rattle.line_io.specs.View.{Reader}
@@ -156,8 +158,9 @@ lines_of-given gone piece texts after whole lines given count =
 
 -- ---- answers
 
-not_read : (code : ℕ) → fault_of code ≡ ReadFault → ⊥
-not_read code h = elim (nat_eq code 2) as (λ t. cond t LineTooLong InputTooLong ≡ ReadFault → ⊥) [ true ↦ λ g. cc | false ↦ λ g. cc ] h
+not_read : (code : Code) → fault_of code ≡ ReadFault → ⊥
+not_read codes.LineTooLong h = cc
+not_read code h = cc
 
 read-at : (lines : List Line) → answer_at lines ≡ Err ReadFault → ⊥
 read-at [] h = cc

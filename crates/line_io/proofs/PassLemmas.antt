@@ -4,8 +4,10 @@ use Rattle.std.specs.declared.option.Option.{Option}
 use Rattle.std.specs.Io.KnownBytes.{Consumes}
 use Rattle.std.proofs.lemmas.List.{length-append}
 use Rattle.std.specs.Prelude.{nat_lt, ◌≤◌}
+use Rattle.evac_law.specs.declared.code.Code.{Code}
+use Rattle.evac_law.specs.declared.code.Code.TheVariants as codes
 use Rattle.line_io.specs.declared.limits.TheConstants.{BUFFER_SIZE}
-use Rattle.line_io.specs.Line.{Line, IsWhole, content, input_limit, input_too_long, line_limit, line_too_long, lines_after, pieces, text_lines, line_of, then_lines, onto_first, is_lf}
+use Rattle.line_io.specs.Line.{Line, IsWhole, content, input_limit, line_limit, lines_after, pieces, text_lines, line_of, then_lines, onto_first, is_lf}
 use Rattle.line_io.specs.Reader.{HasRoom, lines_left, Answers, GivesAway, IsGiven, StaysAt, fault_of, is_settled, pending_lines, settled_answer, answer_at, taken_lines}
 use Rattle.line_io.specs.View.{Reader}
 use Rattle.line_io.specs.declared.lines.Found.{Found}
@@ -246,29 +248,29 @@ passes-few a c l n xs p room =
     let there = p.room room in
     omega (arith, ap length p.tied, length-append a.pending p.taken, length-append p.gone c.pending, p.counted, there.pending, there.given)
 
-test-code : (long far : Bool) (text : List ℕ) (code : ℕ) → cond long (Err 2) (cond far (Err 3) (Ok text)) ≡ Err code → (code ≡ 2) ⊎ (code ≡ 3)
+test-code : (long far : Bool) (text : List ℕ) (code : Code) → cond long (Err codes.LineTooLong) (cond far (Err codes.InputTooLong) (Ok text)) ≡ Err code → (code ≡ codes.LineTooLong) ⊎ (code ≡ codes.InputTooLong)
 test-code true far text code h = inl cc
 test-code false true text code h = inr cc
 test-code false false text code h = absurd cc
 
-then-fault : (fault : LineFault) (l : Line) (ls : List Line) → answer_at (then_lines l ls) ≡ Err fault → (code : ℕ) × (l ≡ Err code) × (then_lines l ls ≡ Err code ∷ []) × (fault_of code ≡ fault)
+then-fault : (fault : LineFault) (l : Line) (ls : List Line) → answer_at (then_lines l ls) ≡ Err fault → (code : Code) × (l ≡ Err code) × (then_lines l ls ≡ Err code ∷ []) × (fault_of code ≡ fault)
 then-fault fault (Ok t) ls h = absurd cc
 then-fault fault (Err code) ls h = (code, refl, refl, cc)
 
 -- a fault has one code, and is the last line
-fault-lines : (fault : LineFault) (n : ℕ) (ps : List (List ℕ)) → answer_at (lines_after n ps) ≡ Err fault → (code : ℕ) × (lines_after n ps ≡ Err code ∷ []) × (fault_of code ≡ fault) × ((code ≡ 2) ⊎ (code ≡ 3))
+fault-lines : (fault : LineFault) (n : ℕ) (ps : List (List ℕ)) → answer_at (lines_after n ps) ≡ Err fault → (code : Code) × (lines_after n ps ≡ Err code ∷ []) × (fault_of code ≡ fault) × ((code ≡ codes.LineTooLong) ⊎ (code ≡ codes.InputTooLong))
 unfolding lines_after
 fault-lines fault n [] h = absurd cc
 fault-lines fault n (p ∷ ps) h =
     let f = then-fault fault (line_of (n + length p) p) (lines_after (n + length p) ps) h in
     (f.0, f.2, f.3, test-code (nat_lt line_limit (length (content p))) (nat_lt input_limit (n + length p)) (content p) f.0 f.1)
 
-pub pending-long : (r : Reader) → StaysAt (Err LineTooLong) r → pending_lines r ≡ Err line_too_long ∷ []
+pub pending-long : (r : Reader) → StaysAt (Err LineTooLong) r → pending_lines r ≡ Err codes.LineTooLong ∷ []
 pending-long r stays =
     let f = fault-lines LineTooLong r.given (pieces r.pending) stays.same in
     elim f.3 [ inl two ↦ f.1 ∙ ap (λ k. Err k ∷ []) two | inr three ↦ (let no : InputTooLong ≡ LineTooLong = ap fault_of (sym three) ∙ f.2 in absurd cc) ]
 
-pub pending-far : (r : Reader) → StaysAt (Err InputTooLong) r → pending_lines r ≡ Err input_too_long ∷ []
+pub pending-far : (r : Reader) → StaysAt (Err InputTooLong) r → pending_lines r ≡ Err codes.InputTooLong ∷ []
 pending-far r stays =
     let f = fault-lines InputTooLong r.given (pieces r.pending) stays.same in
     elim f.3 [ inl two ↦ (let no : LineTooLong ≡ InputTooLong = ap fault_of (sym two) ∙ f.2 in absurd cc) | inr three ↦ f.1 ∙ ap (λ k. Err k ∷ []) three ]
@@ -279,12 +281,12 @@ left-end t None after h = tt
 left-end t (Some x) None h = tt
 left-end t (Some x) (Some y) h = h.1 ∙ h.0
 
-pub left-long : (t : List ℕ) (before after : Option (List Line)) → Answers (Err LineTooLong) t before after → IsLeft before after (Err 2 ∷ [])
+pub left-long : (t : List ℕ) (before after : Option (List Line)) → Answers (Err LineTooLong) t before after → IsLeft before after (Err codes.LineTooLong ∷ [])
 left-long t None after h = tt
 left-long t (Some x) None h = tt
 left-long t (Some x) (Some y) h = h.1 ∙ h.0
 
-pub left-far : (t : List ℕ) (before after : Option (List Line)) → Answers (Err InputTooLong) t before after → IsLeft before after (Err 3 ∷ [])
+pub left-far : (t : List ℕ) (before after : Option (List Line)) → Answers (Err InputTooLong) t before after → IsLeft before after (Err codes.InputTooLong ∷ [])
 left-far t None after h = tt
 left-far t (Some x) None h = tt
 left-far t (Some x) (Some y) h = h.1 ∙ h.0

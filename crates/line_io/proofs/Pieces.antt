@@ -7,6 +7,7 @@ use Rattle.std.proofs.Math.Seq.{take-length, take-append-add}
 use Rattle.std.proofs.lemmas.Iterator.Adapters.{position_from-zero}
 use Rattle.std.proofs.lemmas.List.Quantifiers.{position-Some}
 use Rattle.std.specs.List.{list_any, position, position_from}
+use Rattle.evac_law.specs.declared.code.Code.TheVariants as codes
 use Rattle.line_io.specs.Line.{Line, is_lf, pieces, onto_first, without_last, content, lines_after, line_of, then_lines, line_limit, input_limit}
 use Rattle.line_io.specs.Scan.{first_size}
 
@@ -104,10 +105,10 @@ no_lf-stays (b ∷ d ∷ bs) rest h =
 
 -- ---- a line by its piece
 
-pub line-long : (end : ℕ) (p : List ℕ) → line_limit < length (content p) → line_of end p ≡ Err 2
+pub line-long : (end : ℕ) (p : List ℕ) → line_limit < length (content p) → line_of end p ≡ Err codes.LineTooLong
 line-long end p h = rw (lt-ltb line_limit (length (content p)) h)
 
-pub line-far : (end : ℕ) (p : List ℕ) → length (content p) ≤ line_limit → input_limit < end → line_of end p ≡ Err 3
+pub line-far : (end : ℕ) (p : List ℕ) → length (content p) ≤ line_limit → input_limit < end → line_of end p ≡ Err codes.InputTooLong
 line-far end p h g = rw (le-ltb line_limit (length (content p)) h, lt-ltb input_limit end g)
 
 pub line-good : (end : ℕ) (p : List ℕ) → length (content p) ≤ line_limit → end ≤ input_limit → line_of end p ≡ Ok (content p)
@@ -135,7 +136,7 @@ first-in-front n xs rest some same =
     ∙ ap (λ m. then_lines (line_of (n + m) (take k xs)) (lines_after (n + m) (pieces (drop k xs ++ rest)))) (length-take-le k xs within)
 
 -- so many bytes without a LF are more than a line may have, whatever follows them
-pub too_long-whatever : (n : ℕ) (xs rest : List ℕ) → line_limit + 2 ≤ length xs → list_any is_lf xs ≡ false → lines_after n (pieces (xs ++ rest)) ≡ Err 2 ∷ []
+pub too_long-whatever : (n : ℕ) (xs rest : List ℕ) → line_limit + 2 ≤ length xs → list_any is_lf xs ≡ false → lines_after n (pieces (xs ++ rest)) ≡ Err codes.LineTooLong ∷ []
 unfolding lines_after
 too_long-whatever n xs rest many none =
     let k = first_size (xs ++ rest) in

@@ -12,6 +12,7 @@ use Rattle.std.specs.declared.result.Result.{Result}
 use Rattle.line_io.specs.declared.lines.Found.{Found}
 use Rattle.line_io.specs.declared.lines.LineFault.{LineFault}
 use Rattle.std.proofs.KnownBytes.{Consumes-trans}
+use Rattle.evac_law.specs.declared.code.Code.TheVariants as codes
 use Rattle.line_io.specs.declared.lines.Found.TheVariants.{Text, End}
 use Rattle.line_io.specs.declared.lines.LineFault.TheVariants.{ReadFault, LineTooLong, InputTooLong}
 use Rattle.line_io.specs.Reader.{is_settled, ahead, lines_left, Answers, Gives, GivesAway, IsGiven, IsLast, StaysAt, answer_at, settled_answer}
@@ -31,14 +32,14 @@ some-pending : (xs : List ℕ) → 0 < first_size xs → 0 < length xs
 some-pending xs h = omega (arith, first_size-le xs)
 
 pub give-long : (r : Reader) (rest : List ℕ) → is_settled r ≡ true → Follows r rest → 0 < first_size r.pending
-    → line_limit < length (content (take (first_size r.pending) r.pending)) → lines_with r rest ≡ Err 2 ∷ []
+    → line_limit < length (content (take (first_size r.pending) r.pending)) → lines_with r rest ≡ Err codes.LineTooLong ∷ []
 give-long r rest settled last some long =
     let size = first_size r.pending in
     settled-line r.given r.ended r.pending rest settled last (some-pending r.pending some)
     ∙ ap (λ l. then_lines l (lines_after (r.given + size) (pieces (drop size r.pending ++ rest)))) (line-long (r.given + size) (take size r.pending) long)
 
 pub give-far : (r : Reader) (rest : List ℕ) → is_settled r ≡ true → Follows r rest → 0 < first_size r.pending
-    → length (content (take (first_size r.pending) r.pending)) ≤ line_limit → input_limit < r.given + first_size r.pending → lines_with r rest ≡ Err 3 ∷ []
+    → length (content (take (first_size r.pending) r.pending)) ≤ line_limit → input_limit < r.given + first_size r.pending → lines_with r rest ≡ Err codes.InputTooLong ∷ []
 give-far r rest settled last some short far =
     let size = first_size r.pending in
     settled-line r.given r.ended r.pending rest settled last (some-pending r.pending some)
@@ -68,12 +69,12 @@ front-text r size kept f = f.text ∙ ap (λ k. length (content (take k r.pendin
 pub front-end : (r : Reader) (size : ℕ) (rest : List ℕ) → size ≡ first_size r.pending → is_settled r ≡ true → Follows r rest → size ≡ 0 → (r.ended ≡ true) × (lines_with r rest ≡ [])
 front-end r size rest whole settled last none = give-end r rest settled last (sym whole ∙ none)
 
-pub front-long : (r : Reader) (size kept : ℕ) (rest : List ℕ) → Front r size kept → is_settled r ≡ true → Follows r rest → 0 < size → line_limit < kept → lines_with r rest ≡ Err 2 ∷ []
+pub front-long : (r : Reader) (size kept : ℕ) (rest : List ℕ) → Front r size kept → is_settled r ≡ true → Follows r rest → 0 < size → line_limit < kept → lines_with r rest ≡ Err codes.LineTooLong ∷ []
 front-long r size kept rest f settled last some long =
     let whole = f.whole in let text = front-text r size kept f in
     give-long r rest settled last (omega arith) (omega arith)
 
-pub front-far : (r : Reader) (size kept : ℕ) (rest : List ℕ) → Front r size kept → is_settled r ≡ true → Follows r rest → 0 < size → kept ≤ line_limit → input_limit < r.given + size → lines_with r rest ≡ Err 3 ∷ []
+pub front-far : (r : Reader) (size kept : ℕ) (rest : List ℕ) → Front r size kept → is_settled r ≡ true → Follows r rest → 0 < size → kept ≤ line_limit → input_limit < r.given + size → lines_with r rest ≡ Err codes.InputTooLong ∷ []
 front-far r size kept rest f settled last some short far =
     let whole = f.whole in let text = front-text r size kept f in
     give-far r rest settled last (omega arith) (omega arith) (omega arith)

@@ -1,8 +1,9 @@
 -- What hears lines one by one, and what it heard of a reader.
 use Rattle.std.specs.Prelude.{◌≡◌, ℕ, ◌+◌, true, false, List, [], ◌∷◌, ◌++◌, length, Result, Ok, Err, ⊤}
 use Rattle.std.specs.declared.option.Option.{Option}
+use Rattle.evac_law.specs.declared.code.Code.TheVariants as codes
 use Rattle.line_io.specs.Causes.{Count, Rose}
-use Rattle.line_io.specs.Line.{Line, line_too_long, input_too_long}
+use Rattle.line_io.specs.Line.{Line}
 use Rattle.line_io.specs.Passes.{IsLeft, Passes}
 use Rattle.line_io.specs.Reader.{is_settled, lines_left, pending_lines}
 use Rattle.line_io.specs.View.{Reader}
@@ -26,15 +27,15 @@ abbrev pub EndsBy : {S F : Type 0} → Hearing S F → Ending F → S → ℕ �
 EndsBy hears Finished s before last rest s' = (text : List ℕ) × (last ≡ text ∷ []) × hears s (before + 1) text (Ok Last) s'
 EndsBy hears (Failed fault) s before last rest s' = (text : List ℕ) × (last ≡ text ∷ []) × hears s (before + 1) text (Err fault) s'
 EndsBy hears InputEnded s before last rest s' = (last ≡ []) × (rest ≡ []) × (s' ≡ s)
-EndsBy hears (Fault LineTooLong) s before last rest s' = (last ≡ []) × (rest ≡ Err line_too_long ∷ []) × (s' ≡ s)
-EndsBy hears (Fault InputTooLong) s before last rest s' = (last ≡ []) × (rest ≡ Err input_too_long ∷ []) × (s' ≡ s)
+EndsBy hears (Fault LineTooLong) s before last rest s' = (last ≡ []) × (rest ≡ Err codes.LineTooLong ∷ []) × (s' ≡ s)
+EndsBy hears (Fault InputTooLong) s before last rest s' = (last ≡ []) × (rest ≡ Err codes.InputTooLong ∷ []) × (s' ≡ s)
 EndsBy hears (Fault ReadFault) s before last rest s' = (last ≡ []) × (s' ≡ s)
 
 -- where the reader stands then
 abbrev pub Rests : {F : Type 0} → Ending F → Reader → Type 0
 Rests InputEnded r = (r.ended ≡ true) × (r.pending ≡ [])
-Rests (Fault LineTooLong) r = pending_lines r ≡ Err line_too_long ∷ []
-Rests (Fault InputTooLong) r = pending_lines r ≡ Err input_too_long ∷ []
+Rests (Fault LineTooLong) r = pending_lines r ≡ Err codes.LineTooLong ∷ []
+Rests (Fault InputTooLong) r = pending_lines r ≡ Err codes.InputTooLong ∷ []
 Rests (Fault ReadFault) r = is_settled r ≡ false
 Rests _ r = ⊤
 

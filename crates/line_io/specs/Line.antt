@@ -1,5 +1,7 @@
 -- The lines of an input, by its bytes alone. LF is the byte 10 and CR the byte 13.
 use Rattle.std.specs.Prelude.{◌≡◌, ℕ, ◌+◌, Bool, ◌==◌, nat_lt, if◌then◌else◌, List, [], ◌∷◌, length, map, Result, Ok, Err}
+use Rattle.evac_law.specs.declared.code.Code.{Code}
+use Rattle.evac_law.specs.declared.code.Code.TheVariants.{LineTooLong, InputTooLong}
 
 -- the most bytes of a line without its end
 unfoldable pub line_limit : ℕ
@@ -39,21 +41,13 @@ content piece = without_last 13 (without_last 10 piece)
 
 -- a line: what it says, or the code of its fault
 abbrev pub Line : Type 0
-Line = Result (List ℕ) ℕ
-
--- the code of a line that is too long
-abbrev pub line_too_long : ℕ
-line_too_long = 2
-
--- the code of a line up to whose end the input is too long
-abbrev pub input_too_long : ℕ
-input_too_long = 3
+Line = Result (List ℕ) Code
 
 -- the line that a piece is, where the input up to its end has so many bytes
 abbrev pub line_of : ℕ → List ℕ → Line
 line_of end piece =
-    if nat_lt line_limit (length (content piece)) then Err line_too_long
-    else if nat_lt input_limit end then Err input_too_long
+    if nat_lt line_limit (length (content piece)) then Err LineTooLong
+    else if nat_lt input_limit end then Err InputTooLong
     else Ok (content piece)
 
 -- a line and those after it; nothing follows a fault

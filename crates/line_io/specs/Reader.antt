@@ -4,7 +4,9 @@ use Rattle.std.specs.List.{list_any}
 use Rattle.std.specs.Option.{option_map}
 use Rattle.std.specs.declared.option.Option.{Option}
 use Rattle.std.specs.Io.KnownBytes.{prepend_known, Consumes, IsAtEnd}
-use Rattle.line_io.specs.Line.{Line, lines_after, pieces, content, line_of, input_limit, line_limit, line_too_long, input_too_long, is_lf, IsPiece, IsWhole}
+use Rattle.evac_law.specs.declared.code.Code.{Code}
+use Rattle.evac_law.specs.declared.code.Code.TheVariants as codes
+use Rattle.line_io.specs.Line.{Line, lines_after, pieces, content, line_of, input_limit, line_limit, is_lf, IsPiece, IsWhole}
 use Rattle.line_io.specs.declared.limits.TheConstants.{BUFFER_SIZE}
 use Rattle.line_io.specs.declared.lines.Found.{Found}
 use Rattle.line_io.specs.declared.lines.Found.TheVariants.{Text, End}
@@ -42,8 +44,8 @@ abbrev pub Gives : Result Found LineFault → List ℕ → List Line → List Li
 Gives (Ok Text) text before after = before ≡ Ok text ∷ after
 Gives (Ok End) text before after = (before ≡ []) × (after ≡ before)
 Gives (Err ReadFault) text before after = after ≡ before
-Gives (Err LineTooLong) text before after = (before ≡ Err line_too_long ∷ []) × (after ≡ before)
-Gives (Err InputTooLong) text before after = (before ≡ Err input_too_long ∷ []) × (after ≡ before)
+Gives (Err LineTooLong) text before after = (before ≡ Err codes.LineTooLong ∷ []) × (after ≡ before)
+Gives (Err InputTooLong) text before after = (before ≡ Err codes.InputTooLong ∷ []) × (after ≡ before)
 
 -- the same, where the source tells its bytes
 abbrev pub Answers : Result Found LineFault → List ℕ → Option (List Line) → Option (List Line) → Type 0
@@ -78,8 +80,9 @@ pub record GivesAway (result : Result Found LineFault) (before after : Reader) (
   pub line : Gone result after gone
 
 -- the fault of a code
-abbrev pub fault_of : ℕ → LineFault
-fault_of code = if code == line_too_long then LineTooLong else InputTooLong
+abbrev pub fault_of : Code → LineFault
+fault_of codes.LineTooLong = LineTooLong
+fault_of code = InputTooLong
 
 -- the answer at the first of these lines
 abbrev pub answer_at : List Line → Result Found LineFault

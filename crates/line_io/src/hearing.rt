@@ -7,6 +7,7 @@ ghost use Rattle.line_io.specs.Reader.{Drained};
 
 use crate::lines::{Found, LineFault, Lines};
 use crate::outside::Source;
+use evac_law::Code;
 
 /// What a listener answers to a line.
 #[derive(Clone, Copy, PartialEq, Eq, Debug)]
@@ -20,7 +21,7 @@ pub enum Heard {
 /// Why a listener refuses a line: by a code, or for want of memory.
 #[derive(Clone, Copy, PartialEq, Eq, Debug)]
 pub enum Refusal {
-    Code(u8),
+    Code(Code),
     Memory,
 }
 

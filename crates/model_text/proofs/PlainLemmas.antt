@@ -5,12 +5,12 @@ use Rattle.std.specs.List.{All, AllPairs, list_any}
 use Rattle.std.proofs.lemmas.List.Elements.{All-cons, All-head, All-nil, All-push, All-tail, All-weaker}
 use Rattle.std.proofs.lemmas.List.Folds.{list_any-append}
 use Rattle.std.proofs.lemmas.List.Quantifiers.{all_pairs_push}
+use Rattle.evac_law.specs.declared.code.Code.TheVariants.{RepeatedSetting, UnknownFloor, RepeatedNode, OverFull, TooMany}
 use Rattle.evac_law.specs.Building.{node_row}
 use Rattle.evac_law.specs.Limits.{floor_limit, floor_number_limit, node_limit, people_limit}
 use Rattle.evac_law.specs.declared.model.ArcRow.{ArcRow}
 use Rattle.evac_law.specs.declared.model.NodeRow.{NodeRow}
 use Rattle.evac_law.specs.declared.window.Window.{Window as ClosureWindow}
-use Rattle.model_text.specs.Codes.{unknown_floor, repeated_node, repeated_setting, over_full, too_many}
 use Rattle.model_text.specs.Grammar.{SaidPart, Title, Floor, Node, Exit, Arc, Window}
 use Rattle.model_text.specs.Plain.{IsContentWithin, IsPlain, IsTextBehind}
 use Rattle.model_text.specs.Readings.{Line, Described, AtStart, reading_at}
@@ -106,18 +106,18 @@ unfolding part_fault
 floors-of limit [] are texts = floors-none limit
 floors-of limit (Floor floor text ∷ before) are texts =
     let full = nat_le floor_limit (length (floors_of before)) in
-    let new = first-none (has_floor before floor) repeated_setting ((full, too_many) ∷ []) are.1 in
-    let few = first-none full too_many [] new.1 in
+    let new = first-none (has_floor before floor) RepeatedSetting ((full, TooMany) ∷ []) are.1 in
+    let few = first-none full TooMany [] new.1 in
     floors-floor limit (floors_of before) (nodes_of before) (floor, text) (floors-of limit before are.2 (All-tail (HasText limit) (Floor floor text) before texts))
     are.0.0 (All-head (HasText limit) (Floor floor text) before texts) (sym (has-floor before floor) ∙ new.0) (below-limit floor_limit (length (floors_of before)) few.0)
 floors-of limit (Node name capacity start ∷ before) are texts =
     let s = Node name capacity start in
     let crowded = nat_le node_limit (length (nodes_of before)) || nat_lt people_limit (people_of before + start) in
-    let none = none-four (not (has_floor before name.floor)) (has_node before name) (nat_lt capacity start) crowded unknown_floor repeated_node over_full too_many are.1 in
+    let none = none-four (not (has_floor before name.floor)) (has_node before name) (nat_lt capacity start) crowded UnknownFloor RepeatedNode OverFull TooMany are.1 in
     floors-node limit (floors_of before) (nodes_of before) (node_row name capacity start) (floors-of limit before are.2 (All-tail (HasText limit) s before texts))
     (sym (has-floor before name.floor) ∙ not-false (has_floor before name.floor) none.0)
 floors-of limit (Exit name ∷ before) are texts =
-    let none = none-three (not (has_floor before name.floor)) (has_node before name) (nat_le node_limit (length (nodes_of before))) unknown_floor repeated_node too_many are.1 in
+    let none = none-three (not (has_floor before name.floor)) (has_node before name) (nat_le node_limit (length (nodes_of before))) UnknownFloor RepeatedNode TooMany are.1 in
     floors-node limit (floors_of before) (nodes_of before) (node_row name 0 0) (floors-of limit before are.2 (All-tail (HasText limit) (Exit name) before texts))
     (sym (has-floor before name.floor) ∙ not-false (has_floor before name.floor) none.0)
 floors-of limit (s ∷ before) are texts = floors-of limit before are.2 (All-tail (HasText limit) s before texts)

@@ -4,10 +4,11 @@ use Rattle.std.specs.declared.option.Option.{Option}
 use Rattle.std.specs.List.{All}
 use Rattle.std.proofs.lemmas.Bool.{cond_both}
 use Rattle.std.proofs.lemmas.List.Elements.{All-cons, All-head, All-nil, All-tail}
+use Rattle.evac_law.specs.declared.code.Code.{Code}
+use Rattle.evac_law.specs.declared.code.Code.TheVariants.{FirstLine}
 use Rattle.evac_law.specs.Building.{IsValid}
 use Rattle.model_text.specs.declared.fault.TextFault.{TextFault}
 use Rattle.model_text.specs.declared.fault.TextFault.TheVariants.{UnknownWord}
-use Rattle.model_text.specs.Codes.{first_line}
 use Rattle.model_text.specs.Fields.{fields_of}
 use Rattle.model_text.specs.Grammar.{Said, SaidPart, IsSaidPart, Blank, Header, Part, End, statement_of}
 use Rattle.model_text.specs.Readings.{Line, Reading, Described, ReadingState, AtStart, InModel, Step, Moved, Ended, Stopped, step_unless, first_said, later_said, later_statement, begins_unknown, step_at, after_step, reading_at}
@@ -43,14 +44,14 @@ LeadsToTaken P (Moved state) = HasTaken P state
 LeadsToTaken P (Ended building) = IsSaidBy P building
 LeadsToTaken P (Stopped code) = Unit {0}
 
-unless-taken : (P : SaidPart → Type 0) (o : Option ℕ) (step : Step) → (o ≡ None → LeadsToTaken P step) → LeadsToTaken P (step_unless o step)
+unless-taken : (P : SaidPart → Type 0) (o : Option Code) (step : Step) → (o ≡ None → LeadsToTaken P step) → LeadsToTaken P (step_unless o step)
 unless-taken P (Some code) step h = tt
 unless-taken P None step h = h refl
 
 first-taken : (P : SaidPart → Type 0) (r : Result Said TextFault) → LeadsToTaken P (first_said r)
 first-taken P (Ok Blank) = tt
 first-taken P (Ok (Header version)) =
-    cond_both (version == 1 || version == 2) (Moved (InModel version [])) (Stopped first_line) (LeadsToTaken P) (λ _. (tt, All-nil P)) (λ _. tt)
+    cond_both (version == 1 || version == 2) (Moved (InModel version [])) (Stopped FirstLine) (LeadsToTaken P) (λ _. (tt, All-nil P)) (λ _. tt)
 first-taken P (Ok s) = tt
 first-taken P (Err fault) = tt
 

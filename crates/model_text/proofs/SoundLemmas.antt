@@ -6,6 +6,8 @@ use Rattle.std.proofs.lemmas.Bool.{ltb-false, leb-false, or_parts}
 use Rattle.std.proofs.lemmas.List.{get_or_append_left, length-set}
 use Rattle.std.proofs.lemmas.List.Sums.{passes_at_first, sum_by-append}
 use Rattle.std.proofs.lemmas.List.Elements.{All-get_or, All-nil, All-push, All-set, All-weaker}
+use Rattle.evac_law.specs.declared.code.Code.{Code}
+use Rattle.evac_law.specs.declared.code.Code.TheVariants.{UnknownFloor, RepeatedNode, OverFull, UnknownNode, SameNode, FromExit, RepeatedArc, TooMany, MissingSetting, NoExit, TooLarge, BadWindow, WindowOverlap, TooManyWindows, EntrantLate, RepeatedEntrant, NoArc, ExitNamed}
 use Rattle.evac_law.specs.Building.{IsNode, IsArc, IsValid, arc_row, node_row, no_node, no_arc, people}
 use Rattle.evac_law.specs.Entrants.{ComesBefore}
 use Rattle.evac_law.specs.Limits.{seconds_limit, horizon_limit, node_limit, arc_limit, travel_limit, rate_limit, capacity_limit, people_limit, cell_limit, window_limit}
@@ -18,7 +20,6 @@ use Rattle.evac_law.specs.declared.model.ArcRow.{ArcRow}
 use Rattle.evac_law.specs.declared.window.Window.{Window as ClosureWindow}
 use Rattle.evac_law.proofs.EditLemmas.{at-set}
 use Rattle.evac_law.proofs.WindowLemmas.{windows_with}
-use Rattle.model_text.specs.Codes.{unknown_floor, repeated_node, over_full, unknown_node, self_arc, from_exit, repeated_arc, too_many, missing_setting, no_exit, too_large, bad_window, window_overlap, too_many_windows, repeated_entrant, entrant_late, exit_named, unknown_arc}
 use Rattle.model_text.specs.Grammar.{SaidPart, Period, Horizon, Node, Exit, Arc, Window, Entrant as Comes}
 use Rattle.model_text.specs.Taken.{same_name, seconds_of, horizon_of, nodes_of, place_of_node, place_of_arc, joins, arc_windows, closing, arcs_of, with_entrant, entrant_of, entrants_of, is_coming, windows_of, has_floor, has_node, has_arc, has_entrant, people_of, first_code, part_fault, cells_of, end_fault, model_taken, AreTaken}
 use Rattle.model_text.proofs.EntrantLemmas.{IsComing, all-with_entrant, coming-kept, sorted-with_entrant, sum-with_entrant}
@@ -26,24 +27,24 @@ use Rattle.model_text.proofs.InsertLemmas.{none-passes}
 use Rattle.model_text.proofs.ListFacts.{found, length-push, missing, not-false, push-pairs, same-name-is, same-name-self}
 
 -- no code: the first check didn't hold, and neither did one of the others
-pub first-none : (t : Bool) (code : ℕ) (cs : List (Bool × ℕ)) → first_code ((t, code) ∷ cs) ≡ None → (t ≡ false) × (first_code cs ≡ None)
+pub first-none : (t : Bool) (code : Code) (cs : List (Bool × Code)) → first_code ((t, code) ∷ cs) ≡ None → (t ≡ false) × (first_code cs ≡ None)
 first-none true code cs h = cc
 first-none false code cs h = (refl, h)
 
-pub none-three : (a b c : Bool) (p q r : ℕ) → first_code ((a, p) ∷ (b, q) ∷ (c, r) ∷ []) ≡ None → (a ≡ false) × (b ≡ false) × (c ≡ false)
+pub none-three : (a b c : Bool) (p q r : Code) → first_code ((a, p) ∷ (b, q) ∷ (c, r) ∷ []) ≡ None → (a ≡ false) × (b ≡ false) × (c ≡ false)
 none-three a b c p q r h =
     let x = first-none a p ((b, q) ∷ (c, r) ∷ []) h in
     let y = first-none b q ((c, r) ∷ []) x.1 in
     let z = first-none c r [] y.1 in
     (x.0, y.0, z.0)
 
-pub none-four : (a b c d : Bool) (p q r s : ℕ) → first_code ((a, p) ∷ (b, q) ∷ (c, r) ∷ (d, s) ∷ []) ≡ None → (a ≡ false) × (b ≡ false) × (c ≡ false) × (d ≡ false)
+pub none-four : (a b c d : Bool) (p q r s : Code) → first_code ((a, p) ∷ (b, q) ∷ (c, r) ∷ (d, s) ∷ []) ≡ None → (a ≡ false) × (b ≡ false) × (c ≡ false) × (d ≡ false)
 none-four a b c d p q r s h =
     let x = first-none a p ((b, q) ∷ (c, r) ∷ (d, s) ∷ []) h in
     let y = none-three b c d q r s x.1 in
     (x.0, y.0, y.1, y.2)
 
-none-six : (a b c d e f : Bool) (p q r s t u : ℕ) → first_code ((a, p) ∷ (b, q) ∷ (c, r) ∷ (d, s) ∷ (e, t) ∷ (f, u) ∷ []) ≡ None
+none-six : (a b c d e f : Bool) (p q r s t u : Code) → first_code ((a, p) ∷ (b, q) ∷ (c, r) ∷ (d, s) ∷ (e, t) ∷ (f, u) ∷ []) ≡ None
     → (a ≡ false) × (b ≡ false) × (c ≡ false) × (d ≡ false) × (e ≡ false) × (f ≡ false)
 none-six a b c d e f p q r s t u h =
     let x = first-none a p ((b, q) ∷ (c, r) ∷ (d, s) ∷ (e, t) ∷ (f, u) ∷ []) h in
@@ -243,18 +244,18 @@ sound-of [] are = sound-none
 sound-of (Node name capacity start ∷ before) are =
     let full = nat_le node_limit (length (nodes_of before)) in
     let crowded = nat_lt people_limit (people_of before + start) in
-    let h = none-four (not (has_floor before name.floor)) (has_node before name) (nat_lt capacity start) (full || crowded) unknown_floor repeated_node over_full too_many are.1 in
+    let h = none-four (not (has_floor before name.floor)) (has_node before name) (nat_lt capacity start) (full || crowded) UnknownFloor RepeatedNode OverFull TooMany are.1 in
     let fits = or_parts full crowded h.3 in
     room-sound before name capacity start (sound-of before are.2) are.0.0 are.0.1 are.0.2 h.1 (ltb-false capacity start h.2)
     (below-limit node_limit (length (nodes_of before)) fits.0) (ltb-false people_limit (people_of before + start) fits.1)
 sound-of (Exit name ∷ before) are =
     let full = nat_le node_limit (length (nodes_of before)) in
-    let h = none-three (not (has_floor before name.floor)) (has_node before name) full unknown_floor repeated_node too_many are.1 in
+    let h = none-three (not (has_floor before name.floor)) (has_node before name) full UnknownFloor RepeatedNode TooMany are.1 in
     exit-sound before name (sound-of before are.2) are.0.0 are.0.1 h.1 (below-limit node_limit (length (nodes_of before)) h.2)
 sound-of (Arc start finish travel rate ∷ before) are =
     let full = nat_le arc_limit (length (arcs_of before)) in
     let h = none-six (not (has_node before start)) (not (has_node before finish)) (same_name start finish) (is_exit start.kind) (has_arc before start finish) full
-    unknown_node unknown_node self_arc from_exit repeated_arc too_many are.1 in
+    UnknownNode UnknownNode SameNode FromExit RepeatedArc TooMany are.1 in
     sound-arc (nodes_of before) (arcs_of before) (entrants_of before) _ (sound-of before are.2)
     (arc-between (nodes_of before) start finish travel rate (not-false _ h.0) (not-false _ h.1) h.2 h.3 (are.0.2, are.0.3) are.0.4)
     h.4 (below-limit arc_limit (length (arcs_of before)) h.5)
@@ -263,13 +264,13 @@ sound-of (Window start finish first until ∷ before) are =
     let shared = list_any (λ v. overlaps v (window_of first until)) (windows_of before start finish) in
     let full = nat_le window_limit (length (windows_of before start finish)) in
     let h = none-six (not (has_node before start)) (not (has_node before finish)) (not (has_arc before start finish)) (nat_le until first) shared full
-    unknown_node unknown_node unknown_arc bad_window window_overlap too_many_windows are.1 in
+    UnknownNode UnknownNode NoArc BadWindow WindowOverlap TooManyWindows are.1 in
     sound-window (nodes_of before) (arcs_of before) (entrants_of before) place (window_of first until) (sound-of before are.2)
     (found (joins (place_of_node (nodes_of before) start) (place_of_node (nodes_of before) finish)) (arcs_of before) (not-false _ h.2))
     (record { ordered = leb-false until first h.3; until_fits = are.0.4 }) h.4 (below-limit window_limit (length (windows_of before start finish)) h.5)
 sound-of (Comes name moment people ∷ before) are =
     let crowded = nat_lt people_limit (people_of before + people) in
-    let h = none-four (not (has_node before name)) (is_exit name.kind) (has_entrant before name moment) crowded unknown_node exit_named repeated_entrant too_many are.1 in
+    let h = none-four (not (has_node before name)) (is_exit name.kind) (has_entrant before name moment) crowded UnknownNode ExitNamed RepeatedEntrant TooMany are.1 in
     let inside = found (λ n. same_name n.name name) (nodes_of before) (not-false _ h.0) in
     sound-entrant (nodes_of before) (arcs_of before) (entrants_of before) (entrant_of (place_of_node (nodes_of before) name) moment people) (sound-of before are.2)
     (record {
@@ -299,7 +300,7 @@ may-end taken h =
     let closed = not (list_any (λ n. is_exit n.name.kind) (nodes_of taken)) in
     let last : ℕ = unwrap_or (horizon_of taken) 0 in
     let late = list_any (λ e. nat_lt last e.moment) (entrants_of taken) in
-    let n = none-four unset closed (nat_lt cell_limit (cells_of taken)) late missing_setting no_exit too_large entrant_late h in
+    let n = none-four unset closed (nat_lt cell_limit (cells_of taken)) late MissingSetting NoExit TooLarge EntrantLate h in
     let settings = or_parts (is_none (seconds_of taken)) (is_none (horizon_of taken)) n.0 in
     record {
       seconds = some-of (seconds_of taken) settings.0;

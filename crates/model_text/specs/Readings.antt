@@ -2,21 +2,23 @@
 use Rattle.std.specs.Prelude.{◌≡◌, ℕ, ◌+◌, Bool, false, ◌&&◌, ◌||◌, ◌==◌, if◌then◌else◌, List, [], ◌∷◌, length, Result, Ok, Err, Some, None, codes}
 use Rattle.std.specs.declared.option.Option.{Option}
 use Rattle.std.specs.Str.{bytes_eq}
+use Rattle.evac_law.specs.declared.code.Code.{Code}
+use Rattle.evac_law.specs.declared.code.Code.TheVariants.{FirstLine, MissingEnd}
 use Rattle.model_text.specs.declared.fault.TextFault.{TextFault}
 use Rattle.model_text.specs.declared.fault.TextFault.TheVariants.{UnknownWord}
-use Rattle.model_text.specs.Codes.{text_fault_code, first_line, missing_end}
+use Rattle.model_text.specs.Codes.{text_fault_code}
 use Rattle.model_text.specs.Fields.{fields_of}
 use Rattle.model_text.specs.Grammar.{Said, SaidPart, Blank, Header, Part, End, statement_of}
 use Rattle.model_text.specs.Taken.{Description, description_of, part_fault, end_fault}
 
 -- a line: its content, or the code of its fault
 abbrev pub Line : Type 0
-Line = Result (List ℕ) ℕ
+Line = Result (List ℕ) Code
 
 -- lines describe a building and end it at the line `last`, with `rest` behind it; or they are refused, with a code and a line
 pub data Reading : Type 0 where
   Described : (building : Description) → (last : ℕ) → (rest : List Line) → Reading
-  Refused : (code : ℕ) → (line : ℕ) → Reading
+  Refused : (code : Code) → (line : ℕ) → Reading
 
 -- the state of a reading: before the header, or behind that of a version with some parts, the last one first
 pub data ReadingState : Type 0 where
@@ -27,18 +29,18 @@ pub data ReadingState : Type 0 where
 pub data Step : Type 0 where
   Moved : (state : ReadingState) → Step
   Ended : (building : Description) → Step
-  Stopped : (code : ℕ) → Step
+  Stopped : (code : Code) → Step
 
 -- a step, unless there is a fault
-abbrev pub step_unless : Option ℕ → Step → Step
+abbrev pub step_unless : Option Code → Step → Step
 step_unless (Some code) step = Stopped code
 step_unless None step = step
 
 -- the first line that isn't blank is the header of version 1 or 2
 abbrev pub first_said : Result Said TextFault → Step
 first_said (Ok Blank) = Moved AtStart
-first_said (Ok (Header version)) = if version == 1 || version == 2 then Moved (InModel version []) else Stopped first_line
-first_said _ = Stopped first_line
+first_said (Ok (Header version)) = if version == 1 || version == 2 then Moved (InModel version []) else Stopped FirstLine
+first_said _ = Stopped FirstLine
 
 -- the end of a model of some parts
 abbrev pub end_step : List SaidPart → Step
@@ -82,7 +84,7 @@ after_step (Stopped code) number rest more = Refused code number
 
 -- the reading of lines from a state on, behind `before` lines
 unfoldable pub reading_at : ReadingState → ℕ → List Line → Reading
-reading_at state before [] = Refused missing_end (before + 1)
+reading_at state before [] = Refused MissingEnd (before + 1)
 reading_at state before (line ∷ rest) = after_step (step_at state line) (before + 1) rest (λ next. reading_at next (before + 1) rest)
 
 -- the reading of lines behind `before` lines that said nothing
@@ -95,4 +97,4 @@ model_of lines = opening_of 0 lines
 
 -- lines that end too early, and have no fault before
 abbrev pub IsUndecided : List Line → Type 0
-IsUndecided lines = model_of lines ≡ Refused missing_end (length lines + 1)
+IsUndecided lines = model_of lines ≡ Refused MissingEnd (length lines + 1)

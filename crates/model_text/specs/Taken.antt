@@ -2,6 +2,8 @@
 use Rattle.std.specs.Prelude.{◌≡◌, ℕ, ◌+◌, ◌*◌, Bool, true, false, not, ◌&&◌, ◌||◌, ◌==◌, nat_lt, nat_le, if◌then◌else◌, List, [], ◌∷◌, ◌++◌, length, slice_index_or, slice_set, is_some, is_none, unwrap_or, map, Some, None}
 use Rattle.std.specs.declared.option.Option.{Option}
 use Rattle.std.specs.List.{list_any, position_or_len, sum_by}
+use Rattle.evac_law.specs.declared.code.Code.{Code}
+use Rattle.evac_law.specs.declared.code.Code.TheVariants.{RepeatedSetting, UnknownFloor, RepeatedNode, OverFull, UnknownNode, SameNode, FromExit, RepeatedArc, TooMany, MissingSetting, NoExit, TooLarge, BadWindow, WindowOverlap, TooManyWindows, EntrantLate, RepeatedEntrant, NoArc, ExitNamed}
 use Rattle.evac_law.specs.Building.{arc_row, no_arc, node_row}
 use Rattle.evac_law.specs.Limits.{floor_limit, node_limit, arc_limit, people_limit, cell_limit, window_limit}
 use Rattle.evac_law.specs.Names.{is_exit}
@@ -14,7 +16,6 @@ use Rattle.evac_law.specs.declared.model.NodeRow.{NodeRow}
 use Rattle.evac_law.specs.declared.model.ArcRow.{ArcRow}
 use Rattle.evac_law.specs.declared.model.Model.{Model}
 use Rattle.evac_law.specs.declared.window.Window.{Window as ClosureWindow}
-use Rattle.model_text.specs.Codes.{repeated_setting, unknown_floor, repeated_node, over_full, unknown_node, self_arc, from_exit, repeated_arc, too_many, missing_setting, no_exit, too_large, bad_window, window_overlap, too_many_windows, repeated_entrant, entrant_late, exit_named, unknown_arc}
 use Rattle.model_text.specs.Grammar.{SaidPart, IsSaidPart, Title, Period, Horizon, Floor, Node, Exit, Arc, Window, Entrant}
 
 -- ---- names
@@ -141,38 +142,38 @@ abbrev pub people_of : List SaidPart → ℕ
 people_of before = sum_by (λ n. n.start) (nodes_of before) + sum_by (λ e. e.people) (entrants_of before)
 
 -- the code of the first check that holds
-abbrev pub first_code : List (Bool × ℕ) → Option ℕ
+abbrev pub first_code : List (Bool × Code) → Option Code
 first_code [] = None
 first_code (c ∷ cs) = if c.0 then Some c.1 else first_code cs
 
 -- the checks of a part against those before it, in their order, each with its code
-abbrev pub part_checks : List SaidPart → SaidPart → List (Bool × ℕ)
-part_checks before (Title text) = (is_some (title_of before), repeated_setting) ∷ []
-part_checks before (Period seconds) = (is_some (seconds_of before), repeated_setting) ∷ []
-part_checks before (Horizon moments) = (is_some (horizon_of before), repeated_setting) ∷ []
+abbrev pub part_checks : List SaidPart → SaidPart → List (Bool × Code)
+part_checks before (Title text) = (is_some (title_of before), RepeatedSetting) ∷ []
+part_checks before (Period seconds) = (is_some (seconds_of before), RepeatedSetting) ∷ []
+part_checks before (Horizon moments) = (is_some (horizon_of before), RepeatedSetting) ∷ []
 part_checks before (Floor floor text) =
-    (has_floor before floor, repeated_setting) ∷ (nat_le floor_limit (length (floors_of before)), too_many) ∷ []
+    (has_floor before floor, RepeatedSetting) ∷ (nat_le floor_limit (length (floors_of before)), TooMany) ∷ []
 part_checks before (Node name capacity start) =
-    (not (has_floor before name.floor), unknown_floor) ∷ (has_node before name, repeated_node) ∷ (nat_lt capacity start, over_full)
-    ∷ (nat_le node_limit (length (nodes_of before)) || nat_lt people_limit (people_of before + start), too_many) ∷ []
+    (not (has_floor before name.floor), UnknownFloor) ∷ (has_node before name, RepeatedNode) ∷ (nat_lt capacity start, OverFull)
+    ∷ (nat_le node_limit (length (nodes_of before)) || nat_lt people_limit (people_of before + start), TooMany) ∷ []
 part_checks before (Exit name) =
-    (not (has_floor before name.floor), unknown_floor) ∷ (has_node before name, repeated_node)
-    ∷ (nat_le node_limit (length (nodes_of before)), too_many) ∷ []
+    (not (has_floor before name.floor), UnknownFloor) ∷ (has_node before name, RepeatedNode)
+    ∷ (nat_le node_limit (length (nodes_of before)), TooMany) ∷ []
 part_checks before (Arc start finish travel rate) =
-    (not (has_node before start), unknown_node) ∷ (not (has_node before finish), unknown_node) ∷ (same_name start finish, self_arc)
-    ∷ (is_exit start.kind, from_exit) ∷ (has_arc before start finish, repeated_arc)
-    ∷ (nat_le arc_limit (length (arcs_of before)), too_many) ∷ []
+    (not (has_node before start), UnknownNode) ∷ (not (has_node before finish), UnknownNode) ∷ (same_name start finish, SameNode)
+    ∷ (is_exit start.kind, FromExit) ∷ (has_arc before start finish, RepeatedArc)
+    ∷ (nat_le arc_limit (length (arcs_of before)), TooMany) ∷ []
 part_checks before (Window start finish first until) =
-    (not (has_node before start), unknown_node) ∷ (not (has_node before finish), unknown_node)
-    ∷ (not (has_arc before start finish), unknown_arc) ∷ (nat_le until first, bad_window)
-    ∷ (list_any (λ v. overlaps v (window_of first until)) (windows_of before start finish), window_overlap)
-    ∷ (nat_le window_limit (length (windows_of before start finish)), too_many_windows) ∷ []
+    (not (has_node before start), UnknownNode) ∷ (not (has_node before finish), UnknownNode)
+    ∷ (not (has_arc before start finish), NoArc) ∷ (nat_le until first, BadWindow)
+    ∷ (list_any (λ v. overlaps v (window_of first until)) (windows_of before start finish), WindowOverlap)
+    ∷ (nat_le window_limit (length (windows_of before start finish)), TooManyWindows) ∷ []
 part_checks before (Entrant name moment people) =
-    (not (has_node before name), unknown_node) ∷ (is_exit name.kind, exit_named) ∷ (has_entrant before name moment, repeated_entrant)
-    ∷ (nat_lt people_limit (people_of before + people), too_many) ∷ []
+    (not (has_node before name), UnknownNode) ∷ (is_exit name.kind, ExitNamed) ∷ (has_entrant before name moment, RepeatedEntrant)
+    ∷ (nat_lt people_limit (people_of before + people), TooMany) ∷ []
 
 -- the fault of a part, said of those before it
-unfoldable pub part_fault : List SaidPart → SaidPart → Option ℕ
+unfoldable pub part_fault : List SaidPart → SaidPart → Option Code
 part_fault before part = first_code (part_checks before part)
 
 -- the cells of what is described: each node and each arc at each moment
@@ -180,12 +181,12 @@ abbrev pub cells_of : List SaidPart → ℕ
 cells_of taken = (length (nodes_of taken) + length (arcs_of taken)) * (unwrap_or (horizon_of taken) 0 + 1)
 
 -- the fault of the model's end
-unfoldable pub end_fault : List SaidPart → Option ℕ
+unfoldable pub end_fault : List SaidPart → Option Code
 end_fault taken =
-    first_code ((is_none (seconds_of taken) || is_none (horizon_of taken), missing_setting)
-    ∷ (not (list_any (λ n. is_exit n.name.kind) (nodes_of taken)), no_exit)
-    ∷ (nat_lt cell_limit (cells_of taken), too_large)
-    ∷ (list_any (λ e. nat_lt (unwrap_or (horizon_of taken) 0) e.moment) (entrants_of taken), entrant_late) ∷ [])
+    first_code ((is_none (seconds_of taken) || is_none (horizon_of taken), MissingSetting)
+    ∷ (not (list_any (λ n. is_exit n.name.kind) (nodes_of taken)), NoExit)
+    ∷ (nat_lt cell_limit (cells_of taken), TooLarge)
+    ∷ (list_any (λ e. nat_lt (unwrap_or (horizon_of taken) 0) e.moment) (entrants_of taken), EntrantLate) ∷ [])
 
 -- ---- the building that they describe
 

@@ -2,6 +2,7 @@
 ghost use Rattle.std.specs.Prelude.{◌≡◌};
 ghost use Rattle.model_text.specs.Codes.{text_fault_code};
 
+use evac_law::Code;
 use thiserror::Error;
 
 /// Why a line by itself is refused.
@@ -22,17 +23,17 @@ pub enum TextFault {
 }
 
 impl TextFault {
-    /// The number by which a refusal names the fault.
-    pub fn code(self) -> u8
+    /// The code by which a refusal names the fault.
+    pub fn code(self) -> Code
         ensures { result ≡ text_fault_code self }
     {
         match self {
-            TextFault::UnknownWord => 4,
-            TextFault::FieldCount => 5,
-            TextFault::BadNumber => 6,
-            TextFault::OutOfRange => 7,
-            TextFault::BadName => 8,
-            TextFault::UnknownCommand => 31,
+            TextFault::UnknownWord => Code::UnknownWord,
+            TextFault::FieldCount => Code::FieldCount,
+            TextFault::BadNumber => Code::BadNumber,
+            TextFault::OutOfRange => Code::OutOfRange,
+            TextFault::BadName => Code::BadName,
+            TextFault::UnknownCommand => Code::UnknownCommand,
         }
     }
 }

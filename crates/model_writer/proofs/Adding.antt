@@ -6,6 +6,7 @@ use Rattle.std.proofs.Math.Seq.{get_or-append_seam}
 use Rattle.std.proofs.lemmas.List.{get_or_append_left, get_or_default}
 use Rattle.std.proofs.lemmas.List.Elements.{All-weaker}
 use Rattle.std.proofs.lemmas.List.Folds.{list_any_none}
+use Rattle.evac_law.specs.declared.code.Code.{Code}
 use Rattle.evac_law.specs.declared.entrant.Entrant.{Entrant as Coming}
 use Rattle.evac_law.specs.declared.model.ArcRow.{ArcRow}
 use Rattle.evac_law.specs.declared.model.NodeRow.{NodeRow}
@@ -73,11 +74,11 @@ adds-append taken xs ys now after adds then =
 
 -- ---- checks of which none holds
 
-abbrev pub NoneHolds : List (Bool × ℕ) → Type 0
+abbrev pub NoneHolds : List (Bool × Code) → Type 0
 NoneHolds [] = Unit {0}
 NoneHolds (c ∷ cs) = (c.0 ≡ false) × NoneHolds cs
 
-pub no-code : (cs : List (Bool × ℕ)) → NoneHolds cs → first_code cs ≡ None
+pub no-code : (cs : List (Bool × Code)) → NoneHolds cs → first_code cs ≡ None
 no-code [] none = refl
 no-code (c ∷ cs) none = ap (λ t. cond t (Some c.1) (first_code cs)) none.0 ∙ no-code cs none.1
 

@@ -3,7 +3,8 @@ use Rattle.std.proofs.Common.{◌≡◌, ℕ, ◌+◌, Bool, true, false, ◌||�
 use Rattle.std.specs.List.{All, list_any}
 use Rattle.std.proofs.lemmas.Bool.{ltb-false, or_parts}
 use Rattle.std.proofs.lemmas.List.Elements.{All-cons, All-head, All-nil, All-tail}
-use Rattle.line_io.specs.Line.{Line, content, input_limit, input_too_long, is_lf, line_limit, line_of, line_too_long, lines_after, lines_of, onto_first, pieces, then_lines, without_last}
+use Rattle.evac_law.specs.declared.code.Code.TheVariants.{LineTooLong, InputTooLong}
+use Rattle.line_io.specs.Line.{Line, content, input_limit, is_lf, line_limit, line_of, lines_after, lines_of, onto_first, pieces, then_lines, without_last}
 use Rattle.model_text.specs.Plain.{IsContentWithin}
 
 -- ---- the pieces of an input
@@ -53,7 +54,7 @@ none-among c (b ∷ d ∷ bs) h =
     ap (λ t. t || list_any is_lf (without_last c (d ∷ bs))) parts.0 ∙ none-among c (d ∷ bs) parts.1
 
 line-by : (piece : List ℕ) (t u : Bool) → nat_lt line_limit (length (content piece)) ≡ t → IsOneLine piece
-    → IsContentWithin line_limit (cond t (Err line_too_long) (cond u (Err input_too_long) (Ok (content piece))))
+    → IsContentWithin line_limit (cond t (Err LineTooLong) (cond u (Err InputTooLong) (Ok (content piece))))
 line-by piece true u e is = tt
 line-by piece false true e is = tt
 line-by piece false false e is = (ltb-false line_limit (length (content piece)) e, none-among 13 (without_last 10 piece) is)

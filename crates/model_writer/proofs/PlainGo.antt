@@ -5,11 +5,12 @@ use Rattle.std.specs.declared.option.Option.{Option}
 use Rattle.std.specs.List.{All, flat_map, list_any}
 use Rattle.std.proofs.lemmas.Bool.{le-ltb}
 use Rattle.std.proofs.lemmas.List.Folds.{list_any_none}
+use Rattle.evac_law.specs.declared.code.Code.{Code}
+use Rattle.evac_law.specs.declared.code.Code.TheVariants.{MissingSetting, NoExit, TooLarge, EntrantLate}
 use Rattle.evac_law.specs.Building.{IsValid, no_arc, no_node, people}
 use Rattle.evac_law.specs.Limits.{cell_limit}
 use Rattle.evac_law.specs.Names.{is_exit}
 use Rattle.evac_law.specs.declared.model.Model.{Model}
-use Rattle.model_text.specs.Codes.{entrant_late, missing_setting, no_exit, too_large}
 use Rattle.model_text.specs.Grammar.{SaidPart, Horizon, Period, Title}
 use Rattle.model_text.specs.Plain.{IsPlain, IsTextBehind}
 use Rattle.model_text.specs.Taken.{Description, description_of, end_fault, first_code, model_taken, part_checks, part_fault}
@@ -123,12 +124,12 @@ pub record IsSaidAgain (d : Description) : Type 0 where
   pub same : description_of (pushed [] (parts_said d)) ≡ d
 
 -- the checks at a model's end, of what is described
-abbrev end-checks : Gathered → List (Bool × ℕ)
+abbrev end-checks : Gathered → List (Bool × Code)
 end-checks x =
-    (is_none x.seconds || is_none x.horizon, missing_setting)
-    ∷ (not (list_any (λ n. is_exit n.name.kind) x.nodes), no_exit)
-    ∷ (nat_lt cell_limit ((length x.nodes + length x.arcs) * (unwrap_or x.horizon 0 + 1)), too_large)
-    ∷ (list_any (λ e. nat_lt (unwrap_or x.horizon 0) e.moment) x.entrants, entrant_late) ∷ []
+    (is_none x.seconds || is_none x.horizon, MissingSetting)
+    ∷ (not (list_any (λ n. is_exit n.name.kind) x.nodes), NoExit)
+    ∷ (nat_lt cell_limit ((length x.nodes + length x.arcs) * (unwrap_or x.horizon 0 + 1)), TooLarge)
+    ∷ (list_any (λ e. nat_lt (unwrap_or x.horizon 0) e.moment) x.entrants, EntrantLate) ∷ []
 
 ends : (limit : ℕ) (d : Description) (taken : List SaidPart) → IsPlain limit d → gathered taken ≡ whole d → end_fault taken ≡ None
 unfolding end_fault

@@ -1,6 +1,8 @@
 -- A plan that was carried out is answered by who is gone and by the block of what is left.
 use Rattle.std.proofs.Common.{◌≡◌, ℕ, ◌+◌, ◌<◌, ◌≤◌, ◌^◌, Bool, true, false, List, ◌++◌, Result, Ok, Err, refl, sym, ap, ◌∙◌, subst, arith}
 use Rattle.std.specs.declared.option.Option.{Option}
+use Rattle.evac_law.specs.declared.code.Code.{Code}
+use Rattle.evac_law.specs.declared.code.Code.TheVariants as codes
 use Rattle.evac_law.specs.declared.model.Model.{Model}
 use Rattle.line_io.specs.Causes.{Count, HasCause}
 use Rattle.line_io.specs.Line.{input_limit}
@@ -72,19 +74,19 @@ advance_said back result line p last steps n k t t' a b u w f g before short fre
     )
 
 -- a moment that is barred
-pub barred_said : {T : Type 0} (result : Result T WriteFault) (line code p steps n k : ℕ) (t t' : ReplanTalk) (a b : Option (List ℕ)) (u w : List ℕ) (f g : Count)
-    → bars_moment (replanned t.desk t.replan) p ≡ true → t'.desk ≡ t.desk → t'.replan ≡ t.replan → steps ≡ 0 → k ≡ n + steps → code ≡ 41
+pub barred_said : {T : Type 0} (result : Result T WriteFault) (line : ℕ) (code : Code) (p steps n k : ℕ) (t t' : ReplanTalk) (a b : Option (List ℕ)) (u w : List ℕ) (f g : Count)
+    → bars_moment (replanned t.desk t.replan) p ≡ true → t'.desk ≡ t.desk → t'.replan ≡ t.replan → steps ≡ 0 → k ≡ n + steps → code ≡ codes.BadMoment
     → PutsText a u (refusal_line code line) b w result → HasCause f g result
     → SaysSome (AdvancesTo line (replanned t.desk t.replan) p (bars_moment (replanned t.desk t.replan) p)) result (shown_replan t.desk t.replan a u f n) (shown_replan t'.desk t'.replan b w g k)
 barred_said result line code p steps n k t t' a b u w f g barred desk replan none counted is put cause =
     let s = replanned t.desk t.replan in
     let Gets = AdvancesTo line s p (bars_moment s p) in
-    let gets : Gets (refuses s 41 line) = (let P : Bool → Type 0 = λ b. AdvancesTo line s p b (refuses s 41 line) in subst P (sym barred) refl) in
+    let gets : Gets (refuses s codes.BadMoment line) = (let P : Bool → Type 0 = λ b. AdvancesTo line s p b (refuses s codes.BadMoment line) in subst P (sym barred) refl) in
     let D : DeskView → Type 0 = λ x. SaysSome Gets result (shown_replan t.desk t.replan a u f n) (shown_replan x t'.replan b w g k) in
     let V : ReplanView → Type 0 = λ x. SaysSome Gets result (shown_replan t.desk t.replan a u f n) (shown_replan t.desk x b w g k) in
     let K : ℕ → Type 0 = λ i. SaysSome Gets result (shown_replan t.desk t.replan a u f n) (shown_replan t.desk t.replan b w g i) in
     let same : k ≡ n = omega (arith, counted, none) in
-    subst D (sym desk) (subst V (sym replan) (subst K (sym same) (code_said result Gets line code n t.desk t.replan 41 a b u w f g is gets put cause)))
+    subst D (sym desk) (subst V (sym replan) (subst K (sym same) (code_said result Gets line code n t.desk t.replan codes.BadMoment a b u w f g is gets put cause)))
 
 -- ---- what a line asks for
 

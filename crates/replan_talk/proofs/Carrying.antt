@@ -7,6 +7,7 @@ use Rattle.line_io.specs.Writer.{PutsText}
 use Rattle.line_io.specs.declared.out.WriteFault.{WriteFault}
 use Rattle.certificate_text.specs.BlockText.{refusal_line}
 use Rattle.std.proofs.Math.Nat.{add-zero}
+use Rattle.evac_law.specs.declared.code.Code.{Code}
 use Rattle.replan.specs.Replans.{ReplanView}
 use Rattle.session_talk.specs.Desks.{DeskView, desk_state, shown_of}
 use Rattle.session_talk.specs.Sessions.{State}
@@ -52,7 +53,7 @@ widened result P Q x y f h = (h.0, f h.0 h.1, h.2)
 
 -- ---- refusals by a code
 
-pub code_said : {T : Type 0} (result : Result T WriteFault) (Gets : Reply Replanned → Type 0) (line code n : ℕ) (d : DeskView) (v : ReplanView) (named : ℕ) (a b : Option (List ℕ)) (p q : List ℕ) (f g : Count)
+pub code_said : {T : Type 0} (result : Result T WriteFault) (Gets : Reply Replanned → Type 0) (line : ℕ) (code : Code) (n : ℕ) (d : DeskView) (v : ReplanView) (named : Code) (a b : Option (List ℕ)) (p q : List ℕ) (f g : Count)
     → code ≡ named → Gets (refuses (replanned d v) named line) → PutsText a p (refusal_line code line) b q result → HasCause f g result
     → SaysSome Gets result (shown_replan d v a p f n) (shown_replan d v b q g n)
 code_said result Gets line code n d v named a b p q f g is gets put cause =

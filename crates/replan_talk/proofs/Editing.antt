@@ -1,6 +1,8 @@
 -- What edits and undos of a replan come to is what its lines get.
 use Rattle.std.proofs.Common.{◌≡◌, ℕ, ◌+◌, true, false, ◌&&◌, nat_lt, List, Result, Ok, Err, refl, sym, subst}
 use Rattle.std.specs.declared.option.Option.{Option}
+use Rattle.evac_law.specs.declared.code.Code.{Code}
+use Rattle.evac_law.specs.declared.code.Code.TheVariants as codes
 use Rattle.evac_law.specs.declared.edit.Edit.{Edit}
 use Rattle.evac_law.specs.Edits.{applied}
 use Rattle.line_io.specs.Causes.{Count, HasCause}
@@ -53,14 +55,14 @@ module _ {T : Type 0} (result : Result T WriteFault) (line n k steps : ℕ) (d d
       widened result _ _ _ _ (session_row names line (replanned d v) (Ok commands.Undo) refl) (lifted result Gets d d' v v' a b p q f g steps k ends.1.moment ends.1.gone said)
 
 -- an edit that comes too late
-pub late_said : {T : Type 0} (result : Result T WriteFault) (line code n k : ℕ) (d : DeskView) (v v' : ReplanView) (e : Edit) (a b : Option (List ℕ)) (p q : List ℕ) (f g : Count) → is_committed v e ≡ true → v' ≡ v
-    → k ≡ n → code ≡ 42 → PutsText a p (refusal_line code line) b q result → HasCause f g result
+pub late_said : {T : Type 0} (result : Result T WriteFault) (line : ℕ) (code : Code) (n k : ℕ) (d : DeskView) (v v' : ReplanView) (e : Edit) (a b : Option (List ℕ)) (p q : List ℕ) (f g : Count) → is_committed v e ≡ true → v' ≡ v
+    → k ≡ n → code ≡ codes.Committed → PutsText a p (refusal_line code line) b q result → HasCause f g result
     → SaysSome (EditsUnless line (replanned d v) e (nat_lt 0 v.moment && is_of_people e)) result (shown_replan d v a p f n) (shown_replan d v' b q g k)
 late_said result line code n k d v v' e a b p q f g late same counted is put cause =
     let Gets = EditsUnless line (replanned d v) e (nat_lt 0 v.moment && is_of_people e) in
     let P : ReplanView → Type 0 = λ x. SaysSome Gets result (shown_replan d v a p f n) (shown_replan d x b q g k) in
     let Q : ℕ → Type 0 = λ i. SaysSome Gets result (shown_replan d v a p f n) (shown_replan d v b q g i) in
-    subst P (sym same) (subst Q (sym counted) (code_said result Gets line code n d v 42 a b p q f g is (edits_late line (replanned d v) e (nat_lt 0 v.moment && is_of_people e) _ late refl) put cause))
+    subst P (sym same) (subst Q (sym counted) (code_said result Gets line code n d v codes.Committed a b p q f g is (edits_late line (replanned d v) e (nat_lt 0 v.moment && is_of_people e) _ late refl) put cause))
 
 -- what an edit came to, by its refusal
 pub refused_by : (v v' : ReplanView) (e : Edit) (n : ℕ) (why named : ReplanRefusal) → why ≡ named → ReplanEdits v e (Err why) v' n → ReplanEdits v e (Err named) v' n

@@ -1,5 +1,6 @@
 -- The rows of a session stand behind those of a replan.
 use Rattle.std.proofs.Common.{◌≡◌, ℕ, Bool, true, false, ◌&&◌, nat_lt, Result, Ok, Err, refl, sym, ap, ◌∙◌, subst}
+use Rattle.evac_law.specs.declared.code.Code.TheVariants as codes
 use Rattle.evac_law.specs.declared.edit.Edit.{Edit}
 use Rattle.evac_law.specs.Edits.{applied}
 use Rattle.model_text.specs.declared.command.Command.{Command}
@@ -8,6 +9,7 @@ use Rattle.model_text.specs.declared.named_edit.NamedEdit.{NamedEdit}
 use Rattle.model_text.specs.declared.fault.TextFault.{TextFault}
 use Rattle.model_text.specs.Codes.{text_fault_code}
 use Rattle.building_table.specs.declared.faults.NameFault.{NameFault}
+use Rattle.building_table.specs.Built.{name_code}
 use Rattle.building_table.specs.EditNames.{edit_named}
 use Rattle.building_table.specs.Names.{NameTable}
 use Rattle.replan.specs.Replans.{is_of_people}
@@ -15,7 +17,6 @@ use Rattle.session_talk.specs.Sessions.{AsksEdit, Edits, Replies}
 use Rattle.replan_talk.specs.Desks.{EditsUnless}
 use Rattle.replan_talk.specs.ReplanTalks.{AsksSession, Replanned, SessionRow, asks_of_people, is_named_of_people}
 use Rattle.replan_talk.proofs.Carrying.{Carries}
-use Rattle.talk.specs.Codes.{name_code}
 use Rattle.talk.specs.Talks.{Reply, refuses}
 
 never : (b : Bool) → (b && false) ≡ false
@@ -65,5 +66,5 @@ unknown_row names line s c fault made err edit =
 pub edits_now : (line : ℕ) (s : Replanned) (e : Edit) (late : Bool) → late ≡ false → (r : Reply Replanned) → Carries s (Edits line s.session (applied s.session.standing.model e)) r → EditsUnless line s e late r
 edits_now line s e late free r h = let P : Bool → Type 0 = λ b. EditsUnless line s e b r in subst P (sym free) h
 
-pub edits_late : (line : ℕ) (s : Replanned) (e : Edit) (late : Bool) (r : Reply Replanned) → late ≡ true → r ≡ refuses s 42 line → EditsUnless line s e late r
+pub edits_late : (line : ℕ) (s : Replanned) (e : Edit) (late : Bool) (r : Reply Replanned) → late ≡ true → r ≡ refuses s codes.Committed line → EditsUnless line s e late r
 edits_late line s e late r is h = let P : Bool → Type 0 = λ b. EditsUnless line s e b r in subst P (sym is) h

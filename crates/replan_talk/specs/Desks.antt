@@ -1,6 +1,7 @@
 -- What a replan does at a line.
 use Rattle.std.specs.Prelude.{◌≡◌, ℕ, ◌≤◌, Bool, true, false, List, Result, Ok, Err}
 use Rattle.std.specs.declared.option.Option.{Option}
+use Rattle.evac_law.specs.declared.code.Code.TheVariants.{Committed}
 use Rattle.evac_law.specs.declared.edit.Edit.{Edit}
 use Rattle.evac_law.specs.Edits.{applied}
 use Rattle.line_io.specs.Causes.{Count}
@@ -11,7 +12,7 @@ use Rattle.building_table.specs.Names.{NameTable}
 use Rattle.replan.specs.Replans.{ReplanView}
 use Rattle.session_talk.specs.Desks.{DeskView, desk_state}
 use Rattle.session_talk.specs.Sessions.{Edits, State}
-use Rattle.replan_talk.specs.ReplanTalks.{ReplanReplies, Replanned, WantsMemory, carried_on, committed_code}
+use Rattle.replan_talk.specs.ReplanTalks.{ReplanReplies, Replanned, WantsMemory, carried_on}
 use Rattle.talk.specs.Speaking.{Says, SaysFront, SaysNothing, Shown, shown}
 use Rattle.talk.specs.Talks.{Reply, Replying, Wanting, refuses}
 use Rattle.talk.specs.declared.fault.AnswerFault.{AnswerFault}
@@ -43,7 +44,7 @@ Behind before s = s.session.index ≤ before
 
 -- an edit, by whether it comes too late
 abbrev pub EditsUnless : ℕ → Replanned → Edit → Bool → Reply Replanned → Type 0
-EditsUnless line s e true r = r ≡ refuses s committed_code line
+EditsUnless line s e true r = r ≡ refuses s Committed line
 EditsUnless line s e false r = (q : Reply State) × Edits line s.session (applied s.session.standing.model e) q × (r ≡ carried_on s q)
 
 -- the answer where a text was put

@@ -2,6 +2,7 @@
 use Rattle.std.specs.Prelude.{◌≡◌, ◌≢◌, ℕ, ◌+◌, ◌<◌, ◌≤◌, Bool, true, false, ◌&&◌, nat_lt, List, [], ◌∷◌, ◌++◌, length, slice_index, codes, decimal, Result, Ok, Err, IsTrue, IsFalse}
 use Rattle.std.specs.List.{flat_map}
 use Rattle.std.specs.Str.{bytes_eq}
+use Rattle.evac_law.specs.declared.code.Code.TheVariants.{BadMoment, Committed}
 use Rattle.evac_law.specs.declared.edit.Edit.{Edit}
 use Rattle.evac_law.specs.declared.model.Model.{Model}
 use Rattle.evac_law.specs.Sums.{moments_to}
@@ -32,15 +33,6 @@ pub record Replanned : Type 0 where
   pub session : State
   pub moment : ℕ
   pub gone : List ℕ
-
--- ---- codes
-
--- a moment up to which a plan can't be carried out, and an edit of people once one was carried out
-abbrev pub bad_moment_code : ℕ
-bad_moment_code = 41
-
-abbrev pub committed_code : ℕ
-committed_code = 42
 
 -- ---- what a line asks for
 
@@ -109,7 +101,7 @@ pub record CarriesOut (s : Replanned) (p : ℕ) (r : Reply Replanned) : Type 0 w
 
 -- a moment, by whether it is barred
 abbrev pub AdvancesTo : ℕ → Replanned → ℕ → Bool → Reply Replanned → Type 0
-AdvancesTo line s p true r = r ≡ refuses s bad_moment_code line
+AdvancesTo line s p true r = r ≡ refuses s BadMoment line
 AdvancesTo line s p false r = CarriesOut s p r
 
 -- a line that asks to carry the plan out, by what it names
@@ -123,7 +115,7 @@ carried_on s r = record { text = r.text; after = record s { session = r.after };
 
 -- any other line, by whether it is an edit of people that comes too late: it gets what a session says
 abbrev pub AsksSession : NameTable → ℕ → Replanned → Result Command TextFault → Bool → Reply Replanned → Type 0
-AsksSession names line s command true r = r ≡ refuses s committed_code line
+AsksSession names line s command true r = r ≡ refuses s Committed line
 AsksSession names line s command false r = (q : Reply State) × Replies names line s.session command q × (r ≡ carried_on s q)
 
 abbrev pub SessionRow : NameTable → ℕ → Replanned → Result Command TextFault → Reply Replanned → Type 0

@@ -18,7 +18,7 @@ use crate::request::{asks_advance, read_moment};
 use building_table::Building;
 use certificate_text::write_refusal;
 use edit_session::BeginFault;
-use evac_law::{Edit, Steps};
+use evac_law::{Code, Edit, Steps};
 use line_io::{Heard, Out, Sink, WriteFault};
 use model_text::{Command, NamedEdit, read_command};
 use replan::{AdvanceFault, Replan, ReplanRefusal};
@@ -26,12 +26,7 @@ use session_talk::{Desk, reply_cut, reply_edited, reply_report, reply_undone};
 use session_text::write_work;
 use std::alloc::Global;
 use std::sync::ledger::Ledger;
-use talk::codes::name_code;
 use talk::{AnswerFault, Speaker, answered};
-
-const BAD_MOMENT: u8 = 41;
-
-const COMMITTED: u8 = 42;
 
 /// A replan with the desk at which its replies are made.
 #[derive(Drop)]
@@ -129,7 +124,7 @@ fn reply_moment<K: Sink, L: Ledger>(
 {
     match talk.advance(moment, steps) {
         Ok(()) => by_write(write_advanced(talk, out, sink)),
-        Err(AdvanceFault::BadMoment) => by_write(write_refusal(out, sink, BAD_MOMENT, line)),
+        Err(AdvanceFault::BadMoment) => by_write(write_refusal(out, sink, Code::BadMoment, line)),
         Err(AdvanceFault::Memory) => Err(AnswerFault::Memory),
     }
 }
@@ -185,7 +180,7 @@ fn reply_edit<K: Sink, L: Ledger>(
             let session = talk.replan.session();
             reply_edited(&mut talk.desk, session, out, sink, Err(refusal), line)
         }
-        Err(ReplanRefusal::Committed) => write_refusal(out, sink, COMMITTED, line),
+        Err(ReplanRefusal::Committed) => write_refusal(out, sink, Code::Committed, line),
     }
 }
 
@@ -207,7 +202,7 @@ fn reply_named<K: Sink, L: Ledger>(
 {
     match talk.desk.edit_of(named) {
         Ok(edit) => reply_edit(talk, out, sink, steps, edit, line),
-        Err(fault) => write_refusal(out, sink, name_code(fault), line),
+        Err(fault) => write_refusal(out, sink, fault.code(), line),
     }
 }
 

@@ -1,5 +1,6 @@
 -- What the calls of a session come to is what its lines get.
 use Rattle.std.proofs.Common.{◌≡◌, ℕ, ◌+◌, ◌≤◌, List, Ok, Err, Result, refl, sym, ap, ◌∙◌, subst, inl, inr, arith}
+use Rattle.evac_law.specs.declared.code.Code.TheVariants.{NothingToUndo}
 use Rattle.evac_law.specs.declared.edit.Edit.{Edit}
 use Rattle.evac_law.specs.declared.edit.EditFault.{EditFault}
 use Rattle.evac_law.specs.declared.model.Model.{Model}
@@ -15,7 +16,7 @@ use Rattle.edit_session.specs.declared.work.Work.{Work}
 use Rattle.edit_session.specs.Sessions.{BeginEnds, EditEnds, IsEdited, IsSolved, IsUndone, SessionState, SessionView, UndoEnds}
 use Rattle.edit_session.specs.Thrift.{IsSpent}
 use Rattle.session_text.specs.StateTexts.{block_text}
-use Rattle.session_talk.specs.Sessions.{Edits, IsAnswerText, Opens, State, Undoes, no_undo_code}
+use Rattle.session_talk.specs.Sessions.{Edits, IsAnswerText, Opens, State, Undoes}
 use Rattle.talk.specs.Talks.{Reply, refuses}
 
 -- the block of a state
@@ -104,7 +105,7 @@ undo_advances back line s v v' w steps same few h =
     })
 
 pub undo_refused : (line : ℕ) (s : State) (v v' : SessionView) (steps : ℕ) → v.state ≡ s.standing → UndoEnds v (Err NothingToUndo) v' steps
-    → Undoes line s s.standing.former (refuses s no_undo_code line)
+    → Undoes line s s.standing.former (refuses s NothingToUndo line)
 undo_refused line s v v' steps same h =
-    let Q : List Model → Type 0 = λ x. Undoes line s x (refuses s no_undo_code line) in
+    let Q : List Model → Type 0 = λ x. Undoes line s x (refuses s NothingToUndo line) in
     subst Q (sym (ap (λ (x : SessionState). x.former) (sym same) ∙ h.0)) refl

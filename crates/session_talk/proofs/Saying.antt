@@ -3,6 +3,8 @@ use Rattle.std.specs.Prelude.{Bool, true, false, nat_lt, if◌then◌else◌}
 use Rattle.std.proofs.Common.{◌≡◌, ℕ, ◌+◌, ◌^◌, ◌<◌, ◌≤◌, List, Result, Ok, Err, refl, sym, ap, ◌∙◌, subst, arith}
 use Rattle.std.specs.declared.option.Option.{Option}
 use Rattle.std.proofs.Math.Nat.{add-zero}
+use Rattle.evac_law.specs.declared.code.Code.{Code}
+use Rattle.evac_law.specs.declared.code.Code.TheVariants.{NoPeriod, NothingToUndo}
 use Rattle.evac_law.specs.declared.edit.Edit.{Edit}
 use Rattle.evac_law.specs.declared.edit.EditFault.{EditFault}
 use Rattle.evac_law.specs.declared.model.Model.{Model}
@@ -29,8 +31,7 @@ use Rattle.session_text.specs.StateTexts.{block_text, cut_of}
 use Rattle.session_text.proofs.Serving.{edit_serves}
 use Rattle.session_talk.specs.Desks.{DeskView, IsSameDesk, desk_state, shown_of}
 use Rattle.talk.specs.Speaking.{SaysBy, SaysSome, Shown}
-use Rattle.session_talk.specs.Sessions.{AsksEdit, Edits, Reports, State, Undoes, cut_reply, no_undo_code}
-use Rattle.talk.specs.Codes.{no_period_code}
+use Rattle.session_talk.specs.Sessions.{AsksEdit, Edits, Reports, State, Undoes, cut_reply}
 use Rattle.talk.proofs.Answering as answering
 use Rattle.talk.specs.Talks.{Reply, refuses, says}
 use Rattle.session_talk.proofs.Bridge.{block_reply, edit_advances, edit_faults, edit_stays, next_state, undo_advances, undo_refused}
@@ -105,7 +106,7 @@ edit_barred result line steps n d v v' e all most a b p q f g ends put cause =
       said result d d v v' r a b p q f g n (n + steps) refl (same-state d v v' ends.1) (put barred.edited names (sym barred.not_cleared.count)) cause refl,
     )
 
-pub edit_faulted : {T : Type 0} (result : Result T WriteFault) (line steps code n : ℕ) (d : DeskView) (v v' : SessionView) (e : Edit) (fault : EditFault) (a b : Option (List ℕ)) (p q : List ℕ) (f g : Count)
+pub edit_faulted : {T : Type 0} (result : Result T WriteFault) (line steps : ℕ) (code : Code) (n : ℕ) (d : DeskView) (v v' : SessionView) (e : Edit) (fault : EditFault) (a b : Option (List ℕ)) (p q : List ℕ) (f g : Count)
     → EditEnds v e (Err (Fault fault)) v' steps → code ≡ fault_code fault
     → PutsText a p (refusal_line code line) b q result → HasCause f g result
     → SaysSome (Edits line (desk_state d v) (applied v.state.model e)) result (shown_of d v a p f n) (shown_of d v' b q g (n + steps))
@@ -136,13 +137,13 @@ undo_made back result line steps n d d' v v' w a b p q f g before short count sa
 
 pub undo_none : {T : Type 0} (result : Result T WriteFault) (why : UndoRefusal) (line steps n : ℕ) (d : DeskView) (v v' : SessionView) (a b : Option (List ℕ)) (p q : List ℕ) (f g : Count)
     → UndoEnds v (Err why) v' steps
-    → PutsText a p (refusal_line no_undo_code line) b q result → HasCause f g result
+    → PutsText a p (refusal_line NothingToUndo line) b q result → HasCause f g result
     → SaysSome (Undoes line (desk_state d v) v.state.former) result (shown_of d v a p f n) (shown_of d v' b q g (n + steps))
 undo_none result NothingToUndo line steps n d v v' a b p q f g ends put cause =
     let s = desk_state d v in (
-      refuses s no_undo_code line,
+      refuses s NothingToUndo line,
       undo_refused line s v v' steps refl ends,
-      said result d d v v' (refuses s no_undo_code line) a b p q f g n (n + steps) refl (same-state d v v' (ap (λ (x : SessionView). x.state) ends.1)) put cause
+      said result d d v v' (refuses s NothingToUndo line) a b p q f g n (n + steps) refl (same-state d v v' (ap (λ (x : SessionView). x.state) ends.1)) put cause
           (ap (λ (i : ℕ). n + i) ends.2),
     )
 
@@ -155,21 +156,21 @@ asks_named result line s made named x y is h = let P : Result Edit NameFault →
 -- ---- cuts
 
 pub cut_said : (P : List ℕ → Type 0) (line : ℕ) (s : State) (k : ℕ) → nat_lt s.standing.model.horizon k ≡ false → P (cut_of s.standing k) → P (cut_reply line s k).text
-cut_said P line s k within h = let Q : Bool → Type 0 = λ z. P (if z then refuses s no_period_code line else says s (cut_of s.standing k)).text in subst Q (sym within) h
+cut_said P line s k within h = let Q : Bool → Type 0 = λ z. P (if z then refuses s NoPeriod line else says s (cut_of s.standing k)).text in subst Q (sym within) h
 
-pub cut_refused : (P : List ℕ → Type 0) (line : ℕ) (s : State) (k : ℕ) → nat_lt s.standing.model.horizon k ≡ true → P (refusal_line no_period_code line) → P (cut_reply line s k).text
-cut_refused P line s k past h = let Q : Bool → Type 0 = λ z. P (if z then refuses s no_period_code line else says s (cut_of s.standing k)).text in subst Q (sym past) h
+pub cut_refused : (P : List ℕ → Type 0) (line : ℕ) (s : State) (k : ℕ) → nat_lt s.standing.model.horizon k ≡ true → P (refusal_line NoPeriod line) → P (cut_reply line s k).text
+cut_refused P line s k past h = let Q : Bool → Type 0 = λ z. P (if z then refuses s NoPeriod line else says s (cut_of s.standing k)).text in subst Q (sym past) h
 
 either_same : (b : Bool) (s : State) (x y : List ℕ) → let r = if b then says s x else says s y in says s r.text ≡ r
 either_same true s x y = refl
 either_same false s x y = refl
 
 pub cut_is : (line : ℕ) (s : State) (k : ℕ) → says s (cut_reply line s k).text ≡ cut_reply line s k
-cut_is line s k = either_same (nat_lt s.standing.model.horizon k) s (refusal_line no_period_code line) (cut_of s.standing k)
+cut_is line s k = either_same (nat_lt s.standing.model.horizon k) s (refusal_line NoPeriod line) (cut_of s.standing k)
 
 -- ---- refusals by a code
 
-pub code_said : {T : Type 0} (result : Result T WriteFault) (Gets : Reply State → Type 0) (line code n : ℕ) (d : DeskView) (v : SessionView) (named : ℕ) (a b : Option (List ℕ)) (p q : List ℕ) (f g : Count) → code ≡ named
+pub code_said : {T : Type 0} (result : Result T WriteFault) (Gets : Reply State → Type 0) (line : ℕ) (code : Code) (n : ℕ) (d : DeskView) (v : SessionView) (named : Code) (a b : Option (List ℕ)) (p q : List ℕ) (f g : Count) → code ≡ named
     → Gets (refuses (desk_state d v) named line) → PutsText a p (refusal_line code line) b q result → HasCause f g result → SaysSome Gets result (shown_of d v a p f n) (shown_of d v b q g n)
 code_said result Gets line code n d v named a b p q f g is gets put cause =
     let text = subst (λ (i : ℕ). PutsText a p (refusal_line i line) b q result) is put in

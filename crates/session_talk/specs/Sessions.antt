@@ -1,5 +1,6 @@
 -- A session over lines: what each line gets, by what it commands.
 use Rattle.std.specs.Prelude.{◌≡◌, ℕ, ◌+◌, ◌≤◌, nat_lt, if◌then◌else◌, List, [], ◌∷◌, Result, Ok, Err, ◌⊎◌}
+use Rattle.evac_law.specs.declared.code.Code.TheVariants.{NoPeriod, NothingToUndo}
 use Rattle.evac_law.specs.declared.edit.Edit.{Edit}
 use Rattle.evac_law.specs.declared.edit.EditFault.{EditFault}
 use Rattle.evac_law.specs.declared.model.Model.{Model}
@@ -14,13 +15,13 @@ use Rattle.model_text.specs.declared.fault.TextFault.{TextFault}
 use Rattle.model_text.specs.Codes.{text_fault_code}
 use Rattle.model_text.specs.Commands.{command_of}
 use Rattle.building_table.specs.declared.faults.NameFault.{NameFault}
+use Rattle.building_table.specs.Built.{name_code}
 use Rattle.building_table.specs.EditNames.{edit_named}
 use Rattle.building_table.specs.Names.{NameTable}
 use Rattle.certificate_text.specs.BlockLaws.{ReadsBack}
 use Rattle.edit_session.specs.Sessions.{Begins, GoesOn, SessionState, with_former}
 use Rattle.edit_session.specs.Thrift.{IsCounted, IsSpent}
 use Rattle.session_text.specs.StateTexts.{SaysRoutesOf, SaysSummary, block_text, bottlenecks_of, clearing_of, cut_of, work_of}
-use Rattle.talk.specs.Codes.{name_code, no_period_code}
 use Rattle.talk.specs.Short.{IsShortText, OpensShort}
 use Rattle.talk.specs.Talks.{Reply, Talk, TalkGoes, WantsNone, refuses, says}
 
@@ -28,10 +29,6 @@ use Rattle.talk.specs.Talks.{Reply, Talk, TalkGoes, WantsNone, refuses, says}
 pub record State : Type 0 where
   pub index : ℕ
   pub standing : SessionState
-
--- an undo where no edit is kept
-abbrev pub no_undo_code : ℕ
-no_undo_code = 39
 
 -- ---- blocks
 
@@ -80,12 +77,12 @@ AsksEdit line s (Ok e) r = Edits line s (applied s.standing.model e) r
 
 -- an undo, by the models before
 abbrev pub Undoes : ℕ → State → List Model → Reply State → Type 0
-Undoes line s [] r = r ≡ refuses s no_undo_code line
+Undoes line s [] r = r ≡ refuses s NothingToUndo line
 Undoes line s (m ∷ earlier) r = Advances s m earlier r
 
 -- the cut of a period, where there is the period
 abbrev pub cut_reply : ℕ → State → ℕ → Reply State
-cut_reply line s k = if nat_lt s.standing.model.horizon k then refuses s no_period_code line else says s (cut_of s.standing k)
+cut_reply line s k = if nat_lt s.standing.model.horizon k then refuses s NoPeriod line else says s (cut_of s.standing k)
 
 -- a report on the plan that stands
 abbrev pub Reports : NameTable → State → Report → Reply State → Type 0

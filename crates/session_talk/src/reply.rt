@@ -13,12 +13,10 @@ ghost use Rattle.talk.specs.Speaking.{SaysSome};
 use crate::desk::Desk;
 use certificate_text::write_refusal;
 use edit_session::{EditRefusal, Session, UndoRefusal, Work};
+use evac_law::Code;
 use line_io::{Out, Sink, WriteFault};
 use model_text::Report;
 use session_text::{write_barred, write_cut};
-use talk::codes::NO_PERIOD;
-
-const NOTHING_TO_UNDO: u8 = 39;
 
 /// Puts the cut of a period, where there is the period.
 pub fn reply_cut<K: Sink>(
@@ -32,7 +30,7 @@ pub fn reply_cut<K: Sink>(
     ensures cause { HasCause (K.faults sink.old) (K.faults sink.new) result }
 {
     if period > u32::from(session.model().horizon) {
-        write_refusal(out, sink, NO_PERIOD, line)
+        write_refusal(out, sink, Code::NoPeriod, line)
     } else {
         write_cut(out, sink, session, period as u16)
     }
@@ -127,6 +125,6 @@ pub fn reply_undone<K: Sink>(
             desk.count_block();
             desk.write_block(out, sink, session)
         }
-        Err(UndoRefusal::NothingToUndo) => write_refusal(out, sink, NOTHING_TO_UNDO, line),
+        Err(UndoRefusal::NothingToUndo) => write_refusal(out, sink, Code::NothingToUndo, line),
     }
 }

@@ -19,7 +19,6 @@ use model_text::{Command, NamedEdit, read_command};
 use session_text::write_work;
 use std::alloc::Global;
 use std::sync::ledger::Ledger;
-use talk::codes::name_code;
 use talk::{AnswerFault, Speaker, answered};
 
 /// A session with the desk at which its replies are made.
@@ -79,7 +78,7 @@ fn reply_edit<K: Sink, L: Ledger>(
             let edited = talk.session.edit(edit, steps);
             reply_edited(&mut talk.desk, &talk.session, out, sink, edited, line)
         }
-        Err(fault) => write_refusal(out, sink, name_code(fault), line),
+        Err(fault) => write_refusal(out, sink, fault.code(), line),
     }
 }
 

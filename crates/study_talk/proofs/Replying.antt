@@ -2,6 +2,8 @@
 use Rattle.std.proofs.Common.{◌≡◌, ℕ, ◌+◌, List, Result, Ok, Err, refl, sym, subst, Bool, true, false, nat_lt}
 use Rattle.std.proofs.Math.Nat.{add-zero}
 use Rattle.std.specs.declared.option.Option.{Option}
+use Rattle.evac_law.specs.declared.code.Code.{Code}
+use Rattle.evac_law.specs.declared.code.Code.TheVariants.{NoPeriod}
 use Rattle.line_io.specs.Causes.{Count, HasCause}
 use Rattle.line_io.specs.Writer.{PutsText}
 use Rattle.line_io.specs.declared.hearing.Heard.{Heard}
@@ -17,7 +19,6 @@ use Rattle.building_table.specs.Names.{NameTable}
 use Rattle.exit_study.specs.declared.rates.Least.{Least}
 use Rattle.study_talk.specs.StudyTexts.{SaysLeast}
 use Rattle.study_talk.specs.Studies.{AsksLeast, LeastReply, StudyReplies}
-use Rattle.talk.specs.Codes.{no_period_code}
 use Rattle.talk.specs.Speaking.{AnswersLine, SaysSome, Shown, answered}
 use Rattle.talk.specs.declared.fault.AnswerFault.{AnswerFault}
 use Rattle.talk.specs.Talks.{Reply, WantsNone, refuses}
@@ -32,7 +33,7 @@ text_said result Gets d d' text a b p q f g n k steps same counted gets put caus
     (r, gets, said result (kept_of d) (kept_of d') tt tt r a b p q f g n k same refl put cause counted)
 
 -- a refusal by its code
-pub code_said : {T : Type 0} (result : Result T WriteFault) (Gets : Reply (Unit {0}) → Type 0) (d : StudyView) (line code named : ℕ) (a b : Option (List ℕ)) (p q : List ℕ) (f g : Count) (n : ℕ)
+pub code_said : {T : Type 0} (result : Result T WriteFault) (Gets : Reply (Unit {0}) → Type 0) (d : StudyView) (line : ℕ) (code named : Code) (a b : Option (List ℕ)) (p q : List ℕ) (f g : Count) (n : ℕ)
     → code ≡ named → Gets (refuses tt named line) → PutsText a p (refusal_line code line) b q result → HasCause f g result → SaysSome Gets result (shown_study d a p f n) (shown_study d b q g n)
 code_said result Gets d line code named a b p q f g n is gets put cause =
     let text = subst (λ (i : ℕ). PutsText a p (refusal_line i line) b q result) is put in
@@ -40,11 +41,11 @@ code_said result Gets d line code named a b p q f g n is gets put cause =
 
 -- a moment past the horizon, and one within it
 pub arc_refused : {T : Type 0} (result : Result T WriteFault) (d : StudyView) (line a k : ℕ) (x y : Option (List ℕ)) (p q : List ℕ) (f g : Count) (n : ℕ)
-    → nat_lt d.session.state.model.horizon k ≡ true → PutsText x p (refusal_line no_period_code line) y q result → HasCause f g result
+    → nat_lt d.session.state.model.horizon k ≡ true → PutsText x p (refusal_line NoPeriod line) y q result → HasCause f g result
     → SaysSome (LeastReply d.session.state.model line a k (nat_lt d.session.state.model.horizon k)) result (shown_study d x p f n) (shown_study d y q g n)
 arc_refused result d line a k x y p q f g n past put cause =
-    let P : Bool → Type 0 = λ b. LeastReply d.session.state.model line a k b (refuses tt no_period_code line) in
-    code_said result (LeastReply d.session.state.model line a k (nat_lt d.session.state.model.horizon k)) d line no_period_code no_period_code x y p q f g n refl (subst P (sym past) refl) put cause
+    let P : Bool → Type 0 = λ b. LeastReply d.session.state.model line a k b (refuses tt NoPeriod line) in
+    code_said result (LeastReply d.session.state.model line a k (nat_lt d.session.state.model.horizon k)) d line NoPeriod NoPeriod x y p q f g n refl (subst P (sym past) refl) put cause
 
 pub arc_said : {T : Type 0} (result : Result T WriteFault) (d d' : StudyView) (line a k : ℕ) (x y : Option (List ℕ)) (p q : List ℕ) (f g : Count) (n j : ℕ)
     → nat_lt d.session.state.model.horizon k ≡ false → kept_of d' ≡ kept_of d → (steps : ℕ) × (j ≡ n + steps)

@@ -1,5 +1,6 @@
 -- A study over lines: what each line gets, by what it commands.
 use Rattle.std.specs.Prelude.{◌≡◌, ℕ, Bool, true, false, nat_lt, [], Result, Ok, Err}
+use Rattle.evac_law.specs.declared.code.Code.TheVariants.{NoPeriod}
 use Rattle.evac_law.specs.declared.model.Model.{Model}
 use Rattle.evac_law.specs.Certificates.{IsClearable}
 use Rattle.model_text.specs.declared.study.StudyCommand.{StudyCommand}
@@ -7,12 +8,12 @@ use Rattle.model_text.specs.declared.study.StudyCommand.TheVariants.{Blank, Exit
 use Rattle.model_text.specs.declared.fault.TextFault.{TextFault}
 use Rattle.model_text.specs.Codes.{text_fault_code}
 use Rattle.model_text.specs.StudyCommands.{study_command_of}
+use Rattle.building_table.specs.Built.{name_code}
 use Rattle.building_table.specs.declared.faults.NameFault.{NameFault}
 use Rattle.building_table.specs.EditNames.{named_arc}
 use Rattle.building_table.specs.Names.{NameTable}
 use Rattle.exit_study.specs.declared.rates.Least.{Least}
 use Rattle.study_talk.specs.StudyTexts.{SaysExits, SaysLeast}
-use Rattle.talk.specs.Codes.{name_code, no_period_code}
 use Rattle.talk.specs.Short.{OpensShort}
 use Rattle.talk.specs.Talks.{Reply, Talk, WantsNone, refuses, says}
 
@@ -27,7 +28,7 @@ pub record OpensStudy (m : Model) (r : Reply (Unit {0})) : Type 0 where
 
 -- the least rate of an arc for a moment, where there is that moment
 abbrev pub LeastReply : Model → ℕ → ℕ → ℕ → Bool → Reply (Unit {0}) → Type 0
-LeastReply m line a k true r = r ≡ refuses tt no_period_code line
+LeastReply m line a k true r = r ≡ refuses tt NoPeriod line
 LeastReply m line a k false r = (least : Least) × SaysLeast m a k least r.text
 
 -- the least rate of a named arc

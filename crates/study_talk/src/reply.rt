@@ -7,11 +7,10 @@ ghost use Rattle.talk.specs.Speaking.{SaysSome};
 
 use crate::desk::StudyDesk;
 use certificate_text::write_refusal;
-use evac_law::{NodeName, Steps};
+use evac_law::{Code, NodeName, Steps};
 use line_io::{Out, Sink, WriteFault};
 use model_text::StudyCommand;
 use std::sync::ledger::Ledger;
-use talk::codes::{NO_PERIOD, name_code};
 
 // The least rate of an arc for a moment, where there is that moment.
 fn reply_arc<K: Sink, L: Ledger>(
@@ -28,7 +27,7 @@ fn reply_arc<K: Sink, L: Ledger>(
         (shown_study desk.old (K.held sink.old) out.old (K.faults sink.old) steps.old) (shown_study desk.new (K.held sink.new) out.new (K.faults sink.new) steps.new) }
 {
     if by > u32::from(desk.horizon()) {
-        write_refusal(out, sink, NO_PERIOD, line)
+        write_refusal(out, sink, Code::NoPeriod, line)
     } else {
         desk.write_least(out, sink, steps, arc, by as u16)
     }
@@ -50,7 +49,7 @@ pub(crate) fn reply_least<K: Sink, L: Ledger>(
 {
     match desk.find_arc(from, to) {
         Ok(arc) => reply_arc(desk, out, sink, steps, arc, by, line),
-        Err(fault) => write_refusal(out, sink, name_code(fault), line),
+        Err(fault) => write_refusal(out, sink, fault.code(), line),
     }
 }
 

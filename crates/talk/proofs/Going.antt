@@ -3,9 +3,11 @@ use Rattle.std.proofs.Common.{◌≡◌, ℕ, ◌+◌, ◌-◌, ◌≤◌, List,
 use Rattle.std.specs.declared.option.Option.{Option}
 use Rattle.std.specs.Io.KnownBytes.{Appends}
 use Rattle.std.proofs.KnownBytes.{Appends-trans}
+use Rattle.evac_law.specs.declared.code.Code.{Code}
+use Rattle.evac_law.specs.declared.code.Code.TheVariants as codes
 use Rattle.line_io.specs.Causes.{Count, Rose}
 use Rattle.line_io.specs.Hearing.{IsCaused, Listens}
-use Rattle.line_io.specs.Line.{Line, input_too_long, line_too_long, text_lines}
+use Rattle.line_io.specs.Line.{Line, text_lines}
 use Rattle.line_io.specs.Passes.{IsLeft, Passes}
 use Rattle.line_io.specs.Reader.{lines_left}
 use Rattle.line_io.specs.View.{Reader}
@@ -60,7 +62,7 @@ one-more {S} talk before lines line s r more g is h =
     }
 
 -- a line that has a fault ends the talk
-refused_run : {S : Type 0} (talk : Talk S) (code : ℕ) (a c : Reader) (l n : Option (List ℕ)) (texts last : List (List ℕ)) (rest : List Line) (r : Reply S) → TalkGoes talk a.number texts r
+refused_run : {S : Type 0} (talk : Talk S) (code : Code) (a c : Reader) (l n : Option (List ℕ)) (texts last : List (List ℕ)) (rest : List Line) (r : Reply S) → TalkGoes talk a.number texts r
     → Passes a c l n (texts ++ last) → last ≡ [] → rest ≡ Err code ∷ []
     → (lines : List Line) → lines ≡ text_lines (texts ++ last) ++ rest → TalkRun talk a.number lines (record { status = 1; text = r.text ++ refusal_line code (c.number + 1); steps = r.steps })
 refused_run talk code a c l n texts last rest r goes passes none is lines e = record {
@@ -222,7 +224,7 @@ module _ {N S : Type 0} (gets : N → Replying S) (Quits : List ℕ → Type 0) 
         })
 
   -- a line had a fault, and its refusal was sent
-  held_fault : (sent : Result (Unit {0}) WriteFault) (held : Option (List ℕ)) (faults : Count) (k code : ℕ) (at : Shown N S) (a c : Reader) (l n : Option (List ℕ)) (reads reads' : Count)
+  held_fault : (sent : Result (Unit {0}) WriteFault) (held : Option (List ℕ)) (faults : Count) (k : ℕ) (code : Code) (at : Shown N S) (a c : Reader) (l n : Option (List ℕ)) (reads reads' : Count)
       (texts last : List (List ℕ)) (rest : List Line) (held' : Option (List ℕ)) (pending' : List ℕ) (faults' : Count) → Went gets Quits Wants Behind i o a.number texts held faults k at → reads' ≡ reads
       → Passes a c l n (texts ++ last) → IsLeft (lines_left a l) (lines_left c n) rest → last ≡ [] → rest ≡ Err code ∷ []
       → SendsBy sent (refusal_line code (c.number + 1)) at.held at.pending at.faults held' pending' faults'
@@ -246,7 +248,7 @@ module _ {N S : Type 0} (gets : N → Replying S) (Quits : List ℕ → Type 0) 
       (λ lines e. let P : List ℕ → Type 0 = λ t. TalkRun talk a.number lines (record { status = 1; text = t; steps = w.replies.steps }) in
       inl (1, x.rest, inl (subst P x.parts (refused_run talk code a c l n texts last rest w.replies w.goes passes none is lines e)))))
 
-  held_line : (code status : ℕ) (held held'' : Option (List ℕ)) (faults faults'' : Count) (pending'' : List ℕ) (k : ℕ) (at to : Shown N S) (a c : Reader) (l n : Option (List ℕ))
+  held_line : (code : Code) (status : ℕ) (held held'' : Option (List ℕ)) (faults faults'' : Count) (pending'' : List ℕ) (k : ℕ) (at to : Shown N S) (a c : Reader) (l n : Option (List ℕ))
       (reads reads' : Count) (texts last : List (List ℕ)) (rest : List Line) → Went gets Quits Wants Behind i o a.number texts held faults k at → reads' ≡ reads → Passes a c l n (texts ++ last)
       → IsLeft (lines_left a l) (lines_left c n) rest → last ≡ [] → rest ≡ Err code ∷ [] → to ≡ at
       → RefusesBy (refusal_line code (c.number + 1)) status to.held to.pending to.faults held'' pending'' faults''
@@ -294,10 +296,10 @@ module _ {N S : Type 0} (gets : N → Replying S) (Quits : List ℕ → Type 0) 
       (held_read held faults k (shown i o.after held' [] faults (k + o.steps)) to a c l n reads reads' h (went_of (Fault ReadFault) k held held' faults to a c l n h behind block) cause)
   held_by (Fault LineTooLong) status k held held' held'' faults faults'' pending'' to a c l n reads reads' behind block h cause ends =
       let w = went_of (Fault LineTooLong) k held held' faults to a c l n h behind block in
-      held_line line_too_long status held held'' faults faults'' pending'' k h.at to a c l n reads reads' h.texts h.last h.rest w cause h.passes h.is_left h.ends.0 h.ends.1 h.ends.2 ends
+      held_line codes.LineTooLong status held held'' faults faults'' pending'' k h.at to a c l n reads reads' h.texts h.last h.rest w cause h.passes h.is_left h.ends.0 h.ends.1 h.ends.2 ends
   held_by (Fault InputTooLong) status k held held' held'' faults faults'' pending'' to a c l n reads reads' behind block h cause ends =
       let w = went_of (Fault InputTooLong) k held held' faults to a c l n h behind block in
-      held_line input_too_long status held held'' faults faults'' pending'' k h.at to a c l n reads reads' h.texts h.last h.rest w cause h.passes h.is_left h.ends.0 h.ends.1 h.ends.2 ends
+      held_line codes.InputTooLong status held held'' faults faults'' pending'' k h.at to a c l n reads reads' h.texts h.last h.rest w cause h.passes h.is_left h.ends.0 h.ends.1 h.ends.2 ends
 
   -- the same from the opening on
   pub held_all : (ending : Ending AnswerFault) (status number k j : ℕ) (held held' held'' : Option (List ℕ)) (pending pending' pending'' : List ℕ)

@@ -2,8 +2,9 @@
 use Rattle.std.specs.Prelude.{◌≡◌, ◌≢◌, ℕ, ◌+◌, ◌≤◌, true, false, List, [], ◌∷◌, ◌++◌, Result, Ok, Err, OnOk, None, Some, ⊤, ◌⊎◌}
 use Rattle.std.specs.declared.option.Option.{Option}
 use Rattle.std.specs.Io.KnownBytes.{Appends}
+use Rattle.evac_law.specs.declared.code.Code.TheVariants as codes
 use Rattle.line_io.specs.Causes.{Count, HasCause, Rose}
-use Rattle.line_io.specs.Line.{Line, input_too_long, line_too_long}
+use Rattle.line_io.specs.Line.{Line}
 use Rattle.line_io.specs.Passes.{Passes}
 use Rattle.line_io.specs.Reader.{is_settled, lines_left}
 use Rattle.line_io.specs.View.{Reader}
@@ -98,6 +99,6 @@ ConcludesTalk (Failed (Write fault)) number status held pending faults held' pen
 ConcludesTalk (Failed Memory) number status held pending faults held' pending' faults' = (status ≡ 5) × (held' ≡ held) × (faults' ≡ faults)
 ConcludesTalk (Fault ReadFault) number status held pending faults held' pending' faults' = (status ≡ 3) × (held' ≡ held) × (faults' ≡ faults)
 ConcludesTalk (Fault LineTooLong) number status held pending faults held' pending' faults' =
-    RefusesBy (refusal_line line_too_long (number + 1)) status held pending faults held' pending' faults'
+    RefusesBy (refusal_line codes.LineTooLong (number + 1)) status held pending faults held' pending' faults'
 ConcludesTalk (Fault InputTooLong) number status held pending faults held' pending' faults' =
-    RefusesBy (refusal_line input_too_long (number + 1)) status held pending faults held' pending' faults'
+    RefusesBy (refusal_line codes.InputTooLong (number + 1)) status held pending faults held' pending' faults'

@@ -1,7 +1,6 @@
 pub use Rattle.evac_law.specs.Building
 pub use Rattle.line_io.specs.Calls
 pub use Rattle.line_io.specs.Reader
-pub mod Codes
 pub mod Talks
 pub mod Parts
 pub mod Speaking

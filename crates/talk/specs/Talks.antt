@@ -1,5 +1,6 @@
 -- A talk over lines: how it opens, what each line gets, and how it ends.
 use Rattle.std.specs.Prelude.{◌≡◌, ℕ, ◌+◌, ◌≤◌, List, [], ◌∷◌, ◌++◌, length, Ok, Err, ◌⊎◌}
+use Rattle.evac_law.specs.declared.code.Code.{Code}
 use Rattle.line_io.specs.Line.{Line, text_lines}
 use Rattle.certificate_text.specs.BlockText.{refusal_line}
 
@@ -14,7 +15,7 @@ abbrev pub says : {S : Type 0} → S → List ℕ → Reply S
 says s text = record { text = text; after = s; steps = 0 }
 
 -- a refusal by its code, at a line
-abbrev pub refuses : {S : Type 0} → S → ℕ → ℕ → Reply S
+abbrev pub refuses : {S : Type 0} → S → Code → ℕ → Reply S
 refuses s code line = says s (refusal_line code line)
 
 -- a reply, and the replies after it

@@ -13,13 +13,9 @@ use crate::send::send_refusal;
 use crate::speaker::Speaker;
 use crate::status::{Status, status_after};
 use crate::talker::converse;
-use evac_law::Steps;
+use evac_law::{Code, Steps};
 use line_io::{Ending, LineFault, Lines, Out, Sink, Source, WriteFault};
 use std::sync::ledger::Ledger;
-
-const LINE_TOO_LONG: u8 = 2;
-
-const INPUT_TOO_LONG: u8 = 3;
 
 // Sends the text that opens a talk.
 fn send_opening<K: Sink, T: Speaker>(
@@ -35,7 +31,7 @@ fn send_opening<K: Sink, T: Speaker>(
 }
 
 // Refuses a line for good.
-fn refuse<K: Sink>(out: &mut Out, sink: &mut K, code: u8, line: u32) -> Status
+fn refuse<K: Sink>(out: &mut Out, sink: &mut K, code: Code, line: u32) -> Status
     ensures { RefusesBy (refusal_line code line) (status_number result) (K.held sink.old) out.old (K.faults sink.old) (K.held sink.new) out.new (K.faults sink.new) }
 {
     status_after(send_refusal(out, sink, code, line), Status::Refused)
@@ -43,7 +39,12 @@ fn refuse<K: Sink>(out: &mut Out, sink: &mut K, code: u8, line: u32) -> Status
 
 // Ends a talk over so many lines: one that has a fault is refused.
 #[tactic(auto, unfolding(line_io::specs::Line::input_limit))]
-fn conclude<K: Sink>(out: &mut Out, sink: &mut K, ending: Ending<AnswerFault>, number: u32) -> Status
+fn conclude<K: Sink>(
+    out: &mut Out,
+    sink: &mut K,
+    ending: Ending<AnswerFault>,
+    number: u32,
+) -> Status
     requires { number ≤ input_limit }
     ensures { ConcludesTalk ending number (status_number result) (K.held sink.old) out.old (K.faults sink.old) (K.held sink.new) out.new (K.faults sink.new) }
 {
@@ -52,8 +53,8 @@ fn conclude<K: Sink>(out: &mut Out, sink: &mut K, ending: Ending<AnswerFault>, n
         Ending::Failed(AnswerFault::Write(_)) => Status::SinkFailed,
         Ending::Failed(AnswerFault::Memory) => Status::NoMemory,
         Ending::Fault(LineFault::ReadFault) => Status::SourceFailed,
-        Ending::Fault(LineFault::LineTooLong) => refuse(out, sink, LINE_TOO_LONG, number + 1),
-        Ending::Fault(LineFault::InputTooLong) => refuse(out, sink, INPUT_TOO_LONG, number + 1),
+        Ending::Fault(LineFault::LineTooLong) => refuse(out, sink, Code::LineTooLong, number + 1),
+        Ending::Fault(LineFault::InputTooLong) => refuse(out, sink, Code::InputTooLong, number + 1),
     }
 }
 

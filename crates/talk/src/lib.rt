@@ -5,7 +5,6 @@
 //! talk comes to.
 #![tactic(auto)]
 
-pub mod codes;
 mod fault;
 mod hold;
 mod send;

@@ -7,13 +7,14 @@ ghost use Rattle.talk.specs.Held.{SendsBy};
 
 use certificate_text::{write_refusal, write_short};
 use edit_session::Short;
+use evac_law::Code;
 use line_io::{Out, Sink, WriteFault};
 
 /// Sends the refusal of a line.
 pub fn send_refusal<K: Sink>(
     out: &mut Out,
     sink: &mut K,
-    code: u8,
+    code: Code,
     line: u32,
 ) -> Result<(), WriteFault>
     ensures { SendsBy result (refusal_line code line)

@@ -1,6 +1,7 @@
 -- What is read from a text in memory.
 use Rattle.std.proofs.Common.{◌≡◌, ℕ, inl, inr, false, List, [], Result, Ok, Err, Some, None, arith, ap, ◌∙◌, subst}
 use Rattle.std.specs.declared.option.Option.{Option}
+use Rattle.evac_law.specs.declared.code.Code.{Code}
 use Rattle.line_io.specs.Causes.{Rose, unlimited}
 use Rattle.line_io.specs.Line.{Line, lines_of}
 use Rattle.line_io.specs.Reader.{lines_left}
@@ -31,7 +32,7 @@ of-text r bytes text result n after new same reads =
     let here = subst (λ (x : Reader). ReadsModel result x.number n (lines_left x (Some bytes)) after) new reads in
     subst (λ (x : List ℕ). ReadsModel result 0 n (Some (lines_of x)) after) same here
 
-first-fault : (text : List ℕ) (code line n : ℕ) (after : Option (List Line)) → ReadsModel (Err (Named code line)) 0 n (Some (lines_of text)) after
+first-fault : (text : List ℕ) (code : Code) (line n : ℕ) (after : Option (List Line)) → ReadsModel (Err (Named code line)) 0 n (Some (lines_of text)) after
     → Describes text (Err (Text code line))
 first-fault text code line n None reads = absurd reads
 first-fault text code line n (Some rest) reads = reads
@@ -41,6 +42,6 @@ pub described : (text : List ℕ) (building : Building) (n : ℕ) (after : Optio
 described text building n None reads = absurd reads
 described text building n (Some rest) (d, e, is) = (d, n, rest, e, is)
 
-pub refused : (text : List ℕ) (fault : ModelFault) (code line n : ℕ) (after : Option (List Line)) → fault ≡ Named code line
+pub refused : (text : List ℕ) (fault : ModelFault) (code : Code) (line n : ℕ) (after : Option (List Line)) → fault ≡ Named code line
     → ReadsModel (Err fault) 0 n (Some (lines_of text)) after → Describes text (Err (Text code line))
 refused text fault code line n after is reads = first-fault text code line n after (subst (λ (x : ModelFault). ReadsModel (Err x) 0 n (Some (lines_of text)) after) is reads)

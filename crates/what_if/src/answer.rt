@@ -3,7 +3,7 @@ ghost use Rattle.std.specs.Prelude.{◌≡◌};
 ghost use Rattle.what_if.specs.declared.answer.WhatIfFault.TheVariants.{Memory};
 
 use building_table::NameFault;
-use evac_law::EditFault;
+use evac_law::{Code, EditFault};
 use std::alloc::AllocError;
 
 /// What it costs to shut an exit of a building that can be cleared.
@@ -18,8 +18,8 @@ pub enum Answer {
 /// Why there is no answer.
 #[derive(Clone, Copy, PartialEq, Eq, Debug)]
 pub enum WhatIfFault {
-    /// The first fault of the text, by its number and its line.
-    Text { code: u8, line: u32 },
+    /// The first fault of the text, by its code and its line.
+    Text { code: Code, line: u32 },
     /// With the exit open at most `most` are out by the horizon, and not everybody.
     NeverCleared { most: u32 },
     /// No node has the name.

@@ -1,7 +1,7 @@
 // The example of a caller.
 use crate::buildings::{OFFICE, TRAPPED};
 use building_table::NameFault;
-use evac_law::{EditFault, Kind, NodeName};
+use evac_law::{Code, EditFault, Kind, NodeName};
 use std::process::Abort;
 use what_if::{Answer, WhatIfFault, what_if};
 
@@ -53,7 +53,10 @@ fn texts_without_an_answer(rt: HostRuntime) {
         (TRAPPED, WhatIfFault::NeverCleared { most: 0 }),
         (
             "evacplan 1\n# no more\n",
-            WhatIfFault::Text { code: 21, line: 3 },
+            WhatIfFault::Text {
+                code: Code::MissingEnd,
+                line: 3,
+            },
         ),
     ] {
         let answer = what_if(rt.alloc(), text.as_bytes(), ground(Kind::Exit, 1));

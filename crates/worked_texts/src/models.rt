@@ -10,14 +10,14 @@ use std::test::Fail;
 
 const START: &str = "evacplan 1\nperiod 5\nhorizon 4\nfloor 1 Ground\n";
 
-// The code and the line of the first fault of a model in two parts; 0 and 0 where it has none.
+// The number and the line of the first fault of a model in two parts; 0 and 0 where it has none.
 pub(crate) fn fault(alloc: Global, start: &str, more: &str) -> Result<(u8, u32), AllocError> {
     let text = format!(in alloc; "{start}{more}")?;
     let mut source = MemSource::new(alloc, text.as_str().as_bytes(), 7, &[])?;
     let mut lines = Lines::new(alloc)?;
     Ok(match read_model(alloc, &mut lines, &mut source) {
         Ok(_) => (0, 0),
-        Err(ModelFault::Named { code, line }) => (code, line),
+        Err(ModelFault::Named { code, line }) => (code.number(), line),
         Err(_) => (255, 0),
     })
 }

@@ -1,15 +1,15 @@
 // Lines of the language, and what they say.
-use evac_law::{Kind, NodeName};
+use evac_law::{Code, Kind, NodeName};
 use model_text::{
     Command, Fields, NamedEdit, Part, Report, Statement, TextFault, read_command, read_later_line,
     read_line, read_name, read_number,
 };
 
-// The code of a line's fault, or 0.
+// The number of a line's fault, or 0.
 fn line_code(line: &str) -> u8 {
     match read_line(line.as_bytes()) {
         Ok(_) => 0,
-        Err(fault) => fault.code(),
+        Err(fault) => fault.code().number(),
     }
 }
 
@@ -17,14 +17,14 @@ fn line_code(line: &str) -> u8 {
 fn later_code(version: u32, line: &str) -> u8 {
     match read_later_line(version, line.as_bytes()) {
         Ok(_) => 0,
-        Err(fault) => fault.code(),
+        Err(fault) => fault.code().number(),
     }
 }
 
 fn command_code(line: &str) -> u8 {
     match read_command(line.as_bytes()) {
         Ok(_) => 0,
-        Err(fault) => fault.code(),
+        Err(fault) => fault.code().number(),
     }
 }
 
@@ -279,6 +279,6 @@ fn commands_say_their_values(rt: HostRuntime) {
 
 #[test]
 fn faults_have_their_codes(rt: HostRuntime) {
-    assert_eq!(rt; TextFault::UnknownWord.code(), 4);
-    assert_eq!(rt; TextFault::UnknownCommand.code(), 31);
+    assert_eq!(rt; TextFault::UnknownWord.code(), Code::UnknownWord);
+    assert_eq!(rt; TextFault::UnknownCommand.code().number(), 31);
 }

@@ -4,13 +4,13 @@ use line_io::{CleanSource, Lines};
 use std::alloc::{AllocError, Global};
 use std::test::Fail;
 
-/// The code and the line at which a text is refused; 0 and 0 where it isn't.
+/// The number and the line at which a text is refused; 0 and 0 where it isn't.
 fn refused(alloc: Global, text: &str) -> Result<(u8, u32), AllocError> {
     let mut source = CleanSource::new(alloc, text.as_bytes())?;
     let mut lines = Lines::new(alloc)?;
     Ok(match read_model(alloc, &mut lines, &mut source) {
         Ok(_) => (0, 0),
-        Err(ModelFault::Named { code, line }) => (code, line),
+        Err(ModelFault::Named { code, line }) => (code.number(), line),
         Err(_) => (255, 0),
     })
 }

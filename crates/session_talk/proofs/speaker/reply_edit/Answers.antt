@@ -24,5 +24,5 @@ returns-in-Err-clause-says g c =
     let t = c.args.talk.now in
     let s = desk_state t.desk t.session in
     λ before. asks_named c.write_refusal.result c.args.line s (Err c.in-Err.fault) _ _ _ c.in-Err.ensures.edit
-    (code_said c.write_refusal.result (λ r. AsksEdit c.args.line s (Err c.in-Err.fault) r) c.args.line _ _ t.desk t.session _ _ _ _ _ _ _ c.name_code.ensures refl
+    (code_said c.write_refusal.result (λ r. AsksEdit c.args.line s (Err c.in-Err.fault) r) c.args.line _ _ t.desk t.session _ _ _ _ _ _ _ c.code.ensures refl
     c.write_refusal.ensures.text c.write_refusal.ensures.cause)

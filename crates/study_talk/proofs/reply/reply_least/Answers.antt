@@ -7,5 +7,5 @@ pub returns-in-Err : goal.returns-in-Err
 returns-in-Err g c =
     let d = c.args.desk.now in
     asks_named c.write_refusal.result d.session.state.model c.args.line c.args.by (Err c.in-Err.fault) _ _ _ c.in-Err.ensures.arc
-    (code_said c.write_refusal.result (λ r. AsksLeast d.session.state.model c.args.line c.args.by (Err c.in-Err.fault) r) d c.args.line _ _ _ _ _ _ _ _ _ c.name_code.ensures refl
+    (code_said c.write_refusal.result (λ r. AsksLeast d.session.state.model c.args.line c.args.by (Err c.in-Err.fault) r) d c.args.line _ _ _ _ _ _ _ _ _ c.code.ensures refl
     c.write_refusal.ensures.text c.write_refusal.ensures.cause)
