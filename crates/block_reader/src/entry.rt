@@ -1,29 +1,10 @@
 // What a line of a block says.
 ghost use Rattle.std.specs.Prelude.{◌≡◌};
-ghost use Rattle.std.specs.Str.{bytes_eq};
 ghost use Rattle.model_text.specs.Fields.{fields_of};
-ghost use Rattle.model_text.specs.Grammar.{is_comment};
 ghost use Rattle.certificate_text.specs.Entries.{entry_by_word, cleared_entry, end_entry, entry_of, index_entry, label_entry, label_of, move_entry, read_move, one_number, out_entry, out_of, people_entry};
 
 use certificate_text::Entry;
-use model_text::{Fields, read_name, read_number};
-
-// Whether a field is a word.
-fn is_word(field: &[u8], word: &[u8]) -> bool
-    ensures { result ≡ bytes_eq field.now word.now }
-{
-    field == word
-}
-
-// Whether a first field makes its line a comment.
-fn is_comment(word: &[u8]) -> bool
-    ensures { result ≡ is_comment word.now }
-{
-    match word {
-        [] => true,
-        [b, ..] => *b == b'#',
-    }
-}
+use model_text::{Fields, is_comment, is_word, read_name, read_number};
 
 // The only field, which is a number.
 fn one_number<'a>(mut fields: Fields<'a>) -> Option<u32>

@@ -3,57 +3,56 @@ ghost use Rattle.std.specs.Prelude.{◌≡◌};
 ghost use Rattle.building_table.specs.Built.{build_code, end_code, name_code};
 
 use evac_law::Code;
-use thiserror::Error;
 
 /// Why a part is refused among those before it.
-#[derive(Clone, Copy, PartialEq, Eq, Debug, Error)]
+#[derive(Clone, Copy, PartialEq, Eq, Debug)]
 pub enum BuildFault {
-    #[error("it was given before")]
+    /// It was given before.
     RepeatedSetting,
-    #[error("the floor is unknown")]
+    /// The floor is unknown.
     UnknownFloor,
-    #[error("the node was named before")]
+    /// The node was named before.
     RepeatedNode,
-    #[error("the start is above the capacity")]
+    /// The start is above the capacity.
     OverFull,
-    #[error("a node is unknown")]
+    /// A node is unknown.
     UnknownNode,
-    #[error("both ends are the same")]
+    /// Both ends are the same.
     SelfArc,
-    #[error("the arc leaves an exit")]
+    /// The arc leaves an exit.
     FromExit,
-    #[error("the arc was given before")]
+    /// The arc was given before.
     RepeatedArc,
-    #[error("there are too many")]
+    /// There are too many.
     TooMany,
-    #[error("there is no such arc")]
+    /// There is no such arc.
     NoArc,
-    #[error("the window doesn't begin before it ends")]
+    /// The window doesn't begin before it ends.
     BadWindow,
-    #[error("the arc has a window at one of these moments")]
+    /// The arc has a window at one of these moments.
     WindowOverlap,
-    #[error("the arc has too many windows")]
+    /// The arc has too many windows.
     TooManyWindows,
-    #[error("the node is an exit")]
+    /// The node is an exit.
     ExitNamed,
-    #[error("people come into the node at this moment already")]
+    /// People come into the node at this moment already.
     RepeatedEntrant,
-    #[error("there is no memory")]
+    /// There is no memory.
     Memory,
 }
 
 /// Why a model can't end.
-#[derive(Clone, Copy, PartialEq, Eq, Debug, Error)]
+#[derive(Clone, Copy, PartialEq, Eq, Debug)]
 pub enum EndFault {
-    #[error("the period or the horizon is missing")]
+    /// The period or the horizon is missing.
     MissingSetting,
-    #[error("there is no exit")]
+    /// There is no exit.
     NoExit,
-    #[error("there are too many cells")]
+    /// There are too many cells.
     TooLarge,
-    #[error("people come in after the horizon")]
+    /// People come in after the horizon.
     EntrantLate,
-    #[error("there is no memory")]
+    /// There is no memory.
     Memory,
 }
 
@@ -69,11 +68,11 @@ pub enum ModelFault {
 }
 
 /// Why a command gives no edit.
-#[derive(Clone, Copy, PartialEq, Eq, Debug, Error)]
+#[derive(Clone, Copy, PartialEq, Eq, Debug)]
 pub enum NameFault {
-    #[error("a node is unknown")]
+    /// A node is unknown.
     UnknownNode,
-    #[error("there is no such arc")]
+    /// There is no such arc.
     NoArc,
 }
 

@@ -1,4 +1,5 @@
-//! Person cards: one itinerary for each person of a plan, lent one after another. Whoever comes to a node first leaves it first.
+//! Person cards: one itinerary for each person of a plan, lent one after another. Whoever comes to a node first leaves it
+//! no later than those who come after.
 //!
 //! No queue of people is kept. Comings and leavings at each node are numbered by sums, and a person is followed from number to
 //! number: the one of a number to come to a node is the one of that number to leave it.

@@ -44,7 +44,7 @@ StatedCutIsWorth =
     (m : Model) (p : List Move) (l : LabelTable) (c k : ℕ) → IsValid m → IsCertified m p l c
     → (k ≤ m.horizon → IsCut m (stated_cut m l c k)) × (cut_value m (stated_cut m l c k) k ≡ out_by m p k)
 
--- an edit keeps the names, the ends and traversal times, the horizon and the period
+-- an edit keeps the names, the ends and traversal times, the horizon, the period and the entrants
 abbrev pub EditKeepsShape : Type 0
 EditKeepsShape = (m m' : Model) (e e' : Edit) → applied m e ≡ Ok (m', e') → HasSameShape m m'
 

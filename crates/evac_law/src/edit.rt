@@ -8,7 +8,6 @@ use crate::code::Code;
 use crate::limits::{CAPACITY_LIMIT, HORIZON_LIMIT, PEOPLE_LIMIT, RATE_LIMIT};
 use crate::model::Model;
 use crate::window::{Window, place_of};
-use thiserror::Error;
 
 /// A change of a model.
 #[derive(Clone, Copy, PartialEq, Eq, Debug)]
@@ -27,33 +26,33 @@ pub enum Edit {
 }
 
 /// Why an edit is refused.
-#[derive(Clone, Copy, PartialEq, Eq, Debug, Error)]
+#[derive(Clone, Copy, PartialEq, Eq, Debug)]
 pub enum EditFault {
-    #[error("a number is outside its range")]
+    /// A number is outside its range.
     OutOfRange,
-    #[error("the start would pass the capacity")]
+    /// The start would pass the capacity.
     OverFull,
-    #[error("both nodes are the same")]
+    /// Both nodes are the same.
     SameNode,
-    #[error("there would be too many people")]
+    /// There would be too many people.
     TooMany,
-    #[error("it is shut already")]
+    /// It is shut already.
     AlreadyShut,
-    #[error("it is not shut")]
+    /// It is not shut.
     AlreadyOpen,
-    #[error("the node is no exit")]
+    /// The node is no exit.
     NotExit,
-    #[error("the node is an exit")]
+    /// The node is an exit.
     ExitNamed,
-    #[error("too few people start there")]
+    /// Too few people start there.
     TooFew,
-    #[error("the window ends before it begins")]
+    /// The window ends before it begins.
     BadWindow,
-    #[error("a window is there already")]
+    /// A window is there already.
     WindowOverlap,
-    #[error("the arc has as many windows as may be")]
+    /// The arc has as many windows as may be.
     TooManyWindows,
-    #[error("there is no such window")]
+    /// There is no such window.
     NoWindow,
 }
 

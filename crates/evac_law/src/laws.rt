@@ -31,7 +31,7 @@ pub fn shortfall_bars_clearing()
     ensures { ShortfallBarsClearing }
 {}
 
-/// An edit keeps the names, the ends and traversal times of the arcs, the horizon and the period.
+/// An edit keeps the names, the ends and traversal times of the arcs, the horizon, the period and the entrants.
 pub fn edit_keeps_shape()
     ensures { EditKeepsShape }
 {}

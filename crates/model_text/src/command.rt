@@ -6,7 +6,7 @@ ghost use Rattle.model_text.specs.Fields.{fields_of};
 use crate::fault::TextFault;
 use crate::fields::{Fields, is_word};
 use crate::named_edit::{NamedEdit, read_edit};
-use crate::parts::{number, one};
+use crate::field_values::{number, one};
 use crate::statement::is_comment;
 
 /// A report on the plan that stands.

@@ -3,22 +3,21 @@ ghost use Rattle.std.specs.Prelude.{◌≡◌};
 ghost use Rattle.model_text.specs.Codes.{text_fault_code};
 
 use evac_law::Code;
-use thiserror::Error;
 
 /// Why a line by itself is refused.
-#[derive(Clone, Copy, PartialEq, Eq, Debug, Error)]
+#[derive(Clone, Copy, PartialEq, Eq, Debug)]
 pub enum TextFault {
-    #[error("the first word is unknown")]
+    /// The first word is unknown.
     UnknownWord,
-    #[error("the number of fields is wrong, or a text is missing")]
+    /// The number of fields is wrong, or a text is missing.
     FieldCount,
-    #[error("a field is no number")]
+    /// A field is no number.
     BadNumber,
-    #[error("a number is outside its range")]
+    /// A number is outside its range.
     OutOfRange,
-    #[error("a field is no name")]
+    /// A field is no name.
     BadName,
-    #[error("the command is unknown")]
+    /// The command is unknown.
     UnknownCommand,
 }
 

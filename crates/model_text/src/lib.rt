@@ -6,13 +6,13 @@
 
 mod command;
 mod fault;
+mod field_values;
 mod fields;
 mod laws;
 mod name;
 mod named_edit;
 mod number;
 mod part;
-mod parts;
 mod statement;
 mod study;
 
@@ -24,5 +24,5 @@ pub use name::read_name;
 pub use named_edit::NamedEdit;
 pub use number::read_number;
 pub use part::Part;
-pub use statement::{Statement, read_later_line, read_line};
+pub use statement::{Statement, is_comment, read_later_line, read_line};
 pub use study::{StudyCommand, read_study_command};

@@ -5,7 +5,7 @@ ghost use Rattle.model_text.specs.NamedEdits.{edit_by_word, name_number, names_n
 
 use crate::fault::TextFault;
 use crate::fields::{Fields, is_word};
-use crate::parts::{four, name, number, one, three, two};
+use crate::field_values::{four, name, number, one, three, two};
 use evac_law::NodeName;
 
 /// An edit of a model, by names.

@@ -7,7 +7,7 @@ ghost use Rattle.model_text.specs.Reads.{ReadsPart};
 
 use crate::fault::TextFault;
 use crate::fields::{Fields, is_word};
-use crate::parts::{four, name, one, ranged, ranged_short, text, three, two};
+use crate::field_values::{four, name, one, ranged, ranged_short, text, three, two};
 use evac_law::NodeName;
 use evac_law::limits::{
     CAPACITY_LIMIT, FLOOR_NUMBER_LIMIT, HORIZON_LIMIT, PEOPLE_LIMIT, RATE_LIMIT, SECONDS_LIMIT,

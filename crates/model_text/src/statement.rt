@@ -8,7 +8,7 @@ ghost use Rattle.model_text.specs.Reads.{Reads, said};
 use crate::fault::TextFault;
 use crate::fields::{Fields, is_word};
 use crate::part::{Part, read_part};
-use crate::parts::{number, one};
+use crate::field_values::{number, one};
 
 /// What a line of a model says.
 #[derive(Clone, Copy, PartialEq, Eq, Debug)]
@@ -36,7 +36,7 @@ fn end<'a>(mut fields: Fields<'a>) -> Result<Statement<'a>, TextFault>
 }
 
 /// Whether a first field makes its line a comment.
-pub(crate) fn is_comment(word: &[u8]) -> bool
+pub fn is_comment(word: &[u8]) -> bool
     ensures { result ≡ is_comment word.now }
 {
     match word {
