@@ -1,4 +1,4 @@
-// The codes by which refusals, and the checker's no, name what is wrong.
+//! The codes by which refusals, and the checker's no, name what is wrong.
 ghost use Rattle.std.specs.Prelude.{◌≡◌};
 ghost use Rattle.evac_law.specs.Codes.{code_number};
 

@@ -1,4 +1,4 @@
-// People who come into a node after moment 0.
+//! People who come into a node after moment 0.
 ghost use Rattle.std.specs.Prelude.{◌≡◌, ◌≤◌, ◌&&◌, ◌==◌, if◌then◌else◌};
 ghost use Rattle.std.specs.List.{AllPairs, sum_by};
 ghost use Rattle.evac_law.specs.Entrants.{ComesBefore, entering};
@@ -13,7 +13,7 @@ pub struct Entrant {
 }
 
 impl Entrant {
-    /// The people, where they come into a node at a moment.
+    // The people, where they come into a node at a moment.
     fn people_at(self, node: u32, moment: u16) -> u32
         ensures { result ≡ if self.node == node && self.moment == moment then self.people else 0 }
     {

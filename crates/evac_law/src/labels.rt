@@ -1,4 +1,4 @@
-// A label for each node and moment.
+//! A label for each node and moment.
 ghost use Rattle.std.specs.Prelude.{◌≡◌, ◌+◌, ◌*◌, ◌<◌, ◌≤◌, IfOk, map, replicate};
 ghost use Rattle.evac_law.specs.LabelTable.{IsTable, below_or_unset, label_at, unset, unset_from, with_label};
 
@@ -23,14 +23,14 @@ impl Model for Labels {
     ghost invariant = { λ l. IsTable l.nodes l.horizon l.labels.items };
 }
 
-/// A label that is below a moment, or else none.
+// A label that is below a moment, or else none.
 fn below_or_unset(from: u16, label: u16) -> u16
     ensures { result ≡ below_or_unset from label }
 {
     if label < from { label } else { Labels::UNSET }
 }
 
-/// Unsets each label that isn't below a moment.
+// Unsets each label that isn't below a moment.
 fn unset_late(labels: &mut [u16], from: u16)
     ensures { labels.new ≡ map (below_or_unset from) labels.old }
 {

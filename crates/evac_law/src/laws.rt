@@ -1,4 +1,4 @@
-// The laws, each the contract of a function with nothing to do.
+//! The laws, each the contract of a function with nothing to do.
 ghost use Rattle.evac_law.specs.Laws.{AllOutIsClearable, AllOutLeavesNobody, CertifiedIsBest, CertifiedIsClearable, CertifiedIsQuickest, CertifiedPlansAgree, EditKeepsShape, EmptyCut, EntrantsOfTable, InverseUndoes, MovesOfTable, ShortfallBarsClearing, StatedCutIsWorth, TightIsEqual, WeakDuality};
 
 /// No feasible plan has more people out by a moment than a cut is worth there.

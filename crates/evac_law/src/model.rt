@@ -1,4 +1,4 @@
-// The model of a building.
+//! The model of a building.
 ghost use Rattle.std.specs.Prelude.{◌≡◌, ◌<◌, ◌≤◌, length, remove};
 ghost use Rattle.std.specs.List.{list_any, sum_by};
 ghost use Rattle.evac_law.specs.Building.{IsValid, arc_at, arc_row, entry, no_arc, node_at, node_row, people, rate};
@@ -63,7 +63,7 @@ impl ArcRow {
         }
     }
 
-    /// An arc that nobody enters.
+    // An arc that nobody enters.
     fn none() -> ArcRow
         ensures { result ≡ no_arc }
     {
@@ -127,7 +127,7 @@ pub struct Model {
     pub entrants: Rows<Entrant>,
 }
 
-/// The people in some nodes at moment 0.
+// The people in some nodes at moment 0.
 #[tactic(auto, unfolding(crate::specs::Limits::people_limit))]
 fn sum_starts(nodes: &[NodeRow]) -> u32
     requires { sum_by (λ n. n.start) nodes.now ≤ people_limit }
@@ -215,7 +215,7 @@ impl Model {
         }
     }
 
-    /// Takes an arc out, and leaves one that nobody enters in its place.
+    // Takes an arc out, and leaves one that nobody enters in its place.
     fn take_arc(&mut self, arc: u32) -> ArcRow
         requires { arc < length self.old.arcs }
         ensures row { result ≡ arc_at self.old arc }

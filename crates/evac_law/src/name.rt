@@ -1,4 +1,4 @@
-// The names of nodes.
+//! The names of nodes.
 ghost use Rattle.std.specs.Prelude.{◌≡◌, ◌≤◌, ◌+◌, ◌++◌, drop, length, take};
 ghost use Rattle.evac_law.specs.Names.{IsName, is_exit, kind_text, name_text};
 

@@ -1,4 +1,4 @@
-// Moves: what plans are made of.
+//! Moves: what plans are made of.
 
 /// People who enter an arc at a moment. A plan is a list of moves.
 #[derive(Clone, Copy, PartialEq, Eq, Debug)]

@@ -1,4 +1,4 @@
-// A plan that stands: who moves when, who is where, and when the last one is out.
+//! A plan that stands: who moves when, who is where, and when the last one is out.
 ghost use Rattle.std.specs.Prelude.{◌≡◌, ◌<◌, ◌≤◌};
 ghost use Rattle.evac_law.specs.Plans.{moved};
 ghost use Rattle.evac_law.specs.Stands.{Stand};

@@ -1,4 +1,4 @@
-// A counter of steps that takes no bytes.
+//! A counter of steps that takes no bytes.
 ghost use Rattle.std.specs.Prelude.{◌≡◌, ◌+◌};
 
 use std::marker::Model;

@@ -1,4 +1,4 @@
-// Closure windows of an arc.
+//! Closure windows of an arc.
 ghost use Rattle.std.specs.Prelude.{◌≡◌, ◌≤◌, insert, length, nat_lt};
 ghost use Rattle.std.specs.List.{list_any, position};
 ghost use Rattle.evac_law.specs.Windows.{is_closed_at, is_same_window, overlaps, window_of, with_window};
@@ -26,7 +26,7 @@ pub(crate) fn overlap(windows: &[Window], window: Window) -> bool
         .any(|v| v.from < window.until && window.from < v.until)
 }
 
-/// The place of the first of some windows that begins after a moment.
+// The place of the first of some windows that begins after a moment.
 fn first_later(windows: &[Window], moment: u16) -> Option<usize>
     ensures { result ≡ position (λ v. nat_lt moment v.from) windows.now }
 {

@@ -1,5 +1,5 @@
-// Sources and sinks over the readers and writers of std. What these give and take is theirs to say; here only calls and faults are counted:
-// each call makes one call of what is adapted, and answers a fault where that failed.
+//! Sources and sinks over the readers and writers of std. What these give and take is theirs to say; here only calls and faults are counted:
+//! each call makes one call of what is adapted, and answers a fault where that failed.
 ghost use Rattle.std.specs.Prelude.{◌≡◌, ◌<◌, ◌≤◌, ℕ, List, length, IfOk, if◌then◌else◌, is_ok};
 ghost use Rattle.std.specs.declared.option.Option.{Option};
 ghost use Rattle.std.specs.Io.KnownBytes.{ReadConsumes, WriteAppends};

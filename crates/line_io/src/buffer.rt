@@ -1,4 +1,4 @@
-// Parts of a buffer.
+//! Parts of a buffer.
 ghost use Rattle.std.specs.Prelude.{◌≡◌, ◌<◌, ◌≤◌, ◌+◌, ◌-◌, ◌++◌, ℕ, List, length, take, drop, IfOk};
 ghost use Rattle.std.specs.Io.KnownBytes.{Appends, IsAtEnd, ReadConsumes};
 ghost use Rattle.line_io.specs.Calls.{Offers};

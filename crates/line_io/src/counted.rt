@@ -1,4 +1,4 @@
-// A reader or a writer of std with the number of its calls. It is private here, so that nothing else can call it uncounted.
+//! A reader or a writer of std with the number of its calls. It is private here, so that nothing else can call it uncounted.
 ghost use Rattle.std.specs.Prelude.{◌≡◌};
 ghost use Rattle.std.specs.Io.{ReadsAtMost, WritesAtMost};
 ghost use Rattle.std.specs.Io.KnownBytes.{ReadConsumes, WriteAppends};

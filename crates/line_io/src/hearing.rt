@@ -1,4 +1,4 @@
-// Hearing the lines of a source one by one.
+//! Hearing the lines of a source one by one.
 ghost use Rattle.std.specs.Prelude.{◌≡◌, ◌≤◌, ℕ, List, length, Ok};
 ghost use Rattle.line_io.specs.Calls.{Asks};
 ghost use Rattle.line_io.specs.Hearing.{Hearing, IsCaused, Listens};

@@ -1,4 +1,4 @@
-// The limits on an input, and the sizes of the buffers.
+//! The limits on an input, and the sizes of the buffers.
 
 /// The most bytes of a line without its end.
 pub const LINE_LIMIT: usize = 200;

@@ -1,4 +1,4 @@
-// The lines of a source.
+//! The lines of a source.
 ghost use Rattle.std.specs.Prelude.{◌≡◌, ◌<◌, ◌≤◌, ◌+◌, ◌++◌, ℕ, List, [], length, take, drop, true, false, IfOk, IfSome, IfNone, OnSome, OnOk, OnErr, ◌⊎◌};
 ghost use Rattle.std.specs.List.{position};
 ghost use Rattle.std.specs.Io.KnownBytes.{Keeps};

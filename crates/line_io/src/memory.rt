@@ -1,4 +1,4 @@
-// A source and a sink in memory, which fail where they are told to.
+//! A source and a sink in memory, which fail where they are told to.
 ghost use Rattle.std.specs.Prelude.{◌≡◌, ◌<◌, ◌≤◌, ◌++◌, ◌==◌, ℕ, List, [], Some, length, take, drop, IfOk};
 ghost use Rattle.std.specs.List.{list_any};
 ghost use Rattle.std.specs.declared.option.Option.{Option};

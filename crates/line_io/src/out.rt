@@ -1,4 +1,4 @@
-// Text on its way to a sink.
+//! Text on its way to a sink.
 ghost use Rattle.std.specs.Prelude.{◌≡◌, ◌<◌, ◌≤◌, ◌+◌, ◌++◌, ◌^◌, ℕ, List, [], length, take, drop, decimal, IfOk, IsOk, OnOk, OnErr};
 ghost use Rattle.line_io.specs.Calls.{Offers};
 ghost use Rattle.line_io.specs.Causes.{HasCause};

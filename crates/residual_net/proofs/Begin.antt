@@ -245,19 +245,22 @@ out_none : (w : Network) → ((p : Place) → IsPlace w.site p → flow_at w p �
 unfolding flow_out
 out_none w h e = sums_none w h (λ p. e (tail_of w.site p))
 
--- the entries up to the horizon add up to the people
-pub entries_are_people : (m : Model) → IsValid m → sums.sum2 (length m.nodes) (m.horizon + 1) (entry m) ≡ people m
+-- the entries up to the horizon are those who come in by then, and in a valid model all people
+entries_enter : (m : Model) → sums.sum2 (length m.nodes) (m.horizon + 1) (entry m) ≡ entered_by m m.horizon
 unfolding entered_by
-entries_are_people m valid = entered_all m valid
+entries_enter m = refl
+
+pub entries_are_people : (m : Model) → IsValid m → sums.sum2 (length m.nodes) (m.horizon + 1) (entry m) ≡ people m
+entries_are_people m valid = entries_enter m ∙ entered_all m valid
 
 people_fit : (n : ℕ) → n ≤ evac.people_limit → n ≤ supply_limit
 unfolding evac.people_limit supply_limit
 people_fit n l = omega (arith, l)
 
--- the supplies of a model's net are its people
-pub supplies_are_people : (m : Model) (w : Network) → IsValid m → IsNetOf m w → supply_limits w ≡ people m
+-- the supplies of a model's net are those who come in by its horizon, and in a valid model all people
+pub supplies_enter : (m : Model) (w : Network) → IsNetOf m w → supply_limits w ≡ entered_by m m.horizon
 unfolding supply_limits sum_places
-supplies_are_people m w valid of =
+supplies_enter m w of =
     let k = w.site.shape.horizon + 1 in
     let nodes : w.site.shape.nodes ≡ length m.nodes = ap (λ (s : Site). s.shape.nodes) of.site in
     let same = same_in w.site.shape.nodes k (λ n t. limit_at w (Supply n t)) (entry m) (λ n t i j. of.limits (Supply n t) (i, omega (arith, j))) in
@@ -270,8 +273,11 @@ supplies_are_people m w valid of =
       sums.sum2-nothing w.site.shape.nodes k,
       same,
       count,
-      entries_are_people m valid,
+      entries_enter m,
     )
+
+pub supplies_are_people : (m : Model) (w : Network) → IsValid m → IsNetOf m w → supply_limits w ≡ people m
+supplies_are_people m w valid of = supplies_enter m w of ∙ entered_all m valid
 
 pub supplies_fit : (m : Model) (w : Network) → IsValid m → IsNetOf m w → supply_limits w ≤ supply_limit
 supplies_fit m w valid of = people_fit _ (omega (arith, supplies_are_people m w valid of, valid.people_fit))

@@ -7,8 +7,9 @@ use Rattle.residual_net.specs.Network.{Network, IsAllSent, IsNet, IsWithinLimits
 use Rattle.residual_net.specs.Site.{IsPlace, Site, is_source, same_place, tail_of}
 use Rattle.residual_net.specs.OfModel.{IsNetOf}
 use Rattle.evac_law.specs.declared.model.Model.{Model}
-use Rattle.evac_law.specs.Building.{IsValid, people}
-use Rattle.residual_net.proofs.Begin.{supplies_are_people}
+use Rattle.evac_law.specs.Building.{IsValid, entered_by, people}
+use Rattle.evac_law.proofs.Entries.{entered_all}
+use Rattle.residual_net.proofs.Begin.{supplies_enter}
 use Rattle.residual_net.proofs.LastArrival.{all_arrive}
 use Rattle.residual_net.proofs.Places.{cond_le, same-place, sum_places-le, sum_places-pick, sum_places-same, sum_places-split}
 use Rattle.residual_net.proofs.Steps.{sent_fits}
@@ -67,10 +68,18 @@ sent_counted w net within arrived supplies e f = (
 
 -- ---- of a model
 
+-- those who come in by the horizon arrive by then where everybody is sent, and only there
+pub sent_enter : (m : Model) (w : Network) → IsNet w → IsNetOf m w → IsWithinLimits w → IsAllSent w → arrived_by w m.horizon ≡ entered_by m m.horizon
+sent_enter m w net of within all =
+    ap (λ (s : Site). arrived_by w s.shape.horizon) (sym of.site) ∙ sent_arrive w net within all ∙ supplies_enter m w of
+
+pub entered_sent : (m : Model) (w : Network) → IsNet w → IsNetOf m w → IsWithinLimits w → arrived_by w m.horizon ≡ entered_by m m.horizon → IsAllSent w
+entered_sent m w net of within e =
+    arrived_sent w net within (ap (λ (s : Site). arrived_by w s.shape.horizon) of.site ∙ e ∙ sym (supplies_enter m w of))
+
+-- in a valid model those are all people
 pub all_sent_arrive : (m : Model) (w : Network) → IsValid m → IsNet w → IsNetOf m w → IsWithinLimits w → IsAllSent w → arrived_by w m.horizon ≡ people m
-all_sent_arrive m w valid net of within all =
-    ap (λ (s : Site). arrived_by w s.shape.horizon) (sym of.site) ∙ sent_arrive w net within all ∙ supplies_are_people m w valid of
+all_sent_arrive m w valid net of within all = sent_enter m w net of within all ∙ entered_all m valid
 
 pub arrived_all_sent : (m : Model) (w : Network) → IsValid m → IsNet w → IsNetOf m w → IsWithinLimits w → arrived_by w m.horizon ≡ people m → IsAllSent w
-arrived_all_sent m w valid net of within e =
-    arrived_sent w net within (ap (λ (s : Site). arrived_by w s.shape.horizon) of.site ∙ e ∙ sym (supplies_are_people m w valid of))
+arrived_all_sent m w valid net of within e = entered_sent m w net of within (e ∙ sym (entered_all m valid))

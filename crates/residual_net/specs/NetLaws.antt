@@ -1,7 +1,7 @@
 -- The laws on nets, their plans and cuts.
 use Rattle.std.specs.Prelude.{◌≡◌, ℕ, ◌+◌, ◌<◌, ◌≤◌, ◌↔◌, if◌then◌else◌, nat_le, Bool, List, length, IsTrue, IsFalse}
 use Rattle.evac_law.specs.declared.model.Model.{Model}
-use Rattle.evac_law.specs.Building.{IsValid, entry, people}
+use Rattle.evac_law.specs.Building.{IsValid, entered_by, entry}
 use Rattle.evac_law.specs.Certificates.{label_cut, IsTableOf}
 use Rattle.evac_law.specs.Cuts.{Cut, cut_value}
 use Rattle.evac_law.specs.LabelTable.{LabelTable, label_at}
@@ -73,10 +73,10 @@ CancelLowersArrivals =
     (w v : Network) (p : Place) (path : List PathStep) (x k : ℕ) → IsCancelled w v p path x → IsFlowPath w.site path k
     → ((j : ℕ) → arrived_by v j + (if nat_le k j then x else 0) ≡ arrived_by w j) × (flow_out v is_source + x ≡ flow_out w is_source)
 
--- everybody arrives by the horizon exactly where everybody is sent, in a valid model
+-- everybody who comes in by the horizon arrives by then exactly where everybody is sent
 abbrev pub SentIsArrived : Type 0
 SentIsArrived =
-    (m : Model) (w : Network) → IsValid m → IsNet w → IsNetOf m w → IsWithinLimits w → IsAllSent w ↔ (arrived_by w m.horizon ≡ people m)
+    (m : Model) (w : Network) → IsNet w → IsNetOf m w → IsWithinLimits w → IsAllSent w ↔ (arrived_by w m.horizon ≡ entered_by m m.horizon)
 
 -- supplies whose limits are each at most those of two models together may be sent
 abbrev pub SuppliesBetween : Type 0

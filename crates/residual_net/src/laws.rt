@@ -46,7 +46,7 @@ pub fn cancel_lowers_arrivals()
     ensures { CancelLowersArrivals }
 {}
 
-/// Everybody arrives by the horizon exactly where everybody is sent, in a valid model.
+/// Everybody who comes in by the horizon arrives by then exactly where everybody is sent.
 pub fn sent_is_arrived()
     ensures { SentIsArrived }
 {}
