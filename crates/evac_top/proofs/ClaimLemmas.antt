@@ -22,7 +22,7 @@ use Rattle.plan_checker.specs.declared.verdict.Verdict.TheVariants.{Yes, PeopleW
 use Rattle.plan_checker.specs.Verdicts.{IsRight, IsVerdict}
 use Rattle.plan_checker.proofs.LawLemmas.{one_verdict, yes_is_certified}
 use Rattle.evac_top.specs.Accounts.{Account}
-use Rattle.evac_top.specs.Answers.{Answers}
+use Rattle.evac_top.specs.Answers.{runs_of}
 use Rattle.evac_top.specs.Check.{IsChecked, IsVerdictOf, verdict_status, verdict_text}
 use Rattle.evac_top.specs.Inputs.{Claimed, ClaimsBehind, unless_fault}
 use Rattle.evac_top.specs.Reads.{ClaimIs, ReadsTail, block_fault}
@@ -149,7 +149,7 @@ verdict-of m b (OutWrong k) h = tt
 verdict-of m b (CutWrong k) h = tt
 
 pub said-checked : (claim : Claim) (bytes : List ℕ) → ClaimIs (Ok claim) bytes → (x : Account) → x.taken ≡ bytes → IsChecked claim.building.model claim.block x
-    → Answers (Some Check) bytes x
+    → (runs_of (Some Check)).Answers bytes x
 said-checked claim bytes (c, e, is, same) x all checked =
     (Ok c, e, (all, subst (λ (b : Block). IsChecked c.building.model b x) (sym same) (subst (λ (m : Model). IsChecked m claim.block x) is.model checked)))
 

@@ -8,18 +8,18 @@ use Rattle.evac_law.specs.Certificates.{IsClearable}
 use Rattle.line_io.specs.Line.{Line, lines_of, text_lines}
 use Rattle.model_text.specs.Readings.{Reading, Described, Refused, model_of}
 use Rattle.evac_top.specs.Accounts.{Account}
-use Rattle.evac_top.specs.Answers.{Answers}
+use Rattle.evac_top.specs.Answers.{runs_of}
 use Rattle.building_table.specs.Names.{NameTable, names_of}
 use Rattle.drill_building.specs.Drill.{drill_model}
 use Rattle.plan_checker.specs.Verdicts.{IsRight}
 use Rattle.evac_top.specs.Check.{Checks, IsChecked, verdict_status}
-use Rattle.evac_top.specs.Complete.{AnswersAll, ChecksAll, PlansAll, RunsAnswer, SolvesAll, TalksAll, UpgradesAll}
+use Rattle.evac_top.specs.Complete.{ChecksAll, PlansAll, SolvesAll, TalksAll, UpgradesAll}
 use Rattle.evac_top.specs.Drill.{IsDrillSolved}
 use Rattle.evac_top.specs.Inputs.{Asked, Claimed, ClaimsBehind, IsClaimOf, claim_by, input_of}
+use Rattle.evac_top.specs.Runs.{RunsAnswer}
 use Rattle.evac_top.specs.Solve.{IsPlannedOrShort, Solves}
 use Rattle.evac_top.specs.Talking.{TalkOn, Talks, spoken}
 use Rattle.evac_top.specs.Upgrade.{Upgrades}
-use Rattle.evac_top.specs.Words.{reads}
 use Rattle.evac_top.specs.declared.words.Flags.{Flags}
 use Rattle.evac_top.specs.declared.words.Mode.{Mode}
 use Rattle.evac_top.specs.declared.words.Mode.TheVariants.{Solve, Check, Session, Study, Replan, Upgrade, Drill}
@@ -112,7 +112,7 @@ upgrades-all : (input : List ℕ) (result : Result Asked (Code × ℕ)) (x : Acc
 upgrades-all input (Ok asked) x h = h.1.over
 upgrades-all input (Err fault) x h = h
 
-answers-all : (mode : Option Mode) (input : List ℕ) (x : Account) → Answers mode input x → AnswersAll mode input x
+answers-all : (mode : Option Mode) (input : List ℕ) (x : Account) → (runs_of mode).Answers input x → (runs_of mode).AnswersAll input x
 answers-all None input x h = h.1.over
 answers-all (Some (Solve flags)) input x h = solves-all flags input (input_of (lines_of input)) x h
 answers-all (Some Check) input x (claim, is, h) = record { claim = claim; of_lines = is; alone = λ other g. one-claim-of (lines_of input) claim other is g; answered = checks-all input claim x h }
@@ -127,4 +127,4 @@ runs-answer mode status before after r reads_kept writes_kept memory =
     let three : status ≡ 3 → ⊥ = λ e. reads_kept (r.causes.reads_rose e) in
     let four : status ≡ 4 → ⊥ = λ e. writes_kept (r.causes.writes_rose e) in
     let known : status ≤ 5 = r.causes.known in
-    of-input (reads mode) before.source.bytes _ _ (λ input. answers-all mode input r.did) (r.answered (omega (arith, known, three, four, memory)))
+    of-input (runs_of mode).reads before.source.bytes _ _ (λ input. answers-all mode input r.did) (r.answered (omega (arith, known, three, four, memory)))

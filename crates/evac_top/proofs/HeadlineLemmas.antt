@@ -29,13 +29,12 @@ use Rattle.talk.specs.Talks.{EndsAt, RepliesTo, Reply, TalkRun, says}
 use Rattle.session_talk.proofs.Bridge.{answer_of}
 use Rattle.session_talk.proofs.Same.{cut_stays}
 use Rattle.evac_top.specs.Accounts.{Account, Outside}
-use Rattle.evac_top.specs.Answers.{Answers}
+use Rattle.evac_top.specs.Answers.{runs_of}
 use Rattle.evac_top.specs.Headline.{IsBestBlock, IsCarriedOut, KeepsAll, KeepsBlock, KeepsCarried, KeepsPlan, KeepsPromise, KeepsReplan, KeepsReplans, KeepsSession, PlansKeepPromise, ReplansKeepPromise, SessionsKeepPromise}
 use Rattle.evac_top.specs.Inputs.{Asked, input_of}
 use Rattle.evac_top.specs.Runs.{OfInput, Runs}
 use Rattle.evac_top.specs.Solve.{IsPlanned, Solves}
 use Rattle.evac_top.specs.Talking.{Talks, spoken}
-use Rattle.evac_top.specs.Words.{reads}
 use Rattle.evac_top.specs.declared.words.Flags.{Flags}
 use Rattle.evac_top.specs.declared.words.Mode.{Mode}
 use Rattle.evac_top.specs.declared.words.Mode.TheVariants.{Replan, Session, Solve}
@@ -130,7 +129,7 @@ keeps-session (Refused code line) x h = tt
 
 -- a run in which neither count of faults rose, and there was memory, answered
 answered-all : (mode : Option Mode) (status : ℕ) (before after : Outside) (r : Runs mode status before after) → ¬ Rose before.source.faults after.source.faults
-    → ¬ Rose before.sink.faults after.sink.faults → status ≢ 5 → OfInput (reads mode) before.source.bytes (λ input. Answers mode input r.did)
+    → ¬ Rose before.sink.faults after.sink.faults → status ≢ 5 → OfInput (runs_of mode).reads before.source.bytes (λ input. (runs_of mode).Answers input r.did)
 answered-all mode status before after r reads_kept writes_kept memory =
     let three : status ≡ 3 → ⊥ = λ e. reads_kept (r.causes.reads_rose e) in
     let four : status ≡ 4 → ⊥ = λ e. writes_kept (r.causes.writes_rose e) in

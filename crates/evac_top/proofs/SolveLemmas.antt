@@ -21,7 +21,7 @@ use Rattle.edit_session.specs.declared.faults.BeginFault.TheVariants.{NotCleared
 use Rattle.edit_session.specs.declared.faults.Short.{Short}
 use Rattle.edit_session.specs.Thrift.{IsSpentOpening}
 use Rattle.evac_top.specs.Accounts.{Account, Side}
-use Rattle.evac_top.specs.Answers.{Answers}
+use Rattle.evac_top.specs.Answers.{runs_of}
 use Rattle.evac_top.specs.Drill.{IsDrillSolved, IsDrilled}
 use Rattle.evac_top.specs.Reads.{InputIs}
 use Rattle.evac_top.specs.Solve.{IsPlanned, IsShort, IsPlannedOrShort, SaysPlan, Solves}
@@ -105,7 +105,7 @@ drilled-few n x (inr h) = omega (arith, h.refused)
 -- ---- inputs
 
 pub said-building : (flags : Flags) (input : Input) (bytes : List ℕ) → InputIs (Ok input) bytes → (x : Account) → x.taken ≡ bytes
-    → IsPlannedOrShort flags input.building.names input.building.model input.last x → Answers (Some (Solve flags)) bytes x
+    → IsPlannedOrShort flags input.building.names input.building.model input.last x → (runs_of (Some (Solve flags))).Answers bytes x
 said-building flags input bytes (asked, e, is, same) x all solved =
     subst (λ (r : _). Solves flags bytes r x) (sym e) (
       all,

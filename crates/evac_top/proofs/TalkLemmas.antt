@@ -25,12 +25,11 @@ use Rattle.study_talk.specs.Studies.{study}
 use Rattle.talk.specs.Held.{EndsByQuit, HoldsTalk, IsReadOut, OfLines, around}
 use Rattle.talk.specs.Talks.{Spoken, Talk, TalkAnswers, TalkFront, TalkGoesOn, TalkWants}
 use Rattle.evac_top.specs.Accounts.{Account, Outside, Told}
-use Rattle.evac_top.specs.Answers.{Answers, AnswersFront, AnswersMemory, AnswersSoFar, WritesNothing}
+use Rattle.evac_top.specs.Answers.{WritesNothing, runs_of}
 use Rattle.evac_top.specs.Reads.{IsFresh}
 use Rattle.evac_top.specs.Runs.{Runs}
 use Rattle.evac_top.specs.Talking.{HasQuit, ReadsOn, TalkOn, Talks, TalksFront, TalksMemory, TalksSoFar, TalksWanting, spoken}
 use Rattle.evac_top.specs.Tells.{Stops}
-use Rattle.evac_top.specs.Words.{reads}
 use Rattle.evac_top.specs.declared.words.Mode.{Mode}
 use Rattle.evac_top.specs.declared.words.Mode.TheVariants.{Replan, Session, Study}
 use Rattle.evac_top.proofs.OpenLemmas.{described-lines, model-missing, opening-further}
@@ -39,12 +38,12 @@ use Rattle.evac_top.proofs.TellLemmas.{FaultIs, ReadsFirst, stopped, told-input}
 
 -- a mode that holds a talk: what it answers is what a talk comes to
 pub record IsTalk {S : Type 0} (mode : Mode) (talk : TalkOn S) : Type 0 where
-  pub input : reads (Some mode) ≡ true
-  pub answers : (input : List ℕ) (x : Account) → Talks talk (model_of (lines_of input)) x → ReadsOn talk input x → Answers (Some mode) input x
-  pub talks : (input : List ℕ) (x : Account) → Answers (Some mode) input x → Talks talk (model_of (lines_of input)) x
-  pub so_far : (lines : List Line) (x : Account) → TalksSoFar talk (model_of lines) (length lines) x → AnswersSoFar (Some mode) lines x
-  pub front : (input : List ℕ) (x : Account) → TalksFront talk (model_of (lines_of input)) x → AnswersFront (Some mode) input x
-  pub memory : (x : Account) → TalksMemory talk x → AnswersMemory (Some mode) x
+  pub input : (runs_of (Some mode)).reads ≡ true
+  pub answers : (input : List ℕ) (x : Account) → Talks talk (model_of (lines_of input)) x → ReadsOn talk input x → (runs_of (Some mode)).Answers input x
+  pub talks : (input : List ℕ) (x : Account) → (runs_of (Some mode)).Answers input x → Talks talk (model_of (lines_of input)) x
+  pub so_far : (lines : List Line) (x : Account) → TalksSoFar talk (model_of lines) (length lines) x → (runs_of (Some mode)).AnswersSoFar lines x
+  pub front : (input : List ℕ) (x : Account) → TalksFront talk (model_of (lines_of input)) x → (runs_of (Some mode)).AnswersFront input x
+  pub memory : (x : Account) → TalksMemory talk x → (runs_of (Some mode)).AnswersMemory x
 
 -- ---- a model that isn't read
 
@@ -192,7 +191,7 @@ talk-whole : {S : Type 0} (mode : Mode) (talk : TalkOn S) → IsTalk mode talk �
     → did.status ≡ status → ReadsModel (Ok building) r0.number r1.number (lines_left r0 left) (lines_left r1 l1)
     → OfLines (lines_left r1 l1) (λ lines. TalkAnswers (talk building.names building.model) r1.number lines did) → opening_of 0 (text_lines texts) ≡ Described d r1.number []
     → Drained r2 left' → (status ≡ 0 → IsReadOut r2 ⊎ EndsByQuit (talk (names_of d) d.model).Quits heard)
-    → Told left (λ input. Answers (Some mode) input (account-of status p.taken did))
+    → Told left (λ input. (runs_of (Some mode)).Answers input (account-of status p.taken did))
 talk-whole mode talk m building status r0 r1 r2 None l1 left' texts heard did d fresh p over reading whole e drained read_on = tt
 talk-whole mode talk m building status r0 r1 r2 (Some bytes) l1 left' texts heard did d fresh p over reading whole e drained read_on =
     let x = account-of status p.taken did in
@@ -205,7 +204,7 @@ talk-whole mode talk m building status r0 r1 r2 (Some bytes) l1 left' texts hear
 talk-cut-off : {S : Type 0} (mode : Mode) (talk : TalkOn S) → IsTalk mode talk → (building : Building) (status : ℕ) (r0 r1 : Reader) (left l1 : Option (List ℕ))
     (taken : List ℕ) (did : Spoken) → IsFresh r0 → did.status ≡ status → ReadsModel (Ok building) r0.number r1.number (lines_left r0 left) (lines_left r1 l1)
     → OfLines (lines_left r1 l1) (λ lines. TalkFront (talk building.names building.model) r1.number lines did)
-    → Told left (λ input. AnswersFront (Some mode) input (account-of status taken did))
+    → Told left (λ input. (runs_of (Some mode)).AnswersFront input (account-of status taken did))
 talk-cut-off mode talk m building status r0 r1 None l1 taken did fresh over reading front = tt
 talk-cut-off mode talk m building status r0 r1 (Some bytes) l1 taken did fresh over reading front =
     let x = account-of status taken did in
@@ -217,7 +216,7 @@ talk-cut-off mode talk m building status r0 r1 (Some bytes) l1 taken did fresh o
 talk-broken : {S : Type 0} (mode : Mode) (talk : TalkOn S) → IsTalk mode talk → (building : Building) (status : ℕ) (r0 r2 : Reader) (left left' : Option (List ℕ))
     (texts heard : List (List ℕ)) (n : ℕ) (did : Spoken) (d : Description) → IsFresh r0 → (p : Passes r0 r2 left left' (texts ++ heard)) → did.status ≡ status
     → IsBuilding building d → opening_of 0 (text_lines texts) ≡ Described d n [] → TalkGoesOn (talk building.names building.model) n heard did → is_settled r2 ≡ false
-    → AnswersSoFar (Some mode) (lines_of (whole_part p.taken)) (account-of status p.taken did)
+    → (runs_of (Some mode)).AnswersSoFar (lines_of (whole_part p.taken)) (account-of status p.taken did)
 talk-broken mode talk m building status r0 r2 left left' texts heard n did d fresh p over is e goes unsettled =
     let x = account-of status p.taken did in
     let all : lines_of (whole_part p.taken) ≡ text_lines (texts ++ heard) = whole-lines r0 r2 left left' (texts ++ heard) fresh p unsettled in

@@ -11,7 +11,7 @@ use Rattle.building_table.specs.declared.faults.ModelFault.{ModelFault}
 use Rattle.building_table.specs.declared.faults.ModelFault.TheVariants.{Named, ReadFault, Memory}
 use Rattle.certificate_text.specs.BlockText.{refusal_line}
 use Rattle.evac_top.specs.Accounts.{Account, Ends, IsFront, IsRefusal, Outside, Side, Told}
-use Rattle.evac_top.specs.Answers.{Answers, AnswersFront, AnswersMemory, AnswersSoFar, WritesNothing, words_text}
+use Rattle.evac_top.specs.Answers.{WritesNothing, runs_of, words_text}
 use Rattle.evac_top.specs.Drill.{IsDrillSolved}
 use Rattle.evac_top.specs.Inputs.{IsOpenClaim, IsOpenInput}
 use Rattle.evac_top.specs.Reads.{Takes}
@@ -19,7 +19,6 @@ use Rattle.evac_top.specs.Runs.{OfInput, Runs}
 use Rattle.evac_top.specs.Sends.{Sends}
 use Rattle.talk.specs.Held.{status_after}
 use Rattle.evac_top.specs.Tells.{Stops, Tells}
-use Rattle.evac_top.specs.Words.{reads}
 use Rattle.evac_top.specs.declared.words.Flags.{Flags}
 use Rattle.evac_top.specs.declared.words.Mode.{Mode}
 use Rattle.evac_top.specs.declared.words.Mode.TheVariants.{Solve, Check, Upgrade, Drill}
@@ -96,9 +95,9 @@ pub runs-told : (mode : Option Mode) (Holds : Account → Type 0) (status steps 
     → Consumes before.source.bytes after.source.bytes taken → length taken ≤ input_limit + BUFFER_SIZE → after.source.faults ≡ before.source.faults
     → after.steps ≡ before.steps + steps → Tells Holds status steps before.sink after.sink
     → ((x : Account) → Holds x → x.status ≡ 2 → mode ≡ None)
-    → OfInput (reads mode) before.source.bytes (λ input. (x : Account) → x.taken ≡ taken → Holds x → Answers mode input x)
-    → ((input : List ℕ) (x : Account) → IsFront (Answers mode input) x → AnswersFront mode input x)
-    → ((x : Account) → x.taken ≡ taken → x.written ≡ [] → AnswersMemory mode x) → Runs mode status before after
+    → OfInput (runs_of mode).reads before.source.bytes (λ input. (x : Account) → x.taken ≡ taken → Holds x → (runs_of mode).Answers input x)
+    → ((input : List ℕ) (x : Account) → IsFront ((runs_of mode).Answers input) x → (runs_of mode).AnswersFront input x)
+    → ((x : Account) → x.taken ≡ taken → x.written ≡ [] → (runs_of mode).AnswersMemory x) → Runs mode status before after
 runs-told mode Holds status steps before after taken consumed few same counted tells words holds front memory =
     let x : Account = record { status = status; taken = taken; written = tells.written; steps = steps } in
     record {
@@ -112,9 +111,9 @@ runs-told mode Holds status steps before after taken consumed few same counted t
       };
       did = x;
       account = record { answered = refl; taken = consumed; few_taken = few; written = tells.over; counted = counted };
-      answered = λ l. of-input (reads mode) before.source.bytes _ _ (λ input h. h x refl (tells.whole l taken)) holds;
+      answered = λ l. of-input (runs_of mode).reads before.source.bytes _ _ (λ input h. h x refl (tells.whole l taken)) holds;
       source = λ e. absurd (tells.known.1 e);
-      sink = λ e. of-input (reads mode) before.source.bytes _ _ (λ input h.
+      sink = λ e. of-input (runs_of mode).reads before.source.bytes _ _ (λ input h.
           let f = tells.front e taken in
           front input x (f.0, f.1, h (record x { status = f.0; written = x.written ++ f.1 }) refl f.2)) holds;
       memory = λ e. memory x refl (tells.nothing e);
@@ -123,10 +122,10 @@ runs-told mode Holds status steps before after taken consumed few same counted t
 -- ---- a mode that reads all before it writes
 
 pub record ReadsFirst (mode : Mode) (IsOpen : List Line → Type 0) : Type 0 where
-  pub input : reads (Some mode) ≡ true
-  pub front : (input : List ℕ) (x : Account) → IsFront (Answers (Some mode) input) x → AnswersFront (Some mode) input x
-  pub so_far : (lines : List Line) (x : Account) → IsOpen lines → WritesNothing x → AnswersSoFar (Some mode) lines x
-  pub memory : (x : Account) → x.written ≡ [] → AnswersMemory (Some mode) x
+  pub input : (runs_of (Some mode)).reads ≡ true
+  pub front : (input : List ℕ) (x : Account) → IsFront ((runs_of (Some mode)).Answers input) x → (runs_of (Some mode)).AnswersFront input x
+  pub so_far : (lines : List Line) (x : Account) → IsOpen lines → WritesNothing x → (runs_of (Some mode)).AnswersSoFar lines x
+  pub memory : (x : Account) → x.written ≡ [] → (runs_of (Some mode)).AnswersMemory x
 
 -- who reads is told of the bytes left
 pub told-input : {b : Bool} → b ≡ true → (left : Option (List ℕ)) (P : List ℕ → Type 0) → Told left P → OfInput b left P
@@ -137,7 +136,7 @@ pub no-memory : {IsOpen : List Line → Type 0} (mode : Mode) → ReadsFirst mod
 no-memory mode m at = runs-told (Some mode) (λ x. ⊥) 5 0 at at [] (Consumes-nil at.source.bytes) (omega arith) refl (omega arith)
     (tells-nothing (λ x. ⊥) 0 at.sink) (λ x h. absurd h) (told-input m.input at.source.bytes _ (nothing at.source.bytes)) m.front (λ x e w. m.memory x w)
   where
-    nothing : (left : Option (List ℕ)) → Told left (λ input. (x : Account) → x.taken ≡ [] → ⊥ → Answers (Some mode) input x)
+    nothing : (left : Option (List ℕ)) → Told left (λ input. (x : Account) → x.taken ≡ [] → ⊥ → (runs_of (Some mode)).Answers input x)
     nothing None = tt
     nothing (Some bytes) = λ x e h. absurd h
 
@@ -153,16 +152,16 @@ all-taken (Some xs) (Some ys) taken P consumed end told =
 pub read-told : {T : Type 0} {IsOpen : List Line → Type 0} (mode : Mode) → ReadsFirst mode IsOpen → (Holds : Account → Type 0) (value : T) (status steps : ℕ)
     (before after : Outside) → Takes {T = T} IsOpen (Ok value) before.source.bytes after.source.bytes → after.source.faults ≡ before.source.faults
     → after.steps ≡ before.steps + steps → Tells Holds status steps before.sink after.sink → ((x : Account) → Holds x → x.status ≤ 1)
-    → Told before.source.bytes (λ input. (x : Account) → x.taken ≡ input → Holds x → Answers (Some mode) input x) → Runs (Some mode) status before after
+    → Told before.source.bytes (λ input. (x : Account) → x.taken ≡ input → Holds x → (runs_of (Some mode)).Answers input x) → Runs (Some mode) status before after
 read-told mode m Holds value status steps before after t same counted tells few holds =
     runs-told (Some mode) Holds status steps before after t.taken t.consumed t.few same counted tells (λ x h e. absurd (omega (arith, few x h, e)))
     (told-input m.input before.source.bytes _
-    (all-taken before.source.bytes after.source.bytes t.taken (λ input x. Holds x → Answers (Some mode) input x) t.consumed t.all holds)) m.front
+    (all-taken before.source.bytes after.source.bytes t.taken (λ input x. Holds x → (runs_of (Some mode)).Answers input x) t.consumed t.all holds)) m.front
     (λ x e w. m.memory x w)
 
 -- an input isn't read: what its fault says of it
 abbrev pub FaultIs : Mode → ModelFault → List ℕ → Type 0
-FaultIs mode (Named code line) input = (x : Account) → IsRefusal (code, line) x → Answers (Some mode) input x
+FaultIs mode (Named code line) input = (x : Account) → IsRefusal (code, line) x → (runs_of (Some mode)).Answers input x
 FaultIs mode ReadFault input = Unit {0}
 FaultIs mode Memory input = Unit {0}
 

@@ -11,7 +11,7 @@ use Rattle.model_writer.specs.Laws.{DescribesAgain}
 use Rattle.model_writer.proofs.AgainLemmas.{texts-again}
 use Rattle.model_writer.proofs.TextLemmas.{text-is}
 use Rattle.evac_top.specs.Accounts.{Account}
-use Rattle.evac_top.specs.Answers.{Answers}
+use Rattle.evac_top.specs.Answers.{runs_of}
 use Rattle.evac_top.specs.Inputs.{Asked, input_by, input_of, tail_fault, unless_fault}
 use Rattle.evac_top.specs.Reads.{InputIs}
 use Rattle.evac_top.specs.Upgrade.{IsUpgraded, Upgrades}
@@ -38,7 +38,7 @@ described-again bytes asked e =
 -- ---- inputs
 
 pub said-upgraded : (input : Input) (bytes : List ℕ) → InputIs (Ok input) bytes → (x : Account) → x.taken ≡ bytes → IsUpgraded input.building x
-    → Answers (Some Upgrade) bytes x
+    → (runs_of (Some Upgrade)).Answers bytes x
 said-upgraded input bytes (asked, e, is, same) x all ends =
     subst (λ (r : _). Upgrades bytes r x) (sym e) (
       all,

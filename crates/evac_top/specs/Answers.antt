@@ -1,9 +1,10 @@
--- What a run does, by its mode and its input. Each mode is one case of each definition.
-use Rattle.std.specs.Prelude.{◌≡◌, ℕ, List, [], length, Result, Some, None}
+-- What a run does, by its mode and its input: each mode has one row in one table.
+use Rattle.std.specs.Prelude.{◌≡◌, ℕ, Bool, true, false, List, [], length, Result, Some, None}
 use Rattle.std.specs.declared.option.Option.{Option}
 use Rattle.evac_law.specs.declared.code.Code.{Code}
 use Rattle.evac_law.specs.declared.code.Code.TheVariants.{UnknownWords}
 use Rattle.line_io.specs.Line.{Line, lines_of}
+use Rattle.drill_building.specs.Drill.{drill_model}
 use Rattle.model_text.specs.Readings.{model_of}
 use Rattle.certificate_text.specs.BlockText.{refusal_line}
 use Rattle.replan_talk.specs.ReplanTalks.{replan}
@@ -11,13 +12,70 @@ use Rattle.session_talk.specs.Sessions.{session}
 use Rattle.study_talk.specs.Studies.{study}
 use Rattle.evac_top.specs.Accounts.{Account, Ends, IsFront}
 use Rattle.evac_top.specs.Check.{Checks}
+use Rattle.evac_top.specs.Complete.{ChecksLines, PlansAll, SolvesAll, TalksAll, UpgradesAll}
 use Rattle.evac_top.specs.Drill.{Drills}
 use Rattle.evac_top.specs.Inputs.{Claimed, IsClaimOf, IsOpenClaim, IsOpenInput, input_of}
 use Rattle.evac_top.specs.Solve.{Solves}
-use Rattle.evac_top.specs.Talking.{ReadsOn, Talks, TalksFront, TalksMemory, TalksSoFar}
+use Rattle.evac_top.specs.Talking.{ReadsOn, TalkOn, Talks, TalksFront, TalksMemory, TalksSoFar}
 use Rattle.evac_top.specs.Upgrade.{Upgrades}
 use Rattle.evac_top.specs.declared.words.Mode.{Mode}
 use Rattle.evac_top.specs.declared.words.Mode.TheVariants.{Solve, Check, Session, Study, Replan, Upgrade, Drill}
+
+-- what the runs of a mode do
+pub record ModeRuns : Type 1 where
+  -- whether the mode reads its input
+  pub reads : Bool
+  -- a run that is over, at statuses 0, 1 and 2
+  pub Answers : List ℕ → Account → Type 0
+  -- a run whose source failed behind these whole lines, none of which ended it; a mode that doesn't read has no such run
+  pub AnswersSoFar : List Line → Account → Type 0
+  -- a run whose sink failed: the front of an answer
+  pub AnswersFront : List ℕ → Account → Type 0
+  -- a run without memory
+  pub AnswersMemory : Account → Type 0
+  -- what a run must answer that nothing failed
+  pub AnswersAll : List ℕ → Account → Type 0
+
+-- ---- three kinds of modes
+
+-- nothing was written, and no step counted
+abbrev pub WritesNothing : Account → Type 0
+WritesNothing x = (x.written ≡ []) × (x.steps ≡ 0)
+
+-- one that reads nothing
+abbrev pub reads_nothing : (Account → Type 0) → (Account → Type 0) → ModeRuns
+reads_nothing Answers All = record {
+  reads = false;
+  Answers = λ input x. Answers x;
+  AnswersSoFar = λ lines x. ⊥;
+  AnswersFront = λ input x. IsFront Answers x;
+  AnswersMemory = λ x. (x.taken ≡ []) × (x.written ≡ []);
+  AnswersAll = λ input x. All x;
+}
+
+-- one that reads all of its input before it writes: behind these lines its input isn't over yet
+abbrev pub reads_first : (List Line → Type 0) → (List ℕ → Account → Type 0) → (List ℕ → Account → Type 0) → ModeRuns
+reads_first IsOpen Answers All = record {
+  reads = true;
+  Answers = Answers;
+  AnswersSoFar = λ lines x. IsOpen lines × WritesNothing x;
+  AnswersFront = λ input x. IsFront (Answers input) x;
+  AnswersMemory = λ x. x.written ≡ [];
+  AnswersAll = All;
+}
+
+-- one that holds a talk, of which runs without memory are these
+abbrev pub holds_talk : {S : Type 0} → TalkOn S → (Account → Type 0) → ModeRuns
+holds_talk talk Memory = record {
+  reads = true;
+  Answers = λ input x. Talks talk (model_of (lines_of input)) x × ReadsOn talk input x;
+  AnswersSoFar = λ lines x. TalksSoFar talk (model_of lines) (length lines) x;
+  AnswersFront = λ input x. TalksFront talk (model_of (lines_of input)) x;
+  AnswersMemory = Memory;
+  AnswersAll = λ input x. TalksAll talk (model_of (lines_of input)) x;
+}
+
+-- ---- the modes
 
 -- the text for words that ask for nothing
 abbrev pub words_text : List ℕ
@@ -27,50 +85,19 @@ words_text = refusal_line UnknownWords 0
 abbrev pub RefusesWords : Account → Type 0
 RefusesWords x = (x.taken ≡ []) × Ends x 2 words_text 0
 
--- a run that is over, at statuses 0, 1 and 2
-abbrev pub Answers : Option Mode → List ℕ → Account → Type 0
-Answers None input x = RefusesWords x
-Answers (Some (Solve flags)) input x = Solves flags input (input_of (lines_of input)) x
-Answers (Some Check) input x = (claim : Result Claimed (Code × ℕ)) × IsClaimOf (lines_of input) claim × Checks input claim x
-Answers (Some Session) input x = Talks session (model_of (lines_of input)) x × ReadsOn session input x
-Answers (Some Study) input x = Talks study (model_of (lines_of input)) x × ReadsOn study input x
-Answers (Some Replan) input x = Talks replan (model_of (lines_of input)) x × ReadsOn replan input x
-Answers (Some Upgrade) input x = Upgrades input (input_of (lines_of input)) x
-Answers (Some (Drill number)) input x = Drills number x
+-- an input is read as a building with a block behind it, or as a first fault, and is checked
+abbrev pub ChecksInput : List ℕ → Account → Type 0
+ChecksInput input x = (claim : Result Claimed (Code × ℕ)) × IsClaimOf (lines_of input) claim × Checks input claim x
 
--- nothing was written, and no step counted
-abbrev pub WritesNothing : Account → Type 0
-WritesNothing x = (x.written ≡ []) × (x.steps ≡ 0)
-
--- a run whose source failed behind these whole lines, none of which ended it; a mode that doesn't read has no such run
-abbrev pub AnswersSoFar : Option Mode → List Line → Account → Type 0
-AnswersSoFar None lines x = ⊥
-AnswersSoFar (Some (Solve flags)) lines x = IsOpenInput lines × WritesNothing x
-AnswersSoFar (Some Check) lines x = IsOpenClaim lines × WritesNothing x
-AnswersSoFar (Some Session) lines x = TalksSoFar session (model_of lines) (length lines) x
-AnswersSoFar (Some Study) lines x = TalksSoFar study (model_of lines) (length lines) x
-AnswersSoFar (Some Replan) lines x = TalksSoFar replan (model_of lines) (length lines) x
-AnswersSoFar (Some Upgrade) lines x = IsOpenInput lines × WritesNothing x
-AnswersSoFar (Some (Drill number)) lines x = ⊥
-
--- a run whose sink failed: the front of an answer
-abbrev pub AnswersFront : Option Mode → List ℕ → Account → Type 0
-AnswersFront None input x = IsFront (Answers None input) x
-AnswersFront (Some (Solve flags)) input x = IsFront (Answers (Some (Solve flags)) input) x
-AnswersFront (Some Check) input x = IsFront (Answers (Some Check) input) x
-AnswersFront (Some Session) input x = TalksFront session (model_of (lines_of input)) x
-AnswersFront (Some Study) input x = TalksFront study (model_of (lines_of input)) x
-AnswersFront (Some Replan) input x = TalksFront replan (model_of (lines_of input)) x
-AnswersFront (Some Upgrade) input x = IsFront (Answers (Some Upgrade) input) x
-AnswersFront (Some (Drill number)) input x = IsFront (Answers (Some (Drill number)) input) x
-
--- a run without memory: nothing was written, or memory was wanting for a line of a talk behind whole replies
-abbrev pub AnswersMemory : Option Mode → Account → Type 0
-AnswersMemory None x = (x.taken ≡ []) × (x.written ≡ [])
-AnswersMemory (Some (Solve flags)) x = x.written ≡ []
-AnswersMemory (Some Check) x = x.written ≡ []
-AnswersMemory (Some Session) x = x.written ≡ []
-AnswersMemory (Some Study) x = x.written ≡ []
-AnswersMemory (Some Replan) x = TalksMemory replan x
-AnswersMemory (Some Upgrade) x = x.written ≡ []
-AnswersMemory (Some (Drill number)) x = (x.taken ≡ []) × (x.written ≡ [])
+-- what the runs of each mode do, and those of words that ask for none
+abbrev pub runs_of : Option Mode → ModeRuns
+runs_of None = reads_nothing RefusesWords (λ x. x.status ≡ 2)
+runs_of (Some (Solve flags)) =
+    reads_first IsOpenInput (λ input x. Solves flags input (input_of (lines_of input)) x) (λ input x. SolvesAll (input_of (lines_of input)) x)
+runs_of (Some Check) = reads_first IsOpenClaim ChecksInput (λ input x. ChecksLines (lines_of input) x)
+runs_of (Some Session) = holds_talk session (λ x. x.written ≡ [])
+runs_of (Some Study) = holds_talk study (λ x. x.written ≡ [])
+runs_of (Some Replan) = holds_talk replan (λ x. TalksMemory replan x)
+runs_of (Some Upgrade) =
+    reads_first IsOpenInput (λ input x. Upgrades input (input_of (lines_of input)) x) (λ input x. UpgradesAll (input_of (lines_of input)) x)
+runs_of (Some (Drill number)) = reads_nothing (Drills number) (λ x. PlansAll (drill_model number) 0 x)

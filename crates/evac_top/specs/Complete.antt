@@ -1,28 +1,18 @@
--- What a run must answer in which neither count of faults rose and there was memory.
-use Rattle.std.specs.Prelude.{◌≡◌, ◌≢◌, ℕ, List, Result, Ok, Err, None, Some}
-use Rattle.std.specs.declared.option.Option.{Option}
+-- What a run must answer in which neither count of faults rose and there was memory, by what it reads.
+use Rattle.std.specs.Prelude.{◌≡◌, ℕ, List, Result, Ok, Err}
 use Rattle.evac_law.specs.declared.code.Code.{Code}
 use Rattle.evac_law.specs.declared.model.Model.{Model}
 use Rattle.evac_law.specs.Certificates.{IsClearable}
-use Rattle.line_io.specs.Causes.{Rose}
-use Rattle.line_io.specs.Line.{Line, lines_of, text_lines}
-use Rattle.drill_building.specs.Drill.{drill_model}
-use Rattle.model_text.specs.Readings.{Reading, Described, Refused, model_of}
+use Rattle.line_io.specs.Line.{Line, text_lines}
+use Rattle.model_text.specs.Readings.{Reading, Described, Refused}
 use Rattle.building_table.specs.Names.{names_of}
 use Rattle.plan_checker.specs.Verdicts.{IsRight}
-use Rattle.replan_talk.specs.ReplanTalks.{replan}
-use Rattle.session_talk.specs.Sessions.{session}
-use Rattle.study_talk.specs.Studies.{study}
 use Rattle.talk.specs.Short.{OpensShort}
 use Rattle.talk.specs.Talks.{TalkRun}
-use Rattle.evac_top.specs.Accounts.{Account, IsRefusal, Outside}
-use Rattle.evac_top.specs.Inputs.{Asked, Claimed, IsClaimOf, input_of}
-use Rattle.evac_top.specs.Runs.{OfInput, Runs}
+use Rattle.evac_top.specs.Accounts.{Account, IsRefusal}
+use Rattle.evac_top.specs.Inputs.{Asked, Claimed, IsClaimOf}
 use Rattle.evac_top.specs.Solve.{IsShort}
 use Rattle.evac_top.specs.Talking.{TalkOn, spoken}
-use Rattle.evac_top.specs.Words.{reads}
-use Rattle.evac_top.specs.declared.words.Mode.{Mode}
-use Rattle.evac_top.specs.declared.words.Mode.TheVariants.{Solve, Check, Session, Study, Replan, Upgrade, Drill}
 
 -- a building whose end is at a line is planned where it can be cleared, and refused with its shortfall exactly where it can't
 abbrev pub PlansAll : Model → ℕ → Account → Type 0
@@ -57,20 +47,3 @@ TalksAll talk (Described d last rest) x =
     (IsClearable d.model → TalkRun (talk (names_of d) d.model) last rest (spoken x)) × (¬ IsClearable d.model → OpensShort d.model last (spoken x))
     × (IsClearable d.model → (texts : List (List ℕ)) → rest ≡ text_lines texts → x.status ≡ 0)
 TalksAll talk (Refused code line) x = IsRefusal (code, line) x
-
--- an input is answered, by the mode that the words ask for; other words are refused
-abbrev pub AnswersAll : Option Mode → List ℕ → Account → Type 0
-AnswersAll None input x = x.status ≡ 2
-AnswersAll (Some (Solve flags)) input x = SolvesAll (input_of (lines_of input)) x
-AnswersAll (Some Check) input x = ChecksLines (lines_of input) x
-AnswersAll (Some Session) input x = TalksAll session (model_of (lines_of input)) x
-AnswersAll (Some Study) input x = TalksAll study (model_of (lines_of input)) x
-AnswersAll (Some Replan) input x = TalksAll replan (model_of (lines_of input)) x
-AnswersAll (Some Upgrade) input x = UpgradesAll (input_of (lines_of input)) x
-AnswersAll (Some (Drill number)) input x = PlansAll (drill_model number) 0 x
-
--- a run in which neither the source's count of faults rose nor the sink's, and there was memory, answers its input
-abbrev pub RunsAnswer : Type 0
-RunsAnswer =
-    (mode : Option Mode) (status : ℕ) (before after : Outside) (r : Runs mode status before after) → ¬ Rose before.source.faults after.source.faults
-    → ¬ Rose before.sink.faults after.sink.faults → status ≢ 5 → OfInput (reads mode) before.source.bytes (λ input. AnswersAll mode input r.did)

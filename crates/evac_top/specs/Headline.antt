@@ -23,11 +23,11 @@ use Rattle.session_text.specs.StateTexts.{block_text}
 use Rattle.session_talk.specs.Sessions.{Replies, State, session}
 use Rattle.talk.specs.Talks.{EndsAt, RepliesTo, Reply, followed}
 use Rattle.evac_top.specs.Accounts.{Account, Outside}
+use Rattle.evac_top.specs.Answers.{runs_of}
 use Rattle.evac_top.specs.Inputs.{Asked, input_of}
 use Rattle.evac_top.specs.Runs.{OfInput, Runs}
 use Rattle.evac_top.specs.Solve.{SaysPlan}
 use Rattle.evac_top.specs.Talking.{spoken}
-use Rattle.evac_top.specs.Words.{reads}
 use Rattle.evac_top.specs.declared.words.Flags.{Flags}
 use Rattle.evac_top.specs.declared.words.Mode.TheVariants.{Replan, Session, Solve}
 
@@ -76,7 +76,7 @@ abbrev pub SessionsKeepPromise : Type 0
 SessionsKeepPromise =
     (status : ℕ) (before after : Outside) (r : Runs (Some Session) status before after) → ¬ Rose before.source.faults after.source.faults
     → ¬ Rose before.sink.faults after.sink.faults → status ≢ 5
-    → OfInput (reads (Some Session)) before.source.bytes (λ input. KeepsSession (model_of (lines_of input)) r.did)
+    → OfInput (runs_of (Some Session)).reads before.source.bytes (λ input. KeepsSession (model_of (lines_of input)) r.did)
 
 -- ---- a plan that is carried out
 
@@ -119,7 +119,7 @@ abbrev pub ReplansKeepPromise : Type 0
 ReplansKeepPromise =
     (status : ℕ) (before after : Outside) (r : Runs (Some Replan) status before after) → ¬ Rose before.source.faults after.source.faults
     → ¬ Rose before.sink.faults after.sink.faults → status ≢ 5
-    → OfInput (reads (Some Replan)) before.source.bytes (λ input. KeepsReplans (model_of (lines_of input)) r.did)
+    → OfInput (runs_of (Some Replan)).reads before.source.bytes (λ input. KeepsReplans (model_of (lines_of input)) r.did)
 
 -- ---- a plan that is written
 
@@ -140,4 +140,4 @@ abbrev pub PlansKeepPromise : Type 0
 PlansKeepPromise =
     (flags : Flags) (status : ℕ) (before after : Outside) (r : Runs (Some (Solve flags)) status before after) → ¬ Rose before.source.faults after.source.faults
     → ¬ Rose before.sink.faults after.sink.faults → status ≢ 5
-    → OfInput (reads (Some (Solve flags))) before.source.bytes (λ input. KeepsPlan flags (input_of (lines_of input)) r.did)
+    → OfInput (runs_of (Some (Solve flags))).reads before.source.bytes (λ input. KeepsPlan flags (input_of (lines_of input)) r.did)

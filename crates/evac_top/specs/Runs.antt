@@ -1,4 +1,4 @@
--- A run, from outside: what it took, wrote and counted, its status, and the causes of its failures.
+-- A run, from outside: what it took, wrote and counted, its status, and the causes of its failures; and that it answers its input.
 use Rattle.std.specs.Prelude.{◌≡◌, ◌≢◌, ℕ, ◌+◌, ◌≤◌, Bool, true, false, List, [], length, None}
 use Rattle.std.specs.declared.option.Option.{Option}
 use Rattle.std.specs.Io.KnownBytes.{Appends, Consumes}
@@ -6,8 +6,7 @@ use Rattle.line_io.specs.Causes.{Rose}
 use Rattle.line_io.specs.Line.{input_limit, lines_of, whole_part}
 use Rattle.line_io.specs.declared.limits.TheConstants.{BUFFER_SIZE}
 use Rattle.evac_top.specs.Accounts.{Account, Outside, Told}
-use Rattle.evac_top.specs.Answers.{Answers, AnswersFront, AnswersMemory, AnswersSoFar}
-use Rattle.evac_top.specs.Words.{reads}
+use Rattle.evac_top.specs.Answers.{runs_of}
 use Rattle.evac_top.specs.declared.words.Mode.{Mode}
 
 -- an account of a run from one state of the outside to the next: of an input without an end, it takes no more than the limit and one buffer
@@ -37,7 +36,13 @@ pub record Runs (mode : Option Mode) (status : ℕ) (before after : Outside) : T
   pub causes : HasCauses status before after
   pub did : Account
   pub account : IsAccount before after status did
-  pub answered : status ≤ 2 → OfInput (reads mode) before.source.bytes (λ input. Answers mode input did)
-  pub source : status ≡ 3 → AnswersSoFar mode (lines_of (whole_part did.taken)) did
-  pub sink : status ≡ 4 → OfInput (reads mode) before.source.bytes (λ input. AnswersFront mode input did)
-  pub memory : status ≡ 5 → AnswersMemory mode did
+  pub answered : status ≤ 2 → OfInput (runs_of mode).reads before.source.bytes (λ input. (runs_of mode).Answers input did)
+  pub source : status ≡ 3 → (runs_of mode).AnswersSoFar (lines_of (whole_part did.taken)) did
+  pub sink : status ≡ 4 → OfInput (runs_of mode).reads before.source.bytes (λ input. (runs_of mode).AnswersFront input did)
+  pub memory : status ≡ 5 → (runs_of mode).AnswersMemory did
+
+-- a run in which neither the source's count of faults rose nor the sink's, and there was memory, answers its input
+abbrev pub RunsAnswer : Type 0
+RunsAnswer =
+    (mode : Option Mode) (status : ℕ) (before after : Outside) (r : Runs mode status before after) → ¬ Rose before.source.faults after.source.faults
+    → ¬ Rose before.sink.faults after.sink.faults → status ≢ 5 → OfInput (runs_of mode).reads before.source.bytes (λ input. (runs_of mode).AnswersAll input r.did)

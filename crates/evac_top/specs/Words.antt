@@ -34,9 +34,9 @@ flags_of (v ∷ []) = one_flag v
 flags_of (v ∷ w ∷ []) = two_flags v w
 flags_of (v ∷ w ∷ x ∷ more) = None
 
--- the number of storeys that the words behind `drill` ask for: from 1 to 40, without leading zeros
+-- the number of storeys that the words behind `drill` ask for: from 1 to the most that can be built, without leading zeros
 abbrev pub storeys_of : List (List ℕ) → Option ℕ
-storeys_of (v ∷ w ∷ []) = if bytes_eq v (codes "--number") then plain_within 1 40 w else None
+storeys_of (v ∷ w ∷ []) = if bytes_eq v (codes "--number") then plain_within 1 STOREY_LIMIT w else None
 storeys_of _ = None
 
 -- a mode whose word has none behind it
@@ -62,14 +62,3 @@ mode_of (v ∷ more) =
 abbrev pub IsBuildable : Mode → Type 0
 IsBuildable (Drill number) = number ≤ STOREY_LIMIT
 IsBuildable mode = ⊤
-
--- whether a mode reads its input
-abbrev pub reads : Option Mode → Bool
-reads None = false
-reads (Some (Solve flags)) = true
-reads (Some Check) = true
-reads (Some Session) = true
-reads (Some Study) = true
-reads (Some Replan) = true
-reads (Some Upgrade) = true
-reads (Some (Drill number)) = false

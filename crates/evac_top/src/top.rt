@@ -1,8 +1,9 @@
 // The top call.
 ghost use Rattle.std.specs.Prelude.{◌≡◌, ℕ, [], None, false, map, string_bytes};
 ghost use Rattle.evac_top.specs.Accounts.{Side, side};
+ghost use Rattle.evac_top.specs.Answers.{runs_of};
 ghost use Rattle.evac_top.specs.Runs.{Runs};
-ghost use Rattle.evac_top.specs.Words.{mode_of, reads};
+ghost use Rattle.evac_top.specs.Words.{mode_of};
 ghost use Rattle.talk.specs.Statuses.{status_number};
 
 use crate::check::check;
@@ -30,7 +31,7 @@ pub fn run<S: Source, K: Sink, L: Ledger>(
     ensures run { Runs (mode_of (map string_bytes words.now)) (status_number result)
         (record { source = side (S.left source.old) (S.faults source.old); sink = side (K.held sink.old) (K.faults sink.old); steps = steps.old })
         (record { source = side (S.left source.new) (S.faults source.new); sink = side (K.held sink.new) (K.faults sink.new); steps = steps.new }) }
-    ensures untouched { reads (mode_of (map string_bytes words.now)) ≡ false → source.new ≡ source.old }
+    ensures untouched { (runs_of (mode_of (map string_bytes words.now))).reads ≡ false → source.new ≡ source.old }
 {
     match mode_of(words) {
         Some(Mode::Solve(flags)) => solve(alloc, flags, source, sink, steps),

@@ -92,7 +92,7 @@ fn flags_of(words: &[String]) -> Option<Flags>
 
 // A number of storeys without leading zeros.
 fn number_of(word: &str) -> Option<u32>
-    ensures number { result ≡ plain_within 1 40 word.now }
+    ensures number { result ≡ plain_within 1 STOREY_LIMIT word.now }
     ensures few { IfSome result (λ n. n ≤ STOREY_LIMIT) }
 {
     let number = match word.as_bytes() {
