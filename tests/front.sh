@@ -269,7 +269,7 @@ expect status=0 'out=built: solve, a building' lines=0
 
 begin 'build proves the crates of the program, names and counts them, and builds it'
 run "$here/repo/build" 3
-expect status=0 'says=1 of 2: low' 'says=2 of 2: evacplan' 'says=3 at a time' 'hides=logic=proved' 'calls=version,all check --jobs 3,run'
+expect status=0 'says=1 of 2: low' 'says=2 of 2: evacplan' 'says=proving the 2 crates' 'hides=logic=proved' calls=version,ci
 
 begin 'evacplan then runs what was built'
 run "$here/repo/build"
@@ -289,21 +289,21 @@ expect status=0 'out=solve: a building' 'says=a source is newer'
 begin 'a crate that is not proved is named, and no program is left'
 build_before
 touch -d '1 minute' "$here/repo/crates/low/src/one.rt"
-RT_FAILS=all run "$here/repo/build"
+RT_FAILS=proof run "$here/repo/build"
 [ ! -e "$here/repo/crates/evacplan/out/evacplan" ] || echo 'the program is there' >>"$here/out"
-expect status=70 out= 'says=1 of 2: low' 'says=Answers.antt:8' 'says=== evacplan' 'hides=2 of 2' 'hides=fn low::echo: proved'
+expect status=70 out= 'says=1 of 2: low' 'says=Answers.antt:8' 'says=rt: evacplan NOT PROVED' 'hides=2 of 2' 'hides=: proved'
 
 begin 'a build whose rt is killed says so'
 RT_FAILS=killed run "$here/repo/build"
-expect status=70 'says=rt all check ended with 137' 'says=== evacplan'
+expect status=70 'says=rt ci ended with 137'
 
 begin 'what stops rt before the first crate is shown'
 RT_FAILS=front run "$here/repo/build"
-expect status=70 'says=one.rt:1: error' 'says=was not built'
+expect status=70 'says=rt: low NOT PROVED' 'says=was not built'
 
-begin 'a program that is not linked is status 70'
-RT_FAILS=run run "$here/repo/build" 3
-expect status=70 'says=was not built' 'calls=version,all check --jobs 3,run'
+begin 'a program that is not there is status 70'
+RT_FAILS=program run "$here/repo/build" 3
+expect status=70 'says=was not built' calls=version,ci
 
 begin 'another kit builds nothing'
 RT_LOGIC=fedcba9876543210 run "$here/repo/build"
@@ -325,7 +325,7 @@ await grep -q 'another build' "$here/err"
 touch "$here/go"
 wait "$second"
 status=$?
-expect status=0 'says=another build is at work' 'says=no source is newer' 'calls=version,all check --jobs 3,version,run'
+expect status=0 'says=another build is at work' 'says=no source is newer' calls=version,ci,version
 
 begin 'a build that is ended leaves nothing, and the next one goes on'
 RT_SLOW=1 "$here/repo/build" 2>"$here/first" &
