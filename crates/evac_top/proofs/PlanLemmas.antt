@@ -14,7 +14,7 @@ use Rattle.session_text.specs.Spaces.{SpaceView}
 use Rattle.session_text.specs.StateTexts.{SaysReports, SaysRoutesOf, block_text, bottlenecks_of, clearing_of}
 use Rattle.evac_top.specs.Solve.{SaysPlan, Where}
 use Rattle.evac_top.specs.Tables.{HasTablesAsked, HasReports}
-use Rattle.evac_top.specs.declared.tables.Tables.{Tables}
+use Rattle.evac_top.specs.declared.report_tables.Tables.{Tables}
 use Rattle.evac_top.specs.declared.words.Flags.{Flags}
 
 -- ---- texts behind others

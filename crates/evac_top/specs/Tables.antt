@@ -6,7 +6,7 @@ use Rattle.clearing_report.specs.Clearing.{IsReport}
 use Rattle.edit_session.specs.Sessions.{SessionState}
 use Rattle.route_decompose.specs.Routes.{IsSameSite}
 use Rattle.session_text.specs.Spaces.{IsSpace, SpaceView}
-use Rattle.evac_top.specs.declared.tables.Tables.{Tables}
+use Rattle.evac_top.specs.declared.report_tables.Tables.{Tables}
 use Rattle.evac_top.specs.declared.words.Flags.{Flags}
 
 -- the reports on where a session stands are made

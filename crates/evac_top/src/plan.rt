@@ -11,7 +11,7 @@ ghost use Rattle.evac_top.specs.declared.words.Flags.{Flags};
 
 use crate::deal::put_cards;
 use crate::reply::flush_behind;
-use crate::tables::Tables;
+use crate::report_tables::Tables;
 use building_table::Names;
 use edit_session::Session;
 use line_io::{Out, Sink, WriteFault};

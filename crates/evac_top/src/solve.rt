@@ -12,8 +12,8 @@ ghost use Rattle.talk.specs.Statuses.{status_number};
 
 use crate::plan::send_plan;
 use crate::read::{Input, read_input};
+use crate::report_tables::Tables;
 use crate::stop::{stop, stop_short};
-use crate::tables::Tables;
 use crate::words::Flags;
 use building_table::Names;
 use edit_session::{BeginFault, Session};

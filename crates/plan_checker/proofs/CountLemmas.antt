@@ -1,13 +1,10 @@
--- Counts: one person more at a place, and what they say of who came and who left.
-use Rattle.std.proofs.Common.{◌≡◌, ℕ, zero, suc, ◌+◌, ◌*◌, ◌<◌, ◌≤◌, ◌^◌, ◌⊎◌, inl, inr, Bool, true, false, cond, ◌&&◌, eqb, leb, List, length, get_or, take, refl, ap, ap₂, sym, ◌∙◌, arith}
-use Rattle.std.proofs.Math.ListN.{set}
+-- Counts: some people more at a place, and what they say of who came and who left.
+use Rattle.std.proofs.Common.{◌≡◌, ℕ, zero, suc, ◌+◌, ◌<◌, ◌≤◌, ◌^◌, Bool, cond, ◌&&◌, eqb, leb, List, length, get_or, take, refl, ap, sym, ◌∙◌, arith}
 use Rattle.std.specs.List.{sum_by}
-use Rattle.std.proofs.lemmas.Bool.{cases_Bool}
 use Rattle.std.proofs.lemmas.Bool.Decides.{nat_tests}
 use Rattle.std.proofs.lemmas.Int.{ints}
-use Rattle.std.proofs.lemmas.List.{get_or-set_other, get_or-set_same}
 use Rattle.std.proofs.lemmas.List.Sums.{sum_by_more, sum_by_more_le_part}
-use Rattle.std.proofs.lemmas.Nat.{same_from_place}
+use Rattle.tables.specs.Tables.{IsPut}
 use Rattle.evac_law.specs.declared.model.Model.{Model}
 use Rattle.evac_law.specs.declared.plan.Move.{Move}
 use Rattle.evac_law.specs.Building.{IsValid, arrival, entry, head, is_exit_at, tail}
@@ -23,38 +20,8 @@ use Rattle.plan_checker.specs.Parts.{IsHeldWell}
 
 -- ---- a place that grows
 
-same_place : (n i t k y s r : ℕ) → (n ≡ i → t ≡ k → s ≡ r + y) → ((n ≡ i → t ≡ k → ⊥) → s ≡ r) → s ≡ r + cond (eqb n i && eqb t k) y 0
-same_place n i t k y s r here there = split (cases_Bool (eqb n i && eqb t k))
-  where
-    row : (eqb n i && eqb t k) ≡ true → n ≡ i
-    row e = grind (arith, nat_tests)
-
-    column : (eqb n i && eqb t k) ≡ true → t ≡ k
-    column e = grind (arith, nat_tests)
-
-    both : (eqb n i && eqb t k) ≡ false → n ≡ i → t ≡ k → ⊥
-    both e f g = grind (arith, nat_tests)
-
-    split : ((eqb n i && eqb t k) ≡ true) ⊎ ((eqb n i && eqb t k) ≡ false) → s ≡ r + cond (eqb n i && eqb t k) y 0
-    split (inl e) = rw e (here (row e) (column e))
-    split (inr e) = rw e (omega (arith, there (both e)))
-
-pub counted : (xs : List ℕ) (w n t i k y : ℕ) → t ≤ w → k ≤ w → n * (w + 1) + t < length xs
-    → get_or (set xs (n * (w + 1) + t) (get_or xs (n * (w + 1) + t) 0 + y)) (i * (w + 1) + k) 0
-    ≡ get_or xs (i * (w + 1) + k) 0 + cond (eqb n i && eqb t k) y 0
-counted xs w n t i k y h g l =
-    same_place n i t k y (get_or (set xs (n * (w + 1) + t) (get_or xs (n * (w + 1) + t) 0 + y)) (i * (w + 1) + k) 0) (get_or xs (i * (w + 1) + k) 0)
-    (λ e f. same (ap₂ (λ a b. a * (w + 1) + b) e f)) (λ apart. get_or-set_other xs (n * (w + 1) + t) (i * (w + 1) + k) (get_or xs (n * (w + 1) + t) 0 + y) 0 (λ e. other apart (sym e)))
-  where
-    same : n * (w + 1) + t ≡ i * (w + 1) + k
-        → get_or (set xs (n * (w + 1) + t) (get_or xs (n * (w + 1) + t) 0 + y)) (i * (w + 1) + k) 0 ≡ get_or xs (i * (w + 1) + k) 0 + y
-    same e =
-        ap (λ z. get_or (set xs (n * (w + 1) + t) (get_or xs (n * (w + 1) + t) 0 + y)) z 0) (sym e)
-        ∙ get_or-set_same xs (n * (w + 1) + t) (get_or xs (n * (w + 1) + t) 0 + y) 0 l
-        ∙ ap (λ z. get_or xs z 0 + y) e
-
-    other : (n ≡ i → t ≡ k → ⊥) → n * (w + 1) + t ≡ i * (w + 1) + k → ⊥
-    other apart e = let both = same_from_place n t i k (w + 1) (omega (arith, h)) (omega (arith, g)) e in apart both.0 both.1
+pub counted : (c d : Counts) (n t x y : ℕ) → IsPut c d n t x → x ≡ count c n t + y → (i k : ℕ) → count d i k ≡ count c i k + cond (eqb n i && eqb t k) y 0
+counted c d n t x y put e i k = grind (arith, nat_tests, put.items 0 i k)
 
 -- ---- what counts say
 

@@ -11,11 +11,11 @@ use Rattle.plan_checker.proofs.CountLemmas.{came_counted, came_fits, counted_fro
 -- counts that are those of the plan up to the last moment
 pub record AreCounts (m : Model) (p : List Move) (came' left' : Counts) (last : ℕ) : Type 0 where
   pub came_last : came'.last ≡ last
-  pub came_nodes : came'.nodes ≡ length m.nodes
+  pub came_nodes : came'.rows ≡ length m.nodes
   pub left_last : left'.last ≡ last
-  pub left_nodes : left'.nodes ≡ length m.nodes
-  pub coming : (n t : ℕ) → n < came'.nodes → t ≤ came'.last → count came' n t ≡ coming_at m p n t
-  pub leaving : (n t : ℕ) → n < left'.nodes → t ≤ left'.last → count left' n t ≡ leaving_at m p n t
+  pub left_nodes : left'.rows ≡ length m.nodes
+  pub coming : (n t : ℕ) → n < came'.rows → t ≤ came'.last → count came' n t ≡ coming_at m p n t
+  pub leaving : (n t : ℕ) → n < left'.rows → t ≤ left'.last → count left' n t ≡ leaving_at m p n t
 
 module _ (m : Model) (p : List Move) (came' left' : Counts) (last : ℕ) (are : AreCounts m p came' left' last) where
   came_same : (n t : ℕ) → n < length m.nodes → t ≤ last → came_by m came' n t ≡ came m p n t

@@ -1,24 +1,20 @@
 -- People counted by node and moment, as a checker adds them up.
-use Rattle.std.specs.Prelude.{◌≡◌, ℕ, ◌+◌, ◌*◌, ◌^◌, ◌<◌, ◌≤◌, ◌&&◌, if◌then◌else◌, ◌==◌, List, length, slice_index}
+use Rattle.std.specs.Prelude.{◌≡◌, ℕ, ◌+◌, ◌^◌, ◌<◌, ◌≤◌, ◌&&◌, if◌then◌else◌, ◌==◌, List, length}
 use Rattle.std.specs.List.{sum_by}
+use Rattle.tables.specs.Tables.{TableView, item_at}
 use Rattle.evac_law.specs.declared.model.Model.{Model}
 use Rattle.evac_law.specs.declared.plan.Move.{Move}
 use Rattle.evac_law.specs.Building.{IsValid, is_exit_at, capacity, tail, head, arrival, entry}
 use Rattle.evac_law.specs.Stands.{IsOrdered}
 use Rattle.evac_law.specs.Sums.{moments_to}
 
--- a number for each node and each moment up to the last, node by node
-pub record Counts : Type 0 where
-  pub nodes : ℕ
-  pub last : ℕ
-  pub cells : List ℕ
-
-abbrev pub IsCounts : Counts → Type 0
-IsCounts c = length c.cells ≡ c.nodes * (c.last + 1)
+-- a number for each node and each moment up to the last
+abbrev pub Counts : Type 0
+Counts = TableView ℕ
 
 -- the number of a node at a moment
 abbrev pub count : Counts → ℕ → ℕ → ℕ
-count c n t = slice_index c.cells (n * (c.last + 1) + t)
+count = item_at 0
 
 -- the people of all moves
 abbrev pub all_moved : List Move → ℕ
@@ -50,14 +46,14 @@ pub record IsCountable (m : Model) (p : List Move) (c : Counts) : Type 0 where
   pub valid : IsValid m
   pub ordered : IsOrdered (length m.arcs) m.horizon p
   pub few : all_moved p < 2 ^ 62
-  pub nodes : c.nodes ≡ length m.nodes
-  pub blank : (n t : ℕ) → n < c.nodes → t ≤ c.last → count c n t ≡ 0
+  pub nodes : c.rows ≡ length m.nodes
+  pub blank : (n t : ℕ) → count c n t ≡ 0
 
 -- counts of who comes and who leaves that reach every node of a valid model at every moment before one
 pub record AreTallies (m : Model) (came left : Counts) (until : ℕ) : Type 0 where
   pub valid : IsValid m
-  pub came_nodes : came.nodes ≡ length m.nodes
-  pub left_nodes : left.nodes ≡ length m.nodes
+  pub came_nodes : came.rows ≡ length m.nodes
+  pub left_nodes : left.rows ≡ length m.nodes
   pub came_until : until ≤ came.last + 1
   pub left_until : until ≤ left.last + 1
   pub until_in : until ≤ m.horizon + 1

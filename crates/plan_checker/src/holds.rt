@@ -5,16 +5,17 @@ ghost use Rattle.evac_law.specs.Stands.{IsOrdered};
 ghost use Rattle.plan_checker.specs.Counts.{AreTallies, IsCountedWell, all_moved, came_by, left_by};
 ghost use Rattle.plan_checker.specs.Parts.{Earlier, HoldsKept, IsFirstHold};
 
-use crate::tally::{Tally, count_coming, count_leaving};
+use crate::tally::{count_coming, count_leaving};
 use evac_law::{Model, Move};
 use std::alloc::{AllocError, Global};
+use tables::Table;
 
 /// The first moment before `until` at which a node holds fewer than none, or more than its capacity.
 #[tactic(auto, using(evac_law::proofs::SumLemmas::sum_steps))]
 fn first_broken_moment(
     model: &Model,
-    came: &Tally,
-    left: &Tally,
+    came: &Table<u64>,
+    left: &Table<u64>,
     node: u32,
     until: u16,
 ) -> Option<u16>
@@ -40,7 +41,7 @@ fn first_broken_moment(
 
 /// The first moment and node, that is no exit, at which by the counts the node holds fewer than none or more than its capacity.
 #[tactic(auto, unfolding(evac_law::specs::Limits::horizon_limit))]
-fn first_broken_count(model: &Model, came: &Tally, left: &Tally) -> Option<(u16, u32)>
+fn first_broken_count(model: &Model, came: &Table<u64>, left: &Table<u64>) -> Option<(u16, u32)>
     requires tallies { AreTallies model.now came.now left.now (came.now.last + 1) }
     requires few { (n t : ℕ) → n < length model.now.nodes → t ≤ came.now.last → (came_by model.now came.now n t < 2 ^ 63) × (left_by left.now n t < 2 ^ 63) }
     ensures well { MatchOption result
@@ -76,9 +77,9 @@ pub fn first_broken_hold(
     requires last_in { last ≤ model.now.horizon }
     ensures { IfOk result (λ o. MatchOption o (HoldsKept model.now moves.now last) (λ r. IsFirstHold model.now moves.now last r.0 r.1)) }
 {
-    let mut came = Tally::new(alloc, model.node_count(), last)?;
+    let mut came = Table::new(alloc, 0, model.node_count(), last)?;
     count_coming(&mut came, model, moves);
-    let mut left = Tally::new(alloc, model.node_count(), last)?;
+    let mut left = Table::new(alloc, 0, model.node_count(), last)?;
     count_leaving(&mut left, model, moves);
     Ok(first_broken_count(model, &came, &left))
 }

@@ -7,9 +7,9 @@ first_broken_count-requires-clause-few c =
     counts_fit c.args.model.now c.args.moves.now c.count_coming.new.tally c.count_leaving.new.tally c.args.last
     (record {
       came_last = c.count_coming.ensures.last ∙ c.in_ok-came.ensures.last;
-      came_nodes = c.count_coming.ensures.nodes ∙ c.in_ok-came.ensures.nodes ∙ c.node_count.ensures.count;
+      came_nodes = c.count_coming.ensures.nodes ∙ c.in_ok-came.ensures.rows ∙ c.node_count.ensures.count;
       left_last = c.count_leaving.ensures.last ∙ c.in_ok-left.ensures.last;
-      left_nodes = c.count_leaving.ensures.nodes ∙ c.in_ok-left.ensures.nodes ∙ c.node_count-2.ensures.count;
+      left_nodes = c.count_leaving.ensures.nodes ∙ c.in_ok-left.ensures.rows ∙ c.node_count-2.ensures.count;
       coming = λ n t h k.
           c.count_coming.ensures.counts n t (omega (arith, h, c.count_coming.ensures.nodes)) (omega (arith, k, c.count_coming.ensures.last));
       leaving = λ n t h k.
@@ -22,9 +22,9 @@ returns c =
     first_hold c.args.model.now c.args.moves.now c.count_coming.new.tally c.count_leaving.new.tally c.args.last
     (record {
       came_last = c.count_coming.ensures.last ∙ c.in_ok-came.ensures.last;
-      came_nodes = c.count_coming.ensures.nodes ∙ c.in_ok-came.ensures.nodes ∙ c.node_count.ensures.count;
+      came_nodes = c.count_coming.ensures.nodes ∙ c.in_ok-came.ensures.rows ∙ c.node_count.ensures.count;
       left_last = c.count_leaving.ensures.last ∙ c.in_ok-left.ensures.last;
-      left_nodes = c.count_leaving.ensures.nodes ∙ c.in_ok-left.ensures.nodes ∙ c.node_count-2.ensures.count;
+      left_nodes = c.count_leaving.ensures.nodes ∙ c.in_ok-left.ensures.rows ∙ c.node_count-2.ensures.count;
       coming = λ n t h k.
           c.count_coming.ensures.counts n t (omega (arith, h, c.count_coming.ensures.nodes)) (omega (arith, k, c.count_coming.ensures.last));
       leaving = λ n t h k.

@@ -13,7 +13,7 @@ overflow_add-arrived c =
       sum_below-more (λ s. entry c.args.model.now c.args.node s + count c.args.came.now c.args.node s) t,
       c.from.ensures,
       c.entry.ensures,
-      c.get.ensures,
+      c.get.ensures 0,
     )
 
 pub overflow_add-arrived-in-loop-moment : goal.overflow_add-arrived-in-loop-moment
@@ -26,7 +26,7 @@ overflow_add-arrived-in-loop-moment c =
       c.loop-moment.invariant.arrived,
       c.from.ensures,
       c.entry.ensures,
-      c.get.ensures,
+      c.get.ensures 0,
     )
 
 pub overflow_add-gone : goal.overflow_add-gone
@@ -37,7 +37,7 @@ overflow_add-gone c =
       (c.requires.few t c.loop-moment-test.true).1,
       sum_below-more (count c.args.left.now c.args.node) t,
       c.loop-moment.invariant.gone,
-      c.get-gone.ensures,
+      c.get-gone.ensures 0,
     )
 
 pub overflow_add-gone-else-arrived-gone : goal.overflow_add-gone-else-arrived-gone
@@ -48,7 +48,7 @@ overflow_add-gone-else-arrived-gone c =
       (c.requires.few t c.loop-moment-test.true).1,
       sum_below-more (count c.args.left.now c.args.node) t,
       c.loop-moment.invariant.gone,
-      c.get-gone.ensures,
+      c.get-gone.ensures 0,
       c.from-capacity.ensures,
       c.node.type_inv,
     )

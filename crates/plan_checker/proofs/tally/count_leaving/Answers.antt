@@ -13,7 +13,7 @@ add-requires-clause-room c =
     let p = c.args.moves.now in
     let i = c.loop-step.step-index in
     let v = get_or p i no_move in
-    let node : c.arc.result.now.from < c.args.tally.now.nodes =
+    let node : c.arc.result.now.from < c.args.tally.now.rows =
     omega (
       arith,
       tail_in c.args.model.now v.arc c.requires.countable.valid (c.requires.countable.ordered.in_range i no_move c.loop-step-test.true).0,
@@ -36,20 +36,20 @@ loop-step-preserved c =
     let v = get_or p i no_move in
     elim c.if-step-last.branch [
       | then-step-last w ↦ record {
-        nodes = ap (λ (z : Counts). z.nodes) w.tally-is ∙ w.add.ensures.nodes ∙ c.loop-step.invariant.nodes;
+        nodes = ap (λ (z : Counts). z.rows) w.tally-is ∙ w.add.ensures.nodes ∙ c.loop-step.invariant.nodes;
         last = ap (λ (z : Counts). z.last) w.tally-is ∙ w.add.ensures.last ∙ c.loop-step.invariant.last;
         counts = λ n t h k.
             subst (λ (z : Counts). count z n t ≡ leaving_at m (take (i + 1) p) n t) (sym w.tally-is)
             (omega (
               arith,
-              w.add.ensures.counts n t (omega (arith, h, c.loop-step.invariant.nodes)) (omega (arith, k, c.loop-step.invariant.last)),
+              w.add.ensures.counts n t,
               c.loop-step.invariant.counts n t h k,
               leaving_more m p i n t no_move c.loop-step-test.true,
               ap (λ (r : ArcRow). cond (eqb r.from n && eqb v.moment t) v.people 0) w.arc.ensures,
             ));
       }
       | else-step-last w ↦ record {
-        nodes = ap (λ (z : Counts). z.nodes) w.tally-is ∙ c.loop-step.invariant.nodes;
+        nodes = ap (λ (z : Counts). z.rows) w.tally-is ∙ c.loop-step.invariant.nodes;
         last = ap (λ (z : Counts). z.last) w.tally-is ∙ c.loop-step.invariant.last;
         counts = λ n t h k.
             subst (λ (z : Counts). count z n t ≡ leaving_at m (take (i + 1) p) n t) (sym w.tally-is)

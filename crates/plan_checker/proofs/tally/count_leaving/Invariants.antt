@@ -4,7 +4,7 @@ use Rattle.plan_checker.proofs.tally.count_leaving.Given as goal
 
 abbrev pub invariant-loop-step : goal.invariant-loop-step
 invariant-loop-step l = record {
-  nodes : l.tally.nodes ≡ l.fn.tally.nodes;
+  nodes : l.tally.rows ≡ l.fn.tally.rows;
   last : l.tally.last ≡ l.fn.tally.last;
-  counts : (n t : ℕ) → n < l.fn.tally.nodes → t ≤ l.fn.tally.last → count l.tally n t ≡ leaving_at l.model (take l.step-index l.moves) n t;
+  counts : (n t : ℕ) → n < l.fn.tally.rows → t ≤ l.fn.tally.last → count l.tally n t ≡ leaving_at l.model (take l.step-index l.moves) n t;
 }
