@@ -1,27 +1,30 @@
 -- A guessed path, from its end to its beginning.
-use Rattle.std.proofs.Common.{◌≡◌, ℕ, ◌+◌, ◌-◌, ◌*◌, ◌<◌, ◌≤◌, true, false, ◌&&◌, eqb, List, [], ◌∷◌, ◌++◌, length, get_or, drop, ap, sym, subst, ◌∙◌, ◌⊎◌, refl, arith, inl, inr}
-use Rattle.std.specs.List.{All}
-use Rattle.std.proofs.lemmas.List.{append_assoc}
-use Rattle.std.proofs.lemmas.Bool.{cases_Bool, or_cases}
-use Rattle.time_expansion.specs.Expansion.{hold_cell}
+use Rattle.std.proofs.Common.{◌≡◌, ℕ, zero, suc, ◌+◌, ◌-◌, ◌*◌, ◌<◌, ◌≤◌, Bool, true, false, cond, ◌&&◌, eqb, List, [], ◌∷◌, ◌++◌, length, get_or, drop, map, ap, sym, subst, ◌∙◌, ◌⊎◌, refl, arith, inl, inr}
+use Rattle.std.specs.List.{All, between}
+use Rattle.std.proofs.lemmas.List.{append_assoc, get_or_default, length-set, length-take}
+use Rattle.std.proofs.lemmas.List.Edits.{get_or-between, length-between}
+use Rattle.std.proofs.lemmas.Bool.{cases_Bool, cases_lt, or_cases}
+use Rattle.time_expansion.specs.Expansion.{Expansion, hold_cell, to_at}
 use Rattle.residual_net.specs.declared.legs.Leg.{Leg}
+use Rattle.residual_net.specs.declared.place.Cell.{Cell}
+use Rattle.residual_net.specs.declared.place.Place.{Place}
 use Rattle.residual_net.specs.declared.place.PathStep.{PathStep}
 use Rattle.residual_net.specs.Legs.{steps_of_legs, wait_at, waits_at}
-use Rattle.residual_net.proofs.LegLemmas.{legs_from, waits_first, waits_none}
-use Rattle.residual_net.specs.declared.place.Place.TheVariants.{Hold}
-use Rattle.residual_net.specs.Network.{Network, IsNet, IsWithinLimits, residual_room}
+use Rattle.residual_net.proofs.LegLemmas.{legs_from, waits_none}
+use Rattle.residual_net.specs.declared.place.Place.TheVariants.{Arc, Hold, Supply}
+use Rattle.residual_net.specs.Network.{Network, IsNet, IsWithinLimits, no_cell, residual_room}
 use Rattle.residual_net.specs.Route.{IsAugmentingPath, IsOrigin, IsPushed}
 use Rattle.residual_net.specs.declared.end.End.{End}
-use Rattle.residual_net.specs.declared.end.End.TheVariants.{Pair, Door}
-use Rattle.residual_net.specs.Site.{Site, IsOpenPair, cell_of, start_of}
+use Rattle.residual_net.specs.declared.end.End.TheVariants.{Source, Pair, Door}
+use Rattle.residual_net.specs.Site.{Site, IsOpenPair, IsPlace, IsSite, arrival_at, cell_of, exit_at, head_of, start_of, tail_of}
 use Rattle.residual_net.proofs.Places.{cell_below}
 use Rattle.terminal_augment.specs.declared.guess.Look.{Look}
 use Rattle.terminal_augment.specs.declared.spot.Frame.{Frame}
 use Rattle.terminal_augment.specs.declared.spot.Spot.{Spot}
 use Rattle.terminal_augment.specs.Frames.{IsChain, IsFound, IsFrame, spots, steps_of, top_end}
 use Rattle.terminal_augment.specs.declared.work.Work.{Work}
-use Rattle.terminal_augment.specs.Guesses.{CarriesPeople, IsMarkedOn, IsStep, IsTail, frame_of, frames_of, spot_of}
-use Rattle.terminal_augment.specs.Marking.{MarkTable, IsMarks, is_marked, with_stamp}
+use Rattle.terminal_augment.specs.Guesses.{CarriesPeople, IsLookedBack, IsMarkedOn, IsMarkedOver, IsStep}
+use Rattle.terminal_augment.specs.Marking.{MarkTable, IsMarks, is_marked, mark_place, with_stamp}
 use Rattle.terminal_augment.specs.Searching.{IsWork}
 use Rattle.terminal_augment.specs.Settled.{IsPushedOn}
 use Rattle.terminal_augment.specs.Spots.{has}
@@ -29,13 +32,45 @@ use Rattle.terminal_augment.proofs.MarkLemmas.{IsIn, marked_grows, marked_here}
 use Rattle.terminal_augment.proofs.SearchLemmas.{all_cons, at_spot, differs}
 use Rattle.terminal_augment.proofs.SendLemmas.{augments, pushed_on}
 
-pub tail_none : (w : Network) (k : ℕ) (m : MarkTable) (people : ℕ) → 1 ≤ people → IsTail w k m (Door k) people []
-tail_none w k m people one = record {
+-- the pair of an end, where it is one
+abbrev pub spot_of : End → Spot
+spot_of Source = record { node = 0; moment = 0 }
+spot_of (Pair n t) = record { node = n; moment = t }
+spot_of (Door j) = record { node = 0; moment = 0 }
+
+-- the frames whose steps are those of a path
+abbrev pub frame_of : Site → PathStep → Frame
+frame_of s y = record { spot = spot_of (start_of s y); step = y; next = 0 }
+
+abbrev pub frames_of : Site → List PathStep → List Frame
+frames_of s = map (frame_of s)
+
+-- the steps lead from an end to an arrival at moment k over some pairs, and each has room for some people
+pub record IsTail (w : Network) (k : ℕ) (s : ℕ → ℕ → Type 0) (e : End) (people : ℕ) (path : List PathStep) : Type 0 where
+  pub chain : IsChain w.site k (frames_of w.site path)
+  pub top : e ≡ top_end k (frames_of w.site path)
+  pub some : 1 ≤ people
+  pub room : All (λ y. people ≤ residual_room w y) path
+  pub over : (n t : ℕ) → has (spots (frames_of w.site path)) n t ≡ true → s n t
+
+pub tail_none : (w : Network) (k : ℕ) (s : ℕ → ℕ → Type 0) (people : ℕ) → 1 ≤ people → IsTail w k s (Door k) people []
+tail_none w k s people one = record {
   chain = tt;
   top = refl;
   some = one;
   room = λ j d l. absurd (omega (arith, l));
-  marked = λ n t h. absurd (cc);
+  over = λ n t h. absurd (cc);
+}
+
+-- the same steps for fewer people, over some pairs more
+pub tail_wider : (w : Network) (k : ℕ) (s r : ℕ → ℕ → Type 0) (e : End) (people next : ℕ) (path : List PathStep) → IsTail w k s e people path
+    → ((n t : ℕ) → s n t → r n t) → 1 ≤ next → next ≤ people → IsTail w k r e next path
+tail_wider w k s r e people next path tail wider one few = record {
+  chain = tail.chain;
+  top = tail.top;
+  some = one;
+  room = λ j d l. omega (arith, few, tail.room j d l);
+  over = λ n t h. wider n t (tail.over n t h);
 }
 
 abbrev with_spot : PathStep → Spot → Frame
@@ -44,31 +79,25 @@ with_spot y p = record { spot = p; step = y; next = 0 }
 frame_at : (s : Site) (y : PathStep) (p : Spot) → start_of s y ≡ Pair p.node p.moment → frame_of s y ≡ with_spot y p
 frame_at s y p e = ap (λ (z : End). with_spot y (spot_of z)) e
 
-pub tail_more : (w : Network) (k : ℕ) (m v : MarkTable) (e r : End) (p : Spot) (people next : ℕ) (y : PathStep) (path : List PathStep)
-    → IsMarks m → m.nodes ≡ w.site.shape.nodes → m.horizon ≡ w.site.shape.horizon → IsTail w k m e people path → IsStep w y r e → r ≡ Pair p.node p.moment
-    → is_marked m p.node p.moment ≡ false → v ≡ with_stamp m p.node p.moment m.stamp → 1 ≤ next → next ≤ people → next ≤ residual_room w y
-    → IsTail w k v (Pair p.node p.moment) next (y ∷ path)
-tail_more w k m v e r p people next y path marks nodes horizon tail first is off same one few room = record {
+-- one more step, from a pair that isn't among those come over
+pub tail_more : (w : Network) (k : ℕ) (s r : ℕ → ℕ → Type 0) (e : End) (p : Spot) (people next : ℕ) (y : PathStep) (path : List PathStep)
+    → IsTail w k s e people path → IsStep w y (Pair p.node p.moment) e → (s p.node p.moment → ⊥) → ((n t : ℕ) → s n t → r n t) → r p.node p.moment
+    → 1 ≤ next → next ≤ people → next ≤ residual_room w y → IsTail w k r (Pair p.node p.moment) next (y ∷ path)
+tail_more w k s r e p people next y path tail step off wider with_it one few room = record {
   chain = subst (λ (f : Frame). IsChain w.site k (f ∷ frames_of w.site path)) (sym here) (frame, tail.chain);
   top = ap (λ (f : Frame). top_end k (f ∷ frames_of w.site path)) (sym here);
   some = one;
   room = all_cons (λ (z : PathStep). next ≤ residual_room w z) y path room (λ j d l. omega (arith, few, tail.room j d l));
-  marked = subst (λ (f : Frame). (n t : ℕ) → has (spots (f ∷ frames_of w.site path)) n t ≡ true → is_marked v n t ≡ true) (sym here)
+  over = subst (λ (f : Frame). (n t : ℕ) → has (spots (f ∷ frames_of w.site path)) n t ≡ true → r n t) (sym here)
       (λ n t q. by n t (or_cases (eqb p.node n && eqb p.moment t) (has (spots (frames_of w.site path)) n t) q));
 }
   where
-    step : IsStep w y (Pair p.node p.moment) e
-    step = subst (λ (z : End). IsStep w y z e) is first
-
     here : frame_of w.site y ≡ with_spot y p
     here = frame_at w.site y p step.start
 
-    in_table : IsIn m p.node p.moment
-    in_table = record { node = omega (arith, nodes, step.inside.node); moment = omega (arith, horizon, step.inside.moment) }
-
     fresh : (has (spots (frames_of w.site path)) p.node p.moment ≡ true) ⊎ (has (spots (frames_of w.site path)) p.node p.moment ≡ false)
         → has (spots (frames_of w.site path)) p.node p.moment ≡ false
-    fresh (inl q) = absurd (differs _ (tail.marked p.node p.moment q) off)
+    fresh (inl q) = absurd (off (tail.over p.node p.moment q))
     fresh (inr q) = q
 
     frame : IsFrame w.site k (with_spot y p) (frames_of w.site path)
@@ -80,20 +109,17 @@ tail_more w k m v e r p people next y path marks nodes horizon tail first is off
       fresh = fresh (cases_Bool (has (spots (frames_of w.site path)) p.node p.moment));
     }
 
-    stamped : (n t : ℕ) → is_marked (with_stamp m p.node p.moment m.stamp) n t ≡ true → is_marked v n t ≡ true
-    stamped n t q = ap (λ (z : MarkTable). is_marked z n t) same ∙ q
-
-    by : (n t : ℕ) → ((eqb p.node n && eqb p.moment t) ≡ true) ⊎ (has (spots (frames_of w.site path)) n t ≡ true) → is_marked v n t ≡ true
-    by n t (inl q) = stamped n t (at_spot p.node p.moment n t (λ a b. is_marked (with_stamp m p.node p.moment m.stamp) a b ≡ true) q (marked_here m p.node p.moment marks in_table))
-    by n t (inr q) = stamped n t (marked_grows m p.node p.moment n t marks in_table (tail.marked n t q))
+    by : (n t : ℕ) → ((eqb p.node n && eqb p.moment t) ≡ true) ⊎ (has (spots (frames_of w.site path)) n t ≡ true) → r n t
+    by n t (inl q) = at_spot p.node p.moment n t r q with_it
+    by n t (inr q) = wider n t (tail.over n t q)
 
 steps_of_frames : (s : Site) (xs : List PathStep) → steps_of (frames_of s xs) ≡ xs
 steps_of_frames s [] = refl
 steps_of_frames s (x ∷ xs) = ap (λ (z : List PathStep). x ∷ z) (steps_of_frames s xs)
 
-pub all_carried : (w : Network) (k : ℕ) (m : MarkTable) (e r : End) (people next : ℕ) (y : PathStep) (path whole : List PathStep) → IsTail w k m e people path
+pub all_carried : (w : Network) (k : ℕ) (s : ℕ → ℕ → Type 0) (e r : End) (people next : ℕ) (y : PathStep) (path whole : List PathStep) → IsTail w k s e people path
     → IsStep w y r e → IsOrigin k r → next ≤ people → next ≤ residual_room w y → whole ≡ y ∷ path → CarriesPeople w k whole next
-all_carried w k m e r people next y path whole tail step origin few room same = (start_of w.site y, subst (λ (z : List PathStep). IsAugmentingPath w z next (start_of w.site y) k) (sym same) here)
+all_carried w k s e r people next y path whole tail step origin few room same = (start_of w.site y, subst (λ (z : List PathStep). IsAugmentingPath w z next (start_of w.site y) k) (sym same) here)
   where
     found : IsFound w k (frames_of w.site path) y
     found = record {
@@ -108,6 +134,10 @@ all_carried w k m e r people next y path whole tail step origin few room same = 
 
     here : IsAugmentingPath w (y ∷ path) next (start_of w.site y) k
     here = augments w k (frames_of w.site path) y next (y ∷ path) found tail.chain (ap (λ (z : List PathStep). y ∷ z) (sym (steps_of_frames w.site path))) rooms
+
+-- a leg past the last one
+abbrev pub blank : Leg
+blank = record { node = 0; from = 0; to = 0; step = record { place = Arc 0 0; back = false } }
 
 abbrev waits_of : Leg → List PathStep
 waits_of g = waits_at g.node g.from (g.to - g.from)
@@ -131,17 +161,7 @@ legs_whole gs left blank some fits first none =
     ap (λ i. steps_of_legs (drop i gs)) (sym first) ∙ legs_back gs left blank some fits
     ∙ ap (λ z. z ++ g.step ∷ steps_of_legs (drop left gs)) (waits_none g.node g.from g.to none)
 
--- ---- a wait
-
-wait_step : (w : Network) (q p : Spot) → q.node ≡ p.node → q.moment ≡ p.moment + 1 → IsOpenPair w.site q.node q.moment
-    → 0 < residual_room w (wait_at p.node p.moment) → IsStep w (wait_at p.node p.moment) (Pair p.node p.moment) (Pair q.node q.moment)
-wait_step w q p node moment inside room = record {
-  place = (omega (arith, inside.node, node), omega (arith, inside.moment, moment));
-  room = room;
-  start = refl;
-  inside = record { node = omega (arith, inside.node, node); moment = omega (arith, inside.moment, moment); no_exit = rw node at inside.no_exit };
-  stop = ap (λ n. Pair n (p.moment + 1)) (sym node) ∙ ap (λ t. Pair q.node t) (sym moment);
-}
+-- ---- waits
 
 -- the cell of a wait, by where the waits in its node begin
 pub wait_cell : (w : Network) (n t first : ℕ) → IsNet w → n < w.site.shape.nodes → t ≤ w.site.shape.horizon → first ≡ hold_cell w.site.shape n 0
@@ -151,27 +171,188 @@ wait_cell w n t first net node moment here =
     let same : first + t ≡ (length w.site.shape.ends + n) * (w.site.shape.horizon + 1) + t = omega (arith, here) in
     (omega (arith, same, cell_below w.site (Hold n t) (node, moment), net.full), same)
 
--- a look that goes back over one more wait of a leg
-pub looked_more : (w : Network) (m v u : MarkTable) (n to : ℕ) (start x : Look) (p : Spot) (next : ℕ) → IsMarks v → v.nodes ≡ w.site.shape.nodes
-    → v.horizon ≡ w.site.shape.horizon → x.spot.node ≡ n → p.node ≡ n → x.spot.moment ≡ p.moment + 1 → x.spot.moment ≤ to
-    → IsOpenPair w.site x.spot.node x.spot.moment
-    → ((k : ℕ) (path : List PathStep) → IsTail w k m (Pair start.spot.node start.spot.moment) start.people path
-    → IsTail w k v (Pair x.spot.node x.spot.moment) x.people (waits_at n x.spot.moment (to - x.spot.moment) ++ path))
-    → is_marked v p.node p.moment ≡ false → u ≡ with_stamp v p.node p.moment v.stamp → (0 < x.people → 1 ≤ next) → next ≤ x.people
-    → next ≤ residual_room w (wait_at p.node p.moment)
-    → (k : ℕ) (path : List PathStep) → IsTail w k m (Pair start.spot.node start.spot.moment) start.people path
-    → IsTail w k u (Pair p.node p.moment) next (waits_at n p.moment (to - p.moment) ++ path)
-looked_more w m v u n to start x p next marks nodes horizon node here moment last inside old off same one few room k path tail =
-    let so_far = waits_at n x.spot.moment (to - x.spot.moment) ++ path in
-    let was = old k path tail in
-    let some = one (omega (arith, was.some)) in
-    let step = wait_step w x.spot p (node ∙ sym here) moment inside (omega (arith, some, room)) in
-    let now = tail_more w k v u (Pair x.spot.node x.spot.moment) (Pair p.node p.moment) p x.people next (wait_at p.node p.moment) so_far marks nodes horizon was step refl off same some few room in
-    let first : waits_at n p.moment (to - p.moment) ≡ wait_at p.node p.moment ∷ waits_at n x.spot.moment (to - x.spot.moment) =
-    waits_first n p.moment to (omega (arith, moment, last))
-    ∙ ap (λ t. wait_at n p.moment ∷ waits_at n t (to - t)) (sym moment)
-    ∙ ap (λ i. wait_at i p.moment ∷ waits_at n x.spot.moment (to - x.spot.moment)) (sym here) in
-    subst (λ (z : List PathStep). IsTail w k u (Pair p.node p.moment) next (z ++ path)) (sym first) now
+-- a cell of some waits one after another is that of a wait
+pub wait_among : (w : Network) (n from to first i : ℕ) (d : Cell) → IsNet w → n < w.site.shape.nodes → to ≤ w.site.shape.horizon
+    → first ≡ hold_cell w.site.shape n 0 → from + i < to
+    → get_or (between (first + from) (first + to) w.cells) i d ≡ get_or w.cells (cell_of w.site (Hold n (from + i))) no_cell
+wait_among w n from to first i d net node moment here lt =
+    let cell = wait_cell w n (from + i) first net node (omega (arith, lt, moment)) here in
+    let at : (first + from) + i ≡ first + (from + i) = omega arith in
+    get_or-between w.cells (first + from) (first + to) i d (omega (arith, lt))
+    ∙ get_or_default w.cells ((first + from) + i) d no_cell (omega (arith, at, cell.0))
+    ∙ ap (λ j. get_or w.cells j no_cell) (at ∙ cell.1)
+
+-- how many cells some waits one after another have
+pub wait_count : (w : Network) (first from to i : ℕ) → i < length (between (first + from) (first + to) w.cells) → from + i < to
+wait_count w first from to i l =
+    omega (arith, l, length-take ((first + to) - (first + from)) (drop (first + from) w.cells))
+
+pub wait_counted : (w : Network) (first from to i : ℕ) → first + to ≤ length w.cells → from + i < to → i < length (between (first + from) (first + to) w.cells)
+wait_counted w first from to i fits l = omega (arith, l, length-between w.cells (first + from) (first + to) fits)
+
+pub wait_first : (w : Network) (n first : ℕ) {x : Expansion} → first ≡ hold_cell x n 0 → x ≡ w.site.shape → first ≡ hold_cell w.site.shape n 0
+wait_first w n first here same = here ∙ ap (λ (z : Expansion). hold_cell z n 0) same
+
+wait_step : (w : Network) (n t : ℕ) → IsOpenPair w.site n t → 0 < residual_room w (wait_at n t) → IsStep w (wait_at n t) (Pair n t) (Pair n (t + 1))
+wait_step w n t inside room = record { place = (inside.node, inside.moment); room = room; start = refl; inside = inside; stop = refl }
+
+-- some pairs, and those of a node from one moment up to another
+abbrev with_stay : (ℕ → ℕ → Type 0) → ℕ → ℕ → ℕ → ℕ → ℕ → Type 0
+with_stay s n from past i t = s i t ⊎ ((i ≡ n) × (from ≤ t) × (t < past))
+
+stay_longer : (s : ℕ → ℕ → Type 0) (n from past first last i t : ℕ) → first ≤ from → past ≤ last → with_stay s n from past i t → with_stay s n first last i t
+stay_longer s n from past first last i t a b (inl h) = inl h
+stay_longer s n from past first last i t a b (inr h) = inr (h.0, omega (arith, a, h.1), omega (arith, b, h.2))
+
+not_in_stay : (s : ℕ → ℕ → Type 0) (n from past t : ℕ) → t < from → (s n t → ⊥) → with_stay s n from past n t → ⊥
+not_in_stay s n from past t before off (inl h) = off h
+not_in_stay s n from past t before off (inr h) = absurd (omega (arith, before, h.1))
+
+-- waits in a node one after another
+tail_waits : (c : ℕ) (w : Network) (k : ℕ) (s : ℕ → ℕ → Type 0) (n t to people next : ℕ) (path : List PathStep) → t + c ≡ to → IsOpenPair w.site n to
+    → IsTail w k s (Pair n to) people path → ((u : ℕ) → t ≤ u → u < to → s n u → ⊥)
+    → ((u : ℕ) → t ≤ u → u < to → next ≤ residual_room w (wait_at n u)) → 1 ≤ next → next ≤ people
+    → IsTail w k (with_stay s n t to) (Pair n t) next (waits_at n t c ++ path)
+tail_waits zero w k s n t to people next path same inside tail off room one few =
+    let here : to ≡ t = omega (arith, same) in
+    subst (λ z. IsTail w k (with_stay s n t to) (Pair n z) next path) here
+    (tail_wider w k s (with_stay s n t to) (Pair n to) people next path tail (λ i u h. inl h) one few)
+tail_waits (suc c) w k s n t to people next path same inside tail off room one few =
+    let rest = tail_waits c w k s n (t + 1) to people next path (omega (arith, same)) inside tail (λ u l h. off u (omega (arith, l)) h)
+    (λ u l h. room u (omega (arith, l)) h) one few in
+    let here : next ≤ residual_room w (wait_at n t) = room t (omega arith) (omega (arith, same)) in
+    let at_first : IsOpenPair w.site n t = record { node = inside.node; moment = omega (arith, same, inside.moment); no_exit = inside.no_exit } in
+    tail_more w k (with_stay s n (t + 1) to) (with_stay s n t to) (Pair n (t + 1)) (record { node = n; moment = t }) next next (wait_at n t)
+    (waits_at n (t + 1) c ++ path) rest (wait_step w n t at_first (omega (arith, one, here)))
+    (not_in_stay s n (t + 1) to t (omega arith) (off t (omega arith) (omega (arith, same))))
+    (λ i u h. stay_longer s n (t + 1) to t to i u (omega arith) (omega arith) h)
+    (inr (refl, omega arith, omega (arith, same))) one (omega arith) here
+
+-- a leg: its step, and the waits before it
+tail_leg : (w : Network) (k : ℕ) (s : ℕ → ℕ → Type 0) (e : End) (g : Leg) (x y : Look) (people : ℕ) (path : List PathStep)
+    → IsTail w k s e people path → IsStep w g.step (Pair x.spot.node x.spot.moment) e → IsLookedBack w g x y → 1 ≤ x.people → x.people ≤ people
+    → x.people ≤ residual_room w g.step → ((u : ℕ) → y.spot.moment ≤ u → u ≤ x.spot.moment → s x.spot.node u → ⊥)
+    → IsTail w k (with_stay s x.spot.node y.spot.moment (x.spot.moment + 1)) (Pair y.spot.node y.spot.moment) y.people (waits_of g ++ g.step ∷ path)
+tail_leg w k s e g x y people path tail step look one few room off =
+    let n = x.spot.node in
+    let t = y.spot.moment in
+    let to = x.spot.moment in
+    let past = x.spot.moment + 1 in
+    let some : 1 ≤ y.people = omega (arith, look.some (omega (arith, one))) in
+    let first = tail_more w k s (with_stay s n to past) e x.spot people x.people g.step path tail step (off to look.earlier (omega arith)) (λ i u h. inl h)
+    (inr (refl, omega arith, omega arith)) one few room in
+    let all = tail_waits (to - t) w k (with_stay s n to past) n t to x.people y.people (g.step ∷ path) (omega (arith, look.earlier)) step.inside first
+    (λ u a b. not_in_stay s n to past u b (off u a (omega (arith, b)))) look.room some look.fewer in
+    let wide = tail_wider w k _ (with_stay s n t past) (Pair n t) y.people y.people (waits_at n t (to - t) ++ g.step ∷ path) all
+    (λ i u h. both i u h) some (omega arith) in
+    subst (λ (z : List PathStep). IsTail w k (with_stay s n t past) (Pair y.spot.node t) y.people (z ++ g.step ∷ path)) (sym look.waits)
+    (subst (λ (i : ℕ). IsTail w k (with_stay s n t past) (Pair i t) y.people (waits_at n t (to - t) ++ g.step ∷ path)) (sym look.node) wide)
+  where
+    both : (i u : ℕ) → with_stay (with_stay s x.spot.node x.spot.moment (x.spot.moment + 1)) x.spot.node y.spot.moment x.spot.moment i u
+        → with_stay s x.spot.node y.spot.moment (x.spot.moment + 1) i u
+    both i u (inl h) = stay_longer s x.spot.node x.spot.moment (x.spot.moment + 1) y.spot.moment (x.spot.moment + 1) i u look.earlier (omega arith) h
+    both i u (inr h) = inr (h.0, h.1, omega (arith, h.2))
+
+-- ---- the pairs that a path has come over
+
+-- the moment of an end
+abbrev pub moment_of : End → ℕ
+moment_of Source = 0
+moment_of (Pair n t) = t
+moment_of (Door t) = t
+
+-- a path that turns back has come over marked pairs, another over none before an end
+abbrev pub IsOver : Bool → MarkTable → End → ℕ → ℕ → Type 0
+IsOver true m e n t = is_marked m n t ≡ true
+IsOver false m e n t = moment_of e ≤ t
+
+exit_moment : (b : Bool) (n t : ℕ) → moment_of (cond b (Door t) (Pair n t)) ≡ t
+exit_moment true n t = refl
+exit_moment false n t = refl
+
+-- a place leads to a later moment
+rises : (s : Site) (p : Place) (n t : ℕ) → IsSite s → IsPlace s p → tail_of s p ≡ Pair n t → t < moment_of (head_of s p)
+rises s (Arc a u) n t site place tail =
+    let same : u ≡ t = cc in
+    let takes = site.times a 0 (omega (arith, site.travels, place.0)) in
+    omega (arith, same, takes.0, exit_moment (exit_at s (to_at s.shape a)) (to_at s.shape a) (arrival_at s a u))
+rises s (Hold m u) n t site place tail = let same : u ≡ t = cc in omega (arith, same)
+rises s (Supply m u) n t site place tail = absurd (cc)
+
+-- a step forwards begins before it stops
+pub begins_before : (w : Network) (y : PathStep) (n t : ℕ) (e : End) → IsSite w.site → IsStep w y (Pair n t) e → y.back ≡ false → t < moment_of e
+begins_before w y n t e site step forwards =
+    let tail : tail_of w.site y.place ≡ Pair n t = rw forwards at step.start in
+    let head : head_of w.site y.place ≡ e = rw forwards at step.stop in
+    omega (arith, rises w.site y.place n t site step.place tail, ap moment_of head)
+
+-- a look that has gone back over a leg
+pub leg_over : (turns : Bool) (w : Network) (k : ℕ) (m v : MarkTable) (e : End) (g : Leg) (x y : Look) (people : ℕ) (path : List PathStep)
+    → IsTail w k (IsOver turns m e) e people path → IsStep w g.step (Pair x.spot.node x.spot.moment) e → IsLookedBack w g x y → 1 ≤ x.people
+    → x.people ≤ people → x.people ≤ residual_room w g.step → (turns ≡ false → x.spot.moment < moment_of e)
+    → (turns ≡ true → IsMarkedOver m v x.spot.node y.spot.moment (x.spot.moment + 1))
+    → IsTail w k (IsOver turns v (Pair y.spot.node y.spot.moment)) (Pair y.spot.node y.spot.moment) y.people (waits_of g ++ g.step ∷ path)
+leg_over true w k m v e g x y people path tail step look one few room falls marked =
+    let new = marked refl in
+    let leg = tail_leg w k (IsOver true m e) e g x y people path tail step look one few room
+    (λ u a b h. differs (is_marked m x.spot.node u) h (new.fresh u a (omega (arith, b)))) in
+    tail_wider w k _ (IsOver true v (Pair y.spot.node y.spot.moment)) (Pair y.spot.node y.spot.moment) y.people y.people (waits_of g ++ g.step ∷ path) leg
+    (λ i u h. now new i u h) leg.some (omega arith)
+  where
+    now : IsMarkedOver m v x.spot.node y.spot.moment (x.spot.moment + 1) → (i u : ℕ)
+        → with_stay (IsOver true m e) x.spot.node y.spot.moment (x.spot.moment + 1) i u → is_marked v i u ≡ true
+    now new i u (inl h) = new.others i u h
+    now new i u (inr h) = subst (λ (z : ℕ). is_marked v z u ≡ true) (sym h.0) (new.here u h.1 h.2)
+leg_over false w k m v e g x y people path tail step look one few room falls marked =
+    let before : x.spot.moment < moment_of e = falls refl in
+    let leg = tail_leg w k (IsOver false m e) e g x y people path tail step look one few room (λ u a b h. absurd (omega (arith, before, b, h))) in
+    tail_wider w k _ (IsOver false v (Pair y.spot.node y.spot.moment)) (Pair y.spot.node y.spot.moment) y.people y.people (waits_of g ++ g.step ∷ path) leg
+    (λ i u h. now before i u h) leg.some (omega arith)
+  where
+    now : x.spot.moment < moment_of e → (i u : ℕ) → with_stay (IsOver false m e) x.spot.node y.spot.moment (x.spot.moment + 1) i u → y.spot.moment ≤ u
+    now before i u (inl h) = omega (arith, before, h, look.earlier)
+    now before i u (inr h) = h.1
+
+-- ---- marks
+
+-- a node marked at one moment more
+pub marked_more : (m v u : MarkTable) (n from t : ℕ) → IsMarks v → IsIn v n t → IsMarkedOver m v n from t → is_marked v n t ≡ false
+    → u ≡ with_stamp v n t v.stamp → IsMarkedOver m u n from (t + 1)
+marked_more m v u n from t marks inside old off same = record {
+  fresh = λ i a b. elim (cases_lt i t) [
+    | inl before ↦ old.fresh i a before
+    | inr after ↦ (let here : i ≡ t = omega (arith, b, after) in subst (λ (z : ℕ). is_marked m n z ≡ false) (sym here) (not_yet (cases_Bool (is_marked m n t))))
+  ];
+  here = λ i a b. elim (cases_lt i t) [
+    | inl before ↦ stamped n i (marked_grows v n t n i marks inside (old.here i a before))
+    | inr after ↦ (let here : t ≡ i = omega (arith, b, after) in stamped n i (subst (λ (z : ℕ). is_marked (with_stamp v n t v.stamp) n z ≡ true) here (marked_here v n t marks inside)))
+  ];
+  others = λ i j h. stamped i j (marked_grows v n t i j marks inside (old.others i j h));
+}
+  where
+    stamped : (i j : ℕ) → is_marked (with_stamp v n t v.stamp) i j ≡ true → is_marked u i j ≡ true
+    stamped i j h = ap (λ (z : MarkTable). is_marked z i j) same ∙ h
+
+    not_yet : (is_marked m n t ≡ true) ⊎ (is_marked m n t ≡ false) → is_marked m n t ≡ false
+    not_yet (inl h) = absurd (differs (is_marked v n t) (old.others n t h) off)
+    not_yet (inr h) = h
+
+-- marks on the same nodes and moments with one more
+pub marked_on : (m v u : MarkTable) (n t : ℕ) → IsMarkedOn m v → u ≡ with_stamp v n t v.stamp → IsMarks u → IsMarkedOn m u
+marked_on m v u n t on same marks = record {
+  nodes = ap (λ (z : MarkTable). z.nodes) same ∙ on.nodes;
+  horizon = ap (λ (z : MarkTable). z.horizon) same ∙ on.horizon;
+  size = ap (λ (z : MarkTable). length z.list) same ∙ length-set v.list (mark_place v n t) v.stamp ∙ on.size;
+  marks = λ _. marks;
+}
+
+pub marked_on_then : (m v u : MarkTable) → IsMarkedOn m v → IsMarkedOn v u → IsMarkedOn m u
+marked_on_then m v u a b = record {
+  nodes = b.nodes ∙ a.nodes;
+  horizon = b.horizon ∙ a.horizon;
+  size = b.size ∙ a.size;
+  marks = λ h. b.marks (a.marks h);
+}
 
 -- a push along a path that was looked at
 pub carried_pushed : (w v : Network) (k people : ℕ) (path : List PathStep) → IsNet v → IsWithinLimits v → 1 ≤ people → CarriesPeople w k path people

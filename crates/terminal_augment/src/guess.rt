@@ -1,11 +1,11 @@
-// A guess at a path, looked at leg by leg and step by step before people are sent along it.
-ghost use Rattle.std.specs.Prelude.{◌≡◌, ◌+◌, ◌<◌, false, ◌≤◌, IsTrue, MatchOption, length};
-ghost use Rattle.time_expansion.specs.Expansion.{hold_cell};
-ghost use Rattle.residual_net.specs.declared.place.Place.TheVariants.{Hold};
-ghost use Rattle.residual_net.specs.Legs.{steps_of_legs};
+// A guess at a path, looked at leg by leg before people are sent along it.
+ghost use Rattle.std.specs.Prelude.{◌≡◌, ℕ, ◌+◌, ◌-◌, ◌<◌, ◌≤◌, IsFalse, IsTrue, MatchOption};
+ghost use Rattle.std.specs.List.{All};
+ghost use Rattle.residual_net.specs.Legs.{steps_of_legs, wait_at};
 ghost use Rattle.residual_net.specs.Network.{IsNet, IsWithinLimits, residual_room};
-ghost use Rattle.residual_net.specs.Site.{IsOpenPair, IsPlace, cell_of};
-ghost use Rattle.terminal_augment.specs.Guesses.{CarriesPeople, IsLookedOver, IsMarkedOn, IsMarksOf, IsStep};
+ghost use Rattle.residual_net.specs.Site.{IsOpenPair, IsPlace};
+ghost use Rattle.terminal_augment.specs.Guesses.{CarriesPeople, IsLookedOver, IsMarkedOn, IsMarkedOver, IsMarksOf, IsStep};
+ghost use Rattle.terminal_augment.specs.Marking.{IsMarks};
 ghost use Rattle.terminal_augment.specs.Searching.{IsWork};
 ghost use Rattle.terminal_augment.specs.Settled.{IsCountedOn};
 
@@ -14,7 +14,7 @@ use crate::spot::Spot;
 use crate::work::Work;
 use evac_law::{Labels, Steps};
 use guided_search::Scout;
-use residual_net::{End, Leg, Net, PathStep, Place};
+use residual_net::{Cell, End, Leg, Net, PathStep, Place};
 use std::sync::ledger::Ledger;
 
 /// The most guesses at one arrival moment.
@@ -34,30 +34,31 @@ fn is_place(net: &Net, place: Place) -> bool
     }
 }
 
-/// The cell of the wait from a pair, by where the waits in its node begin.
-fn wait_cell(net: &Net, first: u32, spot: Spot) -> usize
-    requires node { spot.node < net.now.site.shape.nodes }
-    requires moment { spot.moment ≤ net.now.site.shape.horizon }
-    requires first { first ≡ hold_cell net.now.site.shape spot.node 0 }
-    ensures cell { result ≡ cell_of net.now.site (Hold spot.node spot.moment) }
-    ensures within { result < length net.now.cells }
+/// The least room of some cells for more people, or the most people where that is less.
+fn least_room(cells: &[Cell], most: u32) -> u32
+    requires { All (λ c. c.flow ≤ c.limit) cells.now }
+    ensures most { result ≤ most }
+    ensures room { All (λ c. result ≤ c.limit - c.flow) cells.now }
 {
-    // The cells are those of a net, as many as it has places.
-    let _ = net.shape();
-    first as usize + spot.moment as usize
+    let mut least = most;
+    for cell in cells {
+        least = least.min(cell.limit - cell.flow);
+    }
+    least
 }
 
-/// The room of the wait from a pair, by where the waits in its node begin.
-#[tactic(auto, unfolding(residual_net::specs::Network::flow_at, residual_net::specs::Network::limit_at))]
-fn wait_room(net: &Net, first: u32, spot: Spot) -> u32
-    requires node { spot.node < net.now.site.shape.nodes }
-    requires moment { spot.moment ≤ net.now.site.shape.horizon }
-    requires first { first ≡ hold_cell net.now.site.shape spot.node 0 }
-    ensures { result ≡ residual_room net.now (record { place = Hold spot.node spot.moment; back = false }) }
+/// The least room of the waits in a node, at each moment from one up to another, or the most people where that is less.
+fn waits_room(net: &Net, node: u32, from: u16, to: u16, most: u32) -> u32
+    requires within { IsWithinLimits net.now }
+    requires node { node < net.now.site.shape.nodes }
+    requires moment { to ≤ net.now.site.shape.horizon }
+    requires some { from ≤ to }
+    ensures most { result ≤ most }
+    ensures room { (t : ℕ) → from ≤ t → t < to → result ≤ residual_room net.now (wait_at node t) }
 {
-    let at = wait_cell(net, first, spot);
-    let cell = net.cells()[at];
-    cell.limit.saturating_sub(cell.flow)
+    let first = net.shape().hold_cell(node, 0) as usize;
+    let waits = &net.cells()[first + from as usize..first + to as usize];
+    least_room(waits, most)
 }
 
 /// How far a look at a path has come: to a pair, with the people who may be sent on from there.
@@ -67,13 +68,11 @@ struct Look {
     people: u32,
 }
 
-/// Looks back over the waits of a leg, where they lead to the pair that was come to, have room, and no pair comes twice.
-fn over_waits(net: &Net, marks: &mut Marks, leg: Leg, from: Look) -> Option<Look>
+/// Looks back over the waits of a leg, where they lead to the pair that was come to and have room.
+fn over_waits(net: &Net, leg: Leg, from: Look) -> Option<Look>
     requires within { IsWithinLimits net.now }
-    requires marks { IsMarksOf net.now.site marks.old }
     requires inside { IsOpenPair net.now.site from.spot.node from.spot.moment }
-    ensures looked { IsLookedOver net.now marks.old marks.new leg from result }
-    ensures marks { IsMarkedOn marks.old marks.new }
+    ensures { IsLookedOver net.now leg from result }
 {
     if leg.to <= leg.from {
         return Some(from);
@@ -81,25 +80,61 @@ fn over_waits(net: &Net, marks: &mut Marks, leg: Leg, from: Look) -> Option<Look
     if leg.node != from.spot.node || leg.to != from.spot.moment {
         return None;
     }
-    let node = from.spot.node;
-    let first_wait = net.shape().hold_cell(node, 0);
-    let first_mark = marks.first(node);
-    let mut look = from;
-    while leg.from < look.spot.moment {
-        let moment = look.spot.moment - 1;
-        let spot = Spot { node, moment };
-        let room = wait_room(net, first_wait, spot);
-        if room == 0 {
-            return None;
-        }
-        if marks.is_marked_at(first_mark, spot) {
-            return None;
-        }
-        marks.mark_at(first_mark, spot);
-        let people = look.people.min(room);
-        look = Look { spot, people };
+    let node = leg.node;
+    let moment = leg.from;
+    let people = waits_room(net, node, moment, leg.to, from.people);
+    if people == 0 {
+        return None;
     }
-    Some(look)
+    let spot = Spot { node, moment };
+    Some(Look { spot, people })
+}
+
+/// Marks a node at each moment from one up to another, until one of them is found marked. Whether none is.
+fn mark_all(marks: &mut Marks, node: u32, from: u16, past: u16) -> bool
+    requires marks { IsMarks marks.old }
+    requires node { node < marks.old.nodes }
+    requires past { past ≤ marks.old.horizon + 1 }
+    ensures over { IsTrue result → IsMarkedOver marks.old marks.new node from past }
+    ensures marks { IsMarkedOn marks.old marks.new }
+{
+    let first = marks.first(node);
+    for moment in from..past {
+        let spot = Spot { node, moment };
+        if marks.is_marked_at(first, spot) {
+            return false;
+        }
+        marks.mark_at(first, spot);
+    }
+    true
+}
+
+/// Whether a path that comes to a node at each moment from one up to another comes to none of these pairs for the second time. Only
+/// a path that turns back at some step needs marks for that: the others come to earlier and earlier moments.
+fn is_new(marks: &mut Marks, turns: bool, node: u32, from: u16, past: u16) -> bool
+    requires marks { IsMarks marks.old }
+    requires node { node < marks.old.nodes }
+    requires past { past ≤ marks.old.horizon + 1 }
+    ensures over { IsTrue result → IsTrue turns → IsMarkedOver marks.old marks.new node from past }
+    ensures marks { IsMarkedOn marks.old marks.new }
+{
+    if turns {
+        mark_all(marks, node, from, past)
+    } else {
+        true
+    }
+}
+
+/// Whether one of some legs goes over its step backwards.
+fn turn_back(legs: &[Leg]) -> bool
+    ensures { IsFalse result → All (λ g. IsFalse g.step.back) legs.now }
+{
+    for leg in legs {
+        if leg.step.back {
+            return true;
+        }
+    }
+    false
 }
 
 /// Where a step starts, if it is one of the net's, has room and stops at an end.
@@ -134,10 +169,13 @@ fn carried(net: &Net, marks: &mut Marks, legs: &[Leg], most: u32, k: u16) -> u32
     ensures path { 0 < result → CarriesPeople net.now k (steps_of_legs legs.now) result }
     ensures marks { IsMarkedOn marks.old marks.new }
 {
+    // The net's sizes bound the moments.
+    let _ = net.shape();
     let mut end = End::Door(k);
     if most == 0 {
         return 0;
     }
+    let turns = turn_back(legs);
     let mut people = most;
     let mut left = legs.len();
     while left > 0 {
@@ -150,15 +188,17 @@ fn carried(net: &Net, marks: &mut Marks, legs: &[Leg], most: u32, k: u16) -> u32
         match before {
             End::Pair { node, moment } => {
                 let spot = Spot { node, moment };
-                if marks.is_marked(spot) {
-                    return 0;
-                }
-                marks.mark(spot);
-                let Some(look) = over_waits(net, marks, leg, Look { spot, people }) else {
+                let Some(look) = over_waits(net, leg, Look { spot, people }) else {
                     return 0;
                 };
-                let Spot { node, moment } = look.spot;
-                end = End::Pair { node, moment };
+                let first = look.spot.moment;
+                if !is_new(marks, turns, node, first, moment + 1) {
+                    return 0;
+                }
+                end = End::Pair {
+                    node,
+                    moment: first,
+                };
                 people = look.people;
             }
             End::Source => {

@@ -1,12 +1,13 @@
 use Rattle.std.proofs.Common.{◌≤◌, length, drop}
 use Rattle.residual_net.specs.Legs.{steps_of_legs}
-use Rattle.terminal_augment.specs.Guesses.{IsMarkedOn, IsTail}
+use Rattle.terminal_augment.specs.Guesses.{IsMarkedOn}
+use Rattle.terminal_augment.proofs.GuessLemmas.{IsOver, IsTail}
 use Rattle.terminal_augment.proofs.guess.carried.Given as goal
 
 abbrev pub invariant-loop-left : goal.invariant-loop-left
 invariant-loop-left l = record {
   fits : l.left ≤ length l.legs;
-  tail : IsTail l.net l.k l.marks l.end l.people (steps_of_legs (drop l.left l.legs));
+  tail : IsTail l.net l.k (IsOver l.turns l.marks l.end) l.end l.people (steps_of_legs (drop l.left l.legs));
   marks : IsMarkedOn l.fn.marks l.marks;
 }
 
