@@ -2,9 +2,11 @@ pub mod AnswerBack
 pub mod BlockSize
 pub mod CertifiedBack
 pub mod EntryTexts
+pub mod ExitLemmas
 pub mod LineTexts
 pub mod ListParts
 pub mod OrderedMoves
+pub mod QuietMoves
 pub mod RunLemmas
 pub mod SaidLemmas
 pub mod ShortLemmas

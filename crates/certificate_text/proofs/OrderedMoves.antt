@@ -128,7 +128,7 @@ here-far v a t h =
     ]
 
 -- nobody enters an arc or at a moment that no move has
-none-moved : (arcs horizon : ℕ) (p : List Move) (a t : ℕ) → All (λ (v : Move). (v.arc < arcs) × (v.moment ≤ horizon)) p → (a < arcs → t ≤ horizon → ⊥) → moved p a t ≡ 0
+pub none-moved : (arcs horizon : ℕ) (p : List Move) (a t : ℕ) → All (λ (v : Move). (v.arc < arcs) × (v.moment ≤ horizon)) p → (a < arcs → t ≤ horizon → ⊥) → moved p a t ≡ 0
 none-moved arcs horizon [] a t h far = moved-nil a t
 none-moved arcs horizon (v ∷ p) a t h far =
     let P : Move → Type 0 = λ v. (v.arc < arcs) × (v.moment ≤ horizon) in

@@ -10,4 +10,6 @@ pub mod BlockLaws
 pub mod BlockReadings
 pub mod BlockText
 pub mod Entries
+pub mod ExitArcs
+pub mod NameTexts
 pub mod Short

@@ -11,6 +11,7 @@ mod block;
 mod entry;
 mod laws;
 mod lines;
+mod names;
 mod short;
 
 pub use answer::{write_answer, write_moves};

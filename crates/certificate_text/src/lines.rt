@@ -5,6 +5,7 @@ ghost use Rattle.line_io.specs.Causes.{HasCause};
 ghost use Rattle.line_io.specs.Writer.{PutsText};
 ghost use Rattle.certificate_text.specs.BlockText.{answer_line, cleared_line, end_line, in_line, label_line, most_line, move_line, out_line, people_line, refusal_line};
 
+use crate::names::NameText;
 use evac_law::{Code, NodeName};
 use line_io::{Out, Sink, TextLine, WriteFault};
 
@@ -15,9 +16,7 @@ pub fn put_name(line: &mut TextLine, name: NodeName)
     ensures value { line.new ≡ line.old ++ (32 ∷ name_text name) }
     ensures few { length line.new ≤ length line.old + 11 }
 {
-    let mut text = [0u8; NodeName::TEXT_LIMIT];
-    let count = name.print(&mut text);
-    line.field(&text[..count]);
+    line.field(NameText::new(name).bytes());
 }
 
 pub(crate) fn write_index<K: Sink>(
@@ -77,16 +76,15 @@ pub(crate) fn write_out<K: Sink>(
 pub(crate) fn write_label<K: Sink>(
     out: &mut Out,
     sink: &mut K,
-    name: NodeName,
+    name: &NameText,
     moment: u16,
     label: u16,
 ) -> Result<(), WriteFault>
-    requires { IsName name }
-    ensures text { PutsText (K.held sink.old) out.old (label_line (name_text name) moment label) (K.held sink.new) out.new result }
+    ensures text { PutsText (K.held sink.old) out.old (label_line name.now moment label) (K.held sink.new) out.new result }
     ensures cause { HasCause (K.faults sink.old) (K.faults sink.new) result }
 {
     let mut line = TextLine::new(b"label");
-    put_name(&mut line, name);
+    line.field(name.bytes());
     line.number(u64::from(moment));
     line.number(u64::from(label));
     line.put(out, sink)
@@ -96,19 +94,17 @@ pub(crate) fn write_move<K: Sink>(
     out: &mut Out,
     sink: &mut K,
     moment: u16,
-    from: NodeName,
-    to: NodeName,
+    from: &NameText,
+    to: &NameText,
     people: u32,
 ) -> Result<(), WriteFault>
-    requires from { IsName from }
-    requires to { IsName to }
-    ensures text { PutsText (K.held sink.old) out.old (move_line moment (name_text from) (name_text to) people) (K.held sink.new) out.new result }
+    ensures text { PutsText (K.held sink.old) out.old (move_line moment from.now to.now people) (K.held sink.new) out.new result }
     ensures cause { HasCause (K.faults sink.old) (K.faults sink.new) result }
 {
     let mut line = TextLine::new(b"move");
     line.number(u64::from(moment));
-    put_name(&mut line, from);
-    put_name(&mut line, to);
+    line.field(from.bytes());
+    line.field(to.bytes());
     line.number(u64::from(people));
     line.put(out, sink)
 }

@@ -44,17 +44,17 @@ returns-in_err-write_labels-clause-text g c =
     text-failed c.from_residual-in_err-write_labels.result c.from_residual-in_err-write_labels.ensures.0
     (front-more end_line (front-more (move_lines m s.plan) (front-then (puts-then (puts-then (puts-then c.in_ok-write_index.ensures.text.ok (puts-is (ap people_line c.people-people.ensures) c.in_ok-write_people.ensures.text.ok)) (puts-is (ap cleared_line c.cleared-cleared.ensures) c.in_ok-write_cleared.ensures.text.ok)) (puts-is (ap (λ k. out_lines m s.plan k) c.cleared-cleared.ensures) c.in_ok-write_outs.ensures.text.ok)) (front-is (ap (λ k. label_lines m c.args.labels.now k) c.cleared-cleared.ensures) c.in_err-write_labels.ensures.text.err))))
 
-pub returns-in_err-write_moves-clause-text : goal.returns-in_err-write_moves-clause-text
+pub returns-in_err-write_named_moves-clause-text : goal.returns-in_err-write_named_moves-clause-text
 unfolding answer_text
-returns-in_err-write_moves-clause-text g c =
+returns-in_err-write_named_moves-clause-text g c =
     let m = c.args.model.now in
     let s = g.F.Standing.stand c.args.standing.now in
-    text-failed c.from_residual-in_err-write_moves.result c.from_residual-in_err-write_moves.ensures.0
-    (front-more end_line (front-then (puts-then (puts-then (puts-then (puts-then c.in_ok-write_index.ensures.text.ok (puts-is (ap people_line c.people-people.ensures) c.in_ok-write_people.ensures.text.ok)) (puts-is (ap cleared_line c.cleared-cleared.ensures) c.in_ok-write_cleared.ensures.text.ok)) (puts-is (ap (λ k. out_lines m s.plan k) c.cleared-cleared.ensures) c.in_ok-write_outs.ensures.text.ok)) (puts-is (ap (λ k. label_lines m c.args.labels.now k) c.cleared-cleared.ensures) c.in_ok-write_labels.ensures.text.ok)) c.in_err-write_moves.ensures.text.err))
+    text-failed c.from_residual-in_err-write_named_moves.result c.from_residual-in_err-write_named_moves.ensures.0
+    (front-more end_line (front-then (puts-then (puts-then (puts-then (puts-then c.in_ok-write_index.ensures.text.ok (puts-is (ap people_line c.people-people.ensures) c.in_ok-write_people.ensures.text.ok)) (puts-is (ap cleared_line c.cleared-cleared.ensures) c.in_ok-write_cleared.ensures.text.ok)) (puts-is (ap (λ k. out_lines m s.plan k) c.cleared-cleared.ensures) c.in_ok-write_outs.ensures.text.ok)) (puts-is (ap (λ k. label_lines m c.args.labels.now k) c.cleared-cleared.ensures) c.in_ok-write_labels.ensures.text.ok)) c.in_err-write_named_moves.ensures.text.err))
 
 pub returns-clause-text : goal.returns-clause-text
 unfolding answer_text
 returns-clause-text g c =
     let m = c.args.model.now in
     let s = g.F.Standing.stand c.args.standing.now in
-    text-last c.write_end.result (puts-then (puts-then (puts-then (puts-then (puts-then c.in_ok-write_index.ensures.text.ok (puts-is (ap people_line c.people-people.ensures) c.in_ok-write_people.ensures.text.ok)) (puts-is (ap cleared_line c.cleared-cleared.ensures) c.in_ok-write_cleared.ensures.text.ok)) (puts-is (ap (λ k. out_lines m s.plan k) c.cleared-cleared.ensures) c.in_ok-write_outs.ensures.text.ok)) (puts-is (ap (λ k. label_lines m c.args.labels.now k) c.cleared-cleared.ensures) c.in_ok-write_labels.ensures.text.ok)) c.in_ok-write_moves.ensures.text.ok) c.write_end.ensures.text
+    text-last c.write_end.result (puts-then (puts-then (puts-then (puts-then (puts-then c.in_ok-write_index.ensures.text.ok (puts-is (ap people_line c.people-people.ensures) c.in_ok-write_people.ensures.text.ok)) (puts-is (ap cleared_line c.cleared-cleared.ensures) c.in_ok-write_cleared.ensures.text.ok)) (puts-is (ap (λ k. out_lines m s.plan k) c.cleared-cleared.ensures) c.in_ok-write_outs.ensures.text.ok)) (puts-is (ap (λ k. label_lines m c.args.labels.now k) c.cleared-cleared.ensures) c.in_ok-write_labels.ensures.text.ok)) c.in_ok-write_named_moves.ensures.text.ok) c.write_end.ensures.text

@@ -4,7 +4,7 @@ use Rattle.std.specs.List.{flat_map}
 use Rattle.evac_law.specs.Sums.{below}
 use Rattle.line_io.specs.Writer.{Puts}
 use Rattle.certificate_text.specs.BlockText.{moment_moves}
-use Rattle.certificate_text.proofs.answer.write_moves.Given as goal
+use Rattle.certificate_text.proofs.answer.write_named_moves.Given as goal
 
 abbrev pub invariant-loop-moment : goal.invariant-loop-moment
 invariant-loop-moment g l = record {
