@@ -1,4 +1,4 @@
-// The report on labels.
+//! The report on labels.
 ghost use Rattle.std.specs.Prelude.{◌≡◌, ◌+◌, ◌<◌, ◌≤◌, IfOk, length, map, slice_index};
 ghost use Rattle.evac_law.specs.Building.{IsValid};
 ghost use Rattle.evac_law.specs.Certificates.{IsTableOf};
@@ -28,7 +28,7 @@ impl Model for Bottlenecks {
     ghost view = { λ b. record { arcs = b.arcs.items; holds = b.holds.items; room = length b.ends.items } };
 }
 
-/// In how many periods an arc is an item.
+// In how many periods an arc is an item.
 #[tactic(auto, unfolding(evac_law::specs::Limits::horizon_limit))]
 fn count_arc(
     ends: &mut [u16],
@@ -49,7 +49,7 @@ fn count_arc(
     count(ends, cleared)
 }
 
-/// In how many periods the hold of a node is an item.
+// In how many periods the hold of a node is an item.
 fn count_hold(
     ends: &mut [u16],
     model: &evac_law::Model,
@@ -69,7 +69,7 @@ fn count_hold(
     count(ends, cleared)
 }
 
-/// Writes the numbers of the arcs.
+// Writes the numbers of the arcs.
 fn write_arcs(
     numbers: &mut [u32],
     ends: &mut [u16],
@@ -87,7 +87,7 @@ fn write_arcs(
     }
 }
 
-/// Writes the numbers of the nodes.
+// Writes the numbers of the nodes.
 fn write_holds(
     numbers: &mut [u32],
     ends: &mut [u16],
@@ -105,7 +105,7 @@ fn write_holds(
     }
 }
 
-/// That many zeros.
+// That many zeros.
 fn zeros(alloc: Global, many: usize) -> Result<Vec<u32>, AllocError>
     ensures { IfOk result (λ r. length r.items ≡ many) }
 {

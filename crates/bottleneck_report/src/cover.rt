@@ -1,5 +1,5 @@
-// The periods that are in some span, by a list that says for each period how far the spans reach that begin there: the greatest end
-// of these, or 0.
+//! The periods that are in some span, by a list that says for each period how far the spans reach that begin there: the greatest end
+//! of these, or 0.
 ghost use Rattle.std.specs.Prelude.{◌≡◌, ℕ, ◌<◌, ◌≤◌, ◌||◌, IsFalse, length, slice_index_or};
 ghost use Rattle.std.specs.List.{filter};
 ghost use Rattle.evac_law.specs.Sums.{below};
@@ -8,7 +8,7 @@ ghost use Rattle.bottleneck_report.specs.Covers.{covers};
 
 use cut_witness::Span;
 
-/// Leaves zeros.
+// Leaves zeros.
 fn blank(list: &mut [u16])
     ensures zeros { (f : ℕ) → slice_index_or list.new f 0 ≡ 0 }
     ensures size { length list.new ≡ length list.old }

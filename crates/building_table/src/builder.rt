@@ -1,4 +1,4 @@
-// A building from its parts, one by one.
+//! A building from its parts, one by one.
 ghost use Rattle.std.specs.Prelude.{◌≡◌, ◌≤◌, ◌<◌, ◌+◌, ◌*◌, ◌∷◌, ◌&&◌, ◌==◌, List, [], length, true, false, nat_le, nat_lt, MatchOption, ◌++◌, IfErr, IfOk, OnErr, OnOk, Some, None};
 ghost use Rattle.std.specs.List.{list_any, position};
 ghost use Rattle.evac_law.specs.Building.{IsValid};

@@ -1,4 +1,4 @@
-// A building.
+//! A building.
 use crate::names::Names;
 use evac_law::Model;
 

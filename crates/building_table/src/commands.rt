@@ -1,4 +1,4 @@
-// The places and the edits that commands name.
+//! The places and the edits that commands name.
 ghost use Rattle.std.specs.Prelude.{◌≡◌, ◌<◌, IfOk, length};
 ghost use Rattle.evac_law.specs.Edits.{IsEditOf};
 ghost use Rattle.evac_law.specs.declared.model.Model.{Model};

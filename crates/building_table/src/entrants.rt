@@ -1,4 +1,4 @@
-// The entrants of a building that is being described.
+//! The entrants of a building that is being described.
 ghost use Rattle.std.specs.Prelude.{◌≡◌, [], false, IfOk, nat_lt, OnErr, OnOk};
 ghost use Rattle.std.specs.BTreeMap.{keys};
 ghost use Rattle.std.specs.List.{list_any};

@@ -1,4 +1,4 @@
-// Why a part, a model or a name is refused.
+//! Why a part, a model or a name is refused.
 ghost use Rattle.std.specs.Prelude.{◌≡◌};
 ghost use Rattle.building_table.specs.Built.{build_code, end_code, name_code};
 

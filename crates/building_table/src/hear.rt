@@ -1,4 +1,4 @@
-// One line of a model.
+//! One line of a model.
 ghost use Rattle.std.specs.Prelude.{◌≡◌, ℕ, List, IfOk, Ok, Err};
 ghost use Rattle.evac_law.specs.Building.{IsValid};
 ghost use Rattle.building_table.specs.Built.{built_of};

@@ -1,4 +1,4 @@
-// The names of nodes and the ends of arcs, with their places.
+//! The names of nodes and the ends of arcs, with their places.
 ghost use Rattle.std.specs.Prelude.{◌≡◌, ◌<◌, ◌≤◌, ◌==◌, ◌&&◌, [], length, map, position, OnErr, OnOk};
 ghost use Rattle.evac_law.specs.Limits.{arc_limit, node_limit};
 ghost use Rattle.building_table.specs.Names.{EndsDiffer, NamesDiffer, ends_with, names_with};

@@ -1,4 +1,4 @@
-// The names of a building.
+//! The names of a building.
 ghost use Rattle.std.specs.Prelude.{◌≡◌, ◌<◌, ◌≤◌, length, map, slice_get, IfOk, Some};
 ghost use Rattle.std.specs.Option.{option_map};
 ghost use Rattle.evac_law.specs.Limits.{arc_limit, node_limit};

@@ -2,7 +2,8 @@
 use Rattle.std.proofs.Common.{◌≡◌, ℕ, ◌+◌, ◌<◌, ◌≤◌, ◌⊎◌, inl, inr, cond, ◌&&◌, eqb, refl, sym, ◌∙◌, arith, subst}
 use Rattle.std.proofs.lemmas.Bool.{cases_lt}
 use Rattle.std.proofs.lemmas.Bool.Decides.{nat_tests}
-use Rattle.route_decompose.specs.Tables.{IsPut, IsRowFilled, PeopleTable, people_at}
+use Rattle.tables.specs.Tables.{IsPut}
+use Rattle.route_decompose.specs.Tables.{IsRowFilled, PeopleTable, people_at}
 
 -- ---- a row, moment by moment
 
@@ -27,14 +28,14 @@ one_filled c d e n t x f h put same = record {
   rows = put.rows ∙ h.rows;
   last = put.last ∙ h.last;
   row = λ k l. split k l (cases_lt k t);
-  others = λ i k l. put.cells i k ∙ elsewhere n i t k x (people_at d i k) (λ a b. omega (arith, a, l)) ∙ h.others i k l;
+  others = λ i k l. put.items 0 i k ∙ elsewhere n i t k x (people_at d i k) (λ a b. omega (arith, a, l)) ∙ h.others i k l;
 }
   where
     at : (k : ℕ) → k ≡ t → people_at e n k ≡ f k
-    at k a = subst (λ (z : ℕ). people_at e n z ≡ f z) (sym a) (put.cells n t ∙ here n t x (people_at d n t) ∙ same)
+    at k a = subst (λ (z : ℕ). people_at e n z ≡ f z) (sym a) (put.items 0 n t ∙ here n t x (people_at d n t) ∙ same)
 
     split : (k : ℕ) → k < t + 1 → (k < t) ⊎ (t ≤ k) → people_at e n k ≡ f k
-    split k l (inl b) = put.cells n k ∙ elsewhere n n t k x (people_at d n k) (λ a c. omega (arith, c, b)) ∙ h.row k b
+    split k l (inl b) = put.items 0 n k ∙ elsewhere n n t k x (people_at d n k) (λ a c. omega (arith, c, b)) ∙ h.row k b
     split k l (inr b) = at k (omega (arith, l, b))
 
 pub all_filled : (c d : PeopleTable) (n t : ℕ) (f : ℕ → ℕ) → IsFilling c d n t f → c.last < t → IsRowFilled c d n f

@@ -2,17 +2,16 @@
 use Rattle.std.specs.Prelude.{◌≡◌, ℕ, ◌<◌, ◌≤◌, ◌^◌, List, length}
 use Rattle.evac_law.specs.declared.model.Model.{Model}
 use Rattle.evac_law.specs.declared.plan.Move.{Move}
-use Rattle.route_decompose.specs.Tables.{IsFull, PeopleTable, people_at}
+use Rattle.route_decompose.specs.Tables.{PeopleTable, people_at}
 
 -- a plan of a model
 pub record PlanView : Type 0 where
   pub model : Model
   pub moves : List Move
 
--- a full table, whose numbers can be added up
-pub record IsSumTable (c : PeopleTable) : Type 0 where
-  pub full : IsFull c
-  pub small : (n t : ℕ) → people_at c n t < 2 ^ 62
+-- the numbers of a table can be added up
+abbrev pub IsSumTable : PeopleTable → Type 0
+IsSumTable c = (n t : ℕ) → people_at c n t < 2 ^ 62
 
 -- a table has a row for each node of a model, up to its horizon
 pub record IsByNode (m : Model) (c : PeopleTable) : Type 0 where

@@ -1,4 +1,4 @@
-// Cards.
+//! Cards.
 ghost use Rattle.std.specs.Prelude.{◌≡◌};
 
 use route_decompose::RouteStep;

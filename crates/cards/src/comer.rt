@@ -1,4 +1,4 @@
-// Those who come to a node, and those who leave it.
+//! Those who come to a node, and those who leave it.
 use route_decompose::RouteStep;
 
 /// Somebody who comes to a node at a moment, and how many come to it before.

@@ -1,4 +1,4 @@
-// A plan, and how many have come to each node and left it by each moment.
+//! A plan, and how many have come to each node and left it by each moment.
 ghost use Rattle.std.specs.Prelude.{◌≡◌, ℕ, IfOk};
 ghost use Rattle.evac_law.specs.Building.{IsValid};
 ghost use Rattle.evac_law.specs.Plans.{moved};

@@ -1,4 +1,4 @@
-// The cards of a plan.
+//! The cards of a plan.
 ghost use Rattle.std.specs.Prelude.{◌≡◌, IfOk, IsFalse, IsTrue};
 ghost use Rattle.evac_law.specs.Building.{IsValid, people};
 ghost use Rattle.evac_law.specs.Plans.{IsFeasible, out_by};

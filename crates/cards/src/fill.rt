@@ -1,4 +1,4 @@
-// How tables take the counts of a plan.
+//! How tables take the counts of a plan.
 ghost use Rattle.std.specs.Prelude.{◌<◌, length};
 ghost use Rattle.evac_law.specs.Plans.{came, left};
 ghost use Rattle.route_decompose.specs.Tables.{IsRowFilled};
@@ -7,7 +7,7 @@ ghost use Rattle.cards.specs.Kept.{HasNumbers, IsByNode};
 use crate::plan::PlanCopy;
 use crate::sums::SumTable;
 
-/// Puts how many left a node by each moment.
+// Puts how many left a node by each moment.
 fn fill_left_row(table: &mut SumTable, plan: &PlanCopy, node: u32)
     requires by_node { IsByNode plan.now.model table.old }
     requires node_in { node < length plan.now.model.nodes }
@@ -31,7 +31,7 @@ pub fn fill_left(table: &mut SumTable, plan: &PlanCopy)
     }
 }
 
-/// Puts how many came to a node by each moment.
+// Puts how many came to a node by each moment.
 fn fill_came_row(table: &mut SumTable, plan: &PlanCopy, node: u32)
     requires by_node { IsByNode plan.now.model table.old }
     requires node_in { node < length plan.now.model.nodes }

@@ -1,4 +1,4 @@
-// A person is followed by number from node to node.
+//! A person is followed by number from node to node.
 ghost use Rattle.std.specs.Prelude.{◌≡◌, ◌+◌, ◌<◌, ◌≤◌, ◌^◌, IsFalse, length};
 ghost use Rattle.evac_law.specs.Building.{is_exit_at};
 ghost use Rattle.evac_law.specs.Plans.{left};
@@ -10,7 +10,7 @@ use crate::comer::{Comer, Leaver};
 use crate::counts::Counts;
 use route_decompose::{RouteStep, Trail};
 
-/// The moment at which somebody leaves a node.
+// The moment at which somebody leaves a node.
 fn leaves_at(counts: &Counts, comer: Comer) -> u16
     requires counts { AreTrueCounts counts.now }
     requires comer { IsComer counts.now.plan.model counts.now.plan.moves comer }
@@ -25,7 +25,7 @@ fn leaves_at(counts: &Counts, comer: Comer) -> u16
     moment
 }
 
-/// The arc by which somebody leaves a node.
+// The arc by which somebody leaves a node.
 fn leaver_of(counts: &Counts, comer: Comer) -> Leaver
     requires counts { AreTrueCounts counts.now }
     requires comer { IsComer counts.now.plan.model counts.now.plan.moves comer }
@@ -47,7 +47,7 @@ fn leaver_of(counts: &Counts, comer: Comer) -> Leaver
     unreachable!()
 }
 
-/// How many come to the head of an arc before those who come out of it at a moment.
+// How many come to the head of an arc before those who come out of it at a moment.
 fn comers_before(counts: &Counts, arc: u32, moment: u16) -> u64
     requires counts { AreTrueCounts counts.now }
     requires arc_in { arc < length counts.now.plan.model.arcs }
@@ -66,7 +66,7 @@ fn comers_before(counts: &Counts, arc: u32, moment: u16) -> u64
     number
 }
 
-/// Where somebody comes to who enters an arc.
+// Where somebody comes to who enters an arc.
 fn comer_of(counts: &Counts, comer: Comer, leaver: Leaver) -> Comer
     requires counts { AreTrueCounts counts.now }
     requires comer { IsComer counts.now.plan.model counts.now.plan.moves comer }

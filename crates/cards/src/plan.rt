@@ -1,4 +1,4 @@
-// A plan that is kept.
+//! A plan that is kept.
 ghost use Rattle.std.specs.Prelude.{◌≡◌, ℕ, ◌<◌, ◌≤◌, ◌^◌, IfOk, length};
 ghost use Rattle.std.specs.List.{All};
 ghost use Rattle.evac_law.specs.Building.{IsValid};
@@ -8,15 +8,16 @@ ghost use Rattle.route_decompose.specs.Routes.{IsSameSite};
 ghost use Rattle.cards.specs.Numbers.{brought};
 
 use evac_law::Standing;
-use route_decompose::{Layout, Table, fill_moves};
+use route_decompose::{Layout, fill_moves};
 use std::alloc::{AllocError, Global};
 use std::marker::Model;
+use tables::Table;
 
 /// A model, and the people who enter each arc at each moment. All memory that it needs is taken when it is made.
 #[derive(Drop)]
 pub struct PlanCopy {
     layout: Layout,
-    moved: Table,
+    moved: Table<u32>,
 }
 
 impl Model for PlanCopy {
@@ -39,7 +40,7 @@ impl PlanCopy {
         ensures { IfOk result (λ p. p.model ≡ model.now) }
     {
         let layout = Layout::new(alloc, model)?;
-        let moved = Table::new(alloc, model.arc_count(), model.horizon)?;
+        let moved = Table::new(alloc, 0, model.arc_count(), model.horizon)?;
         Ok(PlanCopy { layout, moved })
     }
 

@@ -1,4 +1,4 @@
-// Whose turn it is: where the next person comes in.
+//! Whose turn it is: where the next person comes in.
 ghost use Rattle.std.specs.Prelude.{◌≡◌, ◌+◌, ◌<◌, ◌≤◌, length};
 ghost use Rattle.evac_law.specs.Building.{IsValid, entry, people};
 ghost use Rattle.cards.specs.Counts.{AreTrueCounts};
@@ -30,7 +30,7 @@ impl Turn {
     }
 }
 
-/// The turn after one, by moment and then by node.
+// The turn after one, by moment and then by node.
 fn turn_after(model: &Model, turn: Turn) -> Turn
     requires valid { IsValid model.now }
     requires turn { IsTurn model.now turn }

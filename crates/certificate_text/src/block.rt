@@ -1,4 +1,4 @@
-// The block that was read.
+//! The block that was read.
 use evac_law::{Labels, Move, Rows};
 
 /// An answer block: its number, the people, the moment at which the last one is out, the people out by each period up to it, the labels

@@ -1,4 +1,4 @@
-// The entries of a block.
+//! The entries of a block.
 ghost use Rattle.std.specs.Prelude.{◌≡◌};
 ghost use Rattle.certificate_text.specs.Entries.{is_end};
 

@@ -1,4 +1,4 @@
-// The laws of blocks, each the contract of a function that does nothing.
+//! The laws of blocks, each the contract of a function that does nothing.
 ghost use Rattle.certificate_text.specs.BlockLaws.{BlockIsSmall, BlockReadsBack};
 
 /// The block of a certified plan that was written is read back, wherever it stands in an input: its numbers, the people out by each period,

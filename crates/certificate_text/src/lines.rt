@@ -1,4 +1,4 @@
-// The lines of a block.
+//! The lines of a block.
 ghost use Rattle.std.specs.Prelude.{◌≡◌, ◌+◌, ◌++◌, ◌≤◌, ◌<◌, ◌^◌, ◌∷◌, length};
 ghost use Rattle.evac_law.specs.Names.{IsName, name_text};
 ghost use Rattle.line_io.specs.Causes.{HasCause};

@@ -1,4 +1,4 @@
-// The names of nodes, each spelt once.
+//! The names of nodes, each spelt once.
 ghost use Rattle.std.specs.Prelude.{◌≡◌, ◌≤◌, ◌<◌, length, map};
 ghost use Rattle.evac_law.specs.Building.{IsValid, node_at};
 ghost use Rattle.evac_law.specs.Names.{IsName, name_text};
@@ -26,7 +26,7 @@ impl std::marker::Model for NameText {
 }
 
 impl Default for NameText {
-    /// No text.
+    // No text.
     fn default() -> NameText {
         NameText {
             bytes: [0; NodeName::TEXT_LIMIT],

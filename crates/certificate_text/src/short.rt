@@ -1,4 +1,4 @@
-// The block of a shortfall: a cut that shows that not everybody can get out.
+//! The block of a shortfall: a cut that shows that not everybody can get out.
 ghost use Rattle.std.specs.Prelude.{◌≡◌, ◌+◌, ◌-◌, ◌<◌, ◌≤◌, IsTrue, length};
 ghost use Rattle.std.specs.List.{flat_map};
 ghost use Rattle.evac_law.specs.Building.{IsValid, people as people_of};

@@ -1,4 +1,4 @@
-// The report on a plan.
+//! The report on a plan.
 ghost use Rattle.std.specs.Prelude.{◌≡◌, ◌<◌, IfOk, length};
 ghost use Rattle.evac_law.specs.Building.{IsValid, people};
 ghost use Rattle.evac_law.specs.Plans.{IsFeasible, out_by};

@@ -1,4 +1,4 @@
-// When somebody is in a node last.
+//! When somebody is in a node last.
 ghost use Rattle.std.specs.Prelude.{◌≡◌, ℕ, ◌<◌, ◌≤◌, ◌&&◌, ◌||◌, ◌==◌, if◌then◌else◌, None, length, map, nat_lt, slice_index_or};
 ghost use Rattle.evac_law.specs.Building.{IsValid, is_exit_at};
 ghost use Rattle.evac_law.specs.Limits.{horizon_limit};
@@ -20,7 +20,7 @@ pub fn later(first: Option<u16>, second: Option<u16>) -> Option<u16>
     }
 }
 
-/// The last moment at which people enter an arc.
+// The last moment at which people enter an arc.
 #[tactic(auto, using(crate::proofs::MomentLemmas::last_steps), unfolding(evac_law::specs::Limits::horizon_limit))]
 fn last_moved<F: Standing>(standing: &F, arc: u32, horizon: u16) -> Option<u16>
     requires arc_in { arc < (F.stand standing.now).arcs }
@@ -37,7 +37,7 @@ fn last_moved<F: Standing>(standing: &F, arc: u32, horizon: u16) -> Option<u16>
     last
 }
 
-/// The last moment at which people stay in a node.
+// The last moment at which people stay in a node.
 #[tactic(auto, using(crate::proofs::MomentLemmas::last_steps), unfolding(evac_law::specs::Limits::horizon_limit))]
 fn last_held<F: Standing>(standing: &F, node: u32, horizon: u16) -> Option<u16>
     requires node_in { node < (F.stand standing.now).nodes }
@@ -54,7 +54,7 @@ fn last_held<F: Standing>(standing: &F, node: u32, horizon: u16) -> Option<u16>
     last
 }
 
-/// When people last stay in a node that is no exit.
+// When people last stay in a node that is no exit.
 #[tactic(auto, unfolding(evac_law::specs::Limits::horizon_limit))]
 fn held_moment<F: Standing>(model: &Model, standing: &F, node: u32) -> Option<u16>
     requires valid { IsValid model.now }
@@ -69,7 +69,7 @@ fn held_moment<F: Standing>(model: &Model, standing: &F, node: u32) -> Option<u1
     }
 }
 
-/// Writes when people last stay in each node that is no exit.
+// Writes when people last stay in each node that is no exit.
 #[tactic(auto, unfolding(evac_law::specs::Limits::horizon_limit))]
 fn write_held<F: Standing>(moments: &mut [Option<u16>], model: &Model, standing: &F)
     requires valid { IsValid model.now }
@@ -99,7 +99,7 @@ pub fn write_moments<F: Standing>(moments: &mut [Option<u16>], model: &Model, st
     }
 }
 
-/// The moment of a node; none past the last one.
+// The moment of a node; none past the last one.
 fn moment_at(moments: &[Option<u16>], node: u32) -> Option<u16>
     ensures { result ≡ slice_index_or moments.now node None }
 {

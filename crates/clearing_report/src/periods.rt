@@ -1,4 +1,4 @@
-// People times arrival moment.
+//! People times arrival moment.
 ghost use Rattle.std.specs.Prelude.{◌≡◌, ◌+◌, ◌*◌, ◌^◌, ◌<◌, ◌≤◌, ◌&&◌, if◌then◌else◌, nat_le, length};
 ghost use Rattle.std.specs.List.{sum_by};
 ghost use Rattle.evac_law.specs.Building.{IsValid, arrival, head, is_exit_at};
@@ -9,7 +9,7 @@ ghost use Rattle.evac_law.specs.Sums.{moments_to};
 
 use evac_law::{Model, Standing};
 
-/// The person-periods of an arc into an exit, of those who enter it at a moment.
+// The person-periods of an arc into an exit, of those who enter it at a moment.
 #[tactic(auto, unfolding(evac_law::specs::Limits::horizon_limit, evac_law::specs::Limits::travel_limit))]
 fn part_of<F: Standing>(model: &Model, standing: &F, arc: u32, moment: u16) -> u64
     requires valid { IsValid model.now }
@@ -29,7 +29,7 @@ fn part_of<F: Standing>(model: &Model, standing: &F, arc: u32, moment: u16) -> u
     }
 }
 
-/// The person-periods of an arc into an exit.
+// The person-periods of an arc into an exit.
 #[tactic(auto, using(evac_law::proofs::SumLemmas::sum_steps), unfolding(evac_law::specs::Limits::horizon_limit))]
 fn periods_of<F: Standing>(model: &Model, standing: &F, arc: u32) -> u64
     requires valid { IsValid model.now }

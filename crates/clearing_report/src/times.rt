@@ -1,4 +1,4 @@
-// How long people need to an exit who meet nobody.
+//! How long people need to an exit who meet nobody.
 ghost use Rattle.std.specs.Prelude.{◌≡◌, ℕ, ◌<◌, ◌≤◌, ◌⊎◌, IfSome, MatchOption, Some, length};
 ghost use Rattle.evac_law.specs.Building.{IsValid};
 ghost use Rattle.evac_law.specs.Certificates.{IsClearable};
@@ -14,7 +14,7 @@ pub struct Way {
     pub time: u32,
 }
 
-/// Whether an arc may be walked.
+// Whether an arc may be walked.
 fn is_open(model: &Model, arc: u32) -> bool
     requires valid { IsValid model.now }
     requires arc_in { arc < length model.now.arcs }
@@ -24,7 +24,7 @@ fn is_open(model: &Model, arc: u32) -> bool
     row.rate > 0 && !(row.shut || model.node(row.to).shut)
 }
 
-/// The time by one arc, where it is open and leads from a node whose time isn't known to one whose time is.
+// The time by one arc, where it is open and leads from a node whose time isn't known to one whose time is.
 fn way_by(model: &Model, times: &[Option<u32>], arc: u32) -> Option<u32>
     requires valid { IsValid model.now }
     requires times { AreTimes model.now times.now }
@@ -41,7 +41,7 @@ fn way_by(model: &Model, times: &[Option<u32>], arc: u32) -> Option<u32>
     }
 }
 
-/// The shorter of two ways.
+// The shorter of two ways.
 fn shorter(best: Option<Way>, way: Way) -> Way
     ensures one { (result ≡ way) ⊎ (best ≡ Some result) }
     ensures short { result.time ≤ way.time }
@@ -53,7 +53,7 @@ fn shorter(best: Option<Way>, way: Way) -> Way
     }
 }
 
-/// The shortest way.
+// The shortest way.
 fn nearest(model: &Model, times: &[Option<u32>]) -> Option<Way>
     requires valid { IsValid model.now }
     requires times { AreTimes model.now times.now }
@@ -68,7 +68,7 @@ fn nearest(model: &Model, times: &[Option<u32>]) -> Option<Way>
     best
 }
 
-/// Sets the times of exits to 0, and no other.
+// Sets the times of exits to 0, and no other.
 fn start(times: &mut [Option<u32>], model: &Model)
     requires valid { IsValid model.now }
     requires size { length times.old ≡ length model.now.nodes }
@@ -83,7 +83,7 @@ fn start(times: &mut [Option<u32>], model: &Model)
     }
 }
 
-/// Finds the times of all nodes that have a walk.
+// Finds the times of all nodes that have a walk.
 fn find(times: &mut [Option<u32>], model: &Model)
     requires valid { IsValid model.now }
     requires size { length times.old ≡ length model.now.nodes }
@@ -97,7 +97,7 @@ fn find(times: &mut [Option<u32>], model: &Model)
     }
 }
 
-/// The longest time of those who start; none where one of them has none.
+// The longest time of those who start; none where one of them has none.
 fn farthest(times: &[Option<u32>], model: &Model) -> Option<u32>
     requires valid { IsValid model.now }
     requires times { AreTimes model.now times.now }

@@ -1,4 +1,4 @@
-// The start of a walk through the items of a cut.
+//! The start of a walk through the items of a cut.
 ghost use Rattle.std.specs.Prelude.{◌≡◌, ◌≤◌};
 ghost use Rattle.evac_law.specs.Building.{IsValid};
 ghost use Rattle.evac_law.specs.Certificates.{IsTableOf, label_cut};

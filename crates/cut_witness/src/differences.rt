@@ -1,4 +1,4 @@
-// Numbers for periods, kept as what they rise and fall by at each.
+//! Numbers for periods, kept as what they rise and fall by at each.
 ghost use Rattle.std.specs.Prelude.{◌≡◌, ℕ, ◌+◌, ◌*◌, ◌<◌, ◌≤◌, ◌^◌, if◌then◌else◌, IfOk, nat_le, length, slice_index, sum, take};
 ghost use Rattle.cut_witness.specs.Changes.{IsChanges, IsBalance, in_span, turnover};
 
@@ -23,7 +23,7 @@ impl Model for Differences {
     ghost invariant = { λ d. IsChanges (record { rises = d.rises.items; falls = d.falls.items }) };
 }
 
-/// Adds people at a period, if it is one of the list's.
+// Adds people at a period, if it is one of the list's.
 fn raise(list: &mut [u64], period: u16, people: u32)
     requires { sum list.old + people < 2 ^ 64 }
     ensures sums { (k : ℕ) → k < length list.old → sum (take (k + 1) list.new) ≡ sum (take (k + 1) list.old) + (if nat_le period k then people else 0) }
@@ -35,7 +35,7 @@ fn raise(list: &mut [u64], period: u16, people: u32)
     }
 }
 
-/// Writes what the rises up to each period are above the falls.
+// Writes what the rises up to each period are above the falls.
 fn write_numbers(rises: &[u64], falls: &[u64], numbers: &mut [u64])
     requires falls { length falls.now ≡ length rises.now }
     requires numbers { length numbers.old ≡ length rises.now }

@@ -1,4 +1,4 @@
-// Who is in a cut, and who leaves it.
+//! Who is in a cut, and who leaves it.
 ghost use Rattle.std.specs.Prelude.{◌≡◌, ◌<◌, ◌≤◌, length};
 ghost use Rattle.evac_law.specs.Building.{IsValid};
 ghost use Rattle.evac_law.specs.Certificates.{IsTableOf, label_cut};

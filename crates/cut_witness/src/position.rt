@@ -1,4 +1,4 @@
-// The places at which a cut may have an item, one after another.
+//! The places at which a cut may have an item, one after another.
 ghost use Rattle.std.specs.Prelude.{◌≡◌, ◌+◌, ◌<◌, ◌≤◌, [], ◌∷◌, ◌++◌, length, IsFalse, IsTrue};
 ghost use Rattle.std.specs.Option.{option_to_list};
 ghost use Rattle.evac_law.specs.Building.{IsValid};
@@ -18,7 +18,7 @@ pub enum Part {
 }
 
 impl Part {
-    /// The kind that comes after this one.
+    // The kind that comes after this one.
     fn next(self) -> Part
         ensures { result ≡ next_part self }
     {
@@ -37,7 +37,7 @@ pub struct Position {
     pub column: u32,
 }
 
-/// The entry of a node at a moment, where it is an item.
+// The entry of a node at a moment, where it is an item.
 fn entry_item(model: &Model, labels: &Labels, k: u16, node: u32, moment: u16) -> Option<CutItem>
     requires valid { IsValid model.now }
     requires table { IsTableOf model.now labels.now }
@@ -54,7 +54,7 @@ fn entry_item(model: &Model, labels: &Labels, k: u16, node: u32, moment: u16) ->
     }
 }
 
-/// The hold of a node after a moment, where it is an item.
+// The hold of a node after a moment, where it is an item.
 fn hold_item(model: &Model, labels: &Labels, k: u16, node: u32, moment: u16) -> Option<CutItem>
     requires table { IsTableOf model.now labels.now }
     requires node_in { node < length model.now.nodes }
@@ -74,7 +74,7 @@ fn hold_item(model: &Model, labels: &Labels, k: u16, node: u32, moment: u16) -> 
     }
 }
 
-/// An arc at a moment, where it is an item.
+// An arc at a moment, where it is an item.
 fn arc_item(model: &Model, labels: &Labels, k: u16, moment: u16, arc: u32) -> Option<CutItem>
     requires valid { IsValid model.now }
     requires table { IsTableOf model.now labels.now }
@@ -91,7 +91,7 @@ fn arc_item(model: &Model, labels: &Labels, k: u16, moment: u16, arc: u32) -> Op
     }
 }
 
-/// How many rows and columns a part has.
+// How many rows and columns a part has.
 fn size_of(model: &Model, k: u16, part: Part) -> (u32, u32)
     requires valid { IsValid model.now }
     requires k_in { k ≤ model.now.horizon }
@@ -108,7 +108,7 @@ fn size_of(model: &Model, k: u16, part: Part) -> (u32, u32)
     }
 }
 
-/// The item at a place, if there is one.
+// The item at a place, if there is one.
 fn item_at(model: &Model, labels: &Labels, k: u16, place: Position) -> Option<CutItem>
     requires valid { IsValid model.now }
     requires table { IsTableOf model.now labels.now }

@@ -1,4 +1,4 @@
-// The periods in whose cuts an entry, a hold or an arc is an item.
+//! The periods in whose cuts an entry, a hold or an arc is an item.
 ghost use Rattle.std.specs.Prelude.{◌≡◌, ℕ, ◌+◌, ◌<◌, ◌≤◌, ◌&&◌, not, nat_le, nat_lt, length};
 ghost use Rattle.evac_law.specs.Building.{IsValid};
 ghost use Rattle.evac_law.specs.Certificates.{IsTableOf, label_cut};
@@ -15,7 +15,7 @@ pub struct Span {
 }
 
 impl Span {
-    /// No period.
+    // No period.
     const NONE: Span = Span { from: 0, to: 0 };
 }
 

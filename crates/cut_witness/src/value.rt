@@ -1,4 +1,4 @@
-// The value of one cut.
+//! The value of one cut.
 ghost use Rattle.std.specs.Prelude.{◌≡◌, ◌+◌, ◌*◌, ◌^◌, ◌<◌, ◌≤◌, ◌&&◌, ◌||◌, ◌==◌, not, if◌then◌else◌, List, length};
 ghost use Rattle.std.specs.List.{sum_by};
 ghost use Rattle.evac_law.specs.Building.{IsValid, capacity, entry, rate};
@@ -12,7 +12,7 @@ ghost use Rattle.evac_law.specs.declared.plan.Move.{Move};
 use crate::membership::{in_cut, leaves_cut};
 use evac_law::{Labels, Model};
 
-/// The people who come into a node at a moment, where it is outside the cut then.
+// The people who come into a node at a moment, where it is outside the cut then.
 fn entry_at(model: &Model, labels: &Labels, k: u16, node: u32, moment: u16) -> u32
     requires valid { IsValid model.now }
     requires table { IsTableOf model.now labels.now }
@@ -29,7 +29,7 @@ fn entry_at(model: &Model, labels: &Labels, k: u16, node: u32, moment: u16) -> u
     }
 }
 
-/// The capacity of a node, where it leaves the cut after a moment.
+// The capacity of a node, where it leaves the cut after a moment.
 fn hold_at(model: &Model, labels: &Labels, k: u16, node: u32, moment: u16) -> u32
     requires table { IsTableOf model.now labels.now }
     requires k_in { k ≤ model.now.horizon }
@@ -45,7 +45,7 @@ fn hold_at(model: &Model, labels: &Labels, k: u16, node: u32, moment: u16) -> u3
     }
 }
 
-/// The rate of an arc at a moment, where it leaves the cut then.
+// The rate of an arc at a moment, where it leaves the cut then.
 fn rate_at(model: &Model, labels: &Labels, k: u16, moment: u16, arc: u32) -> u32
     requires valid { IsValid model.now }
     requires table { IsTableOf model.now labels.now }
@@ -62,7 +62,7 @@ fn rate_at(model: &Model, labels: &Labels, k: u16, moment: u16, arc: u32) -> u32
     }
 }
 
-/// The entries of a node outside the cut.
+// The entries of a node outside the cut.
 #[tactic(auto, using(evac_law::proofs::SumLemmas::sum_steps), unfolding(evac_law::specs::Limits::horizon_limit))]
 fn entries_of(model: &Model, labels: &Labels, k: u16, node: u32) -> u64
     requires valid { IsValid model.now }
@@ -80,7 +80,7 @@ fn entries_of(model: &Model, labels: &Labels, k: u16, node: u32) -> u64
     total
 }
 
-/// The capacity of a node, for each moment after which it leaves the cut.
+// The capacity of a node, for each moment after which it leaves the cut.
 #[tactic(auto, using(evac_law::proofs::SumLemmas::sum_steps))]
 fn holds_of(model: &Model, labels: &Labels, k: u16, node: u32) -> u64
     requires table { IsTableOf model.now labels.now }
@@ -97,7 +97,7 @@ fn holds_of(model: &Model, labels: &Labels, k: u16, node: u32) -> u64
     total
 }
 
-/// The rates of the arcs that leave the cut at a moment.
+// The rates of the arcs that leave the cut at a moment.
 #[tactic(auto, using(evac_law::proofs::SumLemmas::sum_steps), unfolding(evac_law::specs::Limits::arc_limit))]
 fn rates_at(model: &Model, labels: &Labels, k: u16, moment: u16) -> u64
     requires valid { IsValid model.now }
@@ -115,7 +115,7 @@ fn rates_at(model: &Model, labels: &Labels, k: u16, moment: u16) -> u64
     total
 }
 
-/// The entries outside the cut.
+// The entries outside the cut.
 #[tactic(auto, using(evac_law::proofs::SumLemmas::sum_steps), unfolding(evac_law::specs::Limits::node_limit))]
 fn entries(model: &Model, labels: &Labels, k: u16) -> u64
     requires valid { IsValid model.now }
@@ -132,7 +132,7 @@ fn entries(model: &Model, labels: &Labels, k: u16) -> u64
     total
 }
 
-/// The capacities of the nodes that leave the cut.
+// The capacities of the nodes that leave the cut.
 #[tactic(auto, using(evac_law::proofs::SumLemmas::sum_steps), unfolding(evac_law::specs::Limits::node_limit))]
 fn holds(model: &Model, labels: &Labels, k: u16) -> u64
     requires valid { IsValid model.now }
@@ -149,7 +149,7 @@ fn holds(model: &Model, labels: &Labels, k: u16) -> u64
     total
 }
 
-/// The rates of the arcs that leave the cut.
+// The rates of the arcs that leave the cut.
 #[tactic(auto, using(evac_law::proofs::SumLemmas::sum_steps), unfolding(evac_law::specs::Limits::arc_limit, evac_law::specs::Limits::horizon_limit))]
 fn rates(model: &Model, labels: &Labels, k: u16) -> u64
     requires valid { IsValid model.now }

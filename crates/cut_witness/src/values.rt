@@ -1,4 +1,4 @@
-// The values of the cuts of all periods.
+//! The values of the cuts of all periods.
 ghost use Rattle.std.specs.Prelude.{◌≡◌, ℕ, ◌+◌, ◌*◌, ◌^◌, ◌<◌, ◌≤◌, IfOk, length, slice_index};
 ghost use Rattle.std.specs.List.{sum_by};
 ghost use Rattle.evac_law.specs.Building.{IsValid};
@@ -31,7 +31,7 @@ impl std::marker::Model for CutValues {
     ghost invariant = { λ c. length c.differences.rises ≡ length c.values.items };
 }
 
-/// Adds the entries of a node to the periods in whose cuts they are.
+// Adds the entries of a node to the periods in whose cuts they are.
 #[tactic(auto, using(evac_law::proofs::SumLemmas::sum_steps), unfolding(evac_law::specs::Limits::horizon_limit))]
 fn add_entries_of(differences: &mut Differences, model: &Model, labels: &Labels, node: u32)
     requires summable { IsSummable model.now labels.now differences.old }
@@ -47,7 +47,7 @@ fn add_entries_of(differences: &mut Differences, model: &Model, labels: &Labels,
     }
 }
 
-/// Adds the capacity of a node to the periods whose cuts it leaves, for each moment after which it does.
+// Adds the capacity of a node to the periods whose cuts it leaves, for each moment after which it does.
 #[tactic(auto, using(evac_law::proofs::SumLemmas::sum_steps))]
 fn add_holds_of(differences: &mut Differences, model: &Model, labels: &Labels, node: u32)
     requires summable { IsSummable model.now labels.now differences.old }
@@ -64,7 +64,7 @@ fn add_holds_of(differences: &mut Differences, model: &Model, labels: &Labels, n
     }
 }
 
-/// Adds the rates of an arc to the periods whose cuts it leaves, for each moment at which it does.
+// Adds the rates of an arc to the periods whose cuts it leaves, for each moment at which it does.
 #[tactic(auto, using(evac_law::proofs::SumLemmas::sum_steps), unfolding(evac_law::specs::Limits::horizon_limit))]
 fn add_arcs_of(differences: &mut Differences, model: &Model, labels: &Labels, arc: u32)
     requires summable { IsSummable model.now labels.now differences.old }
@@ -80,7 +80,7 @@ fn add_arcs_of(differences: &mut Differences, model: &Model, labels: &Labels, ar
     }
 }
 
-/// Adds all nodes' entries.
+// Adds all nodes' entries.
 #[tactic(auto, using(evac_law::proofs::SumLemmas::sum_steps), unfolding(evac_law::specs::Limits::node_limit))]
 fn add_entries(differences: &mut Differences, model: &Model, labels: &Labels)
     requires summable { IsSummable model.now labels.now differences.old }
@@ -95,7 +95,7 @@ fn add_entries(differences: &mut Differences, model: &Model, labels: &Labels)
     }
 }
 
-/// Adds all nodes' capacities.
+// Adds all nodes' capacities.
 #[tactic(auto, using(evac_law::proofs::SumLemmas::sum_steps), unfolding(evac_law::specs::Limits::node_limit))]
 fn add_holds(differences: &mut Differences, model: &Model, labels: &Labels)
     requires summable { IsSummable model.now labels.now differences.old }
@@ -110,7 +110,7 @@ fn add_holds(differences: &mut Differences, model: &Model, labels: &Labels)
     }
 }
 
-/// Adds all arcs' rates.
+// Adds all arcs' rates.
 #[tactic(auto, using(evac_law::proofs::SumLemmas::sum_steps), unfolding(evac_law::specs::Limits::arc_limit))]
 fn add_arcs(differences: &mut Differences, model: &Model, labels: &Labels)
     requires summable { IsSummable model.now labels.now differences.old }
@@ -125,7 +125,7 @@ fn add_arcs(differences: &mut Differences, model: &Model, labels: &Labels)
     }
 }
 
-/// Adds the items of all cuts.
+// Adds the items of all cuts.
 #[tactic(auto, unfolding(evac_law::specs::Limits::arc_limit, evac_law::specs::Limits::node_limit))]
 fn add_items(differences: &mut Differences, model: &Model, labels: &Labels)
     requires summable { IsSummable model.now labels.now differences.old }

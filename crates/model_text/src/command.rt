@@ -1,12 +1,12 @@
-// What a line of a session commands.
+//! What a line of a session commands.
 ghost use Rattle.std.specs.Prelude.{◌≡◌, ◌≢◌, IfErr};
 ghost use Rattle.model_text.specs.Commands.{alone, command_by_word, command_of, with_number};
 ghost use Rattle.model_text.specs.Fields.{fields_of};
 
 use crate::fault::TextFault;
+use crate::field_values::{number, one};
 use crate::fields::{Fields, is_word};
 use crate::named_edit::{NamedEdit, read_edit};
-use crate::field_values::{number, one};
 use crate::statement::is_comment;
 
 /// A report on the plan that stands.

@@ -1,4 +1,4 @@
-// Why a line is refused.
+//! Why a line is refused.
 ghost use Rattle.std.specs.Prelude.{◌≡◌};
 ghost use Rattle.model_text.specs.Codes.{text_fault_code};
 

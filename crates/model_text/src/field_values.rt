@@ -1,4 +1,4 @@
-// So many fields of a line, and the numbers, names and texts that they hold.
+//! So many fields of a line, and the numbers, names and texts that they hold.
 ghost use Rattle.std.specs.Prelude.{◌≡◌, Err, MatchResult, Ok};
 ghost use Rattle.model_text.specs.Fields.{fields_of, text_of};
 ghost use Rattle.model_text.specs.Grammar.{four_fields, name_field, number_field, one_field, ranged, text_field, three_fields, two_fields};

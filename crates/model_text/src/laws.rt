@@ -1,4 +1,4 @@
-// The laws of names and of described buildings, each the contract of a function that does nothing.
+//! The laws of names and of described buildings, each the contract of a function that does nothing.
 ghost use Rattle.model_text.specs.Laws.{DescribedIsPlain, DescribedIsValid, NamesReadBack};
 
 /// A field reads as a name exactly where it is the text of that name.

@@ -1,4 +1,4 @@
-// Name fields.
+//! Name fields.
 ghost use Rattle.std.specs.Prelude.{◌≡◌, ◌≤◌, drop, length, take};
 ghost use Rattle.std.specs.List.{after_first, before_first, position_or_len};
 ghost use Rattle.evac_law.specs.Limits.{floor_number_limit, number_limit};

@@ -1,11 +1,11 @@
-// An edit of a model, by names.
+//! An edit of a model, by names.
 ghost use Rattle.std.specs.Prelude.{◌≡◌};
 ghost use Rattle.model_text.specs.Fields.{fields_of};
 ghost use Rattle.model_text.specs.NamedEdits.{edit_by_word, name_number, names_number, names_numbers, two_names, with_name, with_name_number, with_names, with_names_number, with_names_numbers};
 
 use crate::fault::TextFault;
-use crate::fields::{Fields, is_word};
 use crate::field_values::{four, name, number, one, three, two};
+use crate::fields::{Fields, is_word};
 use evac_law::NodeName;
 
 /// An edit of a model, by names.

@@ -1,4 +1,4 @@
-// A part of a model.
+//! A part of a model.
 ghost use Rattle.std.specs.Prelude.{◌≡◌};
 ghost use Rattle.evac_law.specs.Limits.{capacity_limit, floor_number_limit, horizon_limit, people_limit, rate_limit, seconds_limit, travel_limit};
 ghost use Rattle.model_text.specs.Fields.{behind_field, fields_of, text_of};
@@ -6,8 +6,8 @@ ghost use Rattle.model_text.specs.Grammar.{arc, entrant, exit_fields, floor, hor
 ghost use Rattle.model_text.specs.Reads.{ReadsPart};
 
 use crate::fault::TextFault;
-use crate::fields::{Fields, is_word};
 use crate::field_values::{four, name, one, ranged, ranged_short, text, three, two};
+use crate::fields::{Fields, is_word};
 use evac_law::NodeName;
 use evac_law::limits::{
     CAPACITY_LIMIT, FLOOR_NUMBER_LIMIT, HORIZON_LIMIT, PEOPLE_LIMIT, RATE_LIMIT, SECONDS_LIMIT,

@@ -1,4 +1,4 @@
-// What a line of a model says.
+//! What a line of a model says.
 ghost use Rattle.std.specs.Prelude.{◌≡◌, ◌≢◌, Err, IfErr, IfOk, if◌then◌else◌};
 ghost use Rattle.model_text.specs.Fields.{fields_of};
 ghost use Rattle.model_text.specs.Grammar.{IsSaid, by_word, end, header, is_comment, statement_of};
@@ -6,9 +6,9 @@ ghost use Rattle.model_text.specs.Readings.{is_unknown, later_statement};
 ghost use Rattle.model_text.specs.Reads.{Reads, said};
 
 use crate::fault::TextFault;
+use crate::field_values::{number, one};
 use crate::fields::{Fields, is_word};
 use crate::part::{Part, read_part};
-use crate::field_values::{number, one};
 
 /// What a line of a model says.
 #[derive(Clone, Copy, PartialEq, Eq, Debug)]

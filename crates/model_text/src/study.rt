@@ -1,4 +1,4 @@
-// What a line of a study commands.
+//! What a line of a study commands.
 ghost use Rattle.std.specs.Prelude.{◌≡◌};
 ghost use Rattle.model_text.specs.Fields.{fields_of};
 ghost use Rattle.model_text.specs.Grammar.{no_field};

@@ -1,4 +1,4 @@
-// The check of a block.
+//! The check of a block.
 ghost use Rattle.std.specs.Prelude.{◌≡◌, ◌↔◌, IfOk};
 ghost use Rattle.evac_law.specs.Building.{IsValid};
 ghost use Rattle.certificate_text.specs.Block.{IsBlockOf};

@@ -1,4 +1,4 @@
-// The people who are out, period by period.
+//! The people who are out, period by period.
 ghost use Rattle.std.specs.Prelude.{◌≡◌, ◌≢◌, ℕ, ◌+◌, ◌<◌, ◌≤◌, ◌^◌, ◌↔◌, IfOk, IfSome, IsTrue, MatchOption, length, slice_index};
 ghost use Rattle.std.specs.List.{All, sum_by};
 ghost use Rattle.evac_law.specs.Building.{IsValid, arrival};
@@ -11,7 +11,7 @@ ghost use Rattle.plan_checker.specs.Parts.{IsAllOut};
 use evac_law::{Model, Move};
 use std::alloc::{AllocError, Global};
 
-/// Adds the people who arrive at exits to the numbers of the moments.
+// Adds the people who arrive at exits to the numbers of the moments.
 #[tactic(auto, unfolding(evac_law::specs::Limits::horizon_limit, evac_law::specs::Limits::travel_limit))]
 fn count_arriving(numbers: &mut [u64], model: &Model, moves: &[Move])
     requires valid { IsValid model.now }
@@ -29,7 +29,7 @@ fn count_arriving(numbers: &mut [u64], model: &Model, moves: &[Move])
     }
 }
 
-/// Puts the sum of all numbers up to it in the place of each.
+// Puts the sum of all numbers up to it in the place of each.
 #[tactic(auto, using(evac_law::proofs::SumLemmas::sum_steps))]
 fn sum_up(numbers: &mut [u64])
     requires { (t : ℕ) → t < length numbers.old → sum_by (slice_index numbers.old) (moments_to t) < 2 ^ 64 }
@@ -42,7 +42,7 @@ fn sum_up(numbers: &mut [u64])
     }
 }
 
-/// Puts the people out by each moment into a list of zeros.
+// Puts the people out by each moment into a list of zeros.
 fn write_curve(numbers: &mut [u64], model: &Model, moves: &[Move])
     requires valid { IsValid model.now }
     requires ordered { IsOrdered (length model.now.arcs) model.now.horizon moves.now }
@@ -72,7 +72,7 @@ pub fn curve_of(
     Ok(numbers)
 }
 
-/// Whether each move arrives by a moment.
+// Whether each move arrives by a moment.
 #[tactic(auto, unfolding(evac_law::specs::Limits::horizon_limit, evac_law::specs::Limits::travel_limit))]
 fn all_arrive(model: &Model, moves: &[Move], last: u16) -> bool
     requires valid { IsValid model.now }

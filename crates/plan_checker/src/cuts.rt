@@ -1,4 +1,4 @@
-// Whether the cuts are worth the curve.
+//! Whether the cuts are worth the curve.
 ghost use Rattle.std.specs.Prelude.{◌≡◌, ◌≢◌, ℕ, ◌+◌, ◌<◌, ◌≤◌, IfOk, IfSome, MatchOption, length, slice_index};
 ghost use Rattle.evac_law.specs.Building.{IsValid};
 ghost use Rattle.evac_law.specs.Certificates.{IsTableOf, label_cut};
@@ -8,7 +8,7 @@ use cut_witness::CutValues;
 use evac_law::{Labels, Model};
 use std::alloc::{AllocError, Global};
 
-/// The first period below the end at which a number of the curve isn't that of the cuts.
+// The first period below the end at which a number of the curve isn't that of the cuts.
 fn first_difference(values: &CutValues, curve: &[u64], end: u16) -> Option<u16>
     requires values_in { end ≤ length values.now }
     requires curve_in { end ≤ length curve.now }

@@ -1,4 +1,4 @@
-// Whether a plan keeps the capacities.
+//! Whether a plan keeps the capacities.
 ghost use Rattle.std.specs.Prelude.{ℕ, ◌+◌, ◌<◌, ◌≤◌, ◌^◌, IfOk, IsFalse, IfSome, MatchOption, length};
 ghost use Rattle.evac_law.specs.Building.{IsValid, is_exit_at};
 ghost use Rattle.evac_law.specs.Stands.{IsOrdered};
@@ -10,7 +10,7 @@ use evac_law::{Model, Move};
 use std::alloc::{AllocError, Global};
 use tables::Table;
 
-/// The first moment before `until` at which a node holds fewer than none, or more than its capacity.
+// The first moment before `until` at which a node holds fewer than none, or more than its capacity.
 #[tactic(auto, using(evac_law::proofs::SumLemmas::sum_steps))]
 fn first_broken_moment(
     model: &Model,
@@ -39,7 +39,7 @@ fn first_broken_moment(
     None
 }
 
-/// The first moment and node, that is no exit, at which by the counts the node holds fewer than none or more than its capacity.
+// The first moment and node, that is no exit, at which by the counts the node holds fewer than none or more than its capacity.
 #[tactic(auto, unfolding(evac_law::specs::Limits::horizon_limit))]
 fn first_broken_count(model: &Model, came: &Table<u64>, left: &Table<u64>) -> Option<(u16, u32)>
     requires tallies { AreTallies model.now came.now left.now (came.now.last + 1) }

@@ -1,4 +1,4 @@
-// What follows from a verdict, as the contracts of functions with nothing to do.
+//! What follows from a verdict, as the contracts of functions with nothing to do.
 ghost use Rattle.plan_checker.specs.VerdictLaws.{OneVerdict, YesIsCertified};
 
 /// Yes is the verdict exactly of the blocks that are right.

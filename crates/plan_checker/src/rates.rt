@@ -1,4 +1,4 @@
-// Whether a plan keeps the rates.
+//! Whether a plan keeps the rates.
 ghost use Rattle.std.specs.Prelude.{◌≤◌, MatchOption, length};
 ghost use Rattle.evac_law.specs.Building.{IsValid};
 ghost use Rattle.evac_law.specs.Stands.{IsOrdered};

@@ -1,11 +1,11 @@
-// People counted by node and moment.
+//! People counted by node and moment.
 ghost use Rattle.std.specs.Prelude.{◌≡◌, ℕ, ◌+◌, ◌<◌, ◌≤◌, ◌^◌, ◌&&◌, if◌then◌else◌, ◌==◌};
 ghost use Rattle.plan_checker.specs.Counts.{IsCountable, coming_at, count, leaving_at};
 
 use evac_law::{Model, Move};
 use tables::Table;
 
-/// Adds people to the number of a node at a moment.
+// Adds people to the number of a node at a moment.
 fn add(tally: &mut Table<u64>, node: u32, moment: u16, people: u32)
     requires node_in { node < tally.old.rows }
     requires moment_in { moment ≤ tally.old.last }

@@ -1,4 +1,4 @@
-// What the checker says of a block.
+//! What the checker says of a block.
 
 /// The first part of a block that fails, in the order of the variants but the first, or that none does.
 #[derive(Clone, Copy, PartialEq, Eq, Debug)]

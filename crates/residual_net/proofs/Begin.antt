@@ -1,16 +1,19 @@
 -- A net of a model begins with no flow and the model's limits.
-use Rattle.std.proofs.Common.{◌≡◌, ℕ, zero, suc, ◌+◌, ◌*◌, ◌<◌, ◌≤◌, Bool, true, false, cond, ◌&&◌, ◌||◌, eqb, ltb, List, [], ◌∷◌, ◌++◌, length, length-append, map, get_or, replicate, append_assoc, add-one, refl, ap, ap₂, sym, ◌∙◌, arith, inl, inr, subst}
+use Rattle.std.proofs.Common.{◌≡◌, ℕ, zero, suc, ◌+◌, ◌-◌, ◌*◌, ◌<◌, ◌≤◌, Bool, true, false, cond, ◌&&◌, ◌||◌, eqb, ltb, List, [], ◌∷◌, ◌++◌, length, length-append, map, get_or, replicate, append_assoc, add-one, refl, ap, ap₂, sym, ◌∙◌, arith, inl, inr, subst}
+use Rattle.std.specs.List.{range_with_len}
 use Rattle.std.proofs.lemmas.List.{get_or-append-add, get_or_append_left, get_or-map, get_or-replicate, length-map, length-replicate, map-append}
 use Rattle.std.proofs.lemmas.List.FromFn.{get_or-range_with_len, length-map-range_with_len, length-range_with_len, map-range_with_len_more}
 use Rattle.std.proofs.lemmas.Nat.{mul-add-lt}
 use Rattle.std.proofs.Math.Nat.{mul_comm}
-use Rattle.std.proofs.lemmas.Bool.{cases_lt}
+use Rattle.std.proofs.lemmas.Bool.{cases_lt, eq-eqb, le-ltb, lt-ltb, ne_eqb}
+use Rattle.evac_law.specs.Entrants.{entering}
+use Rattle.evac_law.specs.Windows.{is_closed_at}
 use Rattle.std.proofs.lemmas.Bool.Decides.{nat_tests}
 use Rattle.evac_law.specs.declared.model.Model.{Model}
 use Rattle.evac_law.specs.declared.model.NodeRow.{NodeRow}
 use Rattle.evac_law.specs.declared.model.ArcRow.{ArcRow}
 use Rattle.evac_law.specs.Limits as evac
-use Rattle.evac_law.specs.Building.{IsValid, no_arc, no_node, arrival, capacity, rate, tail, entered_by, entry, people}
+use Rattle.evac_law.specs.Building.{IsValid, arc_at, head, node_at, no_arc, no_node, arrival, capacity, rate, tail, entered_by, entry, people}
 use Rattle.evac_law.specs.Names.{is_exit}
 use Rattle.evac_law.specs.Sums.{below}
 use Rattle.evac_law.proofs.Entries.{entered_all, exit_entry}
@@ -23,12 +26,13 @@ use Rattle.residual_net.specs.declared.place.Place.TheVariants.{Arc, Hold, Suppl
 use Rattle.residual_net.specs.declared.place.Cell.{Cell}
 use Rattle.residual_net.specs.declared.start.Kind.{Kind}
 use Rattle.residual_net.specs.declared.start.Kind.TheVariants as kinds
+use Rattle.residual_net.specs.declared.start.Opening.{Opening}
 use Rattle.residual_net.specs.Limits.{supply_limit}
 use Rattle.residual_net.specs.Site.{Site, IsSite, IsPlace, End_test, all_cells, arc_count, cell_of, at, exit_at, head_of, is_barred, is_door, is_source, same_place, sum_places, tail_of}
 use Rattle.residual_net.specs.declared.end.End.TheVariants.{Pair, Door}
 use Rattle.residual_net.specs.Network.{Network, IsKept, IsStored, no_cell, flow_at, flow_into, flow_out, limit_at, supply_limits}
 use Rattle.residual_net.specs.OfModel.{IsNetOf, model_limit, site_of}
-use Rattle.residual_net.specs.Start.{StartsAs, cell_at, start_cells, emptied, is_kind, moment_of, place_of, row_cells, row_of, rows_cells}
+use Rattle.residual_net.specs.Start.{IsOpening, StartsAs, cell_at, start_cells, emptied, is_kind, moment_of, place_of, row_cells, row_of, rows_cells}
 use Rattle.residual_net.proofs.Places.{sum_places-same, sum_places-none}
 use Rattle.residual_net.proofs.Held.{arrival_is, exit_is, from_is, same_in}
 
@@ -108,6 +112,72 @@ pub row_more : (xs : List Cell) (m : Model) (k : Kind) (n t : ℕ)
 row_more xs m k n t =
     append_assoc xs (map (cell_at m k n) (below t)) (cell_at m k n t ∷ [])
     ∙ ap (λ z. xs ++ z) (sym (map-range_with_len_more (cell_at m k n) 0 t t (omega arith)))
+
+-- cells that are all the same
+same_cells : (f : ℕ → Cell) (x : Cell) (n a : ℕ) → ((t : ℕ) → a ≤ t → t < a + n → f t ≡ x) → map f (range_with_len a n) ≡ replicate n x
+same_cells f x zero a same = refl
+same_cells f x (suc n) a same =
+    ap₂ (λ (y : Cell) (l : List Cell). y ∷ l) (same a (omega arith) (omega arith)) (same_cells f x n (a + 1) (λ t l h. same t (omega (arith, l)) (omega (arith, h))))
+
+-- a row, stretch by stretch
+row_split : (f : ℕ → Cell) (b n a : ℕ) → map f (range_with_len a (b + n)) ≡ map f (range_with_len a b) ++ map f (range_with_len (a + b) n)
+row_split f zero n a = let none : zero + n ≡ n = omega arith in let here : a + zero ≡ a = omega arith in rw (none, here) refl
+row_split f (suc b) n a =
+    let one : suc b + n ≡ suc (b + n) = omega arith in
+    let next : (a + 1) + b ≡ a + suc b = omega arith in
+    ap (λ i. map f (range_with_len a i)) one ∙ ap (λ (l : List Cell). f a ∷ l) (row_split f b n (a + 1))
+    ∙ ap (λ i. f a ∷ (map f (range_with_len (a + 1) b) ++ map f (range_with_len i n))) next
+
+-- a row that opens with one limit
+pub row_opened : (xs ys zs : List Cell) (m : Model) (k : Kind) (n : ℕ) (o : Opening) → IsOpening m k n o
+    → ys ≡ xs ++ replicate o.moments (record { flow = 0; limit = o.limit }) → zs ≡ ys ++ replicate ((m.horizon + 1) - o.moments) (record { flow = 0; limit = 0 })
+    → zs ≡ xs ++ row_cells m k n
+row_opened xs ys zs m k n o is first later =
+    let f = cell_at m k n in
+    let rest = (m.horizon + 1) - o.moments in
+    let whole : o.moments + rest ≡ m.horizon + 1 = omega (arith, is.moments) in
+    let from : o.moments ≡ 0 + o.moments = omega arith in
+    let one : map f (range_with_len 0 o.moments) ≡ replicate o.moments (record { flow = 0; limit = o.limit }) =
+    same_cells f (record { flow = 0; limit = o.limit }) o.moments 0 (λ t l h. ap (λ (i : ℕ). record { flow = 0; limit = i }) (is.first t (omega (arith, h)))) in
+    let two : map f (range_with_len o.moments rest) ≡ replicate rest (record { flow = 0; limit = 0 }) =
+    same_cells f (record { flow = 0; limit = 0 }) rest o.moments (λ t l h. ap (λ (i : ℕ). record { flow = 0; limit = i }) (is.later t l (omega (arith, h, whole)))) in
+    later ∙ ap (λ l. l ++ replicate rest (record { flow = 0; limit = 0 })) first ∙ append_assoc xs _ _
+    ∙ ap₂ (λ (l r : List Cell). xs ++ (l ++ r)) (sym one) (sym two)
+    ∙ ap (λ i. xs ++ (map f (range_with_len 0 o.moments) ++ map f (range_with_len i rest))) from
+    ∙ ap (λ (l : List Cell). xs ++ l) (sym (row_split f o.moments rest 0) ∙ ap (λ i. map f (range_with_len 0 i)) whole)
+
+-- which rows open with one limit
+pub arc_opening : (m : Model) (n moments limit : ℕ) → (arc_at m n).windows.items ≡ [] → moments ≡ (m.horizon + 1) - (arc_at m n).travel → limit ≡ rate m n 0
+    → IsOpening m kinds.Arc n (record { moments = moments; limit = limit })
+arc_opening m n moments limit none count same = record {
+  moments = omega (arith, count);
+  first = λ t l.
+      let early : ltb m.horizon (arrival m n t) ≡ false = le-ltb _ _ (omega (arith, l, count)) in
+      rw early (always t ∙ sym same);
+  later = λ t l h.
+      let late : ltb m.horizon (arrival m n t) ≡ true = lt-ltb _ _ (omega (arith, l, count)) in
+      rw late refl;
+}
+  where
+    always : (t : ℕ) → rate m n t ≡ rate m n 0
+    always t =
+        ap (λ ws. cond ((arc_at m n).shut || (node_at m (head m n)).shut || is_closed_at ws t) 0 (arc_at m n).rate) none
+        ∙ sym (ap (λ ws. cond ((arc_at m n).shut || (node_at m (head m n)).shut || is_closed_at ws 0) 0 (arc_at m n).rate) none)
+
+pub hold_opening : (m : Model) (n limit : ℕ) → limit ≡ capacity m n → IsOpening m kinds.Hold n (record { moments = m.horizon; limit = limit })
+hold_opening m n limit same = record {
+  moments = omega arith;
+  first = λ t l. let before : eqb t m.horizon ≡ false = ne_eqb _ _ (omega (arith, l)) in rw before (sym same);
+  later = λ t l h. let last : eqb t m.horizon ≡ true = eq-eqb _ _ (omega (arith, l, h)) in rw last refl;
+}
+
+pub supply_opening : (m : Model) (n limit : ℕ) → m.entrants ≡ [] → limit ≡ entry m n 0 → IsOpening m kinds.Supply n (record { moments = 1; limit = limit })
+unfolding entering
+supply_opening m n limit none same = record {
+  moments = omega arith;
+  first = λ t l. let here : t ≡ 0 = omega (arith, l) in ap (λ i. entry m n i) here ∙ sym same;
+  later = λ t l h. let some : eqb t 0 ≡ false = ne_eqb _ _ (omega (arith, l)) in rw (some, none) refl;
+}
 
 pub rows_more : (xs : List Cell) (m : Model) (k : Kind) (n : ℕ) → (xs ++ rows_cells m k n) ++ row_cells m k n ≡ xs ++ rows_cells m k (n + 1)
 rows_more xs m k n = append_assoc xs (rows_cells m k n) (row_cells m k n) ∙ ap (λ z. xs ++ rows_cells m k z) (sym (add-one n))

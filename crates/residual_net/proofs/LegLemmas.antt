@@ -1,15 +1,20 @@
 -- Pushes over the legs of a path.
-use Rattle.std.proofs.Common.{◌≡◌, ◌≢◌, ℕ, zero, suc, ◌+◌, ◌-◌, ◌<◌, ◌≤◌, List, [], ◌∷◌, ◌++◌, length, drop, get_or, ap, sym, ◌∙◌, arith, subst, drop-cons, add-one}
+use Rattle.std.proofs.Common.{◌≡◌, ◌≢◌, ℕ, zero, suc, ◌+◌, ◌-◌, ◌<◌, ◌≤◌, List, [], ◌∷◌, ◌++◌, length, map, take, drop, set, get_or, ap, sym, ◌∙◌, arith, subst, drop-cons, add-one, length-set}
+use Rattle.std.proofs.Math.Seq.{sets}
 use Rattle.std.specs.List.{All}
+use Rattle.std.proofs.lemmas.List.Elements.{All-cons}
 use Rattle.std.proofs.lemmas.List.{append_assoc, append-nil, get_or-append-add, get_or_append_left, get_or_default, length-append}
 use Rattle.residual_net.specs.declared.legs.Leg.{Leg}
+use Rattle.residual_net.specs.declared.place.Cell.{Cell}
+use Rattle.residual_net.specs.declared.place.Place.{Place}
 use Rattle.residual_net.specs.declared.place.Place.TheVariants.{Hold}
 use Rattle.residual_net.specs.declared.place.PathStep.{PathStep}
-use Rattle.residual_net.specs.Legs.{IsShiftable, IsUnderwayBetween, steps_of_leg, steps_of_legs, wait_at, waits_at}
-use Rattle.residual_net.specs.Network.{Network, flow_at, residual_room}
+use Rattle.residual_net.specs.Legs.{IsShiftable, IsUnderwayBetween, steps_of_leg, steps_of_legs, wait_at, waits_at, with_more}
+use Rattle.residual_net.specs.Network.{Network, IsGrid, flow_at, limit_at, no_cell, residual_room, with_cell}
 use Rattle.residual_net.specs.Route.{IsPushable, IsPushed}
 use Rattle.residual_net.specs.Site.{Site, IsPlace, cell_of}
-use Rattle.residual_net.proofs.Steps.{added_none, path_some, taken_none}
+use Rattle.residual_net.proofs.Saving.{sets_more}
+use Rattle.residual_net.proofs.Steps.{added_none, cell_in, path_some, push_none, push_one, push_then, taken_none}
 use Rattle.time_expansion.specs.Expansion.{hold_cell}
 
 -- ---- waits
@@ -18,6 +23,13 @@ use Rattle.time_expansion.specs.Expansion.{hold_cell}
 pub wait_cell : (s : Site) (n t first : ℕ) → first ≡ hold_cell s.shape n 0 → first + t ≡ cell_of s (Hold n t)
 unfolding cell_of hold_cell
 wait_cell s n t first here = omega (arith, here)
+
+next_cell : (s : Site) (n t : ℕ) → cell_of s (Hold n (t + 1)) ≡ cell_of s (Hold n t) + 1
+unfolding cell_of hold_cell
+next_cell s n t = omega arith
+
+grid_with : (w : Network) (p : Place) (c : Cell) → IsGrid w → IsGrid (with_cell w p c)
+grid_with w p c g = record { site = g.site; full = length-set w.cells (cell_of w.site p) c ∙ g.full; saved_full = g.saved_full }
 
 pub waits_none : (n t u : ℕ) → u ≤ t → waits_at n t (u - t) ≡ []
 waits_none n t u l = let none : u - t ≡ 0 = omega (arith, l) in ap (waits_at n t) none
@@ -99,6 +111,61 @@ shiftable_room w r q x a = a.room 0 r (omega arith)
 
 pub shiftable_path : (w : Network) (path : List PathStep) (x : ℕ) → IsPushable w path x → IsShiftable w path x
 shiftable_path w path x p = record { places = p.2.places; room = p.2.room; apart = p.2.apart }
+
+shiftable_rest : (w : Network) (r : PathStep) (q : List PathStep) (x : ℕ) → IsShiftable w (r ∷ q) x → IsShiftable w q x
+shiftable_rest w r q x a = record {
+  places = λ i d l. a.places (suc i) d (omega (arith, l));
+  room = λ i d l. a.room (suc i) d (omega (arith, l));
+  apart = λ i j d l h. a.apart (suc i) (suc j) d (omega (arith, l)) (omega (arith, h));
+}
+
+-- the cells of waits one after another are within those of the network
+pub waits_fit : (c : ℕ) (w : Network) (n t x i : ℕ) → IsGrid w → i ≡ cell_of w.site (Hold n t) → IsShiftable w (waits_at n t c) x → 0 < c → i + c ≤ length w.cells
+waits_fit zero w n t x i grid here can some = absurd (omega (arith, some))
+waits_fit (suc zero) w n t x i grid here can some =
+    omega (arith, here, cell_in w (Hold n t) grid (shiftable_place w (wait_at n t) [] x can))
+waits_fit (suc (suc c)) w n t x i grid here can some =
+    omega (
+      arith,
+      waits_fit (suc c) w n (t + 1) x (i + 1) grid (omega (arith, here, next_cell w.site n t)) (shiftable_rest w (wait_at n t) (waits_at n (t + 1) (suc c)) x can) (omega arith),
+    )
+
+-- each of them has room for the people
+pub waits_roomy : (c : ℕ) (w : Network) (n t x i : ℕ) → IsGrid w → i ≡ cell_of w.site (Hold n t) → IsShiftable w (waits_at n t c) x
+    → All (λ (z : Cell). x ≤ z.limit - z.flow) (take c (drop i w.cells))
+unfolding flow_at limit_at
+waits_roomy zero w n t x i grid here can j d l = absurd (omega (arith, l))
+waits_roomy (suc c) w n t x i grid here can j d l =
+    let rest = waits_at n (t + 1) c in
+    let lt : i < length w.cells = omega (arith, here, cell_in w (Hold n t) grid (shiftable_place w (wait_at n t) rest x can)) in
+    let first : x ≤ (get_or w.cells i no_cell).limit - (get_or w.cells i no_cell).flow =
+    subst (λ h. x ≤ (get_or w.cells h no_cell).limit - (get_or w.cells h no_cell).flow) (sym here) (shiftable_room w (wait_at n t) rest x can) in
+    let others = waits_roomy c w n (t + 1) x (i + 1) grid (omega (arith, here, next_cell w.site n t)) (shiftable_rest w (wait_at n t) rest x can) in
+    let behind : All (λ (z : Cell). x ≤ z.limit - z.flow) (take c (drop (suc i) w.cells)) =
+    subst (λ h. All (λ (z : Cell). x ≤ z.limit - z.flow) (take c (drop h w.cells))) (add-one i) others in
+    subst (λ (cells : List Cell). All (λ (z : Cell). x ≤ z.limit - z.flow) (take (suc c) cells)) (sym (drop-cons w.cells i no_cell lt))
+    (All-cons (λ (z : Cell). x ≤ z.limit - z.flow) (get_or w.cells i no_cell) (take c (drop (suc i) w.cells)) first behind) j d l
+
+-- people sent over waits one after another: more people over their cells
+pub waits_pushed : (c : ℕ) (w : Network) (n t x i : ℕ) → IsGrid w → i ≡ cell_of w.site (Hold n t) → IsShiftable w (waits_at n t c) x
+    → IsPushed w (record w { cells = sets w.cells i (map (with_more x) (take c (drop i w.cells))) }) (waits_at n t c) x
+unfolding flow_at limit_at
+waits_pushed zero w n t x i grid here can = push_none w x
+waits_pushed (suc c) w n t x i grid here can =
+    let r = wait_at n t in
+    let rest = waits_at n (t + 1) c in
+    let place = shiftable_place w r rest x can in
+    let more = with_more x (get_or w.cells i no_cell) in
+    let v = with_cell w (Hold n t) more in
+    let lt : i < length w.cells = omega (arith, here, cell_in w (Hold n t) grid place) in
+    let one : IsPushed w v (r ∷ []) x = push_one w r x more grid place (λ _. ap (λ j. (get_or w.cells j no_cell).flow + x) here) (λ e. absurd (cc))
+    (ap (λ j. (get_or w.cells j no_cell).limit) here) in
+    let left = shiftable_after w v (r ∷ []) rest x can one in
+    let others = waits_pushed c v n (t + 1) x (i + 1) (grid_with w (Hold n t) more grid) (omega (arith, here, next_cell w.site n t)) left in
+    let whole = push_then w v _ (r ∷ []) rest x one others in
+    subst (λ (z : List Cell). IsPushed w (record w { cells = z }) (waits_at n t (suc c)) x)
+    (ap (λ j. sets (set w.cells j more) (i + 1) (map (with_more x) (take c (drop (i + 1) (set w.cells j more))))) (sym here) ∙ sets_more (with_more x) c i w.cells no_cell lt)
+    whole
 
 -- ---- a push underway
 

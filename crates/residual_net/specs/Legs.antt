@@ -2,6 +2,7 @@
 use Rattle.std.specs.Prelude.{◌≡◌, ◌≢◌, ℕ, zero, suc, ◌+◌, ◌-◌, ◌≤◌, false, List, [], ◌∷◌, ◌++◌, slice_index_or, length}
 use Rattle.std.specs.List.{All, AllPairs}
 use Rattle.residual_net.specs.declared.legs.Leg.{Leg}
+use Rattle.residual_net.specs.declared.place.Cell.{Cell}
 use Rattle.residual_net.specs.declared.place.PathStep.{PathStep}
 use Rattle.residual_net.specs.declared.place.Place.TheVariants.{Hold}
 use Rattle.residual_net.specs.Network.{Network, residual_room}
@@ -25,6 +26,10 @@ steps_of_leg g = waits_at g.node g.from (g.to - g.from) ++ g.step ∷ []
 abbrev pub steps_of_legs : List Leg → List PathStep
 steps_of_legs [] = []
 steps_of_legs (g ∷ gs) = steps_of_leg g ++ steps_of_legs gs
+
+-- a cell with more people over its place
+abbrev pub with_more : ℕ → Cell → Cell
+with_more people c = record { flow = c.flow + people; limit = c.limit }
 
 -- some people may be sent over steps, one after another in any order
 pub record IsShiftable (w : Network) (path : List PathStep) (people : ℕ) : Type 0 where

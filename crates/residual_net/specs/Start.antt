@@ -1,11 +1,12 @@
 -- How a net of a model begins.
-use Rattle.std.specs.Prelude.{◌≡◌, ℕ, zero, suc, ◌+◌, Bool, true, false, if◌then◌else◌, List, [], ◌++◌, length, map}
+use Rattle.std.specs.Prelude.{◌≡◌, ℕ, zero, suc, ◌+◌, ◌<◌, ◌≤◌, Bool, true, false, if◌then◌else◌, List, [], ◌++◌, length, map}
 use Rattle.evac_law.specs.Sums.{below}
 use Rattle.evac_law.specs.declared.model.Model.{Model}
 use Rattle.residual_net.specs.declared.place.Place.{Place}
 use Rattle.residual_net.specs.declared.place.Place.TheVariants as places
 use Rattle.residual_net.specs.declared.place.Cell.{Cell}
 use Rattle.residual_net.specs.declared.start.Kind.{Kind}
+use Rattle.residual_net.specs.declared.start.Opening.{Opening}
 use Rattle.residual_net.specs.declared.start.Kind.TheVariants as kinds
 use Rattle.residual_net.specs.Site.{IsPlace}
 use Rattle.residual_net.specs.Network.{Network, IsGrid, flow_at, saved_of}
@@ -47,6 +48,12 @@ saved_cells is_saved cells saved = if is_saved then saved else emptied cells
 -- the cell of a place of a model, with no flow
 abbrev pub cell_at : Model → Kind → ℕ → ℕ → Cell
 cell_at m k n t = record { flow = 0; limit = model_limit m (place_of k n t) }
+
+-- the limit of the places at the first moments, so many of them, and none later
+pub record IsOpening (m : Model) (k : Kind) (n : ℕ) (o : Opening) : Type 0 where
+  pub moments : o.moments ≤ m.horizon + 1
+  pub first : (t : ℕ) → t < o.moments → model_limit m (place_of k n t) ≡ o.limit
+  pub later : (t : ℕ) → o.moments ≤ t → t ≤ m.horizon → model_limit m (place_of k n t) ≡ 0
 
 -- the cells of the places of a kind with a number
 abbrev pub row_cells : Model → Kind → ℕ → List Cell

@@ -1,13 +1,13 @@
 // The cells of a net, with no rule on its flow.
-ghost use Rattle.std.specs.Prelude.{◌≡◌, ◌∷◌, [], ◌≤◌, ◌<◌, ◌+◌, IfOk, length, vec_capacity};
+ghost use Rattle.std.specs.Prelude.{◌≡◌, ◌∷◌, [], ◌≤◌, ◌<◌, ◌+◌, ◌-◌, IfOk, length, map, vec_capacity};
+ghost use Rattle.std.specs.List.{All};
 ghost use Rattle.residual_net.specs.Site.{IsSite, IsPlace, all_cells, arrival_at, cell_of, exit_at, head_of, start_of, stop_of, tail_of};
 ghost use Rattle.residual_net.specs.Network.{IsGrid, flow_at, limit_at, residual_room, saved_of, with_cell, with_saved};
-ghost use Rattle.time_expansion.specs.Expansion.{hold_cell};
-ghost use Rattle.residual_net.specs.Legs.{wait_at};
+ghost use Rattle.residual_net.specs.Legs.{IsShiftable, waits_at, with_more};
 ghost use Rattle.residual_net.specs.Route.{IsPushed};
 ghost use Rattle.residual_net.specs.Change.{IsLimitSet};
 ghost use Rattle.residual_net.specs.Start.{emptied, saved_cells};
-ghost use Rattle.residual_net.specs.declared.place.Place.TheVariants.{Arc, Hold};
+ghost use Rattle.residual_net.specs.declared.place.Place.TheVariants.{Arc};
 
 use crate::end::End;
 use crate::place::{Cell, PathStep, Place};
@@ -53,6 +53,25 @@ fn write_saved(saved: &mut Vec<Cell>, cells: &[Cell], is_saved: bool)
     for cell in cells {
         let limit = cell.limit;
         saved.push_reserved(Cell { flow: 0, limit });
+    }
+}
+
+/// A cell with more people over its place.
+fn with_more(cell: Cell, people: u32) -> Cell
+    requires { people ≤ cell.limit - cell.flow }
+    ensures { result ≡ with_more people cell }
+{
+    let flow = cell.flow + people;
+    Cell { flow, ..cell }
+}
+
+/// Sends more people over each of some cells.
+fn raise_all(cells: &mut [Cell], people: u32)
+    requires { All (λ c. people ≤ c.limit - c.flow) cells.old }
+    ensures { cells.new ≡ map (with_more people) cells.old }
+{
+    for cell in cells.iter_mut() {
+        *cell = with_more(*cell, people);
     }
 }
 
@@ -204,17 +223,21 @@ impl Grid {
         self.shift_at(at, step, people);
     }
 
-    /// Lets more people wait in a node at a moment, by where the waits in the node begin.
-    pub fn shift_wait(&mut self, first: u32, node: u32, moment: u16, people: u32)
-        requires place { IsPlace self.old.site (Hold node moment) }
-        requires first { first ≡ hold_cell self.old.site.shape node 0 }
-        requires room { people ≤ residual_room self.old (wait_at node moment) }
-        ensures pushed { IsPushed self.old self.new (wait_at node moment ∷ []) people }
+    /// Lets more people wait in a node, at each moment from one up to another.
+    pub fn shift_waits(&mut self, node: u32, from: u16, to: u16, people: u32)
+        requires { IsShiftable self.old (waits_at node from (to - from)) people }
+        ensures pushed { IsPushed self.old self.new (waits_at node from (to - from)) people }
         ensures grid { IsGrid self.new }
     {
-        let at = first as usize + moment as usize;
-        let place = Place::Hold { node, moment };
-        self.shift_at(at, PathStep { place, back: false }, people);
+        // Its cells are those of a grid, with no waits too.
+        let _ = &self.cells;
+        if to <= from {
+            return;
+        }
+        let first = self.shape.hold_cell(node, 0) as usize;
+        let cells = self.cells.as_mut_slice();
+        let waits = &mut cells[first + from as usize..first + to as usize];
+        raise_all(waits, people);
     }
 
     /// Gives a place another limit.

@@ -5,7 +5,7 @@ ghost use Rattle.residual_net.specs.Limits.{supply_limit};
 ghost use Rattle.residual_net.specs.Site.{IsOpenEnd, IsPlace, arrival_at, exit_at, head_of, is_barred, start_of, stop_of, tail_of};
 ghost use Rattle.residual_net.specs.Network.{IsAllSent, IsGrid, IsNet, IsStored, IsWithinLimits, arrived_by, excess_at, flow_at, limit_at, residual_room, saved_of, unsent_at, with_saved};
 ghost use Rattle.residual_net.specs.Route.{IsPushable, IsPushed};
-ghost use Rattle.residual_net.specs.Legs.{IsShiftable, IsUnderwayBetween, steps_of_leg, steps_of_legs, waits_at};
+ghost use Rattle.residual_net.specs.Legs.{IsShiftable, IsUnderwayBetween, steps_of_leg, steps_of_legs};
 ghost use Rattle.residual_net.specs.Change.{IsCancelled, IsFewerBy, IsLimitSet, IsLowering, supply_limits_with};
 ghost use Rattle.residual_net.specs.OfModel.{IsNetOf, last_move, plan_of};
 ghost use Rattle.residual_net.specs.declared.end.End.TheVariants.{Door};
@@ -63,22 +63,6 @@ fn shift_all(grid: &mut Grid, path: &[PathStep], people: u32)
     }
 }
 
-/// Lets more people wait in a node, at each moment from one up to another.
-fn shift_waits(grid: &mut Grid, node: u32, from: u16, to: u16, people: u32)
-    requires grid { IsGrid grid.old }
-    requires shiftable { IsShiftable grid.old (waits_at node from (to - from)) people }
-    ensures pushed { IsPushed grid.old grid.new (waits_at node from (to - from)) people }
-    ensures grid { IsGrid grid.new }
-{
-    if from >= to {
-        return;
-    }
-    let first = grid.shape().hold_cell(node, 0);
-    for moment in from..to {
-        grid.shift_wait(first, node, moment, people);
-    }
-}
-
 /// Sends people over a leg.
 fn shift_leg(grid: &mut Grid, leg: Leg, people: u32)
     requires grid { IsGrid grid.old }
@@ -86,7 +70,7 @@ fn shift_leg(grid: &mut Grid, leg: Leg, people: u32)
     ensures pushed { IsPushed grid.old grid.new (steps_of_leg leg) people }
     ensures grid { IsGrid grid.new }
 {
-    shift_waits(grid, leg.node, leg.from, leg.to, people);
+    grid.shift_waits(leg.node, leg.from, leg.to, people);
     grid.shift(leg.step, people);
 }
 

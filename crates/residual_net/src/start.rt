@@ -1,10 +1,10 @@
 // How a net of a model begins: with no flow, and with the model's limits.
-ghost use Rattle.std.specs.Prelude.{◌≡◌, ℕ, ◌++◌, ◌<◌, IfOk, map};
+ghost use Rattle.std.specs.Prelude.{◌≡◌, ℕ, ◌++◌, ◌<◌, IfOk, MatchOption, map, replicate};
 ghost use Rattle.evac_law.specs.Building.{IsValid};
 ghost use Rattle.evac_law.specs.Names.{is_exit};
 ghost use Rattle.residual_net.specs.Site.{IsPlace};
 ghost use Rattle.residual_net.specs.OfModel.{model_limit, site_of};
-ghost use Rattle.residual_net.specs.Start.{StartsAs, place_of, row_cells, rows_cells};
+ghost use Rattle.residual_net.specs.Start.{IsOpening, StartsAs, place_of, row_cells, rows_cells};
 
 use crate::grid::Grid;
 use crate::place::{Cell, Place};
@@ -101,8 +101,62 @@ pub fn place_of(kind: Kind, number: u32, moment: u16) -> Place
     }
 }
 
-/// Adds the cells of the places of a kind with a number, with no flow and the model's limits.
-fn add_row(cells: &mut Vec<Cell>, model: &Model, kind: Kind, number: u32) -> Result<(), AllocError>
+/// The limit at the first moments of some places, and how many these are. At the later ones it is 0.
+#[derive(Clone, Copy, PartialEq, Eq, Debug)]
+struct Opening {
+    moments: u16,
+    limit: u32,
+}
+
+/// The opening of the places of a kind with a number, where they have one: no window closes the arc, or nobody enters the building later.
+#[tactic(auto, unfolding(evac_law::specs::Limits::horizon_limit))]
+fn opening_of(model: &Model, kind: Kind, number: u32) -> Option<Opening>
+    requires valid { IsValid model.now }
+    requires number { IsPlace (site_of model.now) (place_of kind number 0) }
+    ensures { MatchOption result (Unit {0}) (IsOpening model.now kind number) }
+{
+    match kind {
+        Kind::Arc => {
+            let row = model.arc(number);
+            if !row.windows.as_slice().is_empty() {
+                return None;
+            }
+            let moments = (model.horizon + 1).saturating_sub(row.travel);
+            let limit = model.rate(number, 0);
+            Some(Opening { moments, limit })
+        }
+        Kind::Hold => {
+            let moments = model.horizon;
+            let limit = model.node(number).capacity;
+            Some(Opening { moments, limit })
+        }
+        Kind::Supply => {
+            if !model.entrants.is_empty() {
+                return None;
+            }
+            let limit = model.entry(number, 0);
+            Some(Opening { moments: 1, limit })
+        }
+    }
+}
+
+/// Adds some cells with no flow and a limit.
+fn add_cells(cells: &mut Vec<Cell>, count: u16, limit: u32) -> Result<(), AllocError>
+    ensures { IfOk result (λ _. cells.new.items ≡ cells.old.items ++ replicate count (record { flow = 0; limit = limit })) }
+{
+    for _moment in 0..count {
+        cells.push(Cell { flow: 0, limit })?;
+    }
+    Ok(())
+}
+
+/// Adds the cells of the places of a kind with a number, moment by moment.
+fn add_moments(
+    cells: &mut Vec<Cell>,
+    model: &Model,
+    kind: Kind,
+    number: u32,
+) -> Result<(), AllocError>
     requires valid { IsValid model.now }
     requires number { IsPlace (site_of model.now) (place_of kind number 0) }
     ensures { IfOk result (λ _. cells.new.items ≡ cells.old.items ++ row_cells model.now kind number) }
@@ -112,6 +166,22 @@ fn add_row(cells: &mut Vec<Cell>, model: &Model, kind: Kind, number: u32) -> Res
         cells.push(Cell { flow: 0, limit })?;
     }
     Ok(())
+}
+
+/// Adds the cells of the places of a kind with a number, with no flow and the model's limits.
+#[tactic(auto, unfolding(evac_law::specs::Limits::horizon_limit))]
+fn add_row(cells: &mut Vec<Cell>, model: &Model, kind: Kind, number: u32) -> Result<(), AllocError>
+    requires valid { IsValid model.now }
+    requires number { IsPlace (site_of model.now) (place_of kind number 0) }
+    ensures { IfOk result (λ _. cells.new.items ≡ cells.old.items ++ row_cells model.now kind number) }
+{
+    match opening_of(model, kind, number) {
+        None => add_moments(cells, model, kind, number),
+        Some(opening) => {
+            add_cells(cells, opening.moments, opening.limit)?;
+            add_cells(cells, model.horizon + 1 - opening.moments, 0)
+        }
+    }
 }
 
 /// Adds the cells of the places of a kind.

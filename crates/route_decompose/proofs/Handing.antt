@@ -17,7 +17,7 @@ use Rattle.route_decompose.specs.Stocks.{IsEmpty, IsLedOn, IsOpen, IsRoutes, IsS
 use Rattle.route_decompose.proofs.Balance.{coming_all_none, going_none, wait_step}
 use Rattle.route_decompose.proofs.Begin.{IsTaken, whole_of}
 use Rattle.route_decompose.proofs.Leading.{closing_less, led_closing, stock_on}
-use Rattle.route_decompose.proofs.TableLemmas.{past_last, past_rows}
+use Rattle.tables.proofs.TableLemmas.{item_at-past_last, item_at-past_rows}
 
 nothing : (b : Bool) → ◌≡◌ {A = ℕ} (cond b 0 0) 0
 nothing b = grind arith
@@ -72,18 +72,18 @@ module _ (m : Model) (f : Stand) (s : Stock) (valid : IsValid m) (fits : Fits m 
     where
       split : (a < s.left.rows) ⊎ (s.left.rows ≤ a) → (s.left.last < t) ⊎ (t ≤ s.left.last) → people_at s.left a t ≡ moved f.plan a t
       split (inr l) h =
-          past_rows s.left a t l ∙ sym (moved_none f.plan f.arcs f.horizon a t fits.ordered.in_range (inl (omega (arith, l, arcs_same, fits.arcs_same))))
+          item_at-past_rows 0 s.left a t l ∙ sym (moved_none f.plan f.arcs f.horizon a t fits.ordered.in_range (inl (omega (arith, l, arcs_same, fits.arcs_same))))
       split (inl l) (inl h) =
-          past_last s.left a t h ∙ sym (moved_none f.plan f.arcs f.horizon a t fits.ordered.in_range (inr (omega (arith, h, horizon_same, fits.horizon_same))))
+          item_at-past_last 0 s.left a t h ∙ sym (moved_none f.plan f.arcs f.horizon a t fits.ordered.in_range (inr (omega (arith, h, horizon_same, fits.horizon_same))))
       split (inl l) (inr h) = of.moves a t l h
 
   all_wait : (n t : ℕ) → people_at s.waiting n t ≡ entry m n t
   all_wait n t = split (cases_lt n s.waiting.rows) (cases_lt s.waiting.last t)
     where
       split : (n < s.waiting.rows) ⊎ (s.waiting.rows ≤ n) → (s.waiting.last < t) ⊎ (t ≤ s.waiting.last) → people_at s.waiting n t ≡ entry m n t
-      split (inr l) h = past_rows s.waiting n t l ∙ sym (none_past m n t valid (omega (arith, l, stock.wait_rows, nodes_same)))
+      split (inr l) h = item_at-past_rows 0 s.waiting n t l ∙ sym (none_past m n t valid (omega (arith, l, stock.wait_rows, nodes_same)))
       split (inl l) (inl h) =
-          past_last s.waiting n t h ∙ sym (none_late m n t valid (omega (arith, h, stock.wait_last, ap (λ (w : Model). w.horizon) same)))
+          item_at-past_last 0 s.waiting n t h ∙ sym (none_late m n t valid (omega (arith, h, stock.wait_last, ap (λ (w : Model). w.horizon) same)))
       split (inl l) (inr h) = of.starts n t l h ∙ ap (λ (w : Model). entry w n t) same
 
   taken : IsTaken m f s

@@ -9,7 +9,7 @@ use Rattle.evac_law.proofs.SumLemmas.{All-below, sum_by-le_all, sum_by-nothing}
 use Rattle.route_decompose.specs.Tables.{people_at}
 use Rattle.route_decompose.specs.Stocks.{IsOpen, Stock, before, left_coming, going}
 use Rattle.route_decompose.proofs.Balance.{going_some}
-use Rattle.route_decompose.proofs.TableLemmas.{past_last, past_rows}
+use Rattle.tables.proofs.TableLemmas.{item_at-past_last, item_at-past_rows}
 
 module _ (s : Stock) (whole : IsOpen s) (none : (n t : ℕ) → people_at s.waiting n t ≡ 0) where
   -- nobody is left at a moment
@@ -62,6 +62,6 @@ module _ (s : Stock) (whole : IsOpen s) (none : (n t : ℕ) → people_at s.wait
   nobody_left a t = split (cases_lt a (length s.model.arcs)) (cases_lt s.model.horizon t)
     where
       split : (a < length s.model.arcs) ⊎ (length s.model.arcs ≤ a) → (s.model.horizon < t) ⊎ (t ≤ s.model.horizon) → people_at s.left a t ≡ 0
-      split (inr l) h = past_rows s.left a t (omega (arith, l, whole.stock.left_rows))
-      split (inl l) (inl h) = past_last s.left a t (omega (arith, h, whole.stock.left_last))
+      split (inr l) h = item_at-past_rows 0 s.left a t (omega (arith, l, whole.stock.left_rows))
+      split (inl l) (inl h) = item_at-past_last 0 s.left a t (omega (arith, h, whole.stock.left_last))
       split (inl l) (inr h) = (up_to (t + 1) t (omega arith) h).arcs a l

@@ -1,16 +1,16 @@
-// How tables take the people of a plan.
+//! How tables take the people of a plan.
 ghost use Rattle.std.specs.Prelude.{◌≡◌, ℕ, ◌<◌, ◌≤◌, length};
 ghost use Rattle.evac_law.specs.Building.{IsValid, entry};
 ghost use Rattle.evac_law.specs.Limits.{horizon_limit};
 ghost use Rattle.evac_law.specs.Plans.{moved};
 ghost use Rattle.route_decompose.specs.Tables.{IsRowFilled, people_at};
 
-use crate::table::Table;
 use evac_law::{Model, Standing};
+use tables::Table;
 
-/// Puts the people who enter an arc.
+// Puts the people who enter an arc.
 #[tactic(auto, unfolding(evac_law::specs::Limits::horizon_limit))]
-fn fill_moves_row<F: Standing>(table: &mut Table, standing: &F, arc: u32)
+fn fill_moves_row<F: Standing>(table: &mut Table<u32>, standing: &F, arc: u32)
     requires arc_in { arc < table.old.rows }
     requires arcs { table.old.rows ≡ (F.stand standing.now).arcs }
     requires horizon { table.old.last ≡ (F.stand standing.now).horizon }
@@ -23,7 +23,7 @@ fn fill_moves_row<F: Standing>(table: &mut Table, standing: &F, arc: u32)
 }
 
 /// Puts the people who enter the arcs.
-pub fn fill_moves<F: Standing>(table: &mut Table, standing: &F)
+pub fn fill_moves<F: Standing>(table: &mut Table<u32>, standing: &F)
     requires arcs { table.old.rows ≡ (F.stand standing.now).arcs }
     requires horizon { table.old.last ≡ (F.stand standing.now).horizon }
     requires short { table.old.last ≤ horizon_limit }
@@ -36,9 +36,9 @@ pub fn fill_moves<F: Standing>(table: &mut Table, standing: &F)
     }
 }
 
-/// Puts the people who stay in a node.
+// Puts the people who stay in a node.
 #[tactic(auto, unfolding(evac_law::specs::Limits::horizon_limit))]
-fn fill_holds_row<F: Standing>(table: &mut Table, standing: &F, node: u32)
+fn fill_holds_row<F: Standing>(table: &mut Table<u32>, standing: &F, node: u32)
     requires node_in { node < table.old.rows }
     requires nodes { table.old.rows ≡ (F.stand standing.now).nodes }
     requires horizon { table.old.last ≡ (F.stand standing.now).horizon }
@@ -51,7 +51,7 @@ fn fill_holds_row<F: Standing>(table: &mut Table, standing: &F, node: u32)
 }
 
 /// Puts the people who stay in the nodes.
-pub fn fill_holds<F: Standing>(table: &mut Table, standing: &F)
+pub fn fill_holds<F: Standing>(table: &mut Table<u32>, standing: &F)
     requires nodes { table.old.rows ≡ (F.stand standing.now).nodes }
     requires horizon { table.old.last ≡ (F.stand standing.now).horizon }
     requires short { table.old.last ≤ horizon_limit }
@@ -64,9 +64,9 @@ pub fn fill_holds<F: Standing>(table: &mut Table, standing: &F)
     }
 }
 
-/// Puts the people who come into a node from nowhere.
+// Puts the people who come into a node from nowhere.
 #[tactic(auto, unfolding(evac_law::specs::Limits::horizon_limit))]
-fn fill_entries_row(table: &mut Table, model: &Model, node: u32)
+fn fill_entries_row(table: &mut Table<u32>, model: &Model, node: u32)
     requires valid { IsValid model.now }
     requires node_in { node < table.old.rows }
     requires nodes { table.old.rows ≡ length model.now.nodes }
@@ -79,7 +79,7 @@ fn fill_entries_row(table: &mut Table, model: &Model, node: u32)
 }
 
 /// Puts the people who come into the nodes from nowhere.
-pub fn fill_entries(table: &mut Table, model: &Model)
+pub fn fill_entries(table: &mut Table<u32>, model: &Model)
     requires valid { IsValid model.now }
     requires nodes { table.old.rows ≡ length model.now.nodes }
     requires horizon { table.old.last ≡ model.now.horizon }

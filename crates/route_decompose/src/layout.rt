@@ -1,4 +1,4 @@
-// A model that is kept, and the arcs at each of its nodes.
+//! A model that is kept, and the arcs at each of its nodes.
 ghost use Rattle.std.specs.Prelude.{◌≡◌, ◌<◌, ◌^◌, IfOk, length, map};
 ghost use Rattle.evac_law.specs.Building.{IsValid, is_exit_at};
 ghost use Rattle.route_decompose.specs.Routes.{IsSameSite, ends_of, shape_of};
@@ -29,7 +29,7 @@ impl Model for Layout {
     ghost invariant = { λ l. IsValid l.model × (l.shape ≡ shape_of l.model) };
 }
 
-/// The ends of the arcs.
+// The ends of the arcs.
 fn ends_of(alloc: Global, arcs: &[ArcRow]) -> Result<Vec<Ends>, AllocError>
     ensures { IfOk result (λ r. r.items ≡ map ends_of arcs.now) }
 {
@@ -43,7 +43,7 @@ fn ends_of(alloc: Global, arcs: &[ArcRow]) -> Result<Vec<Ends>, AllocError>
     Ok(ends)
 }
 
-/// The network of a model.
+// The network of a model.
 fn shape_of(alloc: Global, model: &evac_law::Model) -> Result<Shape, AllocError>
     requires { IsValid model.now }
     ensures { IfOk result (λ s. s ≡ shape_of model.now) }
@@ -52,7 +52,7 @@ fn shape_of(alloc: Global, model: &evac_law::Model) -> Result<Shape, AllocError>
     Shape::new(alloc, model.node_count(), ends.as_slice(), model.horizon)
 }
 
-/// The same rows once more.
+// The same rows once more.
 fn copies_of(alloc: Global, arcs: &[ArcRow]) -> Result<Vec<ArcRow>, AllocError>
     ensures { IfOk result (λ r. r.items ≡ arcs.now) }
 {
@@ -63,7 +63,7 @@ fn copies_of(alloc: Global, arcs: &[ArcRow]) -> Result<Vec<ArcRow>, AllocError>
     Ok(copies)
 }
 
-/// The same model once more.
+// The same model once more.
 fn copy_of(alloc: Global, model: &evac_law::Model) -> Result<evac_law::Model, AllocError>
     ensures { IfOk result (λ m. m ≡ model.now) }
 {
@@ -79,7 +79,7 @@ fn copy_of(alloc: Global, model: &evac_law::Model) -> Result<evac_law::Model, Al
     })
 }
 
-/// Puts rows in the place of as many others.
+// Puts rows in the place of as many others.
 fn put_nodes(into: &mut Rows<NodeRow>, nodes: &[NodeRow])
     requires { length into.old ≡ length nodes.now }
     ensures { into.new ≡ nodes.now }
@@ -89,7 +89,7 @@ fn put_nodes(into: &mut Rows<NodeRow>, nodes: &[NodeRow])
     }
 }
 
-/// Puts rows in the place of as many others. It takes no memory.
+// Puts rows in the place of as many others. It takes no memory.
 fn put_arcs(into: &mut Rows<ArcRow>, arcs: &[ArcRow])
     requires { length into.old ≡ length arcs.now }
     ensures { into.new ≡ arcs.now }

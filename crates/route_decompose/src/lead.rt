@@ -1,4 +1,4 @@
-// How some people are led out.
+//! How some people are led out.
 ghost use Rattle.std.specs.Prelude.{◌+◌, ◌≤◌, length};
 ghost use Rattle.route_decompose.specs.Stocks.{IsLeadable, IsLedOn};
 

@@ -1,17 +1,17 @@
 //! Routes that make up a plan, lent one after another.
 //!
-//! What a list of people's ways needs besides stands here too: a model that is kept with its arcs listed, people by place and moment, and
-//! steps in memory that is reserved once.
+//! What a list of people's ways needs besides stands here too: a model that is kept with its arcs listed, a table's rows filled from a
+//! plan, and steps in memory that is reserved once.
 #![tactic(auto)]
 
 mod fill;
 mod laws;
 mod layout;
 mod lead;
+mod people;
 mod route;
 mod routes;
 mod store;
-mod table;
 mod trail;
 
 pub use fill::fill_moves;
@@ -19,5 +19,4 @@ pub use laws::routes_cover;
 pub use layout::Layout;
 pub use route::{Route, RouteStep};
 pub use routes::Routes;
-pub use table::Table;
 pub use trail::Trail;

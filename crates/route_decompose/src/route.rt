@@ -1,4 +1,4 @@
-// Routes and their steps.
+//! Routes and their steps.
 ghost use Rattle.std.specs.Prelude.{◌≡◌};
 
 use std::marker::Model;

@@ -1,4 +1,4 @@
-// The routes of a plan.
+//! The routes of a plan.
 ghost use Rattle.std.specs.Prelude.{◌≡◌, IfOk, IsFalse, IsTrue};
 ghost use Rattle.evac_law.specs.Building.{IsValid, people};
 ghost use Rattle.evac_law.specs.Plans.{IsFeasible, out_by};

@@ -1,4 +1,4 @@
-// What is left of a plan while it is handed out.
+//! What is left of a plan while it is handed out.
 ghost use Rattle.std.specs.Prelude.{◌≡◌, ℕ, ◌<◌, ◌≤◌, IfNone, IfOk, IfSome, length};
 ghost use Rattle.evac_law.specs.Building.{IsValid, arc_at, head, is_exit_at, tail};
 ghost use Rattle.route_decompose.specs.Tables.{IsLess, people_at};
@@ -8,19 +8,20 @@ ghost use Rattle.time_expansion.specs.Expansion.{arcs_from};
 
 use crate::fill::{fill_entries, fill_holds, fill_moves};
 use crate::layout::Layout;
-use crate::table::Table;
+use crate::people::{first_in, take};
 use evac_law::Standing;
 use std::alloc::{AllocError, Global};
 use std::marker::Model;
+use tables::Table;
 
 /// A model and the people left of a plan: by arc and moment, those who stay and those who come from nowhere by node and moment. In the nodes
 /// before `first` nobody comes from nowhere any more.
 #[derive(Drop)]
 pub struct Store {
     pub(crate) layout: Layout,
-    pub(crate) left: Table,
-    pub(crate) holds: Table,
-    pub(crate) waiting: Table,
+    pub(crate) left: Table<u32>,
+    pub(crate) holds: Table<u32>,
+    pub(crate) waiting: Table<u32>,
     pub(crate) first: u32,
 }
 
@@ -43,9 +44,9 @@ impl Store {
         ensures empty { IfOk result IsEmpty }
     {
         let layout = Layout::new(alloc, model)?;
-        let left = Table::new(alloc, model.arc_count(), model.horizon)?;
-        let holds = Table::new(alloc, model.node_count(), model.horizon)?;
-        let waiting = Table::new(alloc, model.node_count(), model.horizon)?;
+        let left = Table::new(alloc, 0, model.arc_count(), model.horizon)?;
+        let holds = Table::new(alloc, 0, model.node_count(), model.horizon)?;
+        let waiting = Table::new(alloc, 0, model.node_count(), model.horizon)?;
         Ok(Store {
             layout,
             left,
@@ -82,14 +83,14 @@ impl Store {
         self.first = 0;
     }
 
-    /// The first node, and there the first moment, at which somebody comes from nowhere who is left.
+    // The first node, and there the first moment, at which somebody comes from nowhere who is left.
     fn find(&self) -> Option<(u32, u16)>
         ensures some { IfSome result (λ p. (p.0 < length self.now.model.nodes) × (p.1 ≤ self.now.model.horizon) × (0 < people_at self.now.waiting p.0 p.1)) }
         ensures passed { IfSome result (λ p. IsPassed self.now.waiting p.0) }
         ensures none { IfNone result ((n t : ℕ) → people_at self.now.waiting n t ≡ 0) }
     {
         for node in self.first..self.waiting.rows() {
-            if let Some(moment) = self.waiting.first_in(node) {
+            if let Some(moment) = first_in(&self.waiting, node) {
                 return Some((node, moment));
             }
         }
@@ -160,7 +161,7 @@ impl Store {
         self.waiting.get(node, moment)
     }
 
-    /// The arcs that leave a node, in file order.
+    // The arcs that leave a node, in file order.
     fn arcs_at(&self, node: u32) -> &[u32]
         requires { node < length self.now.model.nodes }
         ensures { result.now ≡ arcs_from (shape_of self.now.model) node }
@@ -191,7 +192,7 @@ impl Store {
         requires enough { people ≤ people_at self.old.left arc moment }
         ensures { IsLessLeft self.old self.new arc moment people }
     {
-        self.left.take(arc, moment, people);
+        take(&mut self.left, arc, moment, people);
     }
 
     /// Takes people off those who stay in a node from a moment to the next.
@@ -201,7 +202,7 @@ impl Store {
         requires enough { people ≤ people_at self.old.holds node moment }
         ensures { IsLessHeld self.old self.new node moment people }
     {
-        self.holds.take(node, moment, people);
+        take(&mut self.holds, node, moment, people);
     }
 
     /// Takes people off those who come into a node at a moment from nowhere.
@@ -214,6 +215,6 @@ impl Store {
         ensures holds { self.new.holds ≡ self.old.holds }
         ensures less { IsLess self.old.waiting self.new.waiting node moment people }
     {
-        self.waiting.take(node, moment, people);
+        take(&mut self.waiting, node, moment, people);
     }
 }

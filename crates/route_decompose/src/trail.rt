@@ -1,4 +1,4 @@
-// Steps, in memory that is reserved once.
+//! Steps, in memory that is reserved once.
 ghost use Rattle.std.specs.Prelude.{◌≡◌, ◌<◌, [], ◌∷◌, ◌++◌, IfOk, length};
 
 use crate::route::RouteStep;

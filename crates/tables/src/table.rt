@@ -1,4 +1,4 @@
-// A table by row and moment.
+//! A table by row and moment.
 ghost use Rattle.std.specs.Prelude.{◌≡◌, ℕ, ◌+◌, ◌*◌, ◌<◌, ◌≤◌, IfOk, length};
 ghost use Rattle.tables.specs.Tables.{IsPut, item_at};
 

@@ -1,7 +1,7 @@
 // The last search to a moment: through all pairs that reach an arrival then, in the order in which they are met.
 ghost use Rattle.std.specs.Prelude.{◌≡◌, ℕ, ◌+◌, ◌<◌, ◌≤◌, IsTrue, length, slice_index, false, true};
 ghost use Rattle.time_expansion.specs.Expansion.{arcs_from, arcs_to};
-ghost use Rattle.residual_net.specs.declared.place.Place.TheVariants.{Arc};
+ghost use Rattle.residual_net.specs.declared.place.Place.TheVariants.{Arc, Hold};
 ghost use Rattle.residual_net.specs.Site.{IsOpenPair, IsPlace, arc_count};
 ghost use Rattle.terminal_augment.specs.Floods.{IsFlooding, IsGrown, IsWayDone};
 ghost use Rattle.terminal_augment.specs.Frames.{IsExpanded};
@@ -99,6 +99,21 @@ fn meet_before(net: &Net, labels: &Labels, work: &mut Work, spot: Spot, k: u16) 
     meet(net, labels, work, forth(Place::Hold { node, moment }), k)
 }
 
+/// Marks where an arc leads by which people leave a node at a moment. Whether nobody can be sent from there.
+fn meet_out(net: &Net, labels: &Labels, work: &mut Work, arc: u32, moment: u16, k: u16) -> bool
+    requires searchable { IsSearchable net.now labels.now }
+    requires arc { IsArcAt net.now.site arc moment }
+    requires flooding { IsFlooding net.now.site labels.now k work.old }
+    ensures flooding { IsFlooding net.now.site labels.now k work.new }
+    ensures grown { IsGrown work.old work.new }
+    ensures done { IsTrue result → IsDone net.now labels.now work.new.marks k (record { place = Arc arc moment; back = true }) }
+{
+    if net.moved(arc, moment) == 0 {
+        return true;
+    }
+    meet(net, labels, work, back(Place::Arc { arc, moment }), k)
+}
+
 /// Marks where the arcs lead by which people leave a pair. Whether nobody can be sent from there.
 fn expand_out(net: &Net, labels: &Labels, work: &mut Work, spot: Spot, k: u16) -> bool
     requires searchable { IsSearchable net.now labels.now }
@@ -111,12 +126,28 @@ fn expand_out(net: &Net, labels: &Labels, work: &mut Work, spot: Spot, k: u16) -
     let leaving = net.shape().leaving(spot.node);
     let moment = spot.moment;
     for i in 0..leaving.len() {
-        let arc = leaving[i];
-        if !meet(net, labels, work, back(Place::Arc { arc, moment }), k) {
+        if !meet_out(net, labels, work, leaving[i], moment, k) {
             return false;
         }
     }
     true
+}
+
+/// Marks where the wait after a pair leads. Whether nobody can be sent from there.
+fn meet_after(net: &Net, labels: &Labels, work: &mut Work, spot: Spot, k: u16) -> bool
+    requires searchable { IsSearchable net.now labels.now }
+    requires inside { IsOpenPair net.now.site spot.node spot.moment }
+    requires flooding { IsFlooding net.now.site labels.now k work.old }
+    ensures flooding { IsFlooding net.now.site labels.now k work.new }
+    ensures grown { IsGrown work.old work.new }
+    ensures done { IsTrue result → IsDone net.now labels.now work.new.marks k (record { place = Hold spot.node spot.moment; back = true }) }
+{
+    let node = spot.node;
+    let moment = spot.moment;
+    if net.held(node, moment) == 0 {
+        return true;
+    }
+    meet(net, labels, work, back(Place::Hold { node, moment }), k)
 }
 
 /// Marks all pairs from which steps lead to a pair. Whether nobody can be sent from there.
@@ -128,10 +159,7 @@ fn expand(net: &Net, labels: &Labels, work: &mut Work, spot: Spot, k: u16) -> bo
     ensures grown { IsGrown work.old work.new }
     ensures expanded { IsTrue result → IsExpanded net.now labels.now work.new.marks k spot.node spot.moment }
 {
-    let node = spot.node;
-    let moment = spot.moment;
-    let supply = meet(net, labels, work, forth(Place::Supply { node, moment }), k);
-    if !supply {
+    if net.unsent(spot.node, spot.moment) > 0 {
         return false;
     }
     let entering = expand_in(net, labels, work, spot, k);
@@ -146,7 +174,7 @@ fn expand(net: &Net, labels: &Labels, work: &mut Work, spot: Spot, k: u16) -> bo
     if !leaving {
         return false;
     }
-    meet(net, labels, work, back(Place::Hold { node, moment }), k)
+    meet_after(net, labels, work, spot, k)
 }
 
 /// Marks where an arc begins by which people arrive at a moment. Whether nobody can be sent from there.

@@ -1,4 +1,4 @@
-// What an arc joins.
+//! What an arc joins.
 
 /// The nodes that an arc joins, each named by its place in the list of nodes.
 #[derive(Clone, Copy, PartialEq, Eq, Debug)]

@@ -1,4 +1,4 @@
-// The laws of cells, each the contract of a function with nothing to do.
+//! The laws of cells, each the contract of a function with nothing to do.
 ghost use Rattle.time_expansion.specs.Expansion.{CellsAreApart};
 
 /// Different arguments give different cells, all below the number of the cells.

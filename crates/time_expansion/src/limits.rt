@@ -1,4 +1,4 @@
-// How large an expanded network may be.
+//! How large an expanded network may be.
 
 /// The most nodes.
 pub const NODE_LIMIT: u32 = 400;

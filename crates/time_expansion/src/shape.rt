@@ -1,4 +1,4 @@
-// The cells of a network over time, and the arcs at each node.
+//! The cells of a network over time, and the arcs at each node.
 ghost use Rattle.std.specs.Prelude.{◌≡◌, ◌+◌, ◌*◌, ◌<◌, ◌≤◌, IfOk, length};
 ghost use Rattle.time_expansion.specs.Expansion.{IsExpansion, arc_cell, arcs_from, arcs_to, cells, hold_cell};
 

@@ -1,22 +1,14 @@
-use Rattle.std.proofs.Common.{◌≡◌, ◌∙◌, ◌++◌, ◌∷◌, [], List, ℕ, ap, ap₂, arith, append-nil, sym}
-use Rattle.evac_law.specs.Limits.{horizon_limit}
-use Rattle.residual_net.specs.declared.place.Cell.{Cell}
-use Rattle.residual_net.specs.OfModel.{model_limit}
-use Rattle.residual_net.specs.Start.{place_of}
-use Rattle.residual_net.proofs.Begin.{row_more}
+use Rattle.std.proofs.Common.{◌≡◌, ◌++◌}
+use Rattle.std.proofs.lemmas.Result.{IfOk-weaker}
+use Rattle.residual_net.specs.Start.{row_cells}
+use Rattle.residual_net.proofs.Begin.{row_opened}
 use Rattle.residual_net.proofs.start.add_row.Goals as goal
 
-pub overflow_add-moment-end : goal.overflow_add-moment-end
-unfolding horizon_limit
-overflow_add-moment-end c = omega (arith, c.requires.valid.horizon)
-
-pub loop-moment-init : goal.loop-moment-init
-loop-moment-init c = sym (append-nil _)
-
-pub loop-moment-preserved : goal.loop-moment-preserved
-loop-moment-preserved c =
-    let limit : c.limit_of-limit.result ≡ model_limit c.args.model.now (place_of c.args.kind c.args.number c.loop-moment.moment) =
-    c.limit_of-limit.ensures ∙ ap (model_limit c.args.model.now) c.place_of.ensures in
-    c.in_ok-push.ensures.items
-    ∙ ap₂ (λ (l : List Cell) (n : ℕ). l ++ record { flow = 0; limit = n } ∷ []) c.loop-moment.invariant limit
-    ∙ row_more c.args.cells.now.items c.args.model.now c.args.kind c.args.number c.loop-moment.moment
+pub returns-in_ok-add_cells-in-Some : goal.returns-in_ok-add_cells-in-Some
+returns-in_ok-add_cells-in-Some c =
+    let m = c.args.model.now in
+    let old = c.args.cells.now.items in
+    let new = c.add_cells-in-Some.new.cells.items in
+    IfOk-weaker c.add_cells-in-Some.result _ (λ _. new ≡ old ++ row_cells m c.args.kind c.args.number)
+    (λ _ last. row_opened old c.add_cells.new.cells.items new m c.args.kind c.args.number c.in-Some.opening c.in-Some.ensures c.in_ok-add_cells-in-Some.ensures last)
+    c.add_cells-in-Some.ensures

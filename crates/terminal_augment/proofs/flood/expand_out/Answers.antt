@@ -1,36 +1,34 @@
-use Rattle.std.proofs.Common.{◌≡◌, ℕ, List, length, get_or, true, ap, sym, subst, ◌∙◌, refl, arith, inl, inr}
+use Rattle.std.proofs.Common.{◌≡◌, ℕ, List, length, get_or, true, ap, subst, ◌∙◌, refl, arith, inl, inr}
 use Rattle.std.proofs.lemmas.Bool.{cases_lt}
 use Rattle.time_expansion.specs.Expansion.{Expansion, arcs_from}
 use Rattle.time_expansion.proofs.Lists as lists
-use Rattle.residual_net.specs.declared.place.PathStep.{PathStep}
 use Rattle.residual_net.specs.declared.place.Place.TheVariants.{Arc}
-use Rattle.residual_net.specs.Site.{IsPlace}
 use Rattle.terminal_augment.specs.Ways.{IsDone}
 use Rattle.terminal_augment.proofs.FloodLemmas.{done_later, grown_then}
 use Rattle.terminal_augment.proofs.flood.expand_out.Goals as goal
 
-pub meet-requires-clause-place : goal.meet-requires-clause-place
-meet-requires-clause-place c =
+pub meet_out-requires-clause-arc : goal.meet_out-requires-clause-arc
+meet_out-requires-clause-arc c =
     let same = c.leaving-leaving.ensures ∙ ap (λ (x : Expansion). arcs_from x c.args.spot.node) c.shape.ensures.shape in
     let here = lists.arc_out c.args.net.now.site.shape c.args.spot.node c.loop-i.i 0 (omega (arith, c.loop-i-test.true, ap length same)) in
-    subst (λ (z : PathStep). IsPlace c.args.net.now.site z.place) (sym c.back.ensures) (rw same (here.0, c.requires.inside.moment))
+    record { arc = rw same here.0; moment = c.requires.inside.moment }
 
 pub loop-i-preserved : goal.loop-i-preserved
 loop-i-preserved c =
     let w = c.args.net.now in
     let l = c.args.labels.now in
     let x = c.loop-i.work in
-    let y = c.meet.new.work in
+    let y = c.meet_out.new.work in
     let old = c.loop-i.invariant in
     let same = c.leaving-leaving.ensures ∙ ap (λ (v : Expansion). arcs_from v c.args.spot.node) c.shape.ensures.shape in
     let mine : IsDone w l y.marks c.args.k (record { place = Arc (get_or (arcs_from w.site.shape c.args.spot.node) c.loop-i.i 0) c.args.spot.moment; back = true }) =
-    subst (λ (z : PathStep). IsDone w l y.marks c.args.k z)
-    (c.back.ensures ∙ ap (λ (arcs : List ℕ). record { place = Arc (get_or arcs c.loop-i.i 0) c.args.spot.moment; back = true }) same) (c.if-not-meet.ensures.done refl) in
+    subst (λ (arcs : List ℕ). IsDone w l y.marks c.args.k (record { place = Arc (get_or arcs c.loop-i.i 0) c.args.spot.moment; back = true })) same
+    (c.if-not-meet_out.ensures.done refl) in
     record {
-      flooding = c.meet.ensures.flooding;
-      grown = grown_then c.args.work.now x y old.grown c.meet.ensures.grown;
+      flooding = c.meet_out.ensures.flooding;
+      grown = grown_then c.args.work.now x y old.grown c.meet_out.ensures.grown;
       done = λ j q. elim (cases_lt j c.loop-i.i) [
-        | inl before ↦ done_later w l c.args.k x y (record { place = Arc (get_or (arcs_from w.site.shape c.args.spot.node) j 0) c.args.spot.moment; back = true }) c.meet.ensures.grown (old.done j before)
+        | inl before ↦ done_later w l c.args.k x y (record { place = Arc (get_or (arcs_from w.site.shape c.args.spot.node) j 0) c.args.spot.moment; back = true }) c.meet_out.ensures.grown (old.done j before)
         | inr after ↦
             let last : c.loop-i.i ≡ j = omega (arith, q, after) in
             subst (λ (i : ℕ). IsDone w l y.marks c.args.k (record { place = Arc (get_or (arcs_from w.site.shape c.args.spot.node) i 0) c.args.spot.moment; back = true })) last mine

@@ -11,4 +11,4 @@ returns c =
     let arc_in : c.args.arc < length m.arcs = omega (arith, c.requires.arc_in, ap (λ (v : PlanView). length v.model.arcs) c.self.view_is) in
     let moment_in : c.args.moment ≤ m.horizon = omega (arith, c.requires.moment_in, ap (λ (v : PlanView). v.model.horizon) c.self.view_is) in
     let here = moved-moves_of (length m.arcs) m.horizon (people_at c.self.inside.moved) c.args.arc c.args.moment arc_in moment_in in
-    c.get.ensures ∙ sym here ∙ ap (λ (v : PlanView). moved v.moves c.args.arc c.args.moment) c.self.view_is
+    c.get.ensures 0 ∙ sym here ∙ ap (λ (v : PlanView). moved v.moves c.args.arc c.args.moment) c.self.view_is

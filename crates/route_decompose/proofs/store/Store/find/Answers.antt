@@ -2,7 +2,7 @@ use Rattle.std.proofs.Common.{◌≡◌, ◌<◌, ◌≤◌, ◌⊎◌, inl, inr
 use Rattle.std.proofs.lemmas.Bool.{cases_lt}
 use Rattle.route_decompose.specs.Stocks.{Stock}
 use Rattle.route_decompose.specs.Tables.{people_at}
-use Rattle.route_decompose.proofs.TableLemmas.{past_rows}
+use Rattle.tables.proofs.TableLemmas.{item_at-past_rows}
 use Rattle.route_decompose.proofs.store.Store.find.Goals as goal
 
 pub returns-clause-none : goal.returns-clause-none
@@ -10,4 +10,4 @@ returns-clause-none c n t = ap (λ (s : Stock). people_at s.waiting n t) (sym c.
   where
     split : (n < c.self.inside.waiting.rows) ⊎ (c.self.inside.waiting.rows ≤ n) → people_at c.self.inside.waiting n t ≡ 0
     split (inl l) = c.loop-node.invariant n t (omega (arith, l, c.loop-node-test.false, c.rows-node-end.ensures))
-    split (inr l) = past_rows c.self.inside.waiting n t l
+    split (inr l) = item_at-past_rows 0 c.self.inside.waiting n t l
