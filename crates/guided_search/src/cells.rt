@@ -2,24 +2,35 @@
 
 use crate::lists::{number, stretch};
 use crate::sizes::Sizes;
+use crate::step::Step;
 use residual_net::Cell;
 
-/// How many more people may go over a cell, forwards or backwards.
-pub fn room(cells: &[Cell], cell: u32, back: bool) -> u32 {
-    let at = cell as usize;
+/// How many more people may go over a step.
+pub fn room(cells: &[Cell], step: Step) -> u32 {
+    let at = step.cell as usize;
     if at >= cells.len() {
         return 0;
     }
     let here = cells[at];
-    if back {
+    if step.back {
         here.flow
     } else {
         here.limit.saturating_sub(here.flow)
     }
 }
 
-/// Whether somebody may go over a cell.
-pub fn is_open(cells: &[Cell], cell: u32, back: bool) -> bool {
+/// Whether somebody may go over a step.
+pub fn is_open(cells: &[Cell], step: Step) -> bool {
+    is_cell_open(cells, step.cell, step.back)
+}
+
+/// Whether somebody may go over a step back again: from where it leads to where it begins.
+pub fn is_open_back(cells: &[Cell], step: Step) -> bool {
+    is_cell_open(cells, step.cell, !step.back)
+}
+
+/// Whether somebody may go over a cell, forwards or backwards.
+fn is_cell_open(cells: &[Cell], cell: u32, back: bool) -> bool {
     let at = cell as usize;
     if at >= cells.len() {
         return false;
@@ -32,12 +43,12 @@ pub fn is_open(cells: &[Cell], cell: u32, back: bool) -> bool {
     }
 }
 
-/// Sends people over a cell.
-pub fn shift(cells: &mut [Cell], cell: u32, back: bool, people: u32) {
-    let at = cell as usize;
+/// Sends people over a step.
+pub fn send(cells: &mut [Cell], step: Step, people: u32) {
+    let at = step.cell as usize;
     if at < cells.len() {
         let flow = cells[at].flow;
-        cells[at].flow = if back {
+        cells[at].flow = if step.back {
             flow.wrapping_sub(people)
         } else {
             flow.wrapping_add(people)
@@ -47,18 +58,12 @@ pub fn shift(cells: &mut [Cell], cell: u32, back: bool, people: u32) {
 
 /// How many people who come into a node at a moment aren't sent yet.
 pub fn unsent(cells: &[Cell], sizes: Sizes, node: u32, moment: u32) -> u32 {
-    room(cells, sizes.cell(sizes.supplies(node), moment), false)
+    room(cells, Step::supply(sizes, node, moment))
 }
 
-/// Some cells one after another, to be changed.
-pub fn stretch_mut(cells: &mut [Cell], first: u32, count: u32) -> &mut [Cell] {
-    let from = first as usize;
-    let to = from.wrapping_add(count as usize);
-    if from <= to && to <= cells.len() {
-        &mut cells[from..to]
-    } else {
-        &mut cells[..0]
-    }
+/// The cells of the people who come into a node.
+pub fn supplies_of(cells: &[Cell], sizes: Sizes, node: u32) -> &[Cell] {
+    stretch(cells, sizes.cell(sizes.supplies(node), 0), sizes.moments)
 }
 
 /// The cells of the people who come in.

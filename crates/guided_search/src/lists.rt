@@ -1,11 +1,5 @@
 //! Lists in which a place past the end may be read and written: what is read there is 0, and what is written is lost.
 
-/// More than any bound of a walk: from here nobody comes.
-pub const FAR: u32 = 65_535;
-
-/// The most steps of a walk, so that it ends whatever its numbers are.
-pub const FUEL: u64 = 1_000_000_000_000;
-
 /// A number of a list.
 pub fn read(list: &[u32], at: usize) -> u32 {
     if at < list.len() { list[at] } else { 0 }
@@ -45,6 +39,17 @@ pub fn stretch<T>(list: &[T], first: u32, count: u32) -> &[T] {
         &list[from..to]
     } else {
         &list[..0]
+    }
+}
+
+/// Some items of a list one after another, to be changed.
+pub fn stretch_mut<T>(list: &mut [T], first: u32, count: u32) -> &mut [T] {
+    let from = first as usize;
+    let to = from.wrapping_add(count as usize);
+    if from <= to && to <= list.len() {
+        &mut list[from..to]
+    } else {
+        &mut list[..0]
     }
 }
 

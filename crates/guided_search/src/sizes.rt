@@ -1,11 +1,13 @@
 //! How large a building is, and where its pairs and cells stand.
+//!
+//! A pair is a node at a moment, and the pairs of a node stand one after another. A row of cells has one for each moment: rows of arcs
+//! come first, then those of the nodes' waits, and then those of their supplies. So waits and supplies stand as pairs do.
 
 use crate::lists::{number, short};
 use evac_law::Model as Building;
 use residual_net::Place;
 
-/// How many nodes, arcs and moments there are. A row of cells is an arc's, or behind those a node's waits, or behind those a
-/// node's supplies; a pair is a node at a moment.
+/// How many nodes, arcs and moments there are.
 #[derive(Clone, Copy)]
 pub struct Sizes {
     pub nodes: u32,
@@ -39,12 +41,12 @@ impl Sizes {
         node.wrapping_mul(self.moments).wrapping_add(moment)
     }
 
-    /// The node and the moment of a pair.
-    pub fn parts(&self, pair: u32) -> (u32, u32) {
+    /// The node and the moment of a pair, or the row and the moment of a cell.
+    pub fn parts(&self, number: u32) -> (u32, u32) {
         if self.moments == 0 {
             return (0, 0);
         }
-        (pair / self.moments, pair % self.moments)
+        (number / self.moments, number % self.moments)
     }
 
     /// The row of the waits in a node.
@@ -62,17 +64,18 @@ impl Sizes {
         row.wrapping_mul(self.moments).wrapping_add(moment)
     }
 
-    /// The place of a row at a moment.
-    pub fn place(&self, row: u32, moment: u32) -> Place {
+    /// The place of a cell.
+    pub fn place(&self, cell: u32) -> Place {
+        let (row, moment) = self.parts(cell);
         let moment = short(moment);
         if row < self.arcs {
             return Place::Arc { arc: row, moment };
         }
-        let node = row.wrapping_sub(self.arcs);
+        let node = row - self.arcs;
         if node < self.nodes {
             return Place::Hold { node, moment };
         }
-        let node = node.wrapping_sub(self.nodes);
+        let node = node - self.nodes;
         Place::Supply { node, moment }
     }
 }

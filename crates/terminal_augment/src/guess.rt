@@ -13,7 +13,7 @@ use crate::marks::Marks;
 use crate::spot::Spot;
 use crate::work::Work;
 use evac_law::{Labels, Steps};
-use guided_search::Scout;
+use guided_search::PathFinder;
 use residual_net::{Cell, End, Leg, Net, PathStep, Place};
 use std::sync::ledger::Ledger;
 
@@ -221,7 +221,7 @@ pub fn send_guessed<L: Ledger>(
     net: &mut Net,
     labels: &Labels,
     work: &mut Work,
-    scout: &mut Scout,
+    finder: &mut PathFinder,
     k: u16,
     steps: &mut Steps<L>,
 ) -> u32
@@ -232,21 +232,21 @@ pub fn send_guessed<L: Ledger>(
     ensures work { IsWork net.new.site.shape.nodes net.new.site.shape.horizon work.new }
     ensures counted { IsCountedOn net.old net.new k result steps.old steps.new }
 {
-    scout.begin(net, labels, k);
+    finder.begin(net, labels, k);
     let mut pushes = 0;
     for _ in 0..FUEL {
-        if !scout.find(net) {
+        if !finder.find(net) {
             return pushes;
         }
-        let most = scout.most();
-        let legs = scout.lay();
+        let most = finder.most();
+        let legs = finder.lay();
         work.marks.clear();
         let people = carried(net, &mut work.marks, legs, most, k);
         if people == 0 {
             return pushes;
         }
         net.push_legs(legs, people, steps);
-        scout.sent(net, people);
+        finder.sent(net, people);
         pushes += 1;
     }
     pushes

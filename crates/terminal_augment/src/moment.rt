@@ -19,7 +19,7 @@ use crate::walk::send_next;
 use crate::ways::{door_step, is_usable};
 use crate::work::Work;
 use evac_law::{Labels, Steps};
-use guided_search::Scout;
+use guided_search::PathFinder;
 use residual_net::{End, Net};
 use std::alloc::{AllocError, Global};
 use std::marker::Model;
@@ -116,7 +116,7 @@ fn send_both<L: Ledger>(
     net: &mut Net,
     labels: &Labels,
     work: &mut Work,
-    scout: &mut Scout,
+    finder: &mut PathFinder,
     k: u16,
     steps: &mut Steps<L>,
 ) -> u32
@@ -125,15 +125,15 @@ fn send_both<L: Ledger>(
     ensures counted { IsCountedOn net.old net.new k result steps.old steps.new }
     ensures explored { IsExplored net.new labels.now k (arc_count net.new.site) work.new }
 {
-    if scout.waits(net, k) && flood(net, labels, work, k) {
+    if finder.waits(net, k) && flood(net, labels, work, k) {
         return 0;
     }
-    let guessed = send_guessed(net, labels, work, scout, k, steps);
+    let guessed = send_guessed(net, labels, work, finder, k, steps);
     if flood(net, labels, work, k) {
         return guessed;
     }
     let others = send_all(net, labels, work, k, steps);
-    scout.miss(net, others);
+    finder.miss(net, others);
     guessed + others
 }
 
@@ -156,7 +156,7 @@ fn settle_with<L: Ledger>(
     net: &mut Net,
     labels: &mut Labels,
     work: &mut Work,
-    scout: &mut Scout,
+    finder: &mut PathFinder,
     k: u16,
     steps: &mut Steps<L>,
 ) -> u32
@@ -168,7 +168,7 @@ fn settle_with<L: Ledger>(
     ensures work { IsWork net.new.site.shape.nodes net.new.site.shape.horizon work.new }
 {
     let _ = net.shape();
-    let pushes = send_both(net, labels, work, scout, k, steps);
+    let pushes = send_both(net, labels, work, finder, k, steps);
     label_all(labels, &work.seen, k);
     pushes
 }
@@ -177,7 +177,7 @@ fn settle_with<L: Ledger>(
 #[derive(Drop)]
 pub struct Search {
     work: Work,
-    scout: Scout,
+    finder: PathFinder,
 }
 
 impl Model for Search {
@@ -198,8 +198,8 @@ impl Search {
         ensures { IfOk result (IsSearchOf (site_of model.now)) }
     {
         let work = Work::new(alloc, model.node_count(), model.horizon)?;
-        let scout = Scout::new(alloc, model)?;
-        Ok(Search { work, scout })
+        let finder = PathFinder::new(alloc, model)?;
+        Ok(Search { work, finder })
     }
 
     /// Guesses at a cut that shows that not everybody can get out of a net by its horizon: labels with the horizon the pairs from which
@@ -209,14 +209,14 @@ impl Search {
         ensures nodes { labels.new.nodes ≡ labels.old.nodes }
         ensures horizon { labels.new.horizon ≡ labels.old.horizon }
     {
-        self.scout.guess_cut(net, labels)
+        self.finder.guess_cut(net, labels)
     }
 
     /// Forgets what earlier moments told, as the flow or the limits of the net aren't what they were.
     pub fn renew(&mut self)
         ensures { self.new ≡ self.old }
     {
-        self.scout.renew();
+        self.finder.renew();
     }
 }
 
@@ -236,5 +236,5 @@ pub fn settle<L: Ledger>(
     ensures closed { IsClosedBelow net.new labels.new (k + 1) }
     ensures search { search.new ≡ search.old }
 {
-    settle_with(net, labels, &mut search.work, &mut search.scout, k, steps)
+    settle_with(net, labels, &mut search.work, &mut search.finder, k, steps)
 }

@@ -1,38 +1,48 @@
-//! Whether everybody could get out, if people could wait anywhere.
+//! A maximum flow of all moments together: whether everybody could get out, if people could wait anywhere.
 //!
 //! Then as many people could go over an arc as it lets in all together at the moments at which somebody can have come to it, and can still
 //! get out behind it. Where not even these totals let everybody out, no plan does.
 
-use crate::lists::{FUEL, add, read, stretch, write};
+use crate::cells::supplies_of;
+use crate::lists::{add, read, stretch, write};
 use crate::sizes::Sizes;
+use crate::tuning::FUEL;
 use crate::ways::{Way, Ways};
 use residual_net::Cell;
 use std::alloc::{AllocError, Global};
 
-/// Where a step over an arc, forwards or backwards, leads to from a node: to another node, or out.
+/// A step out of a node over an arc.
 #[derive(Clone, Copy)]
-struct Step {
+struct ArcStep {
+    /// The node to which it leads, where that is no exit.
     to: Option<u32>,
+    /// The arc.
     arc: u32,
+    /// Whether it goes backwards.
     back: bool,
 }
 
-/// Of each arc how many people go over it and how many more may, and of each node how many are left in it and by which step the next
-/// of them can go out, where a search has come to it.
+/// A flow over arcs, without moments.
 #[derive(Drop)]
-pub struct Totals {
+pub struct TotalFlow {
+    /// How large the building is.
     sizes: Sizes,
+    /// Of each arc how many people go over it.
     flows: Vec<u32>,
+    /// Of each arc how many more may.
     rooms: Vec<u32>,
+    /// Of each node how many people are left in it.
     left: Vec<u32>,
-    steps: Vec<Option<Step>>,
+    /// Of each node to which a search has come the step by which people can go out.
+    steps: Vec<Option<ArcStep>>,
+    /// These nodes, in the order in which it came to them.
     met: Vec<u32>,
 }
 
-impl Totals {
+impl TotalFlow {
     /// Nobody goes anywhere.
-    pub fn new(alloc: Global, sizes: Sizes) -> Result<Totals, AllocError> {
-        Ok(Totals {
+    pub fn new(alloc: Global, sizes: Sizes) -> Result<TotalFlow, AllocError> {
+        Ok(TotalFlow {
             sizes,
             flows: vec![in alloc; 0u32; sizes.arcs as usize]?,
             rooms: vec![in alloc; 0u32; sizes.arcs as usize]?,
@@ -42,9 +52,9 @@ impl Totals {
         })
     }
 
-    /// Whether the totals let everybody out, where `comes` tells when people first come to each node.
-    pub fn let_all_out(&mut self, cells: &[Cell], ways: &Ways, comes: &[u32]) -> bool {
-        self.begin(cells, ways, comes);
+    /// Whether the totals let everybody out, where `earliest` tells when people first come to each node.
+    pub fn let_all_out(&mut self, cells: &[Cell], ways: &Ways, earliest: &[u32]) -> bool {
+        self.begin(cells, ways, earliest);
         for _ in 0..FUEL {
             match self.search(ways) {
                 Some(node) => self.send(node),
@@ -65,30 +75,27 @@ impl Totals {
     }
 
     /// Finds how many people come into each node and how many may go over each arc, of whom nobody has gone yet.
-    fn begin(&mut self, cells: &[Cell], ways: &Ways, comes: &[u32]) {
+    fn begin(&mut self, cells: &[Cell], ways: &Ways, earliest: &[u32]) {
         self.flows.as_mut_slice().fill(0);
         for node in 0..self.sizes.nodes {
-            let supplies = self.sizes.cell(self.sizes.supplies(node), 0);
-            let people = sum_limits(stretch(cells, supplies, self.sizes.moments));
+            let people = sum_limits(supplies_of(cells, self.sizes, node));
             write(self.left.as_mut_slice(), node as usize, people);
             for way in ways.into(node) {
                 if way.is_arc(self.sizes) {
-                    self.open(cells, comes, *way, ways.walk(node));
+                    self.open(cells, earliest, *way, ways.travel_out(node));
                 }
             }
         }
-        for way in ways.doors.as_slice() {
-            self.open(cells, comes, *way, 0);
+        for way in ways.doors() {
+            self.open(cells, earliest, *way, 0);
         }
     }
 
-    /// Finds how many people may go over an arc from whose end the shortest walk out takes so long.
-    fn open(&mut self, cells: &[Cell], comes: &[u32], way: Way, walk: u32) {
-        let first = read(comes, way.node as usize);
-        let end = self
-            .sizes
-            .moments
-            .saturating_sub(0u32.wrapping_sub(way.shift).saturating_add(walk));
+    /// Finds how many people may go over an arc from whose end the shortest way out takes so long.
+    fn open(&mut self, cells: &[Cell], earliest: &[u32], way: Way, travel_out: u32) {
+        let first = read(earliest, way.node as usize);
+        let travel = way.travel().saturating_add(travel_out);
+        let end = self.sizes.moments.saturating_sub(travel);
         let count = end.saturating_sub(first);
         let people = sum_limits(stretch(cells, self.sizes.cell(way.row, first), count));
         write(self.rooms.as_mut_slice(), way.row as usize, people);
@@ -98,7 +105,7 @@ impl Totals {
     fn search(&mut self, ways: &Ways) -> Option<u32> {
         self.steps.as_mut_slice().fill(None);
         self.met.clear();
-        for way in ways.doors.as_slice() {
+        for way in ways.doors() {
             if let Some(node) = self.meet(*way, None) {
                 return Some(node);
             }
@@ -120,7 +127,11 @@ impl Totals {
     /// Comes back over an arc to the node where it begins, if somebody more may go over it. That node, where somebody is left in it.
     fn meet(&mut self, way: Way, to: Option<u32>) -> Option<u32> {
         let node = way.node as usize;
-        let open = if way.back { &self.flows } else { &self.rooms };
+        let open = if way.is_back() {
+            &self.flows
+        } else {
+            &self.rooms
+        };
         if way.row >= self.sizes.arcs
             || read(open.as_slice(), way.row as usize) == 0
             || node >= self.steps.len()
@@ -129,8 +140,8 @@ impl Totals {
             return None;
         }
         let arc = way.row;
-        let back = way.back;
-        self.steps.as_mut_slice()[node] = Some(Step { to, arc, back });
+        let back = way.is_back();
+        self.steps.as_mut_slice()[node] = Some(ArcStep { to, arc, back });
         add(&mut self.met, way.node);
         if read(self.left.as_slice(), node) > 0 {
             Some(way.node)
@@ -140,7 +151,7 @@ impl Totals {
     }
 
     /// The step by which people go out of a node.
-    fn step(&self, node: u32) -> Option<Step> {
+    fn step(&self, node: u32) -> Option<ArcStep> {
         let at = node as usize;
         if at < self.steps.len() {
             self.steps.as_slice()[at]

@@ -1,21 +1,26 @@
-//! The pairs whose bounds were raised in vain, each once.
+//! The pairs that were relabelled in vain, each once.
 
+use crate::distances::Distances;
 use crate::lists::{add, write_byte};
 use crate::sizes::Sizes;
+use crate::tuning::FAR;
 use std::alloc::{AllocError, Global};
 
-/// Pairs in the order in which they came, with a stamp on each. A pair is one of them while its stamp is the latest.
+/// A set of pairs. A pair is in it while its stamp is the latest, so that clearing it costs nothing.
 #[derive(Drop)]
-pub struct Raised {
+pub struct Relabelled {
+    /// The stamp of each pair.
     stamps: Vec<u8>,
+    /// The latest stamp.
     stamp: u8,
+    /// The pairs in the order in which they came.
     pairs: Vec<u32>,
 }
 
-impl Raised {
+impl Relabelled {
     /// None, with room for all pairs of a building.
-    pub fn new(alloc: Global, sizes: Sizes) -> Result<Raised, AllocError> {
-        Ok(Raised {
+    pub fn new(alloc: Global, sizes: Sizes) -> Result<Relabelled, AllocError> {
+        Ok(Relabelled {
             stamps: vec![in alloc; 0u8; sizes.pairs()]?,
             stamp: 1,
             pairs: Vec::with_capacity(alloc, sizes.pairs())?,
@@ -27,13 +32,9 @@ impl Raised {
         self.pairs.len()
     }
 
-    /// One of them, by its number.
-    pub fn get(&self, at: usize) -> u32 {
-        if at < self.pairs.len() {
-            self.pairs.as_slice()[at]
-        } else {
-            0
-        }
+    /// The pairs, in the order in which they came.
+    pub fn pairs(&self) -> &[u32] {
+        self.pairs.as_slice()
     }
 
     /// Whether a pair is one of them.
@@ -50,22 +51,14 @@ impl Raised {
         }
     }
 
-    /// Takes a pair out, but for its number.
-    pub fn drop_stamp(&mut self, pair: u32) {
-        write_byte(self.stamps.as_mut_slice(), pair as usize, 0);
-    }
-
-    /// Leaves those that still have their stamp.
-    pub fn shrink(&mut self) {
-        let mut kept = 0usize;
-        for at in 0..self.pairs.len() {
-            let pair = self.get(at);
-            if self.has(pair) && kept < self.pairs.len() {
-                self.pairs.as_mut_slice()[kept] = pair;
-                kept = kept.wrapping_add(1);
+    /// Takes out the pairs that are dead.
+    pub fn drop_dead(&mut self, distances: &Distances) {
+        for pair in self.pairs.as_slice() {
+            if distances.get(*pair) >= FAR {
+                write_byte(self.stamps.as_mut_slice(), *pair as usize, 0);
             }
         }
-        self.pairs.truncate(kept);
+        self.pairs.retain(|pair| distances.get(*pair) < FAR);
     }
 
     /// Leaves none.

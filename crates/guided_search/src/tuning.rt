@@ -1,0 +1,41 @@
+//! The numbers that decide how hard a search tries before another takes over, each with what was measured.
+//!
+//! None of them bears on an answer: with any of them every plan is found, only later or sooner.
+
+/// The distance label of a pair to which nobody can come.
+pub const FAR: u32 = 65_535;
+
+/// The most rounds of a loop that ends by itself. No building of the language's limits comes near: a search takes fewer steps than
+/// there are pairs times ways between two pushes, some 10^10, and most take some hundreds.
+pub const FUEL: u64 = 1_000_000_000_000;
+
+/// The most stays of an augmenting path. Paths of some 100 stays were the longest on the buildings that were measured; memory past
+/// those isn't touched.
+pub const PATH_LIMIT: usize = 8_192;
+
+/// How many pairs may be relabelled in vain, beside those relabelled before, until there is a global relabelling. Fewer relabel too
+/// often, and more creep where pairs raise each other by 1.
+pub const VAIN_LIMIT: usize = 30;
+
+/// How many times all pairs may be relabelled globally at one moment, before others take over, where nobody comes in later. On some
+/// buildings, once an exit is shut, more would cost more than it saves.
+pub const GLOBAL_LIMIT: usize = 4;
+
+/// One of how many pairs that lead to those relabelled may be relabelled part by part, where people come in later, before all of them
+/// are at once: exits run dry while people are still to come, and part by part the same pairs came again and again.
+pub const BEHIND_SHARE: usize = 16;
+
+/// At how many moments people may be sent by others before a target flow is sought. After an exit is opened again rounds without
+/// hints cost many times a fresh plan, and a target flow about one.
+pub const MISS_LIMIT: u32 = 4;
+
+/// One of how many pairs may be relabelled globally in a net from which some people were taken, before a target flow is sought. On
+/// towers the same pairs were relabelled again and again, at up to 26 times the cost of a fresh plan.
+pub const FIRST_SHARE: u64 = 32;
+
+/// For one of how many people a pair more may be relabelled there: a target flow is dearer the more people there are.
+pub const CROWD_SHARE: u64 = 8;
+
+/// One of how many pairs may be relabelled there besides, if everybody is sent along shortest paths. Giving up after most are sent
+/// costs more than going on.
+pub const EARNED_SHARE: u64 = 2;
