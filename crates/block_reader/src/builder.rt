@@ -1,4 +1,4 @@
-// A block from what its lines say, one by one.
+//! A block from what its lines say, one by one.
 ghost use Rattle.std.specs.Prelude.{◌≡◌, ◌<◌, ◌≤◌, ◌^◌, IfSome, IsTrue, length};
 ghost use Rattle.std.specs.Option.{ForSome};
 ghost use Rattle.evac_law.specs.Building.{IsValid};
@@ -44,7 +44,7 @@ impl std::marker::Model for BlockBuilder {
     } };
 }
 
-/// The place of the node of a name.
+// The place of the node of a name.
 fn node_of(model: &Model, names: &Names, name: NodeName) -> Option<u32>
     requires { NamesFit names.now model.now }
     ensures place { result ≡ node_of model.now name }
@@ -53,7 +53,7 @@ fn node_of(model: &Model, names: &Names, name: NodeName) -> Option<u32>
     names.find_node(name)
 }
 
-/// The place of the arc between two places.
+// The place of the arc between two places.
 fn arc_of(model: &Model, names: &Names, from: u32, to: u32) -> Option<u32>
     requires { NamesFit names.now model.now }
     ensures { result ≡ arc_of model.now from to }
@@ -61,7 +61,7 @@ fn arc_of(model: &Model, names: &Names, from: u32, to: u32) -> Option<u32>
     names.find_arc(from, to)
 }
 
-/// Whether the places from one on, up to another, are those of exits.
+// Whether the places from one on, up to another, are those of exits.
 fn only_exits(model: &Model, from: u32, to: u32) -> bool
     requires { to ≤ length model.now.nodes }
     ensures { result ≡ only_exits model.now from to }
@@ -74,7 +74,7 @@ fn only_exits(model: &Model, from: u32, to: u32) -> bool
     true
 }
 
-/// Whether a run of a node may stand behind the last one.
+// Whether a run of a node may stand behind the last one.
 fn follows_run(model: &Model, last: Option<Run>, node: u32, moment: u16, label: u16) -> bool
     requires { node < length model.now.nodes }
     ensures { result ≡ follows_run model.now last node moment label }
@@ -86,7 +86,7 @@ fn follows_run(model: &Model, last: Option<Run>, node: u32, moment: u16, label: 
     }
 }
 
-/// The place behind the last node that has a run.
+// The place behind the last node that has a run.
 #[tactic(auto, unfolding(evac_law::specs::Limits::node_limit))]
 fn behind_run(last: Option<Run>) -> u32
     requires { ForSome last (λ run. run.node < node_limit) }
@@ -98,7 +98,7 @@ fn behind_run(last: Option<Run>) -> u32
     }
 }
 
-/// Whether a moment and an arc stand behind those of the last move.
+// Whether a moment and an arc stand behind those of the last move.
 fn follows_move(last: Option<Move>, moment: u16, arc: u32) -> bool
     ensures { result ≡ follows_move last moment arc }
 {

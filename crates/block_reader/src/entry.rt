@@ -1,4 +1,4 @@
-// What a line of a block says.
+//! What a line of a block says.
 ghost use Rattle.std.specs.Prelude.{◌≡◌};
 ghost use Rattle.model_text.specs.Fields.{fields_of};
 ghost use Rattle.certificate_text.specs.Entries.{entry_by_word, cleared_entry, end_entry, entry_of, index_entry, label_entry, label_of, move_entry, read_move, one_number, out_entry, out_of, people_entry};

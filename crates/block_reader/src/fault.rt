@@ -1,4 +1,4 @@
-// Why a block isn't read.
+//! Why a block isn't read.
 
 /// Why lines give no block.
 #[derive(Clone, Copy, PartialEq, Eq, Debug)]

@@ -1,4 +1,4 @@
-// The block of what was read.
+//! The block of what was read.
 ghost use Rattle.std.specs.Prelude.{◌≡◌, ◌<◌, ◌≤◌, ◌+◌, ◌*◌, ℕ, IfOk, length};
 ghost use Rattle.std.specs.List.{All};
 ghost use Rattle.evac_law.specs.Building.{IsValid};

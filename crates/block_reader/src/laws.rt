@@ -1,4 +1,4 @@
-// The laws of reading, each the contract of a function that does nothing.
+//! The laws of reading, each the contract of a function that does nothing.
 ghost use Rattle.block_reader.specs.ReaderLaws.{EntriesTellBlock, ReadsOneWay};
 
 /// What a block says tells which it is: no two blocks of a model that have all their labels have the same entries.

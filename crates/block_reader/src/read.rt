@@ -1,4 +1,4 @@
-// The block that lines state.
+//! The block that lines state.
 ghost use Rattle.std.specs.Prelude.{◌≡◌, ◌≤◌, Err, IfOk, false};
 ghost use Rattle.evac_law.specs.Building.{IsValid};
 ghost use Rattle.line_io.specs.Calls.{Asks};

@@ -1,4 +1,4 @@
-// Runs of labels.
+//! Runs of labels.
 
 /// A node's label from a moment on.
 #[derive(Clone, Copy, PartialEq, Eq, Debug)]

@@ -1,4 +1,4 @@
-// How far a block was read.
+//! How far a block was read.
 ghost use Rattle.std.specs.Prelude.{◌≡◌};
 ghost use Rattle.block_reader.specs.Drafts.{is_cleared, is_index, is_lists, is_people};
 

@@ -10,5 +10,5 @@ abbrev pub name_texts : Model → List (List ℕ)
 name_texts m = map (λ n. name_text n.name) m.nodes
 
 -- the line of a run at its first moment, by the name of its node
-abbrev pub run_part : List ℕ → LabelTable → ℕ → ℕ → ℕ → List ℕ
-run_part name l c n t = if begins_run (shown_label l c n) t then label_line name t (shown_label l c n t) else []
+abbrev pub run_line : List ℕ → LabelTable → ℕ → ℕ → ℕ → List ℕ
+run_line name l c n t = if begins_run (shown_label l c n) t then label_line name t (shown_label l c n t) else []

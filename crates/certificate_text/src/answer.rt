@@ -9,7 +9,7 @@ ghost use Rattle.evac_law.specs.Sums.{below};
 ghost use Rattle.line_io.specs.Causes.{HasCause};
 ghost use Rattle.line_io.specs.Writer.{PutsText};
 ghost use Rattle.certificate_text.specs.ExitArcs.{arcs_out, leads_out};
-ghost use Rattle.certificate_text.specs.NameTexts.{name_texts, run_part};
+ghost use Rattle.certificate_text.specs.NameTexts.{name_texts, run_line};
 ghost use Rattle.certificate_text.specs.Block.{number_field_limit};
 ghost use Rattle.certificate_text.specs.BlockLaws.{ReadsBack};
 ghost use Rattle.certificate_text.specs.BlockText.{answer_text, begins_run, label_lines, move_lines, move_part, moment_moves, node_labels, out_lines, shown_label};
@@ -127,7 +127,7 @@ fn write_run<K: Sink>(
 ) -> Result<(), WriteFault>
     requires node_in { node < labels.now.nodes }
     requires moment_in { moment ≤ labels.now.horizon }
-    ensures text { PutsText (K.held sink.old) out.old (run_part name.now labels.now cleared node moment) (K.held sink.new) out.new result }
+    ensures text { PutsText (K.held sink.old) out.old (run_line name.now labels.now cleared node moment) (K.held sink.new) out.new result }
     ensures cause { HasCause (K.faults sink.old) (K.faults sink.new) result }
 {
     if begins_run(labels, cleared, node, moment) {
@@ -148,7 +148,7 @@ fn write_runs<K: Sink>(
 ) -> Result<(), WriteFault>
     requires node_in { node < labels.now.nodes }
     requires cleared_in { cleared ≤ labels.now.horizon }
-    ensures text { PutsText (K.held sink.old) out.old (flat_map (run_part name.now labels.now cleared node) (below cleared)) (K.held sink.new) out.new result }
+    ensures text { PutsText (K.held sink.old) out.old (flat_map (run_line name.now labels.now cleared node) (below cleared)) (K.held sink.new) out.new result }
     ensures cause { HasCause (K.faults sink.old) (K.faults sink.new) result }
 {
     for moment in 0..cleared {

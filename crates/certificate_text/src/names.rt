@@ -1,6 +1,6 @@
 //! The names of nodes, each spelt once.
-ghost use Rattle.std.specs.Prelude.{◌≡◌, ◌≤◌, ◌<◌, length, map};
-ghost use Rattle.evac_law.specs.Building.{IsValid, node_at};
+ghost use Rattle.std.specs.Prelude.{◌≡◌, ◌≤◌, ◌<◌, length};
+ghost use Rattle.evac_law.specs.Building.{IsValid};
 ghost use Rattle.evac_law.specs.Names.{IsName, name_text};
 ghost use Rattle.certificate_text.specs.NameTexts.{name_texts};
 

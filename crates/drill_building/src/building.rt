@@ -1,4 +1,4 @@
-// The building of a drill.
+//! The building of a drill.
 ghost use Rattle.std.specs.Prelude.{◌≡◌, ◌≤◌, ◌+◌, IfOk, codes, map};
 ghost use Rattle.evac_law.specs.Building.{IsValid};
 ghost use Rattle.evac_law.specs.Sums.{below};

@@ -1,4 +1,4 @@
-// The law of drills, the contract of a function with nothing to do.
+//! The law of drills, the contract of a function with nothing to do.
 ghost use Rattle.drill_building.specs.Laws.{DrillsAreValid};
 
 /// The model of a drill is valid for each number of storeys up to the limit.

@@ -1,4 +1,4 @@
-// The nodes and arcs of a drill's building.
+//! The nodes and arcs of a drill's building.
 ghost use Rattle.std.specs.Prelude.{◌≡◌, ◌≤◌, ◌++◌, IfOk, OnOk};
 ghost use Rattle.drill_building.specs.Drill.{drill_arcs, drill_nodes, ground_nodes, node_name, room_start, stair_place, storey_arcs, storey_nodes};
 

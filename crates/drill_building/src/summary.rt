@@ -1,4 +1,4 @@
-// The summary of a drill.
+//! The summary of a drill.
 ghost use Rattle.evac_law.specs.Building.{IsValid};
 ghost use Rattle.line_io.specs.Causes.{HasCause};
 ghost use Rattle.line_io.specs.Writer.{PutsText};

@@ -1,4 +1,4 @@
-// The laws, each the contract of a function with nothing to do.
+//! The laws, each the contract of a function with nothing to do.
 ghost use Rattle.edit_session.specs.Laws.{GoesOnAsFresh, StateIsQuickest};
 
 /// What an edit or an undo goes on to has the last moment and the curve of whatever begins with the same model.

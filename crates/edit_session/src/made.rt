@@ -1,4 +1,4 @@
-// What an edit comes to that was made.
+//! What an edit comes to that was made.
 
 use crate::work::Work;
 use evac_law::Edit;

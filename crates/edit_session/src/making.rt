@@ -1,4 +1,4 @@
-// An edit made on a model and on the net that stands for its plan.
+//! An edit made on a model and on the net that stands for its plan.
 ghost use Rattle.std.specs.Prelude.{◌≡◌, ℕ, ◌+◌};
 ghost use Rattle.evac_law.specs.Edits.{IsEditOf};
 ghost use Rattle.residual_net.specs.Labelled.{IsLabelsOf};

@@ -1,4 +1,4 @@
-// A standing net brought to an edited model.
+//! A standing net brought to an edited model.
 ghost use Rattle.std.specs.Prelude.{◌≡◌, ◌+◌, MatchOption};
 ghost use Rattle.evac_law.specs.Building.{IsValid};
 ghost use Rattle.residual_net.specs.OfModel.{site_of};
@@ -14,8 +14,8 @@ use lex_flow::{Outcome, settle_all};
 use residual_net::Net;
 use std::sync::ledger::Ledger;
 
-/// What a cut is worth at the horizon that shows that not everybody can get out of a model, where a search guesses at one. The scratch has
-/// its labels.
+// What a cut is worth at the horizon that shows that not everybody can get out of a model, where a search guesses at one. The scratch has
+// its labels.
 fn find_shortfall(net: &Net, model: &Model, scratch: &mut Scratch) -> Option<u32>
     requires valid { IsValid model.now }
     requires of { net.now.site ≡ site_of model.now }

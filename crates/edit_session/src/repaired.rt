@@ -1,4 +1,4 @@
-// What a repair comes to.
+//! What a repair comes to.
 
 use crate::work::Work;
 

@@ -1,4 +1,4 @@
-// What repairs work with, in memory that is taken once.
+//! What repairs work with, in memory that is taken once.
 ghost use Rattle.std.specs.Prelude.{IfOk};
 ghost use Rattle.evac_law.specs.Building.{IsValid};
 ghost use Rattle.residual_net.specs.OfModel.{site_of};

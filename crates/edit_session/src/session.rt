@@ -1,4 +1,4 @@
-// The session: a model, the net that stands for its plan, and the edits that lead back.
+//! The session: a model, the net that stands for its plan, and the edits that lead back.
 ghost use Rattle.std.specs.Prelude.{◌≡◌, ℕ, ◌+◌, OnErr, length};
 ghost use Rattle.evac_law.specs.Building.{IsValid};
 ghost use Rattle.evac_law.specs.Certificates.{IsTableOf};

@@ -1,4 +1,4 @@
-// The mode `check`: a model and a block are read, and the checker's verdict is sent.
+//! The mode `check`: a model and a block are read, and the checker's verdict is sent.
 ghost use Rattle.std.specs.Prelude.{◌≡◌, ℕ, [], Some};
 ghost use Rattle.evac_law.specs.Building.{IsValid};
 ghost use Rattle.certificate_text.specs.Block.{IsBlockOf};

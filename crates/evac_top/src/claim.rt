@@ -1,4 +1,4 @@
-// The building and the block that an input of `check` states.
+//! The building and the block that an input of `check` states.
 ghost use Rattle.std.specs.Prelude.{◌≡◌, Err, IfOk};
 ghost use Rattle.evac_law.specs.Building.{IsValid};
 ghost use Rattle.line_io.specs.Causes.{Rose};

@@ -1,4 +1,4 @@
-// Cards behind the block of a session.
+//! Cards behind the block of a session.
 ghost use Rattle.std.specs.Prelude.{◌≡◌, ℕ, List, IfSome, is_some};
 ghost use Rattle.line_io.specs.Causes.{Count, HasCause};
 ghost use Rattle.report_text.specs.Parts.{PutsOn};

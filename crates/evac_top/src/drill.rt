@@ -1,4 +1,4 @@
-// The mode `drill`: the building of a drill is planned, and the summary of its plan is sent.
+//! The mode `drill`: the building of a drill is planned, and the summary of its plan is sent.
 ghost use Rattle.std.specs.Prelude.{◌≡◌, ℕ, ◌≤◌, [], IfOk, Some};
 ghost use Rattle.clearing_report.specs.Walks.{IsUncongested};
 ghost use Rattle.drill_building.specs.Drill.{drill_model};

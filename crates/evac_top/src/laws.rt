@@ -1,4 +1,4 @@
-// The laws on runs, each the contract of a function with nothing to do.
+//! The laws on runs, each the contract of a function with nothing to do.
 ghost use Rattle.evac_top.specs.FirstLine.{FirstEditGetsItsBlock, StoppingIsRefused};
 ghost use Rattle.evac_top.specs.Headline.{PlansKeepPromise, ReplansKeepPromise, SessionsKeepPromise};
 ghost use Rattle.evac_top.specs.Runs.{RunsAnswer};

@@ -1,4 +1,4 @@
-// The block of a session with what is asked for behind it.
+//! The block of a session with what is asked for behind it.
 ghost use Rattle.std.specs.Prelude.{◌≡◌, ℕ, List, [], IfSome, is_some};
 ghost use Rattle.line_io.specs.Causes.{Count, HasCause};
 ghost use Rattle.report_text.specs.Parts.{PutsOn};

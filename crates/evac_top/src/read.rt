@@ -1,4 +1,4 @@
-// The building that an input describes.
+//! The building that an input describes.
 ghost use Rattle.std.specs.Prelude.{◌≡◌, ◌≤◌, Err, IfOk, Ok, OnOk, false, true};
 ghost use Rattle.evac_law.specs.Building.{IsValid};
 ghost use Rattle.line_io.specs.Causes.{Rose};

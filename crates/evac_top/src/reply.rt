@@ -1,4 +1,4 @@
-// Replies, each brought to the sink.
+//! Replies, each brought to the sink.
 ghost use Rattle.std.specs.Prelude.{◌≡◌, ℕ, List, []};
 ghost use Rattle.std.specs.declared.option.Option.{Option};
 ghost use Rattle.line_io.specs.Causes.{Count, HasCause};

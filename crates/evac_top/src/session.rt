@@ -1,4 +1,4 @@
-// The mode `session`: a model is read, its best plan is kept while it is edited, and each line behind it is answered.
+//! The mode `session`: a model is read, its best plan is kept while it is edited, and each line behind it is answered.
 ghost use Rattle.std.specs.Prelude.{◌≡◌, Some};
 ghost use Rattle.evac_top.specs.Accounts.{side};
 ghost use Rattle.evac_top.specs.Runs.{Runs};

@@ -1,4 +1,4 @@
-// The mode `solve`: a model is read, all arrival moments are settled, and the plan or the shortfall is sent.
+//! The mode `solve`: a model is read, all arrival moments are settled, and the plan or the shortfall is sent.
 ghost use Rattle.std.specs.Prelude.{◌≡◌, ℕ, ◌+◌, [], Some};
 ghost use Rattle.evac_law.specs.Building.{IsValid};
 ghost use Rattle.edit_session.specs.Sessions.{BeginEnds, Begins};

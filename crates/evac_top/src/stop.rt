@@ -1,4 +1,4 @@
-// The end of a run that has no answer: what a fault of the input gives, and a building that can't be cleared.
+//! The end of a run that has no answer: what a fault of the input gives, and a building that can't be cleared.
 ghost use Rattle.std.specs.Prelude.{◌≡◌, ℕ, [], Err};
 ghost use Rattle.edit_session.specs.Sessions.{BeginEnds};
 ghost use Rattle.evac_law.specs.declared.model.Model.{Model};

@@ -1,4 +1,4 @@
-// The mode `study`: a model is read, and each line behind it is answered by what it comes to without an exit, or at another rate.
+//! The mode `study`: a model is read, and each line behind it is answered by what it comes to without an exit, or at another rate.
 ghost use Rattle.std.specs.Prelude.{◌≡◌, Some};
 ghost use Rattle.evac_top.specs.Accounts.{side};
 ghost use Rattle.evac_top.specs.Runs.{Runs};

@@ -1,4 +1,4 @@
-// The top call.
+//! The top call.
 ghost use Rattle.std.specs.Prelude.{◌≡◌, ℕ, [], None, false, map, string_bytes};
 ghost use Rattle.evac_top.specs.Accounts.{Side, side};
 ghost use Rattle.evac_top.specs.Answers.{runs_of};

@@ -1,4 +1,4 @@
-// The mode `upgrade`: a model is read to the end of its input, and is sent as a text of version 2.
+//! The mode `upgrade`: a model is read to the end of its input, and is sent as a text of version 2.
 ghost use Rattle.std.specs.Prelude.{◌≡◌, ℕ, [], Some};
 ghost use Rattle.evac_law.specs.Building.{IsValid};
 ghost use Rattle.line_io.specs.Causes.{HasCause};

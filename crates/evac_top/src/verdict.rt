@@ -1,4 +1,4 @@
-// The line of a verdict.
+//! The line of a verdict.
 ghost use Rattle.std.specs.Prelude.{◌≡◌, ◌≤◌, [], ◌++◌, length};
 ghost use Rattle.evac_law.specs.Building.{IsValid};
 ghost use Rattle.line_io.specs.Causes.{HasCause};

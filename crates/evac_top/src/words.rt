@@ -1,4 +1,4 @@
-// The modes of the program, and the words that ask for them.
+//! The modes of the program, and the words that ask for them.
 ghost use Rattle.std.specs.Prelude.{◌≡◌, ◌≤◌, IfSome, map, string_bytes};
 ghost use Rattle.model_text.specs.NameFields.{plain_within};
 ghost use Rattle.evac_top.specs.Words.{IsBuildable, cards_alone, mode_alone, flags_of, mode_of, one_flag, storeys_of, two_flags};

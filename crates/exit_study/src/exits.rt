@@ -1,4 +1,4 @@
-// A model without one of its exits.
+//! A model without one of its exits.
 ghost use Rattle.std.specs.Prelude.{◌≡◌, ◌+◌, ℕ};
 ghost use Rattle.exit_study.specs.Exits.{IsExitRow, IsOpenExit};
 

@@ -1,4 +1,4 @@
-// The laws, each the contract of a function with nothing to do.
+//! The laws, each the contract of a function with nothing to do.
 ghost use Rattle.exit_study.specs.Laws.{EnoughStays, TooSlowIsNotEnough};
 
 /// A rate that is enough stays enough when it grows.

@@ -1,4 +1,4 @@
-// The least rate of an arc.
+//! The least rate of an arc.
 ghost use Rattle.std.specs.Prelude.{◌≡◌, ◌+◌, ◌<◌, ◌≤◌, ℕ, length};
 ghost use Rattle.evac_law.specs.Limits.{rate_limit};
 ghost use Rattle.exit_study.specs.Rates.{IsLeast, IsSearch, TellsEnough};
@@ -15,7 +15,7 @@ pub enum Least {
     Never,
 }
 
-/// Whether everybody is out by a moment with another rate of an arc.
+// Whether everybody is out by a moment with another rate of an arc.
 fn try_rate<L: Ledger>(
     session: &mut Session,
     arc: u32,
@@ -36,13 +36,13 @@ fn try_rate<L: Ledger>(
     }
 }
 
-/// The rates that a search has before it: none below `low` is enough, and `high` is, where it is a rate.
+// The rates that a search has before it: none below `low` is enough, and `high` is, where it is a rate.
 struct Span {
     low: u32,
     high: u32,
 }
 
-/// The span that the plan that stands leaves of all rates, by the rate that the arc has.
+// The span that the plan that stands leaves of all rates, by the rate that the arc has.
 #[tactic(auto, unfolding(evac_law::specs::Limits::rate_limit))]
 fn first_span(session: &Session, arc: u32, by: u16) -> Span
     requires { arc < length session.now.state.model.arcs }

@@ -1,4 +1,4 @@
-// A place brought under its limit.
+//! A place brought under its limit.
 ghost use Rattle.std.specs.Prelude.{◌≡◌, ◌+◌, ◌<◌};
 ghost use Rattle.residual_net.specs.Network.{IsWithinLimits, excess_at};
 ghost use Rattle.residual_net.specs.Site.{IsPlace, same_place};
@@ -10,7 +10,7 @@ use evac_law::{Labels, Model, Steps};
 use residual_net::{Net, Path, Place, limit_of};
 use std::sync::ledger::Ledger;
 
-/// Takes people off one flow path through a place with too many.
+// Takes people off one flow path through a place with too many.
 #[tactic(auto, using(residual_net::proofs::Effects::fewer_sent), unfolding(residual_net::specs::Limits::supply_limit))]
 fn cancel_one<L: Ledger>(
     net: &mut Net,
@@ -36,7 +36,7 @@ fn cancel_one<L: Ledger>(
     }
 }
 
-/// Takes people off flow paths through a place until it fits.
+// Takes people off flow paths through a place until it fits.
 fn cancel_all<L: Ledger>(
     net: &mut Net,
     labels: &Labels,

@@ -1,4 +1,4 @@
-// The numbers of what places lead to.
+//! The numbers of what places lead to.
 ghost use Rattle.std.specs.Prelude.{◌≡◌, ◌≤◌, ◌⊎◌, IsFalse};
 ghost use Rattle.std.specs.List.{All, Any};
 ghost use Rattle.residual_net.specs.Site.{IsPlace, is_barred};

@@ -1,4 +1,4 @@
-// A net brought under the limits of an edited model.
+//! A net brought under the limits of an edited model.
 ghost use Rattle.std.specs.Prelude.{◌≡◌};
 ghost use Rattle.evac_law.specs.Edits.{IsEditOf};
 ghost use Rattle.residual_net.specs.Network.{IsWithinLimits};
@@ -12,7 +12,7 @@ use evac_law::{Edit, Labels, Model, Steps};
 use residual_net::{Kind, Net, Path};
 use std::sync::ledger::Ledger;
 
-/// Brings what an edit changes under the edited model.
+// Brings what an edit changes under the edited model.
 fn fit_edit<L: Ledger>(
     net: &mut Net,
     model: &Model,

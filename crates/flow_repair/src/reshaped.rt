@@ -1,4 +1,4 @@
-// What a repair comes to.
+//! What a repair comes to.
 
 /// How many people were taken off, and the least moment at which the labels may fail.
 #[derive(Clone, Copy, PartialEq, Eq, Debug)]

@@ -1,4 +1,4 @@
-// All moments of an arc or a node, and all arcs into an exit.
+//! All moments of an arc or a node, and all arcs into an exit.
 ghost use Rattle.std.specs.Prelude.{◌≡◌, ◌<◌, ◌==◌, ◌&&◌, length};
 ghost use Rattle.residual_net.specs.Network.{IsWithinLimits};
 ghost use Rattle.residual_net.specs.Site.{IsPlace};
@@ -40,7 +40,7 @@ pub fn fit_row<L: Ledger>(
     now
 }
 
-/// Brings an arc under a model at each moment, where it leads into a node.
+// Brings an arc under a model at each moment, where it leads into a node.
 fn fit_arc_into<L: Ledger>(
     net: &mut Net,
     model: &Model,

@@ -63,7 +63,7 @@ impl Budget {
 }
 
 impl Account {
-    /// How many pairs may still be relabelled.
+    // How many pairs may still be relabelled.
     fn left(&self) -> usize {
         if self.people == 0 {
             return 0;

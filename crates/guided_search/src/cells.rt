@@ -29,7 +29,7 @@ pub fn is_open_back(cells: &[Cell], step: Step) -> bool {
     is_cell_open(cells, step.cell, !step.back)
 }
 
-/// Whether somebody may go over a cell, forwards or backwards.
+// Whether somebody may go over a cell, forwards or backwards.
 fn is_cell_open(cells: &[Cell], cell: u32, back: bool) -> bool {
     let at = cell as usize;
     if at >= cells.len() {
@@ -66,7 +66,7 @@ pub fn supplies_of(cells: &[Cell], sizes: Sizes, node: u32) -> &[Cell] {
     stretch(cells, sizes.cell(sizes.supplies(node), 0), sizes.moments)
 }
 
-/// The cells of the people who come in.
+// The cells of the people who come in.
 fn supplies(cells: &[Cell], sizes: Sizes) -> &[Cell] {
     stretch(
         cells,

@@ -155,7 +155,7 @@ impl Distances {
         }
     }
 
-    /// When people first come by the ways forwards into a node.
+    // When people first come by the ways forwards into a node.
     fn first_by(&self, ways: &[Way]) -> u32 {
         let mut first = FAR;
         for way in ways {
@@ -169,7 +169,7 @@ impl Distances {
     }
 }
 
-/// When people first come into a node from outside.
+// When people first come into a node from outside.
 fn first_entry(cells: &[Cell], sizes: Sizes, node: u32) -> u32 {
     for (moment, cell) in supplies_of(cells, sizes, node).iter().enumerate() {
         if cell.limit > 0 {

@@ -63,7 +63,7 @@ impl GlobalRelabelling {
         behind
     }
 
-    /// Spreads from the sorted pairs, level by level.
+    // Spreads from the sorted pairs, level by level.
     fn spread_all(
         &mut self,
         residual: Residual<'_>,
@@ -88,7 +88,7 @@ impl GlobalRelabelling {
         }
     }
 
-    /// Gives each relabelled pair the label that the pairs around allow it.
+    // Gives each relabelled pair the label that the pairs around allow it.
     fn seed(&mut self, residual: Residual<'_>, distances: &mut Distances, relabelled: &Relabelled) {
         self.order.clear();
         for pair in relabelled.pairs().iter().copied() {
@@ -102,7 +102,7 @@ impl GlobalRelabelling {
         self.order.as_mut_slice().sort_unstable();
     }
 
-    /// Gives each relabelled pair at which unsent people come in the label 0, and lets the others be dead for now.
+    // Gives each relabelled pair at which unsent people come in the label 0, and lets the others be dead for now.
     fn seed_sources(
         &mut self,
         residual: Residual<'_>,
@@ -120,7 +120,7 @@ impl GlobalRelabelling {
         }
     }
 
-    /// Adds the pairs whose label is a level by those around. The answer is how many of the sorted pairs are done.
+    // Adds the pairs whose label is a level by those around. The answer is how many of the sorted pairs are done.
     fn join(&mut self, distances: &Distances, level: u32, from: usize) -> usize {
         for at in from..self.order.len() {
             let (label, pair) = self.order[at];
@@ -134,7 +134,7 @@ impl GlobalRelabelling {
         self.order.len()
     }
 
-    /// Spreads from all pairs of a level, those that come to it meanwhile too.
+    // Spreads from all pairs of a level, those that come to it meanwhile too.
     fn spread_level(
         &mut self,
         residual: Residual<'_>,
@@ -153,8 +153,8 @@ impl GlobalRelabelling {
         }
     }
 
-    /// Lets the relabelled pairs to which steps lead from a pair have no higher label than it allows. The step that leads on to a pair
-    /// goes over the cell of one that leads in from there, the other way.
+    // Lets the relabelled pairs to which steps lead from a pair have no higher label than it allows. The step that leads on to a pair
+    // goes over the cell of one that leads in from there, the other way.
     fn spread(
         &mut self,
         residual: Residual<'_>,
@@ -185,13 +185,13 @@ impl GlobalRelabelling {
     }
 }
 
-/// Whether unsent people come in at a pair.
+// Whether unsent people come in at a pair.
 fn is_source(residual: Residual<'_>, distances: &Distances, pair: u32) -> bool {
     let (node, moment) = residual.sizes.parts(pair);
     distances.is_source(residual.cells, residual.sizes, node, moment)
 }
 
-/// The least label that a pair may have by the steps from pairs that weren't relabelled.
+// The least label that a pair may have by the steps from pairs that weren't relabelled.
 fn border(
     residual: Residual<'_>,
     distances: &Distances,
@@ -215,7 +215,7 @@ fn border(
     best
 }
 
-/// Adds the pairs from which steps lead to those relabelled, and from which to these again, but for the dead ones.
+// Adds the pairs from which steps lead to those relabelled, and from which to these again, but for the dead ones.
 fn add_behind(residual: Residual<'_>, distances: &Distances, relabelled: &mut Relabelled) {
     for at in 0..residual.sizes.pairs() {
         let Some(pair) = relabelled.pairs().get(at).copied() else {
@@ -225,7 +225,7 @@ fn add_behind(residual: Residual<'_>, distances: &Distances, relabelled: &mut Re
     }
 }
 
-/// Adds the pairs from which steps lead to a pair, but for the dead ones.
+// Adds the pairs from which steps lead to a pair, but for the dead ones.
 fn add_into(residual: Residual<'_>, distances: &Distances, relabelled: &mut Relabelled, pair: u32) {
     let incoming = residual.incoming_at(pair);
     for way in incoming.ways {

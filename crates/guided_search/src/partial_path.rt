@@ -23,13 +23,13 @@ pub enum SearchEnd {
     Full,
 }
 
-/// What comes of an attempt to advance.
+// What comes of an attempt to advance.
 enum Progress {
-    /// The path is longer.
+    // The path is longer.
     Longer,
-    /// There is no admissible way.
+    // There is no admissible way.
     Blocked,
-    /// There is no room for a longer path.
+    // There is no room for a longer path.
     Full,
 }
 
@@ -67,7 +67,7 @@ impl PartialPath {
         }
     }
 
-    /// Goes back a step.
+    // Goes back a step.
     fn retreat(&mut self, last: Stay) {
         if last.since < last.step.moment {
             self.wait_since(last.since + 1);
@@ -78,8 +78,8 @@ impl PartialPath {
     }
 }
 
-/// The lowest moment down to which waits from a moment on are admissible, first among their ways, and have room, and nobody comes in
-/// between who is unsent: whoever comes in last can wait for the fewest moments, and so goes first.
+// The lowest moment down to which waits from a moment on are admissible, first among their ways, and have room, and nobody comes in
+// between who is unsent: whoever comes in last can wait for the fewest moments, and so goes first.
 fn advance_by_waits(
     residual: Residual<'_>,
     distances: &Distances,
@@ -116,7 +116,7 @@ fn advance_by_waits(
     low
 }
 
-/// Takes an admissible way into the last pair, where there is one: a wait makes its stay longer, another way begins a stay.
+// Takes an admissible way into the last pair, where there is one: a wait makes its stay longer, another way begins a stay.
 fn advance(
     residual: Residual<'_>,
     distances: &mut Distances,
@@ -148,7 +148,7 @@ fn advance(
     Progress::Longer
 }
 
-/// Raises the distance label of a pair to what its ways allow.
+// Raises the distance label of a pair to what its ways allow.
 fn relabel(
     residual: Residual<'_>,
     distances: &mut Distances,
@@ -165,7 +165,7 @@ fn relabel(
     }
 }
 
-/// Advances a step, or retreats where no way is admissible. How the search ends, if it does.
+// Advances a step, or retreats where no way is admissible. How the search ends, if it does.
 fn step_on(
     residual: Residual<'_>,
     distances: &mut Distances,

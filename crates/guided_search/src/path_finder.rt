@@ -12,21 +12,21 @@ use evac_law::{Labels, Model as Building};
 use residual_net::{Cell, Leg, Net};
 use std::alloc::{AllocError, Global};
 
-/// How far a path finder is with a net.
+// How far a path finder is with a net.
 #[derive(Clone, Copy)]
 enum Phase {
-    /// The net isn't what it was, or nothing is known of it yet.
+    // The net isn't what it was, or nothing is known of it yet.
     Unknown,
-    /// Everybody was sent at a moment, and no search was worth it there.
+    // Everybody was sent at a moment, and no search was worth it there.
     Waiting(u16),
-    /// It follows shortest paths.
+    // It follows shortest paths.
     ShortestPaths {
-        /// The moment with which it began last.
+        // The moment with which it began last.
         moment: u16,
-        /// At how many moments people were sent by others.
+        // At how many moments people were sent by others.
         missed: u32,
     },
-    /// It follows a target flow since the moment with which it began last.
+    // It follows a target flow since the moment with which it began last.
     TargetFlow(u16),
 }
 
@@ -49,7 +49,7 @@ pub struct PathFinder {
     budget: Budget,
 }
 
-/// Whether a moment follows another.
+// Whether a moment follows another.
 fn follows(moment: u16, before: u16) -> bool {
     moment as u32 == before as u32 + 1
 }
@@ -92,7 +92,7 @@ impl PathFinder {
         true
     }
 
-    /// Whether the flow of all moments together lets everybody out.
+    // Whether the flow of all moments together lets everybody out.
     fn let_all_out(&mut self, cells: &[Cell]) -> bool {
         self.shortest_paths.sort(cells);
         self.total_flow.let_all_out(
@@ -137,7 +137,7 @@ impl PathFinder {
         }
     }
 
-    /// Goes on with shortest paths, unless others sent people too often.
+    // Goes on with shortest paths, unless others sent people too often.
     fn go_on(&mut self, cells: &[Cell], k: u16, missed: u32) -> Phase {
         if missed < MISS_LIMIT {
             return Phase::ShortestPaths { moment: k, missed };
@@ -146,7 +146,7 @@ impl PathFinder {
         Phase::TargetFlow(k)
     }
 
-    /// Starts with a net of which nothing is known.
+    // Starts with a net of which nothing is known.
     fn start(&mut self, cells: &[Cell], labels: &Labels, k: u16) -> Phase {
         self.shortest_paths.sort(cells);
         let sizes = self.shortest_paths.sizes();
@@ -187,7 +187,7 @@ impl PathFinder {
         }
     }
 
-    /// Searches on for shortest paths, as far as the budget reaches.
+    // Searches on for shortest paths, as far as the budget reaches.
     fn find_shortest(&mut self, cells: &[Cell]) -> bool {
         let before = self.shortest_paths.relabels();
         let most = before
@@ -199,7 +199,7 @@ impl PathFinder {
         found
     }
 
-    /// Turns to a target flow in the middle of a moment, and searches on by it.
+    // Turns to a target flow in the middle of a moment, and searches on by it.
     fn turn(&mut self, cells: &[Cell], k: u16) -> bool {
         self.phase = Phase::TargetFlow(k);
         self.target_flow.seek(&mut self.shortest_paths, cells);

@@ -48,7 +48,7 @@ impl Reach {
         }
     }
 
-    /// Meets the pairs from which an arc leads out.
+    // Meets the pairs from which an arc leads out.
     fn meet_doors(&mut self, residual: Residual<'_>) {
         for way in residual.ways.doors() {
             for arrival in 0..self.sizes.moments {
@@ -61,7 +61,7 @@ impl Reach {
         }
     }
 
-    /// Meets the pairs from which a step leads to a pair.
+    // Meets the pairs from which a step leads to a pair.
     fn meet_into(&mut self, residual: Residual<'_>, pair: u32) {
         let incoming = residual.incoming_at(pair);
         for way in incoming.ways {
@@ -73,7 +73,7 @@ impl Reach {
         }
     }
 
-    /// Meets a pair.
+    // Meets a pair.
     fn meet(&mut self, pair: u32) {
         let at = pair as usize;
         if at < self.marks.len() && !self.marks.as_slice()[at] {
@@ -82,7 +82,7 @@ impl Reach {
         }
     }
 
-    /// Whether an arrival can be come to from a pair.
+    // Whether an arrival can be come to from a pair.
     fn leads_out(&self, pair: u32) -> bool {
         let at = pair as usize;
         at < self.marks.len() && self.marks.as_slice()[at]
@@ -98,7 +98,7 @@ impl Reach {
         }
     }
 
-    /// Labels the pairs of a node.
+    // Labels the pairs of a node.
     fn label_node(&self, labels: &mut Labels, node: u32)
         requires node { node < labels.old.nodes }
         ensures nodes { labels.new.nodes ≡ labels.old.nodes }

@@ -15,14 +15,14 @@ use crate::ways::{Way, Ways};
 use residual_net::{Cell, Leg};
 use std::alloc::{AllocError, Global};
 
-/// How a search along the surplus ended.
+// How a search along the surplus ended.
 #[derive(Clone, Copy)]
 enum TraceEnd {
-    /// At people who may be sent by a last step.
+    // At people who may be sent by a last step.
     Found(Step),
-    /// Back at its door.
+    // Back at its door.
     Exhausted,
-    /// For want of room for its path.
+    // For want of room for its path.
     Full,
 }
 
@@ -78,7 +78,7 @@ impl TargetFlow {
         shortest_paths.send_all(self.cells.as_mut_slice());
     }
 
-    /// Forgets where searches have been.
+    // Forgets where searches have been.
     fn forget(&mut self) {
         let pairs = self.sizes.pairs();
         // Each of these lists has room for all pairs; one that were too short would end the search.
@@ -98,12 +98,12 @@ impl TargetFlow {
         }
     }
 
-    /// How many more people are to go over a step.
+    // How many more people are to go over a step.
     fn surplus(&self, cells: &[Cell], step: Step) -> u32 {
         surplus(self.cells.as_slice(), cells, step)
     }
 
-    /// Lets fewer people go over a step.
+    // Lets fewer people go over a step.
     fn lower(&mut self, step: Step, people: u32) {
         lower(self.cells.as_mut_slice(), step, people);
     }
@@ -115,7 +115,7 @@ impl TargetFlow {
         self.moment = k as u32;
     }
 
-    /// Begins a path at the next door by which more people are to arrive at the moment. Whether there is one.
+    // Begins a path at the next door by which more people are to arrive at the moment. Whether there is one.
     fn open(&mut self, ways: &Ways, cells: &[Cell]) -> bool {
         for at in self.door..ways.doors().len() {
             if let Some(step) = ways.door_step(at, self.moment, self.sizes.moments) {
@@ -148,7 +148,7 @@ impl TargetFlow {
         false
     }
 
-    /// Searches on to people who may be sent, or back to the door.
+    // Searches on to people who may be sent, or back to the door.
     fn search(&mut self, ways: &Ways, cells: &[Cell]) -> TraceEnd {
         for _ in 0..FUEL {
             if let Some(end) = self.step_on(ways, cells) {
@@ -158,7 +158,7 @@ impl TargetFlow {
         TraceEnd::Full
     }
 
-    /// Advances a step, or retreats where no way leads on. How the search ends, if it does.
+    // Advances a step, or retreats where no way leads on. How the search ends, if it does.
     fn step_on(&mut self, ways: &Ways, cells: &[Cell]) -> Option<TraceEnd> {
         let Some(last) = self.steps.as_slice().last().copied() else {
             return Some(TraceEnd::Exhausted);
@@ -185,7 +185,7 @@ impl TargetFlow {
         self.advance(cells, step)
     }
 
-    /// The step to people at the pair of a step who may be sent: those who come in there unsent, or those who arrive later from there.
+    // The step to people at the pair of a step who may be sent: those who come in there unsent, or those who arrive later from there.
     fn source(&self, ways: &Ways, cells: &[Cell], at: Step) -> Option<Step> {
         let supply = Step::supply(self.sizes, at.node, at.moment);
         if self.surplus(cells, supply) > 0 {
@@ -207,7 +207,7 @@ impl TargetFlow {
         None
     }
 
-    /// The first way from a number on over which more people are to go.
+    // The first way from a number on over which more people are to go.
     fn wanted(
         &self,
         ways: &[Way],
@@ -225,7 +225,7 @@ impl TargetFlow {
         None
     }
 
-    /// Takes a step into the last pair. Where that closes a circle with the path, the circle is taken out of the flow.
+    // Takes a step into the last pair. Where that closes a circle with the path, the circle is taken out of the flow.
     fn advance(&mut self, cells: &[Cell], step: Step) -> Option<TraceEnd> {
         let height = read(self.heights.as_slice(), step.pair as usize) as usize;
         if height > 0 {
@@ -239,22 +239,22 @@ impl TargetFlow {
         None
     }
 
-    /// Adds a step to the path.
+    // Adds a step to the path.
     fn push(&mut self, step: Step) {
         add(&mut self.steps, step);
         let height = number(self.steps.len());
         write(self.heights.as_mut_slice(), step.pair as usize, height);
     }
 
-    /// Goes back a step, the last one.
+    // Goes back a step, the last one.
     fn retreat(&mut self, last: Step) {
         write(self.heights.as_mut_slice(), last.pair as usize, 0);
         // The step is let go.
         let _ = self.steps.pop();
     }
 
-    /// Takes a circle out of the flow: a step, and those of the path from a number on. The search goes on before the first of these
-    /// over which nobody is to go then.
+    // Takes a circle out of the flow: a step, and those of the path from a number on. The search goes on before the first of these
+    // over which nobody is to go then.
     fn unwind(&mut self, cells: &[Cell], first: usize, closing: Step) {
         let around = least_surplus(self.cells.as_slice(), cells, self.steps.as_slice(), first);
         let people = self.surplus(cells, closing).min(around);
@@ -270,7 +270,7 @@ impl TargetFlow {
         self.leave(left);
     }
 
-    /// Goes back to a number of steps.
+    // Goes back to a number of steps.
     fn leave(&mut self, count: usize) {
         for step in self.steps.as_slice().iter().skip(count) {
             write(self.heights.as_mut_slice(), step.pair as usize, 0);
@@ -278,7 +278,7 @@ impl TargetFlow {
         self.steps.truncate(count);
     }
 
-    /// How many people are to go the whole path.
+    // How many people are to go the whole path.
     fn count(&self, cells: &[Cell], origin: Step) -> u32 {
         let along = least_surplus(self.cells.as_slice(), cells, self.steps.as_slice(), 0);
         self.surplus(cells, origin).min(along)

@@ -11,14 +11,14 @@ use crate::ways::{Way, Ways};
 use residual_net::Cell;
 use std::alloc::{AllocError, Global};
 
-/// A step out of a node over an arc.
+// A step out of a node over an arc.
 #[derive(Clone, Copy)]
 struct ArcStep {
-    /// The node to which it leads, where that is no exit.
+    // The node to which it leads, where that is no exit.
     to: Option<u32>,
-    /// The arc.
+    // The arc.
     arc: u32,
-    /// Whether it goes backwards.
+    // Whether it goes backwards.
     back: bool,
 }
 
@@ -64,7 +64,7 @@ impl TotalFlow {
         true
     }
 
-    /// Whether nobody is left in any node.
+    // Whether nobody is left in any node.
     fn is_empty(&self) -> bool {
         for people in self.left.as_slice() {
             if *people > 0 {
@@ -74,7 +74,7 @@ impl TotalFlow {
         true
     }
 
-    /// Finds how many people come into each node and how many may go over each arc, of whom nobody has gone yet.
+    // Finds how many people come into each node and how many may go over each arc, of whom nobody has gone yet.
     fn begin(&mut self, cells: &[Cell], ways: &Ways, earliest: &[u32]) {
         self.flows.as_mut_slice().fill(0);
         for node in 0..self.sizes.nodes {
@@ -91,7 +91,7 @@ impl TotalFlow {
         }
     }
 
-    /// Finds how many people may go over an arc from whose end the shortest way out takes so long.
+    // Finds how many people may go over an arc from whose end the shortest way out takes so long.
     fn open(&mut self, cells: &[Cell], earliest: &[u32], way: Way, travel_out: u32) {
         let first = read(earliest, way.node as usize);
         let travel = way.travel().saturating_add(travel_out);
@@ -101,7 +101,7 @@ impl TotalFlow {
         write(self.rooms.as_mut_slice(), way.row as usize, people);
     }
 
-    /// Searches back from the exits for a node with somebody left.
+    // Searches back from the exits for a node with somebody left.
     fn search(&mut self, ways: &Ways) -> Option<u32> {
         self.steps.as_mut_slice().fill(None);
         self.met.clear();
@@ -124,7 +124,7 @@ impl TotalFlow {
         None
     }
 
-    /// Comes back over an arc to the node where it begins, if somebody more may go over it. That node, where somebody is left in it.
+    // Comes back over an arc to the node where it begins, if somebody more may go over it. That node, where somebody is left in it.
     fn meet(&mut self, way: Way, to: Option<u32>) -> Option<u32> {
         let node = way.node as usize;
         let open = if way.is_back() {
@@ -150,7 +150,7 @@ impl TotalFlow {
         }
     }
 
-    /// The step by which people go out of a node.
+    // The step by which people go out of a node.
     fn step(&self, node: u32) -> Option<ArcStep> {
         let at = node as usize;
         if at < self.steps.len() {
@@ -160,7 +160,7 @@ impl TotalFlow {
         }
     }
 
-    /// Sends people from a node out along the steps of a search.
+    // Sends people from a node out along the steps of a search.
     fn send(&mut self, from: u32) {
         let people = read(self.left.as_slice(), from as usize).min(self.least_room(from));
         let left = read(self.left.as_slice(), from as usize).saturating_sub(people);
@@ -187,7 +187,7 @@ impl TotalFlow {
         }
     }
 
-    /// How many people may go out of a node along the steps of a search.
+    // How many people may go out of a node along the steps of a search.
     fn least_room(&self, from: u32) -> u32 {
         let mut people = u32::MAX;
         let mut node = from;
@@ -206,7 +206,7 @@ impl TotalFlow {
     }
 }
 
-/// The limits of some cells, added up.
+// The limits of some cells, added up.
 fn sum_limits(cells: &[Cell]) -> u32 {
     let mut people = 0u32;
     for cell in cells {

@@ -1,20 +1,20 @@
-//! The numbers that decide how hard a search tries before another takes over, each with what was measured.
+//! The numbers that decide how hard a search tries before another takes over, each with what is known of it.
 //!
-//! None of them bears on an answer: with any of them every plan is found, only later or sooner.
+//! No answer is wrong by any of them: they decide how soon it comes, and which of the best plans it is.
 
-/// The distance label of a pair to which nobody can come.
+/// The distance label of a pair to which nobody can come: more than any other label.
 pub const FAR: u32 = 65_535;
 
-/// The most rounds of a loop that ends by itself. No building of the language's limits comes near: a search takes fewer steps than
-/// there are pairs times ways between two pushes, some 10^10, and most take some hundreds.
+/// The most rounds of a loop, so that it ends whatever its numbers are. Each ends by itself long before: so many rounds would take
+/// hours.
 pub const FUEL: u64 = 1_000_000_000_000;
 
-/// The most stays of an augmenting path. Paths of some 100 stays were the longest on the buildings that were measured; memory past
-/// those isn't touched.
+/// The most stays of an augmenting path. A longer one ends the search, and others take over. Memory past the longest path isn't
+/// touched.
 pub const PATH_LIMIT: usize = 8_192;
 
-/// How many pairs may be relabelled in vain, beside those relabelled before, until there is a global relabelling. Fewer relabel too
-/// often, and more creep where pairs raise each other by 1.
+/// How many pairs may be relabelled in vain, beside those relabelled before, until there is a global relabelling: one after another
+/// they can go on for long, where many pairs raise each other by 1.
 pub const VAIN_LIMIT: usize = 30;
 
 /// How many times all pairs may be relabelled globally at one moment, before others take over, where nobody comes in later. On some
@@ -22,11 +22,11 @@ pub const VAIN_LIMIT: usize = 30;
 pub const GLOBAL_LIMIT: usize = 4;
 
 /// One of how many pairs that lead to those relabelled may be relabelled part by part, where people come in later, before all of them
-/// are at once: exits run dry while people are still to come, and part by part the same pairs came again and again.
+/// are at once: exits run dry while people are still to come, and part by part the same pairs would come again and again.
 pub const BEHIND_SHARE: usize = 16;
 
-/// At how many moments people may be sent by others before a target flow is sought. After an exit is opened again rounds without
-/// hints cost many times a fresh plan, and a target flow about one.
+/// At how many moments people may be sent by others before a target flow is sought. After an exit is opened again, rounds without
+/// hints cost many times a fresh plan on the buildings that were measured, and a target flow about one on most.
 pub const MISS_LIMIT: u32 = 4;
 
 /// One of how many pairs may be relabelled globally in a net from which some people were taken, before a target flow is sought. On

@@ -1,4 +1,4 @@
-// All arrival moments, settled one after another.
+//! All arrival moments, settled one after another.
 ghost use Rattle.std.specs.Prelude.{◌≡◌, ◌+◌, ◌↔◌, IsTrue};
 ghost use Rattle.evac_law.specs.declared.model.Model.{Model};
 ghost use Rattle.evac_law.specs.Building.{IsValid};
@@ -13,7 +13,7 @@ use residual_net::Net;
 use std::sync::ledger::Ledger;
 use terminal_augment::{Search, settle};
 
-/// Whether everybody is sent and arrives before a moment.
+// Whether everybody is sent and arrives before a moment.
 fn is_over(net: &Net, k: u16) -> bool
     requires { IsWithinLimits net.now }
     ensures { IsTrue result ↔ IsOver net.now k }
@@ -21,15 +21,15 @@ fn is_over(net: &Net, k: u16) -> bool
     net.last_arrival() < k && net.is_all_sent()
 }
 
-/// How far a net is settled, and after how many pushes.
+// How far a net is settled, and after how many pushes.
 #[derive(Clone, Copy)]
 struct Progress {
     next: u16,
     pushes: u64,
 }
 
-/// Unsets the labels that aren't below a moment, and settles moment after moment from that one on until everybody arrives before the
-/// next one, or to the horizon.
+// Unsets the labels that aren't below a moment, and settles moment after moment from that one on until everybody arrives before the
+// next one, or to the horizon.
 #[tactic(auto, using(crate::proofs::SettleLemmas::below_few, terminal_augment::proofs::SendLemmas::horizon_small), unfolding(residual_net::specs::Limits::supply_limit))]
 fn settle_on<L: Ledger>(
     net: &mut Net,
@@ -55,7 +55,7 @@ fn settle_on<L: Ledger>(
     Progress { next, pushes }
 }
 
-/// What a net comes to whose moments are settled.
+// What a net comes to whose moments are settled.
 fn outcome_of(net: &Net, pushes: u64) -> Outcome
     requires { IsWithinLimits net.now }
     ensures pushes { pushes_of result ≡ pushes }

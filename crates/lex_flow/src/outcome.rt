@@ -1,4 +1,4 @@
-// What settling comes to.
+//! What settling comes to.
 
 /// Everybody is out by a moment and no sooner, or at most so many can get out.
 #[derive(Clone, Copy, PartialEq, Eq, Debug)]

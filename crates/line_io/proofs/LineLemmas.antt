@@ -8,7 +8,7 @@ use Rattle.evac_law.specs.declared.code.Code.TheVariants as codes
 use Rattle.line_io.specs.Line.{Line, is_lf, pieces, onto_first, IsPiece, line_of, then_lines, lines_after, lines_of, text_lines, whole_part, onto_whole, IsWhole, line_limit}
 use Rattle.line_io.specs.Reader.{IsGiven, is_settled, answer_at, settled_answer, fault_of}
 use Rattle.line_io.specs.View.{Reader}
-use Rattle.line_io.specs.declared.lines.LineFault.TheVariants.{ReadFault, LineTooLong, InputTooLong}
+use Rattle.line_io.specs.declared.lines.LineFault.TheVariants.{ReadFault, LineTooLong}
 
 -- ---- whole bytes
 

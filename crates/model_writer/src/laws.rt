@@ -1,4 +1,4 @@
-// The laws of a building's text, each the contract of a function that does nothing.
+//! The laws of a building's text, each the contract of a function that does nothing.
 ghost use Rattle.model_writer.specs.Laws.{FinePartsReadBack, LinesReadBack, StatementsReadBack, TextIsOfDescription, TextsDescribeAgain};
 
 /// The lines of contents with their ends are these contents.

@@ -1,4 +1,4 @@
-// Lines of statements, put with their ends.
+//! Lines of statements, put with their ends.
 ghost use Rattle.std.specs.Prelude.{◌≡◌, ◌≤◌, ◌+◌, ◌++◌, ◌∷◌, decimal, length};
 ghost use Rattle.std.specs.Option.{option_copied};
 ghost use Rattle.line_io.specs.Causes.{HasCause};

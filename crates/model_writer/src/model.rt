@@ -1,4 +1,4 @@
-// The text of a building.
+//! The text of a building.
 ghost use Rattle.std.specs.Prelude.{◌≡◌, ◌<◌, length};
 ghost use Rattle.std.specs.List.{All, flat_map};
 ghost use Rattle.evac_law.specs.Building.{IsNode, IsValid};

@@ -1,4 +1,4 @@
-// What a cut of labels is worth.
+//! What a cut of labels is worth.
 ghost use Rattle.std.specs.Prelude.{◌≡◌, ◌+◌, ◌*◌, ◌<◌, ◌≤◌, ◌^◌, ◌++◌, IfOk, OnOk, length};
 ghost use Rattle.std.specs.List.{flat_map, sum_by};
 ghost use Rattle.evac_law.specs.Certificates.{IsTableOf, label_cut};

@@ -1,4 +1,4 @@
-// A model's parts by place, also past the end of its lists.
+//! A model's parts by place, also past the end of its lists.
 ghost use Rattle.std.specs.Prelude.{◌≡◌, ◌<◌, ◌^◌};
 ghost use Rattle.std.specs.List.{sum_by};
 ghost use Rattle.evac_law.specs.Building.{arrival, entry, head, node_at, rate, tail};

@@ -1,4 +1,4 @@
-// Who comes into the nodes of a building, once the moves before a moment are made.
+//! Who comes into the nodes of a building, once the moves before a moment are made.
 ghost use Rattle.std.specs.Prelude.{◌≡◌, ◌<◌, ◌≤◌, ◌^◌, ◌++◌, IfOk, length};
 ghost use Rattle.std.specs.List.{flat_map};
 ghost use Rattle.evac_law.specs.Entrants.{table_entrant, table_entrants};
@@ -12,7 +12,7 @@ use evac_law::{Entrant, Standing};
 use route_decompose::Layout;
 use std::alloc::{AllocError, Global};
 
-/// The people who enter an arc before a moment, and arrive at another.
+// The people who enter an arc before a moment, and arrive at another.
 fn arriving_by<F: Standing>(layout: &Layout, standing: &F, from: u16, arc: u32, moment: u16) -> u32
     requires stands { Stands layout.now (F.stand standing.now) }
     requires arc_in { arc < length layout.now.arcs }
@@ -48,7 +48,7 @@ pub(crate) fn coming<F: Standing>(
     people
 }
 
-/// The people who leave a node at a moment.
+// The people who leave a node at a moment.
 fn leaving<F: Standing>(layout: &Layout, standing: &F, node: u32, moment: u16) -> u64
     requires stands { Stands layout.now (F.stand standing.now) }
     requires node_in { node < length layout.now.nodes }
@@ -63,7 +63,7 @@ fn leaving<F: Standing>(layout: &Layout, standing: &F, node: u32, moment: u16) -
     people
 }
 
-/// The people who come into a node at a moment, once the moves before another are made.
+// The people who come into a node at a moment, once the moves before another are made.
 fn comes_at<F: Standing>(layout: &Layout, standing: &F, from: u16, node: u32, moment: u16) -> u64
     requires stands { Stands layout.now (F.stand standing.now) }
     requires node_in { node < length layout.now.nodes }
@@ -83,7 +83,7 @@ fn comes_at<F: Standing>(layout: &Layout, standing: &F, from: u16, node: u32, mo
     }
 }
 
-/// Adds those who come into a node at a moment, if there are any.
+// Adds those who come into a node at a moment, if there are any.
 fn push_comer<F: Standing>(
     comers: &mut Vec<Entrant>,
     layout: &Layout,
@@ -111,7 +111,7 @@ fn push_comer<F: Standing>(
     Ok(())
 }
 
-/// Adds those who come into a node, by moment.
+// Adds those who come into a node, by moment.
 #[tactic(auto, using(evac_law::proofs::PartLemmas::parts_more), unfolding(evac_law::specs::Limits::horizon_limit))]
 fn push_comers<F: Standing>(
     comers: &mut Vec<Entrant>,

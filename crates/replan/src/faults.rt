@@ -1,4 +1,4 @@
-// Why a plan isn't carried out, and why an edit is refused.
+//! Why a plan isn't carried out, and why an edit is refused.
 use edit_session::EditRefusal;
 
 /// Why a plan isn't carried out up to a moment.

@@ -1,4 +1,4 @@
-// Who is out by each moment, by the moves that are made.
+//! Who is out by each moment, by the moves that are made.
 ghost use Rattle.std.specs.Prelude.{◌≡◌, ℕ, ◌+◌, ◌<◌, ◌≤◌, ◌^◌, IfOk, if◌then◌else◌, length, slice_index};
 ghost use Rattle.std.specs.List.{sum_by};
 ghost use Rattle.evac_law.specs.Building.{is_exit_at, people};
@@ -13,7 +13,7 @@ use evac_law::Standing;
 use route_decompose::Layout;
 use std::alloc::{AllocError, Global};
 
-/// The people who come to a node at a moment along arcs that they entered before another, where it is an exit.
+// The people who come to a node at a moment along arcs that they entered before another, where it is an exit.
 fn coming_out<F: Standing>(layout: &Layout, standing: &F, from: u16, node: u32, moment: u16) -> u64
     requires stands { Stands layout.now (F.stand standing.now) }
     requires node_in { node < length layout.now.nodes }
@@ -28,7 +28,7 @@ fn coming_out<F: Standing>(layout: &Layout, standing: &F, from: u16, node: u32, 
     }
 }
 
-/// The people who come to the exits at a moment along arcs that they entered before another.
+// The people who come to the exits at a moment along arcs that they entered before another.
 #[tactic(auto, using(evac_law::proofs::SumLemmas::sum_steps), unfolding(evac_law::specs::Limits::node_limit))]
 fn arrivals<F: Standing>(layout: &Layout, standing: &F, from: u16, moment: u16) -> u64
     requires stands { Stands layout.now (F.stand standing.now) }

@@ -1,4 +1,4 @@
-// The laws, each the contract of a function with nothing to do.
+//! The laws, each the contract of a function with nothing to do.
 ghost use Rattle.replan.specs.RestLaws.{AdvancesAddUp, CertifiedRestIsBest, RestGoesOn, RestIsClearable};
 
 /// Behind the moves made before a moment a plan goes on as in what is left of the building.

@@ -1,4 +1,4 @@
-// A session whose plan is carried out step by step: what is made stays, and the rest is planned anew.
+//! A session whose plan is carried out step by step: what is made stays, and the rest is planned anew.
 ghost use Rattle.std.specs.Prelude.{◌≡◌, ℕ, ◌+◌, ◌≤◌, ◌&&◌, nat_lt, IfOk, IsFalse, OnErr};
 ghost use Rattle.evac_law.specs.Building.{IsValid};
 ghost use Rattle.evac_law.specs.Edits.{IsEditOf};
@@ -32,14 +32,14 @@ impl std::marker::Model for Replan {
     ghost invariant = { λ r. IsReplan r.session.state r.moment r.gone.items };
 }
 
-/// Whether a plan can't be carried out up to a moment: to 0, past the horizon, or to before where plans were carried out to.
+// Whether a plan can't be carried out up to a moment: to 0, past the horizon, or to before where plans were carried out to.
 fn is_bad_moment(moment: u16, horizon: u16, last: u16) -> bool
     ensures { result ≡ is_bad_moment moment horizon last }
 {
     moment == 0 || moment > horizon || moment < last
 }
 
-/// Whether an edit sets how many people are in the nodes.
+// Whether an edit sets how many people are in the nodes.
 fn is_of_people(edit: Edit) -> bool
     ensures { result ≡ is_of_people edit }
 {
@@ -49,14 +49,14 @@ fn is_of_people(edit: Edit) -> bool
     )
 }
 
-/// Whether an edit comes too late, once plans were carried out up to a moment.
+// Whether an edit comes too late, once plans were carried out up to a moment.
 fn is_committed(last: u16, edit: Edit) -> bool
     ensures { result ≡ (nat_lt 0 last && is_of_people edit) }
 {
     last > 0 && is_of_people(edit)
 }
 
-/// Puts a replan in the place of another.
+// Puts a replan in the place of another.
 fn put(place: &mut Replan, next: Replan)
     ensures { place.new ≡ next }
 {
@@ -85,7 +85,7 @@ impl Replan {
         })
     }
 
-    /// The replan once the plan is carried out up to a moment. It takes all its memory before anything is changed.
+    // The replan once the plan is carried out up to a moment. It takes all its memory before anything is changed.
     fn carried_out<L: Ledger>(
         &self,
         alloc: Global,

@@ -1,4 +1,4 @@
-// What is left of a building once a plan is carried out up to a moment.
+//! What is left of a building once a plan is carried out up to a moment.
 ghost use Rattle.std.specs.Prelude.{◌≡◌, ◌≤◌, IfOk, map};
 ghost use Rattle.replan.specs.Rest.{without_start, rest};
 ghost use Rattle.replan.specs.Standing.{Stands};
@@ -8,7 +8,7 @@ use evac_law::{ArcRow, Model, NodeRow, Rows, Standing};
 use route_decompose::Layout;
 use std::alloc::{AllocError, Global};
 
-/// A copy of the arcs.
+// A copy of the arcs.
 fn same_arcs(alloc: Global, arcs: &[ArcRow]) -> Result<Vec<ArcRow>, AllocError>
     ensures { IfOk result (λ r. r.items ≡ arcs.now) }
 {
@@ -19,7 +19,7 @@ fn same_arcs(alloc: Global, arcs: &[ArcRow]) -> Result<Vec<ArcRow>, AllocError>
     Ok(rows)
 }
 
-/// The nodes, in which nobody starts.
+// The nodes, in which nobody starts.
 fn without_start(alloc: Global, nodes: &[NodeRow]) -> Result<Vec<NodeRow>, AllocError>
     ensures { IfOk result (λ r. r.items ≡ map without_start nodes.now) }
 {

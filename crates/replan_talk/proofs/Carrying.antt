@@ -58,7 +58,7 @@ pub code_said : {T : Type 0} (result : Result T WriteFault) (Gets : Reply Replan
     → SaysSome Gets result (shown_replan d v a p f n) (shown_replan d v b q g n)
 code_said result Gets line code n d v named a b p q f g is gets put cause =
     let s = replanned d v in
-    let text = subst (λ (i : ℕ). PutsText a p (refusal_line i line) b q result) is put in (
+    let text = subst (λ (i : Code). PutsText a p (refusal_line i line) b q result) is put in (
       refuses s named line,
       gets,
       answering.said result d.names d.names s s (refuses s named line) a b p q f g n n refl refl text cause (sym (add-zero n)),

@@ -1,4 +1,4 @@
-// Who is out by what was carried out.
+//! Who is out by what was carried out.
 ghost use Rattle.std.specs.Prelude.{◌≤◌, ℕ, [], ◌∷◌, codes, decimal};
 ghost use Rattle.std.specs.List.{flat_map};
 ghost use Rattle.evac_law.specs.Sums.{moments_to};

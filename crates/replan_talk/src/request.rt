@@ -1,4 +1,4 @@
-// What a line of a replan asks for.
+//! What a line of a replan asks for.
 ghost use Rattle.std.specs.Prelude.{◌≡◌};
 ghost use Rattle.replan_talk.specs.ReplanTalks.{asks_advance, asked_moment};
 

@@ -1,4 +1,4 @@
-// A replan answers the lines of a talk.
+//! A replan answers the lines of a talk.
 ghost use Rattle.std.specs.Prelude.{◌≡◌, ◌<◌, ◌≤◌, ◌+◌, ◌++◌, ◌&&◌, ℕ, nat_lt, Ok, OnOk, IsTrue, IsFalse};
 ghost use Rattle.evac_law.specs.Building.{IsValid};
 ghost use Rattle.evac_law.specs.Edits.{IsEditOf};
@@ -67,8 +67,8 @@ impl ReplanTalk {
         }
     }
 
-    /// Carries the plan out up to a moment, and counts the block that answers it. Others come into the nodes then, so the desk's tables are
-    /// made anew.
+    // Carries the plan out up to a moment, and counts the block that answers it. Others come into the nodes then, so the desk's tables are
+    // made anew.
     fn advance<L: Ledger>(&mut self, moment: u32, steps: &mut Steps<L>) -> Result<(), AdvanceFault>
         requires { IsDesk self.old.desk self.old.replan.session }
         ensures { (n : ℕ) × (steps.new ≡ steps.old + n) × TalkAdvances self.old moment result self.new n }

@@ -1,4 +1,4 @@
-// What holds people up.
+//! What holds people up.
 ghost use Rattle.std.specs.Prelude.{◌≡◌, ℕ, ◌<◌, length, slice_index};
 ghost use Rattle.std.specs.List.{flat_map};
 ghost use Rattle.evac_law.specs.Building.{IsValid};
@@ -15,7 +15,7 @@ use certificate_text::write_end;
 use evac_law::Model;
 use line_io::{Out, Sink, WriteFault};
 
-/// Puts an arc that is an item of some period.
+// Puts an arc that is an item of some period.
 fn write_arc<K: Sink>(
     out: &mut Out,
     sink: &mut K,
@@ -56,7 +56,7 @@ fn write_arcs<K: Sink>(
     Ok(())
 }
 
-/// Puts a node that is an item of some period.
+// Puts a node that is an item of some period.
 fn write_hold<K: Sink>(
     out: &mut Out,
     sink: &mut K,

@@ -1,4 +1,4 @@
-// When nodes and floors are empty.
+//! When nodes and floors are empty.
 ghost use Rattle.std.specs.Prelude.{◌≡◌, ◌<◌, List, length};
 ghost use Rattle.std.specs.List.{flat_map};
 ghost use Rattle.evac_law.specs.Building.{IsValid};
@@ -18,7 +18,7 @@ use evac_law::Model;
 use floor_index::FloorIndex;
 use line_io::{Out, Sink, WriteFault};
 
-/// Puts when somebody is in a node last, where it is no exit.
+// Puts when somebody is in a node last, where it is no exit.
 fn write_node<K: Sink>(
     out: &mut Out,
     sink: &mut K,

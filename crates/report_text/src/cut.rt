@@ -1,4 +1,4 @@
-// The cut of a period.
+//! The cut of a period.
 ghost use Rattle.std.specs.Prelude.{◌≡◌, ◌+◌, ◌*◌, ◌^◌, ◌<◌, ◌≤◌, length};
 ghost use Rattle.std.specs.List.{All, flat_map, sum_by};
 ghost use Rattle.evac_law.specs.Building.{IsValid, entry};
@@ -16,7 +16,7 @@ use cut_witness::{Crossing, crossing, cut_value};
 use evac_law::{CutItem, Labels, Model};
 use line_io::{Out, Sink, WriteFault};
 
-/// Puts an item.
+// Puts an item.
 fn write_item<K: Sink>(
     out: &mut Out,
     sink: &mut K,
@@ -44,7 +44,7 @@ fn write_item<K: Sink>(
     }
 }
 
-/// Puts the items that are still to come.
+// Puts the items that are still to come.
 fn write_items<K: Sink>(
     out: &mut Out,
     sink: &mut K,
@@ -62,7 +62,7 @@ fn write_items<K: Sink>(
     Ok(())
 }
 
-/// Puts the cut of labels at a period.
+// Puts the cut of labels at a period.
 fn write_label_cut<K: Sink>(
     out: &mut Out,
     sink: &mut K,
@@ -82,7 +82,7 @@ fn write_label_cut<K: Sink>(
     write_end(out, sink)
 }
 
-/// Puts the people who come into a node at a moment, where there are any.
+// Puts the people who come into a node at a moment, where there are any.
 fn write_coming<K: Sink>(
     out: &mut Out,
     sink: &mut K,
@@ -103,7 +103,7 @@ fn write_coming<K: Sink>(
     write_entry(out, sink, model.node(node).name, people)
 }
 
-/// Puts the people who come into a node by a period.
+// Puts the people who come into a node by a period.
 #[tactic(auto, unfolding(evac_law::specs::Limits::horizon_limit))]
 fn write_node_coming<K: Sink>(
     out: &mut Out,
@@ -124,7 +124,7 @@ fn write_node_coming<K: Sink>(
     Ok(())
 }
 
-/// Puts the people who come in by a period.
+// Puts the people who come in by a period.
 fn write_all_coming<K: Sink>(
     out: &mut Out,
     sink: &mut K,
@@ -142,7 +142,7 @@ fn write_all_coming<K: Sink>(
     Ok(())
 }
 
-/// The people who come into a node by a period.
+// The people who come into a node by a period.
 #[tactic(auto, using(evac_law::proofs::SumLemmas::sum_steps), unfolding(evac_law::specs::Limits::horizon_limit))]
 fn entered(model: &Model, node: u32, k: u16) -> u64
     requires valid { IsValid model.now }
@@ -158,7 +158,7 @@ fn entered(model: &Model, node: u32, k: u16) -> u64
     people
 }
 
-/// The people who come in by a period.
+// The people who come in by a period.
 #[tactic(auto, using(evac_law::proofs::SumLemmas::sum_steps), unfolding(evac_law::specs::Limits::node_limit))]
 fn all_entered(model: &Model, k: u16) -> u64
     requires valid { IsValid model.now }
@@ -172,7 +172,7 @@ fn all_entered(model: &Model, k: u16) -> u64
     people
 }
 
-/// Puts the cut of no pair at a period.
+// Puts the cut of no pair at a period.
 fn write_empty_cut<K: Sink>(
     out: &mut Out,
     sink: &mut K,

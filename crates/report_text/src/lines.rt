@@ -1,4 +1,4 @@
-// The lines of the reports.
+//! The lines of the reports.
 ghost use Rattle.std.specs.Prelude.{◌≡◌, ◌≤◌, ◌==◌, if◌then◌else◌, [], ◌∷◌, ◌++◌, decimal, length};
 ghost use Rattle.evac_law.specs.Names.{IsName, name_text};
 ghost use Rattle.line_io.specs.Causes.{HasCause};
@@ -96,7 +96,7 @@ pub(crate) fn write_arc<K: Sink>(
     line.put(out, sink)
 }
 
-/// Puts a space and a moment behind that isn't 0.
+// Puts a space and a moment behind that isn't 0.
 fn put_entered(line: &mut TextLine, moment: u16)
     requires { length line.old ≤ 100 }
     ensures { line.new ≡ line.old ++ (if moment == 0 then [] else (32 ∷ decimal moment)) }
@@ -161,7 +161,7 @@ pub(crate) fn write_step<K: Sink>(
     line.put(out, sink)
 }
 
-/// Puts a space and a moment behind, or a word where there is none.
+// Puts a space and a moment behind, or a word where there is none.
 fn put_moment(line: &mut TextLine, moment: Option<u16>)
     requires { length line.old ≤ 100 }
     ensures { line.new ≡ line.old ++ (32 ∷ moment_field moment) }

@@ -1,4 +1,4 @@
-// A card for each person of the plan.
+//! A card for each person of the plan.
 ghost use Rattle.std.specs.Prelude.{◌≡◌, ℕ, ◌<◌, List, length};
 ghost use Rattle.std.specs.List.{All};
 ghost use Rattle.evac_law.specs.Building.{IsValid, people};
@@ -34,7 +34,7 @@ fn write_card<K: Sink>(
     write_steps(out, sink, model, card.steps())
 }
 
-/// Puts one more card, where all before it could be put.
+// Puts one more card, where all before it could be put.
 fn write_next<K: Sink>(
     so_far: Result<(), WriteFault>,
     out: &mut Out,

@@ -1,4 +1,4 @@
-// The routes that make up a plan.
+//! The routes that make up a plan.
 ghost use Rattle.std.specs.Prelude.{◌≡◌, ℕ, ◌<◌, List, length};
 ghost use Rattle.std.specs.List.{All, flat_map};
 ghost use Rattle.evac_law.specs.Building.{IsValid, people};
@@ -52,7 +52,7 @@ fn write_route<K: Sink>(
     write_steps(out, sink, model, route.steps())
 }
 
-/// Puts one more route, where all before it could be put.
+// Puts one more route, where all before it could be put.
 fn write_next<K: Sink>(
     so_far: Result<(), WriteFault>,
     out: &mut Out,

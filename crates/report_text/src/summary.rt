@@ -1,4 +1,4 @@
-// The summary of an answer.
+//! The summary of an answer.
 ghost use Rattle.std.specs.Prelude.{Some};
 ghost use Rattle.evac_law.specs.Building.{IsValid};
 ghost use Rattle.line_io.specs.Causes.{HasCause};
@@ -22,7 +22,7 @@ fn write_text<K: Sink>(out: &mut Out, sink: &mut K, text: &[u8]) -> Result<(), W
     out.put_all(sink, b"\n")
 }
 
-/// Puts the title, where there is one.
+// Puts the title, where there is one.
 fn write_title<K: Sink>(out: &mut Out, sink: &mut K, names: &Names) -> Result<(), WriteFault>
     ensures text { PutsText (K.held sink.old) out.old (title_line names.now.title) (K.held sink.new) out.new result }
     ensures cause { HasCause (K.faults sink.old) (K.faults sink.new) result }
@@ -33,7 +33,7 @@ fn write_title<K: Sink>(out: &mut Out, sink: &mut K, names: &Names) -> Result<()
     }
 }
 
-/// Puts the people, the moment by which they are out, and its seconds.
+// Puts the people, the moment by which they are out, and its seconds.
 fn write_outcome<K: Sink>(
     out: &mut Out,
     sink: &mut K,

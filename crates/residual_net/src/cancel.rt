@@ -1,4 +1,4 @@
-// A flow path through a place: back to its supply, and on to its arrival.
+//! A flow path through a place: back to its supply, and on to its arrival.
 ghost use Rattle.std.specs.Prelude.{◌≡◌, ℕ, ◌+◌, ◌<◌, ◌≤◌};
 ghost use Rattle.std.specs.List.{All, Any};
 ghost use Rattle.residual_net.specs.Site.{IsOpenPair, IsPlace, at, head_of, tail_of};
@@ -11,7 +11,7 @@ use crate::grid::Grid;
 use crate::path::Path;
 use crate::place::{PathStep, Place};
 
-/// An arc with flow that leads into a node at a moment.
+// An arc with flow that leads into a node at a moment.
 fn arc_into(grid: &Grid, node: u32, moment: u16) -> Option<Place>
     requires pair { IsOpenPair grid.now.site node moment }
     ensures { IsArcInto grid.now node moment result }
@@ -32,7 +32,7 @@ fn arc_into(grid: &Grid, node: u32, moment: u16) -> Option<Place>
     None
 }
 
-/// A hold or a supply with flow that leads into a node at a moment, where no arc with flow does.
+// A hold or a supply with flow that leads into a node at a moment, where no arc with flow does.
 fn rest_into(grid: &Grid, node: u32, moment: u16) -> Place
     requires pair { IsOpenPair grid.now.site node moment }
     requires no_arc { IsArcInto grid.now node moment None }
@@ -53,7 +53,7 @@ fn rest_into(grid: &Grid, node: u32, moment: u16) -> Place
     Place::Supply { node, moment }
 }
 
-/// A place with flow that leads into a node at a moment.
+// A place with flow that leads into a node at a moment.
 fn place_into(grid: &Grid, node: u32, moment: u16) -> Place
     requires pair { IsOpenPair grid.now.site node moment }
     requires some { 0 < flow_into grid.now (at (Pair node moment)) }
@@ -67,7 +67,7 @@ fn place_into(grid: &Grid, node: u32, moment: u16) -> Place
     }
 }
 
-/// A place with flow that leads out of a node at a moment: the hold where it has flow, so that those who leave last are taken off.
+// A place with flow that leads out of a node at a moment: the hold where it has flow, so that those who leave last are taken off.
 fn place_out(grid: &Grid, node: u32, moment: u16) -> Place
     requires pair { IsOpenPair grid.now.site node moment }
     requires some { 0 < flow_out grid.now (at (Pair node moment)) }
@@ -89,7 +89,7 @@ fn place_out(grid: &Grid, node: u32, moment: u16) -> Place
     hold
 }
 
-/// Fills a path with the steps from a supply to a place, along flow.
+// Fills a path with the steps from a supply to a place, along flow.
 fn walk_back(grid: &Grid, place: Place, path: &mut Path)
     requires net { IsNet grid.now }
     requires place { IsPlace grid.now.site place }
@@ -111,7 +111,7 @@ fn walk_back(grid: &Grid, place: Place, path: &mut Path)
     path.turn();
 }
 
-/// Adds to a path the steps from a place to an arrival, along flow.
+// Adds to a path the steps from a place to an arrival, along flow.
 fn walk_on(grid: &Grid, place: Place, path: &mut Path)
     requires net { IsNet grid.now }
     requires place { IsPlace grid.now.site place }

@@ -1,4 +1,4 @@
-// What the places of a net lead from and to.
+//! What the places of a net lead from and to.
 
 /// The source of all people, a node at a moment, or the exits at a moment.
 #[derive(Clone, Copy, PartialEq, Eq, Debug)]

@@ -1,4 +1,4 @@
-// The cells of a net, with no rule on its flow.
+//! The cells of a net, with no rule on its flow.
 ghost use Rattle.std.specs.Prelude.{◌≡◌, ◌∷◌, [], ◌≤◌, ◌<◌, ◌+◌, ◌-◌, IfOk, length, map, vec_capacity};
 ghost use Rattle.std.specs.List.{All};
 ghost use Rattle.residual_net.specs.Site.{IsSite, IsPlace, all_cells, arrival_at, cell_of, exit_at, head_of, start_of, stop_of, tail_of};
@@ -40,7 +40,7 @@ impl Model for Grid {
     ghost invariant = { λ g. IsGrid (record { site = record { shape = g.shape; exits = g.exits.items; travels = g.travels.items }; cells = g.cells.items; saved = saved_cells g.is_saved g.cells.items g.saved.items }) × (length g.cells.items ≤ vec_capacity g.saved) };
 }
 
-/// Writes what is saved, where it isn't written yet.
+// Writes what is saved, where it isn't written yet.
 fn write_saved(saved: &mut Vec<Cell>, cells: &[Cell], is_saved: bool)
     requires { length cells.now ≤ vec_capacity saved.old }
     ensures saved { saved.new.items ≡ saved_cells is_saved cells.now saved.old.items }
@@ -56,22 +56,21 @@ fn write_saved(saved: &mut Vec<Cell>, cells: &[Cell], is_saved: bool)
     }
 }
 
-/// A cell with more people over its place.
-fn with_more(cell: Cell, people: u32) -> Cell
+// The flow of a cell with more people over its place.
+fn flow_with(cell: Cell, people: u32) -> u32
     requires { people ≤ cell.limit - cell.flow }
-    ensures { result ≡ with_more people cell }
+    ensures { result ≡ cell.flow + people }
 {
-    let flow = cell.flow + people;
-    Cell { flow, ..cell }
+    cell.flow + people
 }
 
-/// Sends more people over each of some cells.
+// Sends more people over each of some cells.
 fn raise_all(cells: &mut [Cell], people: u32)
     requires { All (λ c. people ≤ c.limit - c.flow) cells.old }
     ensures { cells.new ≡ map (with_more people) cells.old }
 {
     for cell in cells.iter_mut() {
-        *cell = with_more(*cell, people);
+        cell.flow = flow_with(*cell, people);
     }
 }
 
@@ -140,7 +139,7 @@ impl Grid {
         moment + self.travel(arc)
     }
 
-    /// The number of the cell of a place.
+    // The number of the cell of a place.
     #[tactic(auto, using(crate::proofs::Steps::cell_in), unfolding(crate::specs::Site::cell_of))]
     fn place(&self, place: Place) -> usize
         requires { IsPlace self.now.site place }
@@ -157,7 +156,7 @@ impl Grid {
         }
     }
 
-    /// The flow and the limit at a place, by the number of its cell.
+    // The flow and the limit at a place, by the number of its cell.
     #[tactic(auto, using(crate::proofs::Steps::cell_in), unfolding(crate::specs::Network::flow_at, crate::specs::Network::limit_at))]
     fn get_at(&self, at: usize, place: Place) -> Cell
         requires place { IsPlace self.now.site place }
@@ -181,7 +180,7 @@ impl Grid {
         self.get_at(at, place)
     }
 
-    /// Puts a cell with the same limit in the place of another, by the number of that one.
+    // Puts a cell with the same limit in the place of another, by the number of that one.
     #[tactic(auto, using(crate::proofs::Steps::cell_in))]
     fn put_at(&mut self, at: usize, place: Place, cell: Cell)
         requires place { IsPlace self.old.site place }
@@ -193,7 +192,7 @@ impl Grid {
         self.cells[at] = cell;
     }
 
-    /// Sends people over a step, by the number of its place's cell.
+    // Sends people over a step, by the number of its place's cell.
     fn shift_at(&mut self, at: usize, step: PathStep, people: u32)
         requires place { IsPlace self.old.site step.place }
         requires cell { at ≡ cell_of self.old.site step.place }

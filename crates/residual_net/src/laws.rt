@@ -1,4 +1,4 @@
-// The laws of nets, each the contract of a function with nothing to do.
+//! The laws of nets, each the contract of a function with nothing to do.
 ghost use Rattle.residual_net.specs.NetLaws.{ArrivedIsOut, ArrivedRises, ArrivedWithinCut, CancelLowersArrivals, ClosedGrows, ClosedIsCut, ClosedSurvivesPush, LastIsArrival, NetFits, NetIsFeasible, PushMovesArrivals, SentIsArrived, SuppliesBetween};
 
 /// The arrivals of a net are those of its plan.

@@ -1,4 +1,4 @@
-// Paths by their legs.
+//! Paths by their legs.
 ghost use Rattle.std.specs.Prelude.{◌≡◌, [], ◌∷◌, slice_index_or};
 ghost use Rattle.residual_net.specs.declared.place.PathStep.{PathStep};
 

@@ -1,4 +1,4 @@
-// How many people a net may send.
+//! How many people a net may send.
 
 /// The most people that all supplies may send together.
 pub const SUPPLY_LIMIT: u32 = 200_000;

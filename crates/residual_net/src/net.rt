@@ -1,4 +1,4 @@
-// A net: its flow keeps conservation.
+//! A net: its flow keeps conservation.
 ghost use Rattle.std.specs.Prelude.{◌≡◌, ℕ, ◌+◌, ◌-◌, ◌<◌, ◌≤◌, ◌↔◌, IfOk, IsFalse, IsTrue, length, replicate, slice_index};
 ghost use Rattle.evac_law.specs.Building.{IsValid};
 ghost use Rattle.residual_net.specs.Limits.{supply_limit};
@@ -48,7 +48,7 @@ impl Model for Net {
     ghost invariant = { λ n. IsKept n.grid n.arrivals.items n.saved_arrivals.items n.supplies n.saved_supplies };
 }
 
-/// Sends people over each step in turn.
+// Sends people over each step in turn.
 fn shift_all(grid: &mut Grid, path: &[PathStep], people: u32)
     requires path { IsPushable grid.old path.now people }
     requires net { IsNet grid.old }
@@ -63,7 +63,7 @@ fn shift_all(grid: &mut Grid, path: &[PathStep], people: u32)
     }
 }
 
-/// Sends people over a leg.
+// Sends people over a leg.
 fn shift_leg(grid: &mut Grid, leg: Leg, people: u32)
     requires grid { IsGrid grid.old }
     requires shiftable { IsShiftable grid.old (steps_of_leg leg) people }
@@ -74,7 +74,7 @@ fn shift_leg(grid: &mut Grid, leg: Leg, people: u32)
     grid.shift(leg.step, people);
 }
 
-/// Sends people over each leg in turn.
+// Sends people over each leg in turn.
 fn shift_legs(grid: &mut Grid, legs: &[Leg], people: u32)
     requires grid { IsGrid grid.old }
     requires shiftable { IsShiftable grid.old (steps_of_legs legs.now) people }
@@ -86,7 +86,7 @@ fn shift_legs(grid: &mut Grid, legs: &[Leg], people: u32)
     }
 }
 
-/// Counts people no more at an end, where it is an arrival.
+// Counts people no more at an end, where it is an arrival.
 fn lower(arrivals: &mut [u32], end: End, people: u32)
     requires { (j : ℕ) → end ≡ Door j → (j < length arrivals.old) × (people ≤ slice_index arrivals.old j) }
     ensures { IsFewerBy arrivals.new arrivals.old end people }
@@ -96,7 +96,7 @@ fn lower(arrivals: &mut [u32], end: End, people: u32)
     }
 }
 
-/// Counts people at an end, where it is an arrival.
+// Counts people at an end, where it is an arrival.
 #[tactic(auto, unfolding(crate::specs::Limits::supply_limit))]
 fn raise(arrivals: &mut [u32], end: End, people: u32)
     requires { (j : ℕ) → end ≡ Door j → (j < length arrivals.old) × (slice_index arrivals.old j + people ≤ supply_limit) }
@@ -107,7 +107,7 @@ fn raise(arrivals: &mut [u32], end: End, people: u32)
     }
 }
 
-/// Counts the people of a push where the path arrives, and no more where it begins.
+// Counts the people of a push where the path arrives, and no more where it begins.
 fn move_arrivals(arrivals: &mut [u32], grid: &Grid, first: PathStep, last: PathStep, people: u32)
     requires some { 1 ≤ people }
     requires underway { IsUnderwayBetween grid.now arrivals.old first last people }
@@ -119,7 +119,7 @@ fn move_arrivals(arrivals: &mut [u32], grid: &Grid, first: PathStep, last: PathS
     raise(arrivals, to, people);
 }
 
-/// Counts the people who were taken off a path no more where it arrives.
+// Counts the people who were taken off a path no more where it arrives.
 fn lower_arrivals(arrivals: &mut [u32], grid: &Grid, path: &[PathStep], people: u32)
     requires { IsLowering grid.now arrivals.old path.now people }
     ensures { IsStored grid.now arrivals.new }
@@ -129,7 +129,7 @@ fn lower_arrivals(arrivals: &mut [u32], grid: &Grid, path: &[PathStep], people: 
     lower(arrivals, from, people);
 }
 
-/// A list of zeros.
+// A list of zeros.
 fn zeros(alloc: Global, count: usize) -> Result<Vec<u32>, AllocError>
     ensures { IfOk result (λ r. r.items ≡ replicate count 0) }
 {
@@ -377,7 +377,7 @@ impl Net {
         let _ = &self.grid;
     }
 
-    /// The limits of all supplies together, with another limit at a place.
+    // The limits of all supplies together, with another limit at a place.
     fn supplies_with(&self, place: Place, people: u32) -> u32
         requires place { IsPlace self.now.site place }
         requires supplies { supply_limits_with self.now place people ≤ supply_limit }

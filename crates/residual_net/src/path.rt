@@ -1,4 +1,4 @@
-// A path of residual steps, in memory that is reserved once.
+//! A path of residual steps, in memory that is reserved once.
 ghost use Rattle.std.specs.Prelude.{◌≡◌, ◌<◌, ◌-◌, [], ◌∷◌, ◌++◌, IfOk, length, reverse};
 
 use crate::place::PathStep;

@@ -1,4 +1,4 @@
-// A net as a standing plan.
+//! A net as a standing plan.
 ghost use Rattle.std.specs.Prelude.{◌≡◌, ℕ, ◌<◌, ◌≤◌, length, slice_index};
 
 use crate::net::Net;

@@ -1,4 +1,4 @@
-// How a net of a model begins: with no flow, and with the model's limits.
+//! How a net of a model begins: with no flow, and with the model's limits.
 ghost use Rattle.std.specs.Prelude.{◌≡◌, ℕ, ◌++◌, ◌<◌, IfOk, MatchOption, map, replicate};
 ghost use Rattle.evac_law.specs.Building.{IsValid};
 ghost use Rattle.evac_law.specs.Names.{is_exit};
@@ -20,7 +20,7 @@ pub enum Kind {
     Supply,
 }
 
-/// The ends of the arcs.
+// The ends of the arcs.
 fn ends_of(alloc: Global, model: &Model) -> Result<Vec<Ends>, AllocError>
     ensures { IfOk result (λ r. r.items ≡ map (λ a. record { from = a.from; to = a.to }) model.now.arcs) }
 {
@@ -34,7 +34,7 @@ fn ends_of(alloc: Global, model: &Model) -> Result<Vec<Ends>, AllocError>
     Ok(ends)
 }
 
-/// Which nodes are exits.
+// Which nodes are exits.
 fn exits_of(alloc: Global, model: &Model) -> Result<Vec<bool>, AllocError>
     ensures { IfOk result (λ r. r.items ≡ map (λ n. is_exit n.name.kind) model.now.nodes) }
 {
@@ -45,7 +45,7 @@ fn exits_of(alloc: Global, model: &Model) -> Result<Vec<bool>, AllocError>
     Ok(exits)
 }
 
-/// The traversal times of the arcs.
+// The traversal times of the arcs.
 fn travels_of(alloc: Global, model: &Model) -> Result<Vec<u16>, AllocError>
     ensures { IfOk result (λ r. r.items ≡ map (λ a. a.travel) model.now.arcs) }
 {
@@ -101,14 +101,14 @@ pub fn place_of(kind: Kind, number: u32, moment: u16) -> Place
     }
 }
 
-/// The limit at the first moments of some places, and how many these are. At the later ones it is 0.
+// The limit at the first moments of some places, and how many these are. At the later ones it is 0.
 #[derive(Clone, Copy, PartialEq, Eq, Debug)]
 struct Opening {
     moments: u16,
     limit: u32,
 }
 
-/// The opening of the places of a kind with a number, where they have one: no window closes the arc, or nobody enters the building later.
+// The opening of the places of a kind with a number, where they have one: no window closes the arc, or nobody enters the building later.
 #[tactic(auto, unfolding(evac_law::specs::Limits::horizon_limit))]
 fn opening_of(model: &Model, kind: Kind, number: u32) -> Option<Opening>
     requires valid { IsValid model.now }
@@ -140,7 +140,7 @@ fn opening_of(model: &Model, kind: Kind, number: u32) -> Option<Opening>
     }
 }
 
-/// Adds some cells with no flow and a limit.
+// Adds some cells with no flow and a limit.
 fn add_cells(cells: &mut Vec<Cell>, count: u16, limit: u32) -> Result<(), AllocError>
     ensures { IfOk result (λ _. cells.new.items ≡ cells.old.items ++ replicate count (record { flow = 0; limit = limit })) }
 {
@@ -150,7 +150,7 @@ fn add_cells(cells: &mut Vec<Cell>, count: u16, limit: u32) -> Result<(), AllocE
     Ok(())
 }
 
-/// Adds the cells of the places of a kind with a number, moment by moment.
+// Adds the cells of the places of a kind with a number, moment by moment.
 fn add_moments(
     cells: &mut Vec<Cell>,
     model: &Model,
@@ -168,7 +168,7 @@ fn add_moments(
     Ok(())
 }
 
-/// Adds the cells of the places of a kind with a number, with no flow and the model's limits.
+// Adds the cells of the places of a kind with a number, with no flow and the model's limits.
 #[tactic(auto, unfolding(evac_law::specs::Limits::horizon_limit))]
 fn add_row(cells: &mut Vec<Cell>, model: &Model, kind: Kind, number: u32) -> Result<(), AllocError>
     requires valid { IsValid model.now }
@@ -184,7 +184,7 @@ fn add_row(cells: &mut Vec<Cell>, model: &Model, kind: Kind, number: u32) -> Res
     }
 }
 
-/// Adds the cells of the places of a kind.
+// Adds the cells of the places of a kind.
 fn add_rows(cells: &mut Vec<Cell>, model: &Model, kind: Kind, count: u32) -> Result<(), AllocError>
     requires valid { IsValid model.now }
     requires numbers { (n : ℕ) → n < count → IsPlace (site_of model.now) (place_of kind n 0) }

@@ -112,7 +112,7 @@ pub edit_faulted : {T : Type 0} (result : Result T WriteFault) (line steps : ℕ
     → SaysSome (Edits line (desk_state d v) (applied v.state.model e)) result (shown_of d v a p f n) (shown_of d v' b q g (n + steps))
 edit_faulted result line steps code n d v v' e fault a b p q f g ends is put cause =
     let s = desk_state d v in
-    let text = subst (λ (i : ℕ). PutsText a p (refusal_line i line) b q result) is put in (
+    let text = subst (λ (i : Code). PutsText a p (refusal_line i line) b q result) is put in (
       refuses s (fault_code fault) line,
       edit_faults line s v v' e fault steps refl ends,
       said result d d v v' (refuses s (fault_code fault) line) a b p q f g n (n + steps) refl (same-state d v v' (ap (λ (x : SessionView). x.state) ends.1)) text cause
@@ -173,7 +173,7 @@ cut_is line s k = either_same (nat_lt s.standing.model.horizon k) s (refusal_lin
 pub code_said : {T : Type 0} (result : Result T WriteFault) (Gets : Reply State → Type 0) (line : ℕ) (code : Code) (n : ℕ) (d : DeskView) (v : SessionView) (named : Code) (a b : Option (List ℕ)) (p q : List ℕ) (f g : Count) → code ≡ named
     → Gets (refuses (desk_state d v) named line) → PutsText a p (refusal_line code line) b q result → HasCause f g result → SaysSome Gets result (shown_of d v a p f n) (shown_of d v b q g n)
 code_said result Gets line code n d v named a b p q f g is gets put cause =
-    let text = subst (λ (i : ℕ). PutsText a p (refusal_line i line) b q result) is put in
+    let text = subst (λ (i : Code). PutsText a p (refusal_line i line) b q result) is put in
     (refuses (desk_state d v) named line, gets, said_here result d d v (refusal_line named line) a b p q f g n (same_desk d) text cause)
 
 -- ---- texts of which one is said

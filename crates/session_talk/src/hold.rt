@@ -1,4 +1,4 @@
-// Holding a session over the lines of a source.
+//! Holding a session over the lines of a source.
 ghost use Rattle.std.specs.Prelude.{◌≡◌, []};
 ghost use Rattle.evac_law.specs.Building.{IsValid};
 ghost use Rattle.line_io.specs.Calls.{Asks};

@@ -1,4 +1,4 @@
-// The laws on sessions, each the contract of a function with nothing to do.
+//! The laws on sessions, each the contract of a function with nothing to do.
 ghost use Rattle.session_talk.specs.SessionLaws.{EditsApart, SessionsAgree, SessionsPart};
 
 /// An edited model that a session goes on to isn't refused as well.

@@ -1,4 +1,4 @@
-// A session answers the lines of a talk.
+//! A session answers the lines of a talk.
 ghost use Rattle.std.specs.Prelude.{◌≡◌, ◌<◌, ◌≤◌, ◌+◌, ℕ};
 ghost use Rattle.evac_law.specs.Building.{IsValid};
 ghost use Rattle.building_table.specs.EditNames.{edit_named};

@@ -1,4 +1,4 @@
-// The laws, each the contract of a function with nothing to do.
+//! The laws, each the contract of a function with nothing to do.
 ghost use Rattle.session_text.specs.Laws.{BeginsOfBuilding, EditKeepsBuilding, EditServes, ShapeServes, UndoKeepsBuilding};
 
 /// What serves a model serves another of the same shape.

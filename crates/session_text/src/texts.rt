@@ -1,4 +1,4 @@
-// The block of a session, its routes, its cuts, its work, and the block of an edit that was refused.
+//! The block of a session, its routes, its cuts, its work, and the block of an edit that was refused.
 ghost use Rattle.std.specs.Prelude.{◌≡◌, ℕ, ◌≤◌, List};
 ghost use Rattle.evac_law.specs.Building.{people as people_of};
 ghost use Rattle.evac_law.specs.Certificates.{label_cut};

@@ -15,7 +15,6 @@ use Rattle.certificate_text.specs.BlockText.{refusal_line}
 use Rattle.study_talk.specs.Desks.{Behind, StudyView, Kept, Quits, gets, kept_of, shown_study}
 use Rattle.evac_law.specs.declared.model.Model.{Model}
 use Rattle.building_table.specs.declared.faults.NameFault.{NameFault}
-use Rattle.building_table.specs.Names.{NameTable}
 use Rattle.exit_study.specs.declared.rates.Least.{Least}
 use Rattle.study_talk.specs.StudyTexts.{SaysLeast}
 use Rattle.study_talk.specs.Studies.{AsksLeast, LeastReply, StudyReplies}
@@ -36,7 +35,7 @@ text_said result Gets d d' text a b p q f g n k steps same counted gets put caus
 pub code_said : {T : Type 0} (result : Result T WriteFault) (Gets : Reply (Unit {0}) → Type 0) (d : StudyView) (line : ℕ) (code named : Code) (a b : Option (List ℕ)) (p q : List ℕ) (f g : Count) (n : ℕ)
     → code ≡ named → Gets (refuses tt named line) → PutsText a p (refusal_line code line) b q result → HasCause f g result → SaysSome Gets result (shown_study d a p f n) (shown_study d b q g n)
 code_said result Gets d line code named a b p q f g n is gets put cause =
-    let text = subst (λ (i : ℕ). PutsText a p (refusal_line i line) b q result) is put in
+    let text = subst (λ (i : Code). PutsText a p (refusal_line i line) b q result) is put in
     text_said result Gets d d (refusal_line named line) a b p q f g n n 0 refl (sym (add-zero n)) gets text cause
 
 -- a moment past the horizon, and one within it

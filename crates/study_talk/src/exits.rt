@@ -1,4 +1,4 @@
-// What a building comes to without each of its exits.
+//! What a building comes to without each of its exits.
 ghost use Rattle.std.specs.Prelude.{◌≡◌, ◌+◌, ◌<◌, ◌≤◌, ℕ, List, length, IsTrue};
 ghost use Rattle.evac_law.specs.Building.{IsValid, is_exit_at};
 ghost use Rattle.line_io.specs.Causes.{Count, HasCause};

@@ -1,4 +1,4 @@
-// The least rate of an arc, with what proves it.
+//! The least rate of an arc, with what proves it.
 ghost use Rattle.std.specs.Prelude.{◌≡◌, ◌+◌, ◌<◌, ◌≤◌, ℕ, List, length, ◌++◌};
 ghost use Rattle.evac_law.specs.Building.{IsValid, head, tail};
 ghost use Rattle.evac_law.specs.Certificates.{IsTableOf, label_cut};

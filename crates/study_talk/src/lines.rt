@@ -1,4 +1,4 @@
-// The lines of a study.
+//! The lines of a study.
 ghost use Rattle.std.specs.Prelude.{◌≡◌};
 ghost use Rattle.evac_law.specs.Names.{IsName, name_text};
 ghost use Rattle.line_io.specs.Causes.{HasCause};

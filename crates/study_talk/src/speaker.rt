@@ -1,4 +1,4 @@
-// A desk answers the lines of a study.
+//! A desk answers the lines of a study.
 ghost use Rattle.std.specs.Prelude.{◌≡◌};
 
 use crate::desk::StudyDesk;

@@ -1,5 +1,5 @@
 //! A table by row and moment.
-ghost use Rattle.std.specs.Prelude.{◌≡◌, ℕ, ◌+◌, ◌*◌, ◌<◌, ◌≤◌, IfOk, length};
+ghost use Rattle.std.specs.Prelude.{◌≡◌, ℕ, ◌<◌, ◌≤◌, IfOk};
 ghost use Rattle.tables.specs.Tables.{IsPut, item_at};
 
 use std::alloc::{AllocError, Global};

@@ -1,4 +1,4 @@
-// Why a line isn't answered.
+//! Why a line isn't answered.
 ghost use Rattle.std.specs.Prelude.{◌≡◌};
 ghost use Rattle.talk.specs.declared.fault.AnswerFault.TheVariants.{Write};
 

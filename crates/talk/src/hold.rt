@@ -1,4 +1,4 @@
-// Holding a talk over the lines of a source.
+//! Holding a talk over the lines of a source.
 ghost use Rattle.std.specs.Prelude.{◌≡◌, ◌<◌, ◌≤◌, ◌+◌, [], ℕ, Ok};
 ghost use Rattle.line_io.specs.Calls.{Asks};
 ghost use Rattle.line_io.specs.Line.{input_limit};

@@ -1,4 +1,4 @@
-// Refusals, each brought to the sink.
+//! Refusals, each brought to the sink.
 ghost use Rattle.std.specs.Prelude.{◌≡◌};
 ghost use Rattle.evac_law.specs.Building.{IsValid};
 ghost use Rattle.evac_law.specs.Certificates.{IsTableOf, label_cut};

@@ -1,4 +1,4 @@
-// The refusal of a building that can't be cleared, in place of a talk.
+//! The refusal of a building that can't be cleared, in place of a talk.
 ghost use Rattle.evac_law.specs.Building.{IsValid};
 ghost use Rattle.evac_law.specs.Certificates.{IsTableOf, label_cut};
 ghost use Rattle.certificate_text.specs.BlockText.{shortfall_text};

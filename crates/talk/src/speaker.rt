@@ -1,4 +1,4 @@
-// Who answers the lines of a talk.
+//! Who answers the lines of a talk.
 ghost use Rattle.std.specs.Prelude.{◌≡◌, ◌≤◌, ◌+◌, ℕ, List, length, Ok};
 ghost use Rattle.line_io.specs.Causes.{HasCause};
 ghost use Rattle.line_io.specs.Line.{input_limit, line_limit};

@@ -1,4 +1,4 @@
-// How a run ends, and a talk with it.
+//! How a run ends, and a talk with it.
 ghost use Rattle.std.specs.Prelude.{◌≡◌};
 ghost use Rattle.talk.specs.Held.{status_after};
 ghost use Rattle.talk.specs.Statuses.{status_number};

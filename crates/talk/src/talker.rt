@@ -1,4 +1,4 @@
-// What hears the lines of a talk.
+//! What hears the lines of a talk.
 ghost use Rattle.std.specs.Prelude.{◌≡◌, ◌<◌, ◌≤◌, ℕ};
 ghost use Rattle.line_io.specs.Calls.{Asks};
 ghost use Rattle.line_io.specs.Hearing.{IsCaused, Listens};

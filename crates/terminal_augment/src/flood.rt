@@ -1,4 +1,4 @@
-// The last search to a moment: through all pairs that reach an arrival then, in the order in which they are met.
+//! The last search to a moment: through all pairs that reach an arrival then, in the order in which they are met.
 ghost use Rattle.std.specs.Prelude.{◌≡◌, ℕ, ◌+◌, ◌<◌, ◌≤◌, IsTrue, length, slice_index, false, true};
 ghost use Rattle.time_expansion.specs.Expansion.{arcs_from, arcs_to};
 ghost use Rattle.residual_net.specs.declared.place.Place.TheVariants.{Arc, Hold};
@@ -14,7 +14,7 @@ use crate::work::Work;
 use evac_law::Labels;
 use residual_net::{End, Net, PathStep, Place};
 
-/// Marks where a step begins, if it may be taken. Whether nobody can be sent from there.
+// Marks where a step begins, if it may be taken. Whether nobody can be sent from there.
 fn meet(net: &Net, labels: &Labels, work: &mut Work, step: PathStep, k: u16) -> bool
     requires searchable { IsSearchable net.now labels.now }
     requires place { IsPlace net.now.site step.place }
@@ -40,7 +40,7 @@ fn meet(net: &Net, labels: &Labels, work: &mut Work, step: PathStep, k: u16) -> 
     }
 }
 
-/// Marks where an arc begins by which people come to a node at a moment. Whether nobody can be sent from there.
+// Marks where an arc begins by which people come to a node at a moment. Whether nobody can be sent from there.
 fn meet_in(net: &Net, labels: &Labels, work: &mut Work, arc: u32, moment: u16, k: u16) -> bool
     requires searchable { IsSearchable net.now labels.now }
     requires arc { IsArcAt net.now.site arc moment }
@@ -61,7 +61,7 @@ fn meet_in(net: &Net, labels: &Labels, work: &mut Work, arc: u32, moment: u16, k
     meet(net, labels, work, forth(Place::Arc { arc, moment }), k)
 }
 
-/// Marks where the arcs begin by which people come to a pair. Whether nobody can be sent from there.
+// Marks where the arcs begin by which people come to a pair. Whether nobody can be sent from there.
 fn expand_in(net: &Net, labels: &Labels, work: &mut Work, spot: Spot, k: u16) -> bool
     requires searchable { IsSearchable net.now labels.now }
     requires inside { IsOpenPair net.now.site spot.node spot.moment }
@@ -79,7 +79,7 @@ fn expand_in(net: &Net, labels: &Labels, work: &mut Work, spot: Spot, k: u16) ->
     true
 }
 
-/// Marks where the wait before a pair begins. Whether nobody can be sent from there.
+// Marks where the wait before a pair begins. Whether nobody can be sent from there.
 fn meet_before(net: &Net, labels: &Labels, work: &mut Work, spot: Spot, k: u16) -> bool
     requires searchable { IsSearchable net.now labels.now }
     requires inside { IsOpenPair net.now.site spot.node spot.moment }
@@ -99,7 +99,7 @@ fn meet_before(net: &Net, labels: &Labels, work: &mut Work, spot: Spot, k: u16) 
     meet(net, labels, work, forth(Place::Hold { node, moment }), k)
 }
 
-/// Marks where an arc leads by which people leave a node at a moment. Whether nobody can be sent from there.
+// Marks where an arc leads by which people leave a node at a moment. Whether nobody can be sent from there.
 fn meet_out(net: &Net, labels: &Labels, work: &mut Work, arc: u32, moment: u16, k: u16) -> bool
     requires searchable { IsSearchable net.now labels.now }
     requires arc { IsArcAt net.now.site arc moment }
@@ -114,7 +114,7 @@ fn meet_out(net: &Net, labels: &Labels, work: &mut Work, arc: u32, moment: u16, 
     meet(net, labels, work, back(Place::Arc { arc, moment }), k)
 }
 
-/// Marks where the arcs lead by which people leave a pair. Whether nobody can be sent from there.
+// Marks where the arcs lead by which people leave a pair. Whether nobody can be sent from there.
 fn expand_out(net: &Net, labels: &Labels, work: &mut Work, spot: Spot, k: u16) -> bool
     requires searchable { IsSearchable net.now labels.now }
     requires inside { IsOpenPair net.now.site spot.node spot.moment }
@@ -133,7 +133,7 @@ fn expand_out(net: &Net, labels: &Labels, work: &mut Work, spot: Spot, k: u16) -
     true
 }
 
-/// Marks where the wait after a pair leads. Whether nobody can be sent from there.
+// Marks where the wait after a pair leads. Whether nobody can be sent from there.
 fn meet_after(net: &Net, labels: &Labels, work: &mut Work, spot: Spot, k: u16) -> bool
     requires searchable { IsSearchable net.now labels.now }
     requires inside { IsOpenPair net.now.site spot.node spot.moment }
@@ -150,7 +150,7 @@ fn meet_after(net: &Net, labels: &Labels, work: &mut Work, spot: Spot, k: u16) -
     meet(net, labels, work, back(Place::Hold { node, moment }), k)
 }
 
-/// Marks all pairs from which steps lead to a pair. Whether nobody can be sent from there.
+// Marks all pairs from which steps lead to a pair. Whether nobody can be sent from there.
 fn expand(net: &Net, labels: &Labels, work: &mut Work, spot: Spot, k: u16) -> bool
     requires searchable { IsSearchable net.now labels.now }
     requires inside { IsOpenPair net.now.site spot.node spot.moment }
@@ -177,7 +177,7 @@ fn expand(net: &Net, labels: &Labels, work: &mut Work, spot: Spot, k: u16) -> bo
     meet_after(net, labels, work, spot, k)
 }
 
-/// Marks where an arc begins by which people arrive at a moment. Whether nobody can be sent from there.
+// Marks where an arc begins by which people arrive at a moment. Whether nobody can be sent from there.
 fn open(net: &Net, labels: &Labels, work: &mut Work, arc: u32, k: u16) -> bool
     requires searchable { IsSearchable net.now labels.now }
     requires arc { IsArcAt net.now.site arc k }
@@ -192,7 +192,7 @@ fn open(net: &Net, labels: &Labels, work: &mut Work, arc: u32, k: u16) -> bool
     true
 }
 
-/// Marks where the arcs begin by which people arrive at a moment. Whether nobody can be sent from there.
+// Marks where the arcs begin by which people arrive at a moment. Whether nobody can be sent from there.
 fn open_all(net: &Net, labels: &Labels, work: &mut Work, k: u16) -> bool
     requires searchable { IsSearchable net.now labels.now }
     requires moment { k ≤ net.now.site.shape.horizon }

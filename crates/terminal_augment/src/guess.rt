@@ -1,4 +1,4 @@
-// A guess at a path, looked at leg by leg before people are sent along it.
+//! A guess at a path, looked at leg by leg before people are sent along it.
 ghost use Rattle.std.specs.Prelude.{◌≡◌, ℕ, ◌+◌, ◌-◌, ◌<◌, ◌≤◌, IsFalse, IsTrue, MatchOption};
 ghost use Rattle.std.specs.List.{All};
 ghost use Rattle.residual_net.specs.Legs.{steps_of_legs, wait_at};
@@ -17,10 +17,10 @@ use guided_search::PathFinder;
 use residual_net::{Cell, End, Leg, Net, PathStep, Place};
 use std::sync::ledger::Ledger;
 
-/// The most guesses at one arrival moment.
+// The most guesses at one arrival moment.
 const FUEL: u64 = 1_000_000_000_000;
 
-/// Whether a place is one of a net's.
+// Whether a place is one of a net's.
 fn is_place(net: &Net, place: Place) -> bool
     ensures { IsTrue result → IsPlace net.now.site place }
 {
@@ -34,7 +34,7 @@ fn is_place(net: &Net, place: Place) -> bool
     }
 }
 
-/// The least room of some cells for more people, or the most people where that is less.
+// The least room of some cells for more people, or the most people where that is less.
 fn least_room(cells: &[Cell], most: u32) -> u32
     requires { All (λ c. c.flow ≤ c.limit) cells.now }
     ensures most { result ≤ most }
@@ -47,7 +47,7 @@ fn least_room(cells: &[Cell], most: u32) -> u32
     least
 }
 
-/// The least room of the waits in a node, at each moment from one up to another, or the most people where that is less.
+// The least room of the waits in a node, at each moment from one up to another, or the most people where that is less.
 fn waits_room(net: &Net, node: u32, from: u16, to: u16, most: u32) -> u32
     requires within { IsWithinLimits net.now }
     requires node { node < net.now.site.shape.nodes }
@@ -61,14 +61,14 @@ fn waits_room(net: &Net, node: u32, from: u16, to: u16, most: u32) -> u32
     least_room(waits, most)
 }
 
-/// How far a look at a path has come: to a pair, with the people who may be sent on from there.
+// How far a look at a path has come: to a pair, with the people who may be sent on from there.
 #[derive(Clone, Copy)]
 struct Look {
     spot: Spot,
     people: u32,
 }
 
-/// Looks back over the waits of a leg, where they lead to the pair that was come to and have room.
+// Looks back over the waits of a leg, where they lead to the pair that was come to and have room.
 fn over_waits(net: &Net, leg: Leg, from: Look) -> Option<Look>
     requires within { IsWithinLimits net.now }
     requires inside { IsOpenPair net.now.site from.spot.node from.spot.moment }
@@ -90,7 +90,7 @@ fn over_waits(net: &Net, leg: Leg, from: Look) -> Option<Look>
     Some(Look { spot, people })
 }
 
-/// Marks a node at each moment from one up to another, until one of them is found marked. Whether none is.
+// Marks a node at each moment from one up to another, until one of them is found marked. Whether none is.
 fn mark_all(marks: &mut Marks, node: u32, from: u16, past: u16) -> bool
     requires marks { IsMarks marks.old }
     requires node { node < marks.old.nodes }
@@ -109,8 +109,8 @@ fn mark_all(marks: &mut Marks, node: u32, from: u16, past: u16) -> bool
     true
 }
 
-/// Whether a path that comes to a node at each moment from one up to another comes to none of these pairs for the second time. Only
-/// a path that turns back at some step needs marks for that: the others come to earlier and earlier moments.
+// Whether a path that comes to a node at each moment from one up to another comes to none of these pairs for the second time. Only
+// a path that turns back at some step needs marks for that: the others come to earlier and earlier moments.
 fn is_new(marks: &mut Marks, turns: bool, node: u32, from: u16, past: u16) -> bool
     requires marks { IsMarks marks.old }
     requires node { node < marks.old.nodes }
@@ -125,7 +125,7 @@ fn is_new(marks: &mut Marks, turns: bool, node: u32, from: u16, past: u16) -> bo
     }
 }
 
-/// Whether one of some legs goes over its step backwards.
+// Whether one of some legs goes over its step backwards.
 fn turn_back(legs: &[Leg]) -> bool
     ensures { IsFalse result → All (λ g. IsFalse g.step.back) legs.now }
 {
@@ -137,7 +137,7 @@ fn turn_back(legs: &[Leg]) -> bool
     false
 }
 
-/// Where a step starts, if it is one of the net's, has room and stops at an end.
+// Where a step starts, if it is one of the net's, has room and stops at an end.
 fn begins(net: &Net, step: PathStep, end: End) -> Option<End>
     requires { IsWithinLimits net.now }
     ensures { MatchOption result (Unit {0}) (λ r. IsStep net.now step r end) }
@@ -154,15 +154,15 @@ fn begins(net: &Net, step: PathStep, end: End) -> Option<End>
     Some(net.start(step))
 }
 
-/// Whether a leg is the first one, and no wait comes before its step.
+// Whether a leg is the first one, and no wait comes before its step.
 fn is_first(leg: Leg, before: usize) -> bool
     ensures { IsTrue result → (before ≡ 0) × (leg.to ≤ leg.from) }
 {
     before == 0 && leg.to <= leg.from
 }
 
-/// The most people who may be sent along the path of some legs to an arrival at a moment, or 0 where it leads there from no source,
-/// twice to one pair, or over a step with no room.
+// The most people who may be sent along the path of some legs to an arrival at a moment, or 0 where it leads there from no source,
+// twice to one pair, or over a step with no room.
 fn carried(net: &Net, marks: &mut Marks, legs: &[Leg], most: u32, k: u16) -> u32
     requires within { IsWithinLimits net.now }
     requires marks { IsMarksOf net.now.site marks.old }

@@ -1,4 +1,4 @@
-// Marks on nodes at moments.
+//! Marks on nodes at moments.
 ghost use Rattle.std.specs.Prelude.{◌≡◌, ℕ, ◌+◌, ◌*◌, ◌<◌, ◌≤◌, IfOk, IsFalse, length, replicate};
 ghost use Rattle.terminal_augment.specs.Marking.{IsMarks, is_marked, with_stamp};
 
@@ -40,7 +40,7 @@ impl Marks {
         })
     }
 
-    /// The place of a node at a moment.
+    // The place of a node at a moment.
     fn place(&self, spot: Spot) -> usize
         requires node { spot.node < self.now.nodes }
         requires moment { spot.moment ≤ self.now.horizon }
@@ -80,7 +80,7 @@ impl Marks {
         node as usize * (self.horizon as usize + 1)
     }
 
-    /// The place of a node at a moment, by where its places begin.
+    // The place of a node at a moment, by where its places begin.
     fn place_from(&self, first: usize, spot: Spot) -> usize
         requires node { spot.node < self.now.nodes }
         requires moment { spot.moment ≤ self.now.horizon }

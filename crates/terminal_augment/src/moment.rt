@@ -1,4 +1,4 @@
-// One arrival moment, settled.
+//! One arrival moment, settled.
 ghost use Rattle.std.specs.Prelude.{◌≡◌, ℕ, ◌+◌, ◌<◌, ◌≤◌, IfOk, if◌then◌else◌};
 ghost use Rattle.std.specs.List.{All};
 ghost use Rattle.evac_law.specs.Building.{IsValid};
@@ -25,7 +25,7 @@ use std::alloc::{AllocError, Global};
 use std::marker::Model;
 use std::sync::ledger::Ledger;
 
-/// Enters the pair from which an arc leads to an arrival at a moment, where a search may take that step.
+// Enters the pair from which an arc leads to an arrival at a moment, where a search may take that step.
 fn open_door(net: &Net, labels: &Labels, work: &mut Work, arc: u32, k: u16)
     requires searchable { IsSearchable net.now labels.now }
     requires arc { IsArcAt net.now.site arc k }
@@ -43,7 +43,7 @@ fn open_door(net: &Net, labels: &Labels, work: &mut Work, arc: u32, k: u16)
     }
 }
 
-/// Sends people over an arc to an arrival at a moment, along as many paths as a search finds.
+// Sends people over an arc to an arrival at a moment, along as many paths as a search finds.
 fn send_by<L: Ledger>(
     net: &mut Net,
     labels: &Labels,
@@ -67,7 +67,7 @@ fn send_by<L: Ledger>(
     pushes
 }
 
-/// Sends people to a moment along the paths of one search.
+// Sends people to a moment along the paths of one search.
 fn round<L: Ledger>(
     net: &mut Net,
     labels: &Labels,
@@ -89,7 +89,7 @@ fn round<L: Ledger>(
     pushes
 }
 
-/// Sends people to a moment until a search finds no more.
+// Sends people to a moment until a search finds no more.
 fn send_all<L: Ledger>(
     net: &mut Net,
     labels: &Labels,
@@ -111,7 +111,7 @@ fn send_all<L: Ledger>(
     pushes
 }
 
-/// Sends people to a moment along guessed paths, and then until a search finds no more.
+// Sends people to a moment along guessed paths, and then until a search finds no more.
 fn send_both<L: Ledger>(
     net: &mut Net,
     labels: &Labels,
@@ -137,7 +137,7 @@ fn send_both<L: Ledger>(
     guessed + others
 }
 
-/// Gives pairs a label.
+// Gives pairs a label.
 fn label_all(labels: &mut Labels, seen: &Pile<Spot>, k: u16)
     requires { All (λ p. (p.node < labels.old.nodes) × (p.moment ≤ labels.old.horizon)) seen.now.list }
     ensures nodes { labels.new.nodes ≡ labels.old.nodes }
@@ -151,7 +151,7 @@ fn label_all(labels: &mut Labels, seen: &Pile<Spot>, k: u16)
     }
 }
 
-/// Settles a moment with the scratch of a search.
+// Settles a moment with the scratch of a search.
 fn settle_with<L: Ledger>(
     net: &mut Net,
     labels: &mut Labels,

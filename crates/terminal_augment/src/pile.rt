@@ -1,4 +1,4 @@
-// A pile in memory that is reserved once.
+//! A pile in memory that is reserved once.
 ghost use Rattle.std.specs.Prelude.{◌≡◌, ◌<◌, [], ◌∷◌, IfOk, drop, length, slice_index_or};
 ghost use Rattle.terminal_augment.specs.Piles.{top_of};
 

@@ -1,4 +1,4 @@
-// What a search remembers of its way.
+//! What a search remembers of its way.
 
 use residual_net::PathStep;
 

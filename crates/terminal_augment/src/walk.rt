@@ -1,4 +1,4 @@
-// A search back from the arrivals at a moment, and the pushes along what it finds.
+//! A search back from the arrivals at a moment, and the pushes along what it finds.
 ghost use Rattle.std.specs.Prelude.{◌≡◌, ℕ, ◌+◌, ◌*◌, ◌<◌, ◌≤◌, Option, MatchOption, Some, [], ◌∷◌, IsFalse, drop, if◌then◌else◌, length};
 ghost use Rattle.std.specs.List.{All};
 ghost use Rattle.residual_net.specs.Network.{IsNet, IsWithinLimits, residual_room};
@@ -17,8 +17,8 @@ use evac_law::{Labels, Steps};
 use residual_net::{End, Net, Path, PathStep};
 use std::sync::ledger::Ledger;
 
-/// Takes one step of a search: over a way into the top frame's pair, or off that frame. A step at whose start people may be had
-/// is the answer.
+// Takes one step of a search: over a way into the top frame's pair, or off that frame. A step at whose start people may be had
+// is the answer.
 fn advance(net: &Net, labels: &Labels, work: &mut Work, frame: Frame, k: u16) -> Option<PathStep>
     requires walking { IsWalking net.now labels.now k work.old }
     requires top { top_of work.old.frames.list ≡ Some frame }
@@ -45,7 +45,7 @@ fn advance(net: &Net, labels: &Labels, work: &mut Work, frame: Frame, k: u16) ->
     }
 }
 
-/// Goes on with a search until it meets a step at whose start people may be had, or until no frame is left.
+// Goes on with a search until it meets a step at whose start people may be had, or until no frame is left.
 fn descend(net: &Net, labels: &Labels, work: &mut Work, k: u16) -> Option<PathStep>
     requires walking { IsWalking net.now labels.now k work.old }
     ensures searching { IsSearching net.now.site labels.now k work.new }
@@ -61,7 +61,7 @@ fn descend(net: &Net, labels: &Labels, work: &mut Work, k: u16) -> Option<PathSt
     None
 }
 
-/// Fills a path with the step that a search found and with those of the frames. The answer is the least room on it.
+// Fills a path with the step that a search found and with those of the frames. The answer is the least room on it.
 fn lay(net: &Net, path: &mut Path, frames: &Pile<Frame>, found: PathStep) -> u32
     requires within { IsWithinLimits net.now }
     requires space { length frames.now.list < path.old.room }
@@ -81,7 +81,7 @@ fn lay(net: &Net, path: &mut Path, frames: &Pile<Frame>, found: PathStep) -> u32
     people
 }
 
-/// How many frames are above the lowest one whose step is full, with that one.
+// How many frames are above the lowest one whose step is full, with that one.
 fn full_count(net: &Net, frames: &Pile<Frame>) -> usize
     requires within { IsWithinLimits net.now }
     requires places { All (λ f. IsPlace net.now.site f.step.place) frames.now.list }

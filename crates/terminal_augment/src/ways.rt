@@ -1,4 +1,4 @@
-// The steps that lead into a node at a moment, and which of them a search may take.
+//! The steps that lead into a node at a moment, and which of them a search may take.
 ghost use Rattle.std.specs.Prelude.{◌≡◌, ◌+◌, ◌<◌, ◌≤◌, ◌^◌, IsFalse, IsTrue, false, not, true};
 ghost use Rattle.residual_net.specs.Site.{IsOpenPair, IsPlace, arc_count};
 ghost use Rattle.terminal_augment.specs.Frames.{IsLooked};
@@ -21,7 +21,7 @@ pub fn back(place: Place) -> PathStep
     PathStep { place, back: true }
 }
 
-/// An arc forwards, for whoever arrives at a moment.
+// An arc forwards, for whoever arrives at a moment.
 fn way_in(net: &Net, arc: u32, moment: u16) -> Option<PathStep>
     requires { arc < arc_count net.now.site }
     ensures { result ≡ way_in net.now.site arc moment }
@@ -35,7 +35,7 @@ fn way_in(net: &Net, arc: u32, moment: u16) -> Option<PathStep>
     }
 }
 
-/// The wait before a moment.
+// The wait before a moment.
 fn way_before(spot: Spot) -> Option<PathStep>
     ensures { result ≡ way_before spot.node spot.moment }
 {
@@ -48,7 +48,7 @@ fn way_before(spot: Spot) -> Option<PathStep>
     }
 }
 
-/// An arc backwards, and behind the arcs the wait after a moment.
+// An arc backwards, and behind the arcs the wait after a moment.
 fn way_back(net: &Net, spot: Spot, number: usize) -> PathStep
     requires { IsOpenPair net.now.site spot.node spot.moment }
     ensures { way_back net.now.site spot.node spot.moment number ≡ Some result }
@@ -64,7 +64,7 @@ fn way_back(net: &Net, spot: Spot, number: usize) -> PathStep
     }
 }
 
-/// The wait before a moment, and the ways backwards.
+// The wait before a moment, and the ways backwards.
 fn way_behind(net: &Net, spot: Spot, number: usize) -> Option<PathStep>
     requires { IsOpenPair net.now.site spot.node spot.moment }
     ensures { result ≡ way_behind net.now.site spot.node spot.moment number }
@@ -76,7 +76,7 @@ fn way_behind(net: &Net, spot: Spot, number: usize) -> Option<PathStep>
     }
 }
 
-/// The arcs into a node, and the ways behind them.
+// The arcs into a node, and the ways behind them.
 fn way_by_arc(net: &Net, spot: Spot, number: usize) -> Option<PathStep>
     requires { IsOpenPair net.now.site spot.node spot.moment }
     ensures { result ≡ way_by_arc net.now.site spot.node spot.moment number }
@@ -89,7 +89,7 @@ fn way_by_arc(net: &Net, spot: Spot, number: usize) -> Option<PathStep>
     }
 }
 
-/// The way of a number into a node at a moment.
+// The way of a number into a node at a moment.
 #[tactic(auto, unfolding(crate::specs::Ways::way_at))]
 fn way(net: &Net, spot: Spot, number: usize) -> Option<PathStep>
     requires { IsOpenPair net.now.site spot.node spot.moment }
@@ -104,7 +104,7 @@ fn way(net: &Net, spot: Spot, number: usize) -> Option<PathStep>
     }
 }
 
-/// The number of the ways into a node.
+// The number of the ways into a node.
 fn way_count(net: &Net, node: u32) -> usize
     requires { node < net.now.site.shape.nodes }
     ensures count { result ≡ way_count net.now.site node }

@@ -1,4 +1,4 @@
-// The scratch of a search, in memory that is reserved once.
+//! The scratch of a search, in memory that is reserved once.
 ghost use Rattle.std.specs.Prelude.{◌≡◌, ◌<◌, ◌≤◌, IfOk, length};
 ghost use Rattle.std.specs.List.{All};
 ghost use Rattle.terminal_augment.specs.Marking.{IsMarks};
@@ -94,7 +94,7 @@ impl Work {
         self.frames.pop();
     }
 
-    /// Takes the top frame off, and its pair's mark.
+    // Takes the top frame off, and its pair's mark.
     fn free(&mut self)
         requires { All (λ f. (f.spot.node < self.old.marks.nodes) × (f.spot.moment ≤ self.old.marks.horizon)) self.old.frames.list }
         ensures freed { self.new ≡ freed self.old }

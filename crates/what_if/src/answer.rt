@@ -1,4 +1,4 @@
-// What is answered.
+//! What is answered.
 ghost use Rattle.std.specs.Prelude.{◌≡◌};
 ghost use Rattle.what_if.specs.declared.answer.WhatIfFault.TheVariants.{Memory};
 

@@ -1,4 +1,4 @@
-// The block of a plan, checked by whoever wrote it.
+//! The block of a plan, checked by whoever wrote it.
 ghost use Rattle.std.specs.Prelude.{◌≡◌, [], IfOk, OnOk};
 ghost use Rattle.std.specs.Io.KnownBytes.{Appends};
 ghost use Rattle.building_table.specs.Names.{NamesFit};

@@ -1,4 +1,4 @@
-// A building that is read and planned, with one of its exits shut.
+//! A building that is read and planned, with one of its exits shut.
 ghost use Rattle.std.specs.Prelude.{◌≡◌, IfOk};
 ghost use Rattle.evac_law.specs.Building.{IsValid};
 ghost use Rattle.building_table.specs.Names.{NamesFit};

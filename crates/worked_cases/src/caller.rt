@@ -1,4 +1,4 @@
-// The example of a caller.
+//! The example of a caller.
 use crate::buildings::{OFFICE, TRAPPED};
 use building_table::NameFault;
 use evac_law::{Code, EditFault, Kind, NodeName};

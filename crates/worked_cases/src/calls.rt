@@ -1,4 +1,4 @@
-// The calls of a session on a building, each over a counter of steps that nobody reads.
+//! The calls of a session on a building, each over a counter of steps that nobody reads.
 ghost use Rattle.std.specs.Prelude.{◌≡◌, IsTrue};
 ghost use Rattle.evac_law.specs.Building.{IsValid};
 ghost use Rattle.evac_law.specs.Edits.{IsEditOf};

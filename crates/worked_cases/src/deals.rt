@@ -1,4 +1,4 @@
-// The cards of whole buildings.
+//! The cards of whole buildings.
 use crate::buildings::{EMPTY, OFFICE, ONE_LATE, ONE_ROOM, THROUGH_HALL};
 use crate::calls::open_on;
 use cards::Cards;

@@ -1,4 +1,4 @@
-// Each kind of edit on an office, and each undone.
+//! Each kind of edit on an office, and each undone.
 use crate::buildings::OFFICE;
 use crate::calls::{make, open_on, undo};
 use crate::shown::is_back_at;

@@ -1,4 +1,4 @@
-// People who come into a building at a later moment.
+//! People who come into a building at a later moment.
 ghost use Rattle.evac_law.specs.Building.{IsValid};
 
 use crate::buildings::FOUR_LATE;

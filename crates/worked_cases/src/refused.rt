@@ -1,4 +1,4 @@
-// Edits that a session refuses, and what it is left with.
+//! Edits that a session refuses, and what it is left with.
 ghost use Rattle.std.specs.Prelude.{IfOk};
 ghost use Rattle.evac_law.specs.Building.{IsValid};
 
@@ -13,7 +13,7 @@ use std::process::Abort;
 
 const SHUT: Edit = Edit::Shut { arc: 1 };
 
-/// An edit for each fault, in the building of two rooms whose wide way is shut.
+// An edit for each fault, in the building of two rooms whose wide way is shut.
 const FAULTS: &[(Edit, EditFault)] = &[
     (
         Edit::Rate {
@@ -143,7 +143,7 @@ fn worth(rt: &impl Abort, model: &Model, labels: &Labels) -> u64
     cut_value(model, labels, model.horizon)
 }
 
-/// Two edits of a building, of which the second would leave people inside.
+// Two edits of a building, of which the second would leave people inside.
 #[derive(Clone, Copy)]
 struct Shortfall {
     text: &'static str,

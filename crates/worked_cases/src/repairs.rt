@@ -1,4 +1,4 @@
-// What a repair of a standing net answers.
+//! What a repair of a standing net answers.
 ghost use Rattle.std.specs.Prelude.{◌≡◌, ◌+◌, ◌≤◌, IsTrue};
 ghost use Rattle.evac_law.specs.declared.model.Model.{Model};
 ghost use Rattle.evac_law.specs.Building.{IsValid};

@@ -1,4 +1,4 @@
-// Reports on the plans of whole buildings.
+//! Reports on the plans of whole buildings.
 ghost use Rattle.std.specs.Prelude.{◌<◌, IfOk, length};
 
 use crate::buildings::{OFFICE, TRAPPED, TWO_EXITS, model_of};

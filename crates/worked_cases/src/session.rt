@@ -1,4 +1,4 @@
-// Edits and undos of a session.
+//! Edits and undos of a session.
 use crate::buildings::{THREE_EXITS, TWO_EXITS, TWO_ROOMS};
 use crate::calls::{expect, make, open_on, undo};
 use crate::shown::{have_same_curve, is_back_at};
@@ -57,7 +57,7 @@ fn an_exit_is_shut_and_opened_again(rt: HostRuntime) -> Result<(), AllocError> {
     Ok(())
 }
 
-/// The work of an edit that breaks nothing and brings nobody out sooner or later.
+// The work of an edit that breaks nothing and brings nobody out sooner or later.
 const NO_WORK: Work = Work {
     cancelled: 0,
     pushes: 0,

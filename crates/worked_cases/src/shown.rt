@@ -1,4 +1,4 @@
-// What a session shows of itself.
+//! What a session shows of itself.
 use edit_session::Session;
 use evac_law::Model;
 use residual_net::Net;

@@ -1,4 +1,4 @@
-// Windows in which an arc is closed, added and taken away in a session.
+//! Windows in which an arc is closed, added and taken away in a session.
 use crate::buildings::TWO_EXITS;
 use crate::calls::{expect, make, open_on};
 use crate::shown::has_curve;
@@ -7,7 +7,7 @@ use evac_law::{Edit, EditFault, Standing};
 use std::alloc::AllocError;
 use std::process::Abort;
 
-/// Edits of the narrow way that are refused while it is closed from moment 1 to before moment 3.
+// Edits of the narrow way that are refused while it is closed from moment 1 to before moment 3.
 const FAULTS: &[(Edit, EditFault)] = &[
     (
         Edit::Window {

@@ -1,4 +1,4 @@
-// Blocks for the smallest building, one for each verdict.
+//! Blocks for the smallest building, one for each verdict.
 ghost use Rattle.building_table.specs.Names.{NamesFit};
 ghost use Rattle.evac_law.specs.Building.{IsValid};
 

@@ -1,4 +1,4 @@
-// The buildings of the cases, and how they are read.
+//! The buildings of the cases, and how they are read.
 ghost use Rattle.std.specs.Prelude.{IfOk};
 ghost use Rattle.building_table.specs.Names.{NamesFit};
 ghost use Rattle.evac_law.specs.Building.{IsValid};

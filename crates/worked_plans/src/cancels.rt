@@ -1,4 +1,4 @@
-// People taken off their way, and given back.
+//! People taken off their way, and given back.
 ghost use Rattle.std.specs.Prelude.{◌≡◌, ◌+◌, ◌<◌, ◌≤◌, length};
 
 use crate::buildings::TWO_ROOMS;

@@ -1,4 +1,4 @@
-// The cuts of three worked buildings.
+//! The cuts of three worked buildings.
 ghost use Rattle.evac_law.specs.Building.{IsValid};
 ghost use Rattle.evac_law.specs.Certificates.{IsTableOf};
 

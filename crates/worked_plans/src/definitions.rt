@@ -1,4 +1,4 @@
-// Worked cases, computed by the definitions.
+//! Worked cases, computed by the definitions.
 ghost use Rattle.std.specs.Prelude.{◌<◌, ◌^◌, length};
 ghost use Rattle.evac_law.specs.Certificates.{IsTableOf};
 ghost use Rattle.plain_plan.specs.Sizes.{IsSmall};

@@ -14,6 +14,8 @@ mod cuts;
 #[cfg(test)]
 mod definitions;
 #[cfg(test)]
+mod expansion;
+#[cfg(test)]
 mod labels;
 #[cfg(test)]
 mod moments;

@@ -1,4 +1,4 @@
-// Moments settled one after another.
+//! Moments settled one after another.
 ghost use Rattle.std.specs.Prelude.{◌≡◌, ◌≤◌};
 ghost use Rattle.evac_law.specs.Building.{IsValid};
 ghost use Rattle.residual_net.specs.Network.{IsWithinLimits};

@@ -1,4 +1,4 @@
-// What cases ask of a net and of its labels.
+//! What cases ask of a net and of its labels.
 use evac_law::Labels;
 use residual_net::Net;
 use std::process::Abort;

@@ -1,4 +1,4 @@
-// Worked buildings settled whole.
+//! Worked buildings settled whole.
 ghost use Rattle.std.specs.Prelude.{◌≡◌, ◌≤◌};
 ghost use Rattle.evac_law.specs.Building.{IsValid};
 

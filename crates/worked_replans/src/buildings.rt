@@ -1,4 +1,4 @@
-// The buildings of the cases, and how they are read.
+//! The buildings of the cases, and how they are read.
 ghost use Rattle.std.specs.Prelude.{IfOk};
 ghost use Rattle.evac_law.specs.Building.{IsValid};
 

@@ -1,4 +1,4 @@
-// Plans are carried out, edited and carried out again.
+//! Plans are carried out, edited and carried out again.
 use crate::buildings::{FOUR_LATE, NEAR_AND_FAR, THROUGH_HALL, TRAPPED, TWO_EXITS};
 use crate::calls::{advance, begin_on, make, undo};
 use crate::shown::{Stand, has_entrants, stands};
@@ -8,14 +8,14 @@ use replan::{AdvanceFault, Replan, ReplanRefusal};
 use std::alloc::{AllocError, Global};
 use std::process::Abort;
 
-/// A call, and how it is refused, if it is.
+// A call, and how it is refused, if it is.
 enum Call {
     Advance(u16, Option<AdvanceFault>),
     Edit(Edit, Option<ReplanRefusal>),
     Undo(Option<UndoRefusal>),
 }
 
-/// A call, and what stands after it.
+// A call, and what stands after it.
 struct Row {
     call: Call,
     stands: Stand,
@@ -48,7 +48,7 @@ const FROM_TWO: Stand = Stand {
     curve: &[0, 0, 0, 1],
 };
 
-/// The building of two exits: what is carried out stays, and the rest is planned anew.
+// The building of two exits: what is carried out stays, and the rest is planned anew.
 const WITH_TWO_EXITS: &[Row] = &[
     Row {
         call: Call::Advance(1, None),
@@ -140,7 +140,7 @@ const WITH_TWO_EXITS: &[Row] = &[
     },
 ];
 
-/// An edit before the first advance is past undoing after it, and people may enter until then.
+// An edit before the first advance is past undoing after it, and people may enter until then.
 const EDITED_BEFORE: &[Row] = &[
     Row {
         call: Call::Edit(Edit::Leave { node: 0, people: 6 }, None),
@@ -174,7 +174,7 @@ const EDITED_BEFORE: &[Row] = &[
     },
 ];
 
-/// One of three who are left stands in the hall, in which nobody can wait, and leaves at once.
+// One of three who are left stands in the hall, in which nobody can wait, and leaves at once.
 const WITH_A_HALL: &[Row] = &[Row {
     call: Call::Advance(2, None),
     stands: Stand {
@@ -199,7 +199,7 @@ const IN_THE_HALL: &[Entrant] = &[
     },
 ];
 
-/// One stands in the hall, one is under way to it, and two are still in the far room.
+// One stands in the hall, one is under way to it, and two are still in the far room.
 const NEAR_THE_HALL: &[Row] = &[Row {
     call: Call::Advance(1, None),
     stands: Stand {
@@ -211,7 +211,7 @@ const NEAR_THE_HALL: &[Row] = &[Row {
     },
 }];
 
-/// Two are out, one is left in the room, and four come later.
+// Two are out, one is left in the room, and four come later.
 const WITH_FOUR_LATE: &[Row] = &[Row {
     call: Call::Advance(1, None),
     stands: Stand {

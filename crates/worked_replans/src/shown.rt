@@ -1,4 +1,4 @@
-// What a replan shows of itself.
+//! What a replan shows of itself.
 use evac_law::{Entrant, Standing};
 use replan::Replan;
 use residual_net::Net;

@@ -1,4 +1,4 @@
-// Answer blocks, each behind its model, and what the checker says of them.
+//! Answer blocks, each behind its model, and what the checker says of them.
 use crate::runs::{check, check_failing_source, joined, run_over, with_line};
 use crate::texts::{OFFICE, ONE_ROOM, ONE_ROOM_BLOCK, TWO_EXITS, TWO_EXITS_BLOCK};
 use line_io::MemSink;

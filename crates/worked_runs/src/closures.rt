@@ -1,4 +1,4 @@
-// Sessions in which arcs are closed from one moment to another.
+//! Sessions in which arcs are closed from one moment to another.
 use crate::sessions::{Exchange, check_forced, check_talk, session_on};
 use crate::texts::{ONE_ROOM, ONE_ROOM_BLOCK, TWO_EXITS, TWO_EXITS_BLOCK};
 use crate::versions::{EIGHT_WINDOWS, ended};

@@ -1,4 +1,4 @@
-// People who come in later: in sessions, on routes and on cards.
+//! People who come in later: in sessions, on routes and on cards.
 use crate::runs::{check, check_failing_sink, check_failing_source, joined, run_over};
 use crate::sessions::{Exchange, check_forced, check_talk, session_on};
 use crate::texts::{COMERS_BLOCK, OFFICE};

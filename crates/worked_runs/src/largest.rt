@@ -1,4 +1,4 @@
-// A building as large as one may be.
+//! A building as large as one may be.
 ghost use Rattle.std.specs.Prelude.{◌<◌, ◌^◌};
 
 use crate::runs::check;

@@ -1,4 +1,4 @@
-// Plans of small buildings, refusals of models, and sources and sinks that fail.
+//! Plans of small buildings, refusals of models, and sources and sinks that fail.
 use crate::runs::{check, check_failing_sink, check_failing_source, run_over, with_line};
 use crate::texts::{LONG_COMMENT, ONE_ROOM, ONE_ROOM_BLOCK, TRAPPED, TWO_EXITS, TWO_EXITS_BLOCK};
 use line_io::MemSink;

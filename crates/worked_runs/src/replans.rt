@@ -1,4 +1,4 @@
-// Replans of worked buildings, and hostile lines.
+//! Replans of worked buildings, and hostile lines.
 use crate::sessions::{Exchange, check_fault, check_talk_in};
 use crate::texts::{LONG_COMMENT, ONE_ROOM, ONE_ROOM_BLOCK, TWO_EXITS, TWO_EXITS_BLOCK};
 use std::test::Fail;

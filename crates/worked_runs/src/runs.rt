@@ -1,4 +1,4 @@
-// Whole runs over sources and sinks in memory.
+//! Whole runs over sources and sinks in memory.
 ghost use Rattle.std.specs.Prelude.{◌≡◌, ◌<◌, ◌^◌};
 
 use evac_law::Steps;

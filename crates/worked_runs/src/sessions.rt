@@ -1,4 +1,4 @@
-// Sessions on worked buildings, hostile lines, and sources and sinks that fail.
+//! Sessions on worked buildings, hostile lines, and sources and sinks that fail.
 ghost use Rattle.std.specs.Prelude.{◌<◌};
 
 use crate::runs::{check, joined, run_failing, run_over};

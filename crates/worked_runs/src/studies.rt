@@ -1,4 +1,4 @@
-// Studies of worked buildings, hostile lines, and sources and sinks that fail.
+//! Studies of worked buildings, hostile lines, and sources and sinks that fail.
 use crate::runs::{check_failing_sink, check_failing_source, joined};
 use crate::sessions::{Exchange, check_talk_in};
 use crate::texts::{LONG_COMMENT, ONE_ROOM, TWO_EXITS};

@@ -1,4 +1,5 @@
-// Buildings as text, with blocks and routes of their plans.
+//! Buildings as text, with blocks and routes of their plans.
+
 pub(crate) const ONE_ROOM: &str =
     "evacplan 1\nperiod 5\nhorizon 20\nfloor 1 Ground\nnode WP1.1 10 3\nnode DS1.1\narc WP1.1 DS1.1 1 2\nend\n";
 

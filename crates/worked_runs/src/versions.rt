@@ -1,4 +1,4 @@
-// Texts of version 2: what they say, where they are refused, and buildings written as such texts.
+//! Texts of version 2: what they say, where they are refused, and buildings written as such texts.
 use crate::runs::{check, check_failing_sink, check_failing_source, joined};
 use crate::texts::{
     CLOSED_BLOCK, COMERS_BLOCK, OLD_ROOM, ONE_ROOM, ROOM, TRAPPED, TWO_EXITS_BLOCK,

@@ -1,4 +1,4 @@
-// The calls of a session that is studied, each over a counter of steps that nobody reads.
+//! The calls of a session that is studied, each over a counter of steps that nobody reads.
 ghost use Rattle.std.specs.Prelude.{◌≡◌, ◌<◌, ◌≤◌, IsTrue, length};
 ghost use Rattle.evac_law.specs.Building.{IsValid};
 ghost use Rattle.evac_law.specs.Edits.{IsEditOf};
@@ -125,7 +125,7 @@ pub(crate) fn try_edit(
     try_within(session, edit)
 }
 
-/// Whether a node of a model is an exit that isn't shut.
+// Whether a node of a model is an exit that isn't shut.
 fn is_open_exit(model: &Model, node: u32) -> bool
     ensures { IsTrue result → IsOpenExit model.now node }
 {
@@ -161,14 +161,14 @@ pub(crate) fn study(session: &mut Session, node: u32) -> Option<ExitRow> {
     }
 }
 
-/// Whether an arc is one of a model.
+// Whether an arc is one of a model.
 fn has_arc(model: &Model, arc: u32) -> bool
     ensures { IsTrue result → arc < length model.now.arcs }
 {
     (arc as usize) < model.arcs.len()
 }
 
-/// Whether a moment is one of a model.
+// Whether a moment is one of a model.
 fn has_moment(model: &Model, moment: u16) -> bool
     ensures { IsTrue result → moment ≤ model.now.horizon }
 {

@@ -1,4 +1,4 @@
-// What buildings come to without each open exit.
+//! What buildings come to without each open exit.
 use crate::buildings::{ONE_ROOM, OPENS_LATE, TWO_EXITS};
 use crate::calls::{open_after, open_on, study};
 use edit_session::Session;
@@ -7,21 +7,21 @@ use exit_study::ExitRow;
 use std::alloc::{AllocError, Global};
 use std::process::Abort;
 
-/// What stands on a building, and what it comes to without each open exit, which is named by its place.
+// What stands on a building, and what it comes to without each open exit, which is named by its place.
 struct Case {
     cleared: u16,
     kept: usize,
     rows: &'static [(u32, ExitRow)],
 }
 
-/// Without its only exit nobody gets out of the room.
+// Without its only exit nobody gets out of the room.
 const IN_ONE_ROOM: Case = Case {
     cleared: 2,
     kept: 0,
     rows: &[(1, ExitRow::Short { people: 3, most: 0 })],
 };
 
-/// Five and three take the wide way, or eight the narrow one.
+// Five and three take the wide way, or eight the narrow one.
 const WITH_TWO_EXITS: Case = Case {
     cleared: 3,
     kept: 0,
@@ -31,14 +31,14 @@ const WITH_TWO_EXITS: Case = Case {
     ],
 };
 
-/// An exit that is shut already is not studied, and there is none besides the other.
+// An exit that is shut already is not studied, and there is none besides the other.
 const WITH_ONE_SHUT: Case = Case {
     cleared: 4,
     kept: 1,
     rows: &[(2, ExitRow::Short { people: 8, most: 0 })],
 };
 
-/// The wide way is taken from moment 2 on.
+// The wide way is taken from moment 2 on.
 const OPENING_LATE: Case = Case {
     cleared: 5,
     kept: 0,

@@ -1,4 +1,4 @@
-// The least rates of the ways of buildings.
+//! The least rates of the ways of buildings.
 use crate::buildings::{ONE_ROOM, OPENS_LATE, TWO_EXITS};
 use crate::calls::{least, open_on};
 use edit_session::Session;
@@ -7,14 +7,14 @@ use exit_study::Least;
 use std::alloc::{AllocError, Global};
 use std::process::Abort;
 
-/// The least rate of an arc at which everybody is out by a moment.
+// The least rate of an arc at which everybody is out by a moment.
 struct Row {
     arc: u32,
     by: u16,
     least: Least,
 }
 
-/// The room's door lets three out in time: one a period, or more where there is less time, and none at once.
+// The room's door lets three out in time: one a period, or more where there is less time, and none at once.
 const IN_ONE_ROOM: &[Row] = &[
     Row {
         arc: 0,
@@ -38,7 +38,7 @@ const IN_ONE_ROOM: &[Row] = &[
     },
 ];
 
-/// The narrow way is needed by moment 3 and not by moment 8; by moment 2 nobody is through the wide one, whatever its rate.
+// The narrow way is needed by moment 3 and not by moment 8; by moment 2 nobody is through the wide one, whatever its rate.
 const WITH_TWO_EXITS: &[Row] = &[
     Row {
         arc: 0,
@@ -72,7 +72,7 @@ const WITH_TWO_EXITS: &[Row] = &[
     },
 ];
 
-/// Who takes the wide way is out by moment 5 at the earliest, since it is closed before moment 2.
+// Who takes the wide way is out by moment 5 at the earliest, since it is closed before moment 2.
 const OPENING_LATE: &[Row] = &[
     Row {
         arc: 0,

@@ -1,4 +1,4 @@
-// Edits that are tried and would leave people inside, and the cuts that show it.
+//! Edits that are tried and would leave people inside, and the cuts that show it.
 ghost use Rattle.std.specs.Prelude.{IfOk};
 ghost use Rattle.evac_law.specs.Building.{IsValid};
 
@@ -10,14 +10,14 @@ use evac_law::{Edit, EditFault, Labels, Model, apply};
 use std::alloc::{AllocError, Global};
 use std::process::Abort;
 
-/// An edit of the near and the far room that would let at most so many of the people get out.
+// An edit of the near and the far room that would let at most so many of the people get out.
 struct Shortfall {
     tried: Edit,
     people: u32,
     most: u32,
 }
 
-/// All together the door lets out seven by the horizon, but only three of those who come from far.
+// All together the door lets out seven by the horizon, but only three of those who come from far.
 const ONE_MORE_FROM_FAR: Shortfall = Shortfall {
     tried: Edit::Enter { node: 1, people: 1 },
     people: 5,
@@ -30,7 +30,7 @@ const DOOR_SHUT: Shortfall = Shortfall {
     most: 0,
 };
 
-/// An edit with a fault, which has no cut.
+// An edit with a fault, which has no cut.
 const ALREADY_OPEN: Edit = Edit::ReopenExit { node: 3 };
 
 // Makes an edit of a model.

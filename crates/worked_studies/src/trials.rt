@@ -1,4 +1,4 @@
-// Edits that are tried, and leave a session where it is.
+//! Edits that are tried, and leave a session where it is.
 use crate::buildings::{ONE_ROOM, TWO_EXITS};
 use crate::calls::{open_after, open_on, try_edit};
 use edit_session::{EditRefusal, Session};
@@ -6,13 +6,13 @@ use evac_law::{Edit, EditFault, Standing};
 use std::alloc::AllocError;
 use std::process::Abort;
 
-/// An edit, and when everybody would be out behind it, or why it is refused.
+// An edit, and when everybody would be out behind it, or why it is refused.
 struct Trial {
     edit: Edit,
     answer: Result<u16, EditRefusal>,
 }
 
-/// Both exits of a building are open, and each may be shut.
+// Both exits of a building are open, and each may be shut.
 const BOTH_OPEN: &[Trial] = &[
     Trial {
         edit: Edit::ShutExit { node: 1 },
@@ -36,7 +36,7 @@ const BOTH_OPEN: &[Trial] = &[
     },
 ];
 
-/// The first exit is shut: it can't be shut twice, and nobody gets out once the other is shut too.
+// The first exit is shut: it can't be shut twice, and nobody gets out once the other is shut too.
 const FIRST_SHUT: &[Trial] = &[
     Trial {
         edit: Edit::ShutExit { node: 1 },
@@ -52,7 +52,7 @@ const FIRST_SHUT: &[Trial] = &[
     },
 ];
 
-/// The only exit of a room.
+// The only exit of a room.
 const ONLY_EXIT: &[Trial] = &[
     Trial {
         edit: Edit::ShutExit { node: 1 },

@@ -1,4 +1,4 @@
-// Blocks that are read, and blocks that are refused.
+//! Blocks that are read, and blocks that are refused.
 ghost use Rattle.std.specs.Prelude.{IfOk};
 ghost use Rattle.building_table.specs.Names.{NamesFit};
 ghost use Rattle.evac_law.specs.Building.{IsValid};

@@ -1,4 +1,4 @@
-// How a building is read from text.
+//! How a building is read from text.
 ghost use Rattle.std.specs.Prelude.{IfOk};
 ghost use Rattle.building_table.specs.Names.{NamesFit};
 ghost use Rattle.evac_law.specs.Building.{IsValid};

@@ -1,4 +1,4 @@
-// Drills of 1, 12 and 40 storeys.
+//! Drills of 1, 12 and 40 storeys.
 ghost use Rattle.std.specs.Prelude.{◌≤◌};
 ghost use Rattle.evac_law.specs.Building.{IsValid};
 

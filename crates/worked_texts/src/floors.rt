@@ -1,4 +1,4 @@
-// The floors of an office of three storeys.
+//! The floors of an office of three storeys.
 ghost use Rattle.evac_law.specs.Building.{IsValid};
 
 use crate::buildings::model_of;

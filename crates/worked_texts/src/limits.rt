@@ -1,4 +1,4 @@
-// A building as large as one may be.
+//! A building as large as one may be.
 use crate::models::fault;
 use std::alloc::{AllocError, Global};
 use std::test::Fail;

@@ -1,4 +1,4 @@
-// Lines that are found in a source, and text that is put into a sink.
+//! Lines that are found in a source, and text that is put into a sink.
 ghost use Rattle.std.specs.Prelude.{◌<◌};
 
 use line_io::{
@@ -153,7 +153,7 @@ fn puts_lines(rt: HostRuntime) -> Result<(), Fail> {
     Ok(())
 }
 
-/// Gives three bytes, fails, gives three more, and ends.
+// Gives three bytes, fails, gives three more, and ends.
 #[derive(Drop)]
 struct Interrupted {
     calls: u32,
@@ -182,7 +182,7 @@ fn reads_by_std(rt: HostRuntime) -> Result<(), Fail> {
     Ok(())
 }
 
-/// Takes two bytes, fails, takes none, and then takes all.
+// Takes two bytes, fails, takes none, and then takes all.
 #[derive(Drop)]
 struct Halting {
     bytes: Vec<u8>,

@@ -1,4 +1,4 @@
-// Texts of models, the buildings that they describe, and their first faults.
+//! Texts of models, the buildings that they describe, and their first faults.
 use crate::buildings::building;
 use building_table::{ModelFault, NameFault, Names, edit_of, read_model};
 use evac_law::{Edit, Kind, NodeName};

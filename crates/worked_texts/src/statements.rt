@@ -1,4 +1,4 @@
-// Lines of the language, and what they say.
+//! Lines of the language, and what they say.
 use evac_law::{Code, Kind, NodeName};
 use model_text::{
     Command, Fields, NamedEdit, Part, Report, Statement, TextFault, read_command, read_later_line,

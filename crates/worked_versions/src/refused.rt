@@ -1,10 +1,10 @@
-// Windows and entrants that are refused, and where.
+//! Windows and entrants that are refused, and where.
 use building_table::{ModelFault, read_model};
 use line_io::{CleanSource, Lines};
 use std::alloc::{AllocError, Global};
 use std::test::Fail;
 
-/// The number and the line at which a text is refused; 0 and 0 where it isn't.
+// The number and the line at which a text is refused; 0 and 0 where it isn't.
 fn refused(alloc: Global, text: &str) -> Result<(u8, u32), AllocError> {
     let mut source = CleanSource::new(alloc, text.as_bytes())?;
     let mut lines = Lines::new(alloc)?;
@@ -15,7 +15,7 @@ fn refused(alloc: Global, text: &str) -> Result<(u8, u32), AllocError> {
     })
 }
 
-/// The same of one room, one exit and one arc in a version, with more lines before the end, which then stands behind line 7.
+// The same of one room, one exit and one arc in a version, with more lines before the end, which then stands behind line 7.
 fn of_model(alloc: Global, version: u32, more: &str) -> Result<(u8, u32), AllocError> {
     let text = format!(in alloc;
         "evacplan {version}\nperiod 5\nhorizon 20\nfloor 1 Ground\nnode WP1.1 10 3\nnode DS1.1\narc WP1.1 DS1.1 1 2\n{more}end\n"

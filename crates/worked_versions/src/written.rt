@@ -1,4 +1,4 @@
-// Buildings written as texts of version 2.
+//! Buildings written as texts of version 2.
 ghost use Rattle.std.specs.Prelude.{IfOk};
 ghost use Rattle.evac_law.specs.Building.{IsValid};
 
@@ -9,7 +9,7 @@ use std::alloc::{AllocError, Global};
 use std::process::Abort;
 use std::test::Fail;
 
-/// The building of a text, which has no fault.
+// The building of a text, which has no fault.
 fn building(rt: &impl Abort, alloc: Global, text: &[u8]) -> Result<Building, AllocError>
     ensures { IfOk result (λ b. IsValid b.model) }
 {
@@ -21,7 +21,7 @@ fn building(rt: &impl Abort, alloc: Global, text: &[u8]) -> Result<Building, All
     }
 }
 
-/// The text of version 2 of the building of a text.
+// The text of version 2 of the building of a text.
 fn upgraded(rt: &impl Abort, alloc: Global, text: &[u8]) -> Result<MemSink, AllocError> {
     let building = building(rt, alloc, text)?;
     let mut out = Out::new(alloc)?;

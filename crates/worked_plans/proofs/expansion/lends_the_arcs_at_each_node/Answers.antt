@@ -2,7 +2,7 @@ use Rattle.std.proofs.Common.{◌<◌, ℕ, zero, suc, List, [], ◌∷◌, arit
 use Rattle.time_expansion.specs.declared.ends.Ends.{Ends}
 use Rattle.time_expansion.specs.Limits.{node_limit, arc_limit, horizon_limit, cell_limit}
 use Rattle.time_expansion.specs.Expansion.{cells}
-use Rattle.time_expansion.proofs.shape.tests.lends_the_arcs_at_each_node.Goals as goal
+use Rattle.worked_plans.proofs.expansion.lends_the_arcs_at_each_node.Goals as goal
 
 abbrev joins : ℕ → ℕ → Ends
 joins a b = record { from = a; to = b }
