@@ -1,14 +1,20 @@
-"""Large buildings to time a planner on, each made anew from its name: the same at every call."""
+"""Large buildings to time a planner on, each made anew from its name: the same at every call.
+
+A name that ends with `_shut` is a building whose busiest exit lets nobody out, and one that ends with `_late` has people who come in later.
+"""
+import collections
+import heapq
 import random
 
 CELLS = 400_000
+MOST_CELLS, LONGEST = 1_000_000, 1_200
 
 
 class Building:
-    """A model in the making: rooms, exits and arcs, written out with the longest horizon that the limit on cells allows."""
+    """A model in the making: rooms, exits and arcs, written out with the longest horizon that a number of cells allows."""
 
-    def __init__(self, title, seconds=5, longest=600):
-        self.title, self.seconds, self.longest = title, seconds, longest
+    def __init__(self, title, seconds=5, longest=600, cells=CELLS):
+        self.title, self.seconds, self.longest, self.cells = title, seconds, longest, cells
         self.nodes, self.arcs, self.counts = [], [], {}
 
     def name(self, kind, floor):
@@ -34,7 +40,7 @@ class Building:
         self.arc(other, one, travel, rate)
 
     def text(self):
-        moments = CELLS // (len(self.nodes) + len(self.arcs))
+        moments = self.cells // (len(self.nodes) + len(self.arcs))
         lines = ["evacplan 1", f"title {self.title}", f"period {self.seconds}"]
         lines.append(f"horizon {min(self.longest, moments - 1)}")
         lines += [f"floor {floor} Floor {floor}" for floor in sorted({f for f, _ in self.nodes})]
@@ -108,11 +114,11 @@ def crowd():
     return b.text()
 
 
-def tower():
+def tower(floors=40, longest=600, cells=CELLS):
     """A tower with wide stairs, which take all who come, and halls that don't."""
-    b, rng = Building("Tower with wide stairs"), random.Random(5)
+    b, rng = Building("Tower with wide stairs", longest=longest, cells=cells), random.Random(5)
     stairs = {}
-    for floor in range(1, 41):
+    for floor in range(1, floors + 1):
         halls = [b.room("HA", floor, 20) for _ in range(3)]
         b.both(halls[0], halls[1], 2, 4)
         b.both(halls[1], halls[2], 2, 4)
@@ -129,4 +135,148 @@ def tower():
     return b.text()
 
 
-ALL = {"ring": ring, "zigzag": zigzag, "concert": concert, "crowd": crowd, "tower": tower}
+def tall_tower():
+    """The tower at the longest horizon, and nearly at the most cells."""
+    return tower(39, LONGEST, MOST_CELLS)
+
+
+def hospital():
+    """A hospital: wards with rates of their own, two stairs, and an arc of rate 1 from each floor to each of two lifts, longer from a higher one."""
+    b, rng = Building("Hospital"), random.Random(6)
+    lobby = b.room("LO", 1, 80)
+    lifts = [b.room("LO", 1, 4) for _ in range(2)]
+    for lift in lifts:
+        b.arc(lift, lobby, 1, 2)
+    for _ in range(2):
+        b.arc(lobby, b.exit(), 2, 3)
+    below = []
+    for floor in range(1, 17):
+        halls = [b.room("HA", floor, 16) for _ in range(4)]
+        for one, other in zip(halls, halls[1:]):
+            b.both(one, other, 2, 3)
+        stairs = [b.room("SW", floor, 10) for _ in range(2)]
+        for stair, hall in zip(stairs, (halls[0], halls[3])):
+            b.arc(hall, stair, 1, 3)
+        for stair, next_stair in zip(stairs, below):
+            b.arc(stair, next_stair, 4, 2)
+        if not below:
+            b.arc(stairs[0], lobby, 2, 3)
+            b.arc(stairs[1], b.exit(), 2, 3)
+        for lift, hall in zip(lifts, halls[1:]):
+            b.arc(hall, lift, 3 + floor, 1)
+        for number in range(8):
+            ward = b.room("WP", floor, 30, rng.randint(8, 24))
+            b.arc(ward, halls[number // 2], rng.randint(1, 3), rng.randint(1, 3))
+        below = stairs
+    return b.text()
+
+
+def metro():
+    """A metro line: platforms of eight sections in a row, a narrow exit at each, and long tunnels from one platform to the next."""
+    b, rng = Building("Metro line"), random.Random(7)
+    before = None
+    for station in range(1, 26):
+        crowd = rng.choice([5, 15, 40, 90])
+        sections = [b.room("HA", station, 120, rng.randint(crowd // 2, crowd)) for _ in range(8)]
+        for one, other in zip(sections, sections[1:]):
+            b.both(one, other, rng.randint(1, 2), rng.randint(4, 8))
+        b.arc(rng.choice(sections), b.exit(station), rng.randint(3, 8), rng.randint(2, 4))
+        if before:
+            b.both(before, sections[0], rng.randint(20, 40), 3)
+        before = sections[-1]
+    return b.text()
+
+
+def arena():
+    """An arena: sectors of four tiers, each with a stair of its own, steps to the tier below and to the sectors beside, and gates on a ring."""
+    b, rng = Building("Arena"), random.Random(8)
+    ring = [b.room("HA", 0, 150) for _ in range(40)]
+    tiers = [[b.room("WP", tier, 800, rng.randint(300, 600)) for _ in ring] for tier in range(1, 5)]
+    for sector, hall in enumerate(ring):
+        beside = (sector + 1) % len(ring)
+        b.both(hall, ring[beside], 3, 15)
+        lobby = b.room("LO", 0, 60)
+        b.arc(lobby, hall, 1, 24)
+        if sector % 2 == 0:
+            b.arc(hall, b.exit(0), rng.randint(1, 4), rng.randint(8, 18))
+        for tier, stands in enumerate(tiers):
+            b.arc(stands[sector], lobby, 3 + tier, rng.randint(3, 6))
+            b.both(stands[sector], stands[beside], 2, 3)
+            if tier > 0:
+                b.arc(stands[sector], tiers[tier - 1][sector], 2, rng.randint(5, 9))
+    return b.text()
+
+
+def statements(text, word):
+    """Returns the fields behind a word, for each line of a text that begins with it."""
+    lines = (line.split() for line in text.split("\n"))
+    return [fields[1:] for fields in lines if fields[:1] == [word]]
+
+
+def exits_of(text):
+    """Returns the names of a building's exits."""
+    return [name for name, *_ in statements(text, "node") if name.startswith("DS")]
+
+
+def busiest_exit(text):
+    """Returns the exit that the most people have nearest, by travel alone."""
+    entering = collections.defaultdict(list)
+    for tail, head, travel, _ in statements(text, "arc"):
+        entering[head].append((tail, int(travel)))
+    nearest, ahead = {}, [(0, door, door) for door in exits_of(text)]
+    while ahead:
+        far, node, door = heapq.heappop(ahead)
+        if node not in nearest:
+            nearest[node] = door
+            for tail, travel in entering[node]:
+                heapq.heappush(ahead, (far + travel, tail, door))
+    people = collections.Counter()
+    for name, *numbers in statements(text, "node"):
+        people[nearest.get(name)] += int(numbers[1]) if numbers else 0
+    return max(exits_of(text), key=people.get)
+
+
+def without(text, door):
+    """Returns a building whose exit lets nobody out: the rates of the arcs into it are 0."""
+    lines = text.split("\n")
+    for at, fields in enumerate(line.split() for line in lines):
+        if fields[:1] == ["arc"] and fields[2] == door:
+            lines[at] = " ".join([*fields[:4], "0"])
+    return "\n".join(lines)
+
+
+def shut(text):
+    """Returns a building without its busiest exit."""
+    return without(text, busiest_exit(text))
+
+
+def late(text):
+    """Returns a building in version 2: half of the people of each room come into it later, each at some moment of the first half."""
+    rng = random.Random(9)
+    half = int(statements(text, "horizon")[0][0]) // 2
+    lines = text.replace("evacplan 1", "evacplan 2", 1).split("\n")
+    entrants = []
+    for at, fields in enumerate(line.split() for line in lines):
+        if fields[:1] == ["node"] and len(fields) == 4:
+            start = int(fields[3])
+            lines[at] = " ".join([*fields[:3], str(start - start // 2)])
+            moments = collections.Counter(rng.randint(1, half) for _ in range(start // 2))
+            entrants += [f"entrant {fields[1]} {moment} {people}" for moment, people in sorted(moments.items())]
+    end = lines.index("end")
+    return "\n".join([*lines[:end], *entrants, *lines[end:]])
+
+
+ALL = {
+    "ring": ring,
+    "zigzag": zigzag,
+    "concert": concert,
+    "crowd": crowd,
+    "tower": tower,
+    "hospital": hospital,
+    "metro": metro,
+    "arena": arena,
+    "zigzag_shut": lambda: shut(zigzag()),
+    "arena_shut": lambda: shut(arena()),
+    "tower_shut": lambda: shut(tall_tower()),
+    "tower_late": lambda: late(tall_tower()),
+}

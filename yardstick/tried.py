@@ -32,6 +32,11 @@ def curve_of(program, lines):
     return [line for line in said if line.startswith(("cleared ", "out ", "most "))]
 
 
+def is_plain(lines):
+    """Whether rates never change with time, and everybody is there at moment 0."""
+    return not any(line.split()[0] in ("window", "entrant") for line in lines)
+
+
 def roomy(lines):
     """The building with each capacity raised to the greatest."""
     words = [line.split() for line in lines]
@@ -94,8 +99,8 @@ def main():
     large = {name: make().split("\n")[:-1] for name, make in buildings.ALL.items()}
     for path in [*sorted((TOP / "examples").glob("*.evac")), *given.files]:
         lines = [line for line in path.read_text().split("\n") if line.strip() and not line.startswith("#")]
-        if not any(line.split()[0] in ("window", "entrant") for line in lines):
-            large[path.name] = lines
+        large[path.name] = lines
+    large = {name: lines for name, lines in large.items() if is_plain(lines)}
     for name, lines in large.items():
         if curve_of(given.program, lines) != curve_of(given.program, roomy(lines)):
             against += 1
