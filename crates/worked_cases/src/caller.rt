@@ -1,7 +1,7 @@
 //! The example of a caller.
-use crate::buildings::{OFFICE, TRAPPED};
 use building_table::NameFault;
 use evac_law::{Code, EditFault, Kind, NodeName};
+use sample_buildings::{OFFICE, TRAPPED};
 use std::process::Abort;
 use what_if::{Answer, WhatIfFault, what_if};
 

@@ -1,15 +1,16 @@
 //! The calls of a session on a building, each over a counter of steps that nobody reads.
-ghost use Rattle.std.specs.Prelude.{◌≡◌, IsTrue};
+ghost use Rattle.std.specs.Prelude.{◌≡◌};
 ghost use Rattle.evac_law.specs.Building.{IsValid};
 ghost use Rattle.evac_law.specs.Edits.{IsEditOf};
 
-use crate::buildings::model_of;
 use edit_session::{EditRefusal, Session, UndoRefusal, Work};
 use evac_law::{Edit, Model, Steps};
-use std::alloc::{AllocError, Global};
+use sample_buildings::{is_edit_of, model_of};
+use std::alloc::Global;
 use std::marker::Brand;
 use std::process::Abort;
 use std::sync::ledger::{Blank, Ledger};
+use std::test::Fail;
 
 fn open_counted<L: Ledger>(alloc: Global, model: Model, blank: Blank) -> Option<Session>
     requires valid { IsValid model }
@@ -31,32 +32,11 @@ fn opened(alloc: Global, model: Model) -> Option<Session>
 }
 
 /// A session on the building of a text, which can be cleared.
-pub(crate) fn open_on(rt: &impl Abort, alloc: Global, text: &str) -> Result<Session, AllocError> {
-    let model = model_of(rt, alloc, text)?;
+pub(crate) fn open_on(rt: &impl Abort, alloc: Global, text: &str) -> Result<Session, Fail> {
+    let model = model_of(alloc, text)?;
     match opened(alloc, model) {
         Some(session) => Ok(session),
         None => panic!(rt; "a building has a plan"),
-    }
-}
-
-/// Whether the places that an edit names are places of a model.
-pub(crate) fn is_edit_of(model: &Model, edit: Edit) -> bool
-    ensures { IsTrue result → IsEditOf model.now edit }
-{
-    let nodes = model.nodes.len();
-    let arcs = model.arcs.len();
-    match edit {
-        Edit::Shut { arc }
-        | Edit::Reopen { arc }
-        | Edit::Rate { arc, .. }
-        | Edit::Window { arc, .. }
-        | Edit::Unwindow { arc, .. } => (arc as usize) < arcs,
-        Edit::ShutExit { node }
-        | Edit::ReopenExit { node }
-        | Edit::Room { node, .. }
-        | Edit::Enter { node, .. }
-        | Edit::Leave { node, .. } => (node as usize) < nodes,
-        Edit::Shift { from, to, .. } => (from as usize) < nodes && (to as usize) < nodes,
     }
 }
 

@@ -1,11 +1,12 @@
 //! The cards of whole buildings.
-use crate::buildings::{EMPTY, OFFICE, ONE_LATE, ONE_ROOM, THROUGH_HALL};
 use crate::calls::open_on;
 use cards::Cards;
 use edit_session::Session;
 use route_decompose::RouteStep;
+use sample_buildings::{EMPTY_ROOM, OFFICE, ONE_LATE, ONE_ROOM, THROUGH_HALL};
 use std::alloc::{AllocError, Global};
 use std::process::Abort;
+use std::test::Fail;
 
 // The cards of a session's plan, of which none is handed out yet.
 fn cards_of(alloc: Global, session: &Session) -> Result<Cards, AllocError> {
@@ -52,7 +53,7 @@ fn leave_at(rt: &impl Abort, cards: &mut Cards) -> [u32; 3] {
 }
 
 // Three people leave a room by its door, the third a moment later.
-fn check_room(rt: &impl Abort, alloc: Global, session: &Session) -> Result<(), AllocError> {
+fn check_room(rt: &impl Abort, alloc: Global, session: &Session) -> Result<(), Fail> {
     let mut cards = cards_of(alloc, session)?;
     assert!(rt; leave_at(rt, &mut cards) == [2, 1, 0]);
     assert!(rt; !cards.next());
@@ -60,7 +61,7 @@ fn check_room(rt: &impl Abort, alloc: Global, session: &Session) -> Result<(), A
 }
 
 #[test]
-fn three_people_have_cards(rt: HostRuntime) -> Result<(), AllocError> {
+fn three_people_have_cards(rt: HostRuntime) -> Result<(), Fail> {
     let session = open_on(&rt, rt.alloc(), ONE_ROOM)?;
     let checked = check_room(&rt, rt.alloc(), &session);
     drop(session);
@@ -68,7 +69,7 @@ fn three_people_have_cards(rt: HostRuntime) -> Result<(), AllocError> {
 }
 
 // Whoever comes into the room last leaves it last.
-fn check_late(rt: &impl Abort, alloc: Global, session: &Session) -> Result<(), AllocError> {
+fn check_late(rt: &impl Abort, alloc: Global, session: &Session) -> Result<(), Fail> {
     let mut cards = cards_of(alloc, session)?;
     assert!(rt; leave_at(rt, &mut cards) == [1, 1, 1]);
     let step = [RouteStep { moment: 3, arc: 0 }];
@@ -78,7 +79,7 @@ fn check_late(rt: &impl Abort, alloc: Global, session: &Session) -> Result<(), A
 }
 
 #[test]
-fn the_last_comer_leaves_last(rt: HostRuntime) -> Result<(), AllocError> {
+fn the_last_comer_leaves_last(rt: HostRuntime) -> Result<(), Fail> {
     let session = open_on(&rt, rt.alloc(), ONE_LATE)?;
     let checked = check_late(&rt, rt.alloc(), &session);
     drop(session);
@@ -86,7 +87,7 @@ fn the_last_comer_leaves_last(rt: HostRuntime) -> Result<(), AllocError> {
 }
 
 // Each goes through the hall at once, in the order in which they leave the room.
-fn check_hall(rt: &impl Abort, alloc: Global, session: &Session) -> Result<(), AllocError> {
+fn check_hall(rt: &impl Abort, alloc: Global, session: &Session) -> Result<(), Fail> {
     let mut cards = cards_of(alloc, session)?;
     for moment in 0..4u16 {
         let through = RouteStep {
@@ -100,7 +101,7 @@ fn check_hall(rt: &impl Abort, alloc: Global, session: &Session) -> Result<(), A
 }
 
 #[test]
-fn four_people_follow_each_other(rt: HostRuntime) -> Result<(), AllocError> {
+fn four_people_follow_each_other(rt: HostRuntime) -> Result<(), Fail> {
     let session = open_on(&rt, rt.alloc(), THROUGH_HALL)?;
     let checked = check_hall(&rt, rt.alloc(), &session);
     drop(session);
@@ -108,7 +109,7 @@ fn four_people_follow_each_other(rt: HostRuntime) -> Result<(), AllocError> {
 }
 
 // The number of the cards of a plan.
-fn dealt(rt: &impl Abort, alloc: Global, session: &Session) -> Result<u32, AllocError> {
+fn dealt(rt: &impl Abort, alloc: Global, session: &Session) -> Result<u32, Fail> {
     let mut cards = cards_of(alloc, session)?;
     for count in 0..100_001u32 {
         if !cards.next() {
@@ -118,7 +119,7 @@ fn dealt(rt: &impl Abort, alloc: Global, session: &Session) -> Result<u32, Alloc
     panic!(rt; "there are too many cards")
 }
 
-fn all_dealt(rt: &impl Abort, alloc: Global, text: &str) -> Result<u32, AllocError> {
+fn all_dealt(rt: &impl Abort, alloc: Global, text: &str) -> Result<u32, Fail> {
     let session = open_on(rt, alloc, text)?;
     let count = dealt(rt, alloc, &session);
     drop(session);
@@ -126,8 +127,8 @@ fn all_dealt(rt: &impl Abort, alloc: Global, text: &str) -> Result<u32, AllocErr
 }
 
 #[test]
-fn everybody_has_a_card(rt: HostRuntime) -> Result<(), AllocError> {
+fn everybody_has_a_card(rt: HostRuntime) -> Result<(), Fail> {
     assert_eq!(rt; all_dealt(&rt, rt.alloc(), OFFICE)?, 240);
-    assert_eq!(rt; all_dealt(&rt, rt.alloc(), EMPTY)?, 0);
+    assert_eq!(rt; all_dealt(&rt, rt.alloc(), EMPTY_ROOM)?, 0);
     Ok(())
 }

@@ -1,11 +1,12 @@
 //! Each kind of edit on an office, and each undone.
-use crate::buildings::OFFICE;
 use crate::calls::{make, open_on, undo};
 use crate::shown::is_back_at;
 use edit_session::Session;
 use evac_law::{Edit, Standing};
-use std::alloc::{AllocError, Global};
+use sample_buildings::OFFICE;
+use std::alloc::Global;
 use std::process::Abort;
+use std::test::Fail;
 
 // Makes edits one after another.
 fn make_all(rt: &impl Abort, session: &mut Session, edits: &[Edit]) {
@@ -30,7 +31,7 @@ fn make_and_undo(rt: &impl Abort, session: &mut Session, edits: &[Edit], cleared
 }
 
 // A session on the office.
-fn office(rt: &impl Abort, alloc: Global) -> Result<Session, AllocError> {
+fn office(rt: &impl Abort, alloc: Global) -> Result<Session, Fail> {
     open_on(rt, alloc, OFFICE)
 }
 
@@ -41,7 +42,7 @@ fn there_and_back(
     first: &Session,
     edits: &[Edit],
     cleared: u16,
-) -> Result<(), AllocError> {
+) -> Result<(), Fail> {
     let mut session = office(rt, alloc)?;
     make_and_undo(rt, &mut session, edits, cleared);
     assert!(rt; is_back_at(&session, first));
@@ -50,7 +51,7 @@ fn there_and_back(
 }
 
 // Ways and exits are shut, and opened again.
-fn shut_and_open(rt: &impl Abort, alloc: Global, first: &Session) -> Result<(), AllocError> {
+fn shut_and_open(rt: &impl Abort, alloc: Global, first: &Session) -> Result<(), Fail> {
     let shut = Edit::Shut { arc: 13 };
     there_and_back(rt, alloc, first, &[shut], 31)?;
     there_and_back(rt, alloc, first, &[shut, Edit::Reopen { arc: 13 }], 28)?;
@@ -61,7 +62,7 @@ fn shut_and_open(rt: &impl Abort, alloc: Global, first: &Session) -> Result<(), 
 }
 
 // A door and a hall get other numbers.
-fn narrow(rt: &impl Abort, alloc: Global, first: &Session) -> Result<(), AllocError> {
+fn narrow(rt: &impl Abort, alloc: Global, first: &Session) -> Result<(), Fail> {
     there_and_back(rt, alloc, first, &[Edit::Rate { arc: 1, rate: 4 }], 33)?;
     let room = Edit::Room {
         node: 6,
@@ -71,7 +72,7 @@ fn narrow(rt: &impl Abort, alloc: Global, first: &Session) -> Result<(), AllocEr
 }
 
 // People go to another room, come in, and leave.
-fn come_and_go(rt: &impl Abort, alloc: Global, first: &Session) -> Result<(), AllocError> {
+fn come_and_go(rt: &impl Abort, alloc: Global, first: &Session) -> Result<(), Fail> {
     let shift = Edit::Shift {
         from: 4,
         to: 0,
@@ -91,14 +92,14 @@ fn come_and_go(rt: &impl Abort, alloc: Global, first: &Session) -> Result<(), Al
 }
 
 // Each kind of edit of the office.
-fn each_kind(rt: &impl Abort, alloc: Global, first: &Session) -> Result<(), AllocError> {
+fn each_kind(rt: &impl Abort, alloc: Global, first: &Session) -> Result<(), Fail> {
     shut_and_open(rt, alloc, first)?;
     narrow(rt, alloc, first)?;
     come_and_go(rt, alloc, first)
 }
 
 #[test]
-fn each_kind_of_edit_is_undone(rt: HostRuntime) -> Result<(), AllocError> {
+fn each_kind_of_edit_is_undone(rt: HostRuntime) -> Result<(), Fail> {
     let first = office(&rt, rt.alloc())?;
     let made = each_kind(&rt, rt.alloc(), &first);
     drop(first);

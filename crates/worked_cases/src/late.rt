@@ -1,7 +1,6 @@
 //! People who come into a building at a later moment.
 ghost use Rattle.evac_law.specs.Building.{IsValid};
 
-use crate::buildings::FOUR_LATE;
 use crate::calls::open_on;
 use crate::reports::{cleared, routes_of};
 use crate::shown::has_curve;
@@ -9,8 +8,10 @@ use cut_witness::{crossing, cut_value};
 use edit_session::Session;
 use evac_law::{CutItem, Labels, Model, Standing};
 use route_decompose::Route;
+use sample_buildings::FOUR_LATE;
 use std::alloc::{AllocError, Global};
 use std::process::Abort;
+use std::test::Fail;
 
 // The people who are out by each moment, and the labels of the room: a label past the clearing moment counts as that moment.
 fn check_plan(rt: &impl Abort, session: &Session) {
@@ -70,7 +71,7 @@ fn routed_from(
 }
 
 // The routes and the report of the plan.
-fn check_reports(rt: &impl Abort, alloc: Global, session: &Session) -> Result<(), AllocError> {
+fn check_reports(rt: &impl Abort, alloc: Global, session: &Session) -> Result<(), Fail> {
     assert_eq!(rt; routed_from(rt, alloc, session, 0)?, 3);
     assert_eq!(rt; routed_from(rt, alloc, session, 2)?, 4);
     assert_eq!(rt; cleared(rt, alloc, session)?.person_periods(), 18);
@@ -78,7 +79,7 @@ fn check_reports(rt: &impl Abort, alloc: Global, session: &Session) -> Result<()
 }
 
 #[test]
-fn four_people_come_later(rt: HostRuntime) -> Result<(), AllocError> {
+fn four_people_come_later(rt: HostRuntime) -> Result<(), Fail> {
     let session = open_on(&rt, rt.alloc(), FOUR_LATE)?;
     check_plan(&rt, &session);
     check_cut(&rt, session.model(), session.labels());

@@ -4,8 +4,6 @@
 #![tactic(auto)]
 
 #[cfg(test)]
-mod buildings;
-#[cfg(test)]
 mod caller;
 #[cfg(test)]
 mod calls;

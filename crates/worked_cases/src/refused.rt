@@ -2,14 +2,15 @@
 ghost use Rattle.std.specs.Prelude.{IfOk};
 ghost use Rattle.evac_law.specs.Building.{IsValid};
 
-use crate::buildings::{NEAR_AND_FAR, OFFICE, TWO_EXITS, TWO_ROOMS, model_of};
-use crate::calls::{expect, is_edit_of, make, open_on};
+use crate::calls::{expect, make, open_on};
 use crate::shown::stand_alike;
 use cut_witness::cut_value;
 use edit_session::{EditRefusal, Session};
 use evac_law::{Edit, EditFault, Labels, Model, apply};
-use std::alloc::{AllocError, Global};
+use sample_buildings::{NEAR_AND_FAR, OFFICE, SPARE_ROOM, TWO_EXITS, is_edit_of, model_of};
+use std::alloc::Global;
 use std::process::Abort;
+use std::test::Fail;
 
 const SHUT: Edit = Edit::Shut { arc: 1 };
 
@@ -58,12 +59,7 @@ const FAULTS: &[(Edit, EditFault)] = &[
 ];
 
 // A session on a text's building, after one edit.
-fn open_after(
-    rt: &impl Abort,
-    alloc: Global,
-    text: &str,
-    edit: Edit,
-) -> Result<Session, AllocError> {
+fn open_after(rt: &impl Abort, alloc: Global, text: &str, edit: Edit) -> Result<Session, Fail> {
     let mut session = open_on(rt, alloc, text)?;
     assert!(rt; make(rt, &mut session, edit).is_ok());
     Ok(session)
@@ -94,16 +90,16 @@ fn refuse_all(
 }
 
 // Makes an edit for each fault in a session whose wide way is shut, as in another.
-fn refuse_faults(rt: &impl Abort, alloc: Global, like: &Session) -> Result<(), AllocError> {
-    let mut session = open_after(rt, alloc, TWO_ROOMS, SHUT)?;
+fn refuse_faults(rt: &impl Abort, alloc: Global, like: &Session) -> Result<(), Fail> {
+    let mut session = open_after(rt, alloc, SPARE_ROOM, SHUT)?;
     refuse_all(rt, &mut session, like, FAULTS);
     drop(session);
     Ok(())
 }
 
 #[test]
-fn each_fault_leaves_a_session_as_it_was(rt: HostRuntime) -> Result<(), AllocError> {
-    let like = open_after(&rt, rt.alloc(), TWO_ROOMS, SHUT)?;
+fn each_fault_leaves_a_session_as_it_was(rt: HostRuntime) -> Result<(), Fail> {
+    let like = open_after(&rt, rt.alloc(), SPARE_ROOM, SHUT)?;
     let refused = refuse_faults(&rt, rt.alloc(), &like);
     drop(like);
     refused
@@ -125,10 +121,10 @@ fn changed(
     text: &str,
     first: Edit,
     second: Edit,
-) -> Result<Model, AllocError>
+) -> Result<Model, Fail>
     ensures { IfOk result (λ model. IsValid model) }
 {
-    let mut model = model_of(rt, alloc, text)?;
+    let mut model = model_of(alloc, text)?;
     change(rt, &mut model, first);
     change(rt, &mut model, second);
     Ok(model)
@@ -160,7 +156,7 @@ fn refuse_second(
     case: &Shortfall,
     model: &Model,
     like: &Session,
-) -> Result<u64, AllocError>
+) -> Result<u64, Fail>
     requires { IsValid model.now }
 {
     let mut session = open_after(rt, alloc, case.text, case.made)?;
@@ -175,12 +171,7 @@ fn refuse_second(
 }
 
 // Tries both edits beside a session that makes the first alone, and answers what the cut of the refusal is worth in a building.
-fn worth_in(
-    rt: &impl Abort,
-    alloc: Global,
-    case: &Shortfall,
-    model: &Model,
-) -> Result<u64, AllocError>
+fn worth_in(rt: &impl Abort, alloc: Global, case: &Shortfall, model: &Model) -> Result<u64, Fail>
     requires { IsValid model.now }
 {
     let like = open_after(rt, alloc, case.text, case.made)?;
@@ -190,13 +181,13 @@ fn worth_in(
 }
 
 // Tries both edits, and answers what the cut of the refusal is worth where both are made.
-fn worth_of_refusal(rt: &impl Abort, alloc: Global, case: &Shortfall) -> Result<u64, AllocError> {
+fn worth_of_refusal(rt: &impl Abort, alloc: Global, case: &Shortfall) -> Result<u64, Fail> {
     let model = changed(rt, alloc, case.text, case.made, case.refused)?;
     worth_in(rt, alloc, case, &model)
 }
 
 #[test]
-fn nobody_gets_out_by_two_shut_exits(rt: HostRuntime) -> Result<(), AllocError> {
+fn nobody_gets_out_by_two_shut_exits(rt: HostRuntime) -> Result<(), Fail> {
     let case = Shortfall {
         text: TWO_EXITS,
         made: Edit::ShutExit { node: 2 },
@@ -209,7 +200,7 @@ fn nobody_gets_out_by_two_shut_exits(rt: HostRuntime) -> Result<(), AllocError> 
 }
 
 #[test]
-fn half_of_an_office_gets_out_by_a_narrow_door(rt: HostRuntime) -> Result<(), AllocError> {
+fn half_of_an_office_gets_out_by_a_narrow_door(rt: HostRuntime) -> Result<(), Fail> {
     let case = Shortfall {
         text: OFFICE,
         made: Edit::ShutExit { node: 3 },
@@ -223,7 +214,7 @@ fn half_of_an_office_gets_out_by_a_narrow_door(rt: HostRuntime) -> Result<(), Al
 
 // All together the door lets out seven by the horizon, but only three of those who come from far.
 #[test]
-fn one_more_from_far_comes_too_late(rt: HostRuntime) -> Result<(), AllocError> {
+fn one_more_from_far_comes_too_late(rt: HostRuntime) -> Result<(), Fail> {
     let case = Shortfall {
         text: NEAR_AND_FAR,
         made: Edit::Room {

@@ -9,16 +9,16 @@ ghost use Rattle.lex_flow.specs.Settling.{IsSettleable};
 ghost use Rattle.flow_repair.specs.Repairs.{IsReshapable};
 ghost use Rattle.edit_session.specs.Mended.{IsStanding};
 
-use crate::buildings::{ONE_ROOM, THREE_EXITS, TWO_EXITS, building};
-use crate::calls::is_edit_of;
 use evac_law::{Edit, Labels, Model, Steps, apply};
 use flow_repair::{Reshaped, reshape};
 use lex_flow::{Outcome, settle_all};
 use residual_net::{Net, Path};
+use sample_buildings::{ONE_ROOM, THREE_EXITS, TWO_EXITS, is_edit_of, model_of};
 use std::alloc::{AllocError, Global};
 use std::marker::Brand;
 use std::process::Abort;
 use std::sync::ledger::{Blank, Ledger};
+use std::test::Fail;
 use terminal_augment::Search;
 
 fn settle_counted<L: Ledger>(
@@ -159,10 +159,10 @@ fn expect(
     edit: Edit,
     cancelled: u64,
     least_label: u16,
-) -> Result<(), AllocError> {
-    let mut building = building(rt, alloc, text)?;
-    let taken = repaired(rt, alloc, &mut building.model, edit);
-    drop(building);
+) -> Result<(), Fail> {
+    let mut model = model_of(alloc, text)?;
+    let taken = repaired(rt, alloc, &mut model, edit);
+    drop(model);
     let taken = taken?;
     assert_eq!(rt; taken.cancelled, cancelled);
     assert_eq!(rt; taken.least_label, least_label);
@@ -170,7 +170,7 @@ fn expect(
 }
 
 #[test]
-fn labels_stand_below_the_least_that_came_open(rt: HostRuntime) -> Result<(), AllocError> {
+fn labels_stand_below_the_least_that_came_open(rt: HostRuntime) -> Result<(), Fail> {
     let alloc = rt.alloc();
     let room = Edit::Room {
         node: 0,

@@ -1,7 +1,6 @@
 //! Reports on the plans of whole buildings.
 ghost use Rattle.std.specs.Prelude.{◌<◌, IfOk, length};
 
-use crate::buildings::{OFFICE, TRAPPED, TWO_EXITS, model_of};
 use crate::calls::open_on;
 use bottleneck_report::Bottlenecks;
 use clearing_report::Clearing;
@@ -9,8 +8,10 @@ use edit_session::Session;
 use evac_law::Standing;
 use floor_index::FloorIndex;
 use route_decompose::{Route, RouteStep, Routes};
+use sample_buildings::{OFFICE, TRAPPED, TWO_EXITS, model_of};
 use std::alloc::{AllocError, Global};
 use std::process::Abort;
+use std::test::Fail;
 
 /// The routes of a session's plan, of which none is handed out yet.
 pub(crate) fn routes_of(alloc: Global, session: &Session) -> Result<Routes, AllocError> {
@@ -35,7 +36,7 @@ fn routed(
     alloc: Global,
     session: &Session,
     steps: &[RouteStep],
-) -> Result<u32, AllocError> {
+) -> Result<u32, Fail> {
     let mut routes = routes_of(alloc, session)?;
     let mut people = 0u32;
     for _ in 0..100_000 {
@@ -83,13 +84,13 @@ fn figures_of(clearing: &Clearing, floors: &FloorIndex) -> Figures
 }
 
 // The numbers of the report on a session's plan.
-fn report_on(rt: &impl Abort, alloc: Global, session: &Session) -> Result<Figures, AllocError> {
+fn report_on(rt: &impl Abort, alloc: Global, session: &Session) -> Result<Figures, Fail> {
     let floors = FloorIndex::new(alloc, session.model(), &[1])?;
     let clearing = cleared(rt, alloc, session)?;
     Ok(figures_of(&clearing, &floors))
 }
 
-fn report(rt: &impl Abort, alloc: Global, text: &str) -> Result<Figures, AllocError> {
+fn report(rt: &impl Abort, alloc: Global, text: &str) -> Result<Figures, Fail> {
     let session = open_on(rt, alloc, text)?;
     let report = report_on(rt, alloc, &session);
     drop(session);
@@ -97,7 +98,7 @@ fn report(rt: &impl Abort, alloc: Global, text: &str) -> Result<Figures, AllocEr
 }
 
 #[test]
-fn rooms_and_floors_are_empty(rt: HostRuntime) -> Result<(), AllocError> {
+fn rooms_and_floors_are_empty(rt: HostRuntime) -> Result<(), Fail> {
     let want = Figures {
         node: Some(2),
         floor: Some(2),
@@ -109,7 +110,7 @@ fn rooms_and_floors_are_empty(rt: HostRuntime) -> Result<(), AllocError> {
 }
 
 #[test]
-fn the_office_has_its_figures(rt: HostRuntime) -> Result<(), AllocError> {
+fn the_office_has_its_figures(rt: HostRuntime) -> Result<(), Fail> {
     let office = report(&rt, rt.alloc(), OFFICE)?;
     assert_eq!(rt; office.uncongested, 9);
     assert_eq!(rt; office.person_periods, 3380);
@@ -117,25 +118,21 @@ fn the_office_has_its_figures(rt: HostRuntime) -> Result<(), AllocError> {
 }
 
 // The least time for a building whose people meet nobody.
-fn walk(rt: &impl Abort, alloc: Global, text: &str) -> Result<Option<u32>, AllocError> {
-    let model = model_of(rt, alloc, text)?;
+fn walk(alloc: Global, text: &str) -> Result<Option<u32>, Fail> {
+    let model = model_of(alloc, text)?;
     let mut clearing = Clearing::new(alloc, &model)?;
     Ok(clearing.walk_bound(&model))
 }
 
 #[test]
-fn without_a_door_there_is_no_walk(rt: HostRuntime) -> Result<(), AllocError> {
-    assert_eq!(rt; walk(&rt, rt.alloc(), TRAPPED)?, None);
-    assert_eq!(rt; walk(&rt, rt.alloc(), OFFICE)?, Some(9));
+fn without_a_door_there_is_no_walk(rt: HostRuntime) -> Result<(), Fail> {
+    assert_eq!(rt; walk(rt.alloc(), TRAPPED)?, None);
+    assert_eq!(rt; walk(rt.alloc(), OFFICE)?, Some(9));
     Ok(())
 }
 
 // For how many periods the two arcs and the room of a session's building hold people up.
-fn held_up_in(
-    rt: &impl Abort,
-    alloc: Global,
-    session: &Session,
-) -> Result<(u32, u32, u32), AllocError> {
+fn held_up_in(rt: &impl Abort, alloc: Global, session: &Session) -> Result<(u32, u32, u32), Fail> {
     let model = session.model();
     assert!(rt; 0 < model.nodes.len() && 1 < model.arcs.len());
     let mut bottlenecks = Bottlenecks::new(alloc, model)?;
@@ -148,7 +145,7 @@ fn held_up_in(
 }
 
 // For how many periods the two arcs and the room of a building hold people up.
-fn held_up(rt: &impl Abort, alloc: Global, text: &str) -> Result<(u32, u32, u32), AllocError> {
+fn held_up(rt: &impl Abort, alloc: Global, text: &str) -> Result<(u32, u32, u32), Fail> {
     let session = open_on(rt, alloc, text)?;
     let periods = held_up_in(rt, alloc, &session);
     drop(session);
@@ -156,13 +153,13 @@ fn held_up(rt: &impl Abort, alloc: Global, text: &str) -> Result<(u32, u32, u32)
 }
 
 #[test]
-fn the_narrow_way_holds_people_up(rt: HostRuntime) -> Result<(), AllocError> {
+fn the_narrow_way_holds_people_up(rt: HostRuntime) -> Result<(), Fail> {
     assert_eq!(rt; held_up(&rt, rt.alloc(), TWO_EXITS)?, (2, 0, 0));
     Ok(())
 }
 
 // The people of all routes of a building.
-fn all_routed(rt: &impl Abort, alloc: Global, text: &str) -> Result<u32, AllocError> {
+fn all_routed(rt: &impl Abort, alloc: Global, text: &str) -> Result<u32, Fail> {
     let session = open_on(rt, alloc, text)?;
     let people = routed(rt, alloc, &session, &[]);
     drop(session);
@@ -170,14 +167,14 @@ fn all_routed(rt: &impl Abort, alloc: Global, text: &str) -> Result<u32, AllocEr
 }
 
 #[test]
-fn routes_take_everybody(rt: HostRuntime) -> Result<(), AllocError> {
+fn routes_take_everybody(rt: HostRuntime) -> Result<(), Fail> {
     assert_eq!(rt; all_routed(&rt, rt.alloc(), TWO_EXITS)?, 8);
     assert_eq!(rt; all_routed(&rt, rt.alloc(), OFFICE)?, 240);
     Ok(())
 }
 
 // The steps of the plan for two exits, and the people who make each.
-fn check_steps(rt: &impl Abort, alloc: Global, session: &Session) -> Result<(), AllocError> {
+fn check_steps(rt: &impl Abort, alloc: Global, session: &Session) -> Result<(), Fail> {
     for (moment, arc, people) in [(0, 0, 1), (1, 0, 1), (2, 0, 1), (0, 1, 5)] {
         let step = [RouteStep { moment, arc }];
         assert_eq!(rt; routed(rt, alloc, session, &step)?, people);
@@ -186,7 +183,7 @@ fn check_steps(rt: &impl Abort, alloc: Global, session: &Session) -> Result<(), 
 }
 
 #[test]
-fn routes_make_up_the_plan(rt: HostRuntime) -> Result<(), AllocError> {
+fn routes_make_up_the_plan(rt: HostRuntime) -> Result<(), Fail> {
     let session = open_on(&rt, rt.alloc(), TWO_EXITS)?;
     let steps = check_steps(&rt, rt.alloc(), &session);
     drop(session);

@@ -1,11 +1,12 @@
 //! Edits and undos of a session.
-use crate::buildings::{THREE_EXITS, TWO_EXITS, TWO_ROOMS};
 use crate::calls::{expect, make, open_on, undo};
 use crate::shown::{have_same_curve, is_back_at};
 use edit_session::{EditRefusal, Session, UndoRefusal, Work};
 use evac_law::{Edit, EditFault, Standing};
-use std::alloc::{AllocError, Global};
+use sample_buildings::{SPARE_ROOM, THREE_EXITS, TWO_EXITS};
+use std::alloc::Global;
 use std::process::Abort;
+use std::test::Fail;
 
 // Shuts the wide way and opens it again, in turn.
 fn shut_in_turn(rt: &impl Abort, session: &mut Session) {
@@ -30,7 +31,7 @@ fn undo_all(rt: &impl Abort, session: &mut Session) {
 }
 
 #[test]
-fn the_last_64_edits_are_kept(rt: HostRuntime) -> Result<(), AllocError> {
+fn the_last_64_edits_are_kept(rt: HostRuntime) -> Result<(), Fail> {
     let mut session = open_on(&rt, rt.alloc(), TWO_EXITS)?;
     shut_in_turn(&rt, &mut session);
     undo_all(&rt, &mut session);
@@ -50,8 +51,8 @@ fn shut_and_open(rt: &impl Abort, session: &mut Session) {
 }
 
 #[test]
-fn an_exit_is_shut_and_opened_again(rt: HostRuntime) -> Result<(), AllocError> {
-    let mut session = open_on(&rt, rt.alloc(), TWO_ROOMS)?;
+fn an_exit_is_shut_and_opened_again(rt: HostRuntime) -> Result<(), Fail> {
+    let mut session = open_on(&rt, rt.alloc(), SPARE_ROOM)?;
     shut_and_open(&rt, &mut session);
     drop(session);
     Ok(())
@@ -71,7 +72,7 @@ fn shut_unreached(rt: &impl Abort, session: &mut Session, first: &Session) {
 }
 
 // Opens a session on the building of a first one, and shuts an exit that nobody reaches.
-fn shut_beside(rt: &impl Abort, alloc: Global, first: &Session) -> Result<(), AllocError> {
+fn shut_beside(rt: &impl Abort, alloc: Global, first: &Session) -> Result<(), Fail> {
     let mut session = open_on(rt, alloc, THREE_EXITS)?;
     shut_unreached(rt, &mut session, first);
     drop(session);
@@ -79,7 +80,7 @@ fn shut_beside(rt: &impl Abort, alloc: Global, first: &Session) -> Result<(), Al
 }
 
 #[test]
-fn an_exit_that_nobody_reaches_is_shut_without_work(rt: HostRuntime) -> Result<(), AllocError> {
+fn an_exit_that_nobody_reaches_is_shut_without_work(rt: HostRuntime) -> Result<(), Fail> {
     let first = open_on(&rt, rt.alloc(), THREE_EXITS)?;
     let shut = shut_beside(&rt, rt.alloc(), &first);
     drop(first);
@@ -105,7 +106,7 @@ fn enter_one(rt: &impl Abort, session: &mut Session) {
 }
 
 #[test]
-fn one_person_more_is_pushed_once(rt: HostRuntime) -> Result<(), AllocError> {
+fn one_person_more_is_pushed_once(rt: HostRuntime) -> Result<(), Fail> {
     let mut session = open_on(&rt, rt.alloc(), TWO_EXITS)?;
     enter_one(&rt, &mut session);
     drop(session);
@@ -123,7 +124,7 @@ fn undo_past_refused(rt: &impl Abort, session: &mut Session, first: &Session) {
 }
 
 // Opens a session on the building of a first one, and undoes an edit past a refused one.
-fn undo_beside(rt: &impl Abort, alloc: Global, first: &Session) -> Result<(), AllocError> {
+fn undo_beside(rt: &impl Abort, alloc: Global, first: &Session) -> Result<(), Fail> {
     let mut session = open_on(rt, alloc, TWO_EXITS)?;
     undo_past_refused(rt, &mut session, first);
     drop(session);
@@ -131,7 +132,7 @@ fn undo_beside(rt: &impl Abort, alloc: Global, first: &Session) -> Result<(), Al
 }
 
 #[test]
-fn an_undo_passes_over_a_refused_edit(rt: HostRuntime) -> Result<(), AllocError> {
+fn an_undo_passes_over_a_refused_edit(rt: HostRuntime) -> Result<(), Fail> {
     let first = open_on(&rt, rt.alloc(), TWO_EXITS)?;
     let undone = undo_beside(&rt, rt.alloc(), &first);
     drop(first);

@@ -1,11 +1,11 @@
 //! Windows in which an arc is closed, added and taken away in a session.
-use crate::buildings::TWO_EXITS;
 use crate::calls::{expect, make, open_on};
 use crate::shown::has_curve;
 use edit_session::{EditRefusal, Session};
 use evac_law::{Edit, EditFault, Standing};
-use std::alloc::AllocError;
+use sample_buildings::TWO_EXITS;
 use std::process::Abort;
+use std::test::Fail;
 
 // Edits of the narrow way that are refused while it is closed from moment 1 to before moment 3.
 const FAULTS: &[(Edit, EditFault)] = &[
@@ -76,7 +76,7 @@ fn open_again(rt: &impl Abort, session: &mut Session) {
 }
 
 #[test]
-fn a_way_is_closed_for_two_moments(rt: HostRuntime) -> Result<(), AllocError> {
+fn a_way_is_closed_for_two_moments(rt: HostRuntime) -> Result<(), Fail> {
     let mut session = open_on(&rt, rt.alloc(), TWO_EXITS)?;
     close(&rt, &mut session);
     refuse_all(&rt, &mut session);

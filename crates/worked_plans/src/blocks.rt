@@ -2,11 +2,11 @@
 ghost use Rattle.building_table.specs.Names.{NamesFit};
 ghost use Rattle.evac_law.specs.Building.{IsValid};
 
-use crate::buildings::{ONE_ROOM, building};
 use block_reader::read_block;
 use building_table::Building;
 use line_io::{CleanSource, Lines};
 use plan_checker::{Verdict, check};
+use sample_buildings::{ONE_ROOM, building_of};
 use std::alloc::{AllocError, Global};
 use std::process::Abort;
 use std::test::Fail;
@@ -41,11 +41,11 @@ fn verdict_on(
 }
 
 // The verdict on the block of a text, in one room.
-fn verdict_in_room(rt: &impl Abort, alloc: Global, text: &str) -> Result<Verdict, AllocError> {
-    let building = building(rt, alloc, ONE_ROOM)?;
+fn verdict_in_room(rt: &impl Abort, alloc: Global, text: &str) -> Result<Verdict, Fail> {
+    let building = building_of(alloc, ONE_ROOM)?;
     let verdict = verdict_on(rt, alloc, &building, text);
     drop(building);
-    verdict
+    Ok(verdict?)
 }
 
 // The verdict on a block: its people, its curve, one label for the room, and its moves.
@@ -55,7 +55,7 @@ fn verdict(
     curve: &str,
     label: u16,
     moves: &str,
-) -> Result<Verdict, AllocError> {
+) -> Result<Verdict, Fail> {
     let text = format!(in rt.alloc();
         "answer 0\npeople {people}\n{curve}label WP1.1 0 {label}\n{moves}end\n"
     )?;

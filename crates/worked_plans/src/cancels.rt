@@ -1,15 +1,15 @@
 //! People taken off their way, and given back.
 ghost use Rattle.std.specs.Prelude.{◌≡◌, ◌+◌, ◌<◌, ◌≤◌, length};
 
-use crate::buildings::TWO_ROOMS;
 use crate::moments::settled_text;
 use crate::nets::arrived;
 use evac_law::Steps;
 use residual_net::{Net, Path, Place};
-use std::alloc::AllocError;
+use sample_buildings::TWO_ROOMS;
 use std::marker::Brand;
 use std::process::Abort;
 use std::sync::ledger::{Blank, Ledger};
+use std::test::Fail;
 
 // Closes the second room's way at moment 0, takes its person off, and gives everything back.
 fn close_the_way<L: Ledger>(rt: &impl Abort, net: &mut Net, path: &mut Path, blank: Blank)
@@ -38,7 +38,7 @@ fn close_the_way<L: Ledger>(rt: &impl Abort, net: &mut Net, path: &mut Path, bla
 }
 
 // Closes the way in a net of two rooms, over a path of its own.
-fn close_in(rt: &(impl Abort + AllocGlobal), net: &mut Net) -> Result<(), AllocError> {
+fn close_in(rt: &(impl Abort + AllocGlobal), net: &mut Net) -> Result<(), Fail> {
     let mut path = Path::new(rt.alloc(), 22)?;
     assert!(rt; net.shape().ends().len() > 2 && net.horizon() <= 20);
     close_the_way::<Brand>(rt, net, &mut path, Blank::new(1));
@@ -47,7 +47,7 @@ fn close_in(rt: &(impl Abort + AllocGlobal), net: &mut Net) -> Result<(), AllocE
 }
 
 #[test]
-fn cancels_and_restores(rt: HostRuntime) -> Result<(), AllocError> {
+fn cancels_and_restores(rt: HostRuntime) -> Result<(), Fail> {
     let mut settled = settled_text(&rt, rt.alloc(), TWO_ROOMS, 3)?;
     let closed = close_in(&rt, &mut settled.net);
     drop(settled);

@@ -2,10 +2,10 @@
 ghost use Rattle.evac_law.specs.Building.{IsValid};
 ghost use Rattle.evac_law.specs.Certificates.{IsTableOf};
 
-use crate::buildings::{OFFICE, THROUGH_HALL, TWO_EXITS, model_of};
 use crate::labels::{LabelRun, labels_of, run};
 use cut_witness::{CutValues, crossing, cut_value};
 use evac_law::{CutItem, Labels, Model};
+use sample_buildings::{OFFICE, THROUGH_HALL, TWO_EXITS, model_of};
 use std::alloc::{AllocError, Global};
 use std::process::Abort;
 use std::test::Fail;
@@ -60,7 +60,7 @@ fn check_cuts(
     runs: &[LabelRun],
     wanted: &[u64],
 ) -> Result<(), Fail> {
-    let model = model_of(rt, rt.alloc(), text)?;
+    let model = model_of(rt.alloc(), text)?;
     let checked = check_labels(rt, &model, runs, wanted);
     drop(model);
     checked
@@ -109,7 +109,7 @@ fn check_items(
     k: u16,
     wanted: &[CutItem],
 ) -> Result<(), Fail> {
-    let model = model_of(rt, rt.alloc(), text)?;
+    let model = model_of(rt.alloc(), text)?;
     let labels = labels_of(rt.alloc(), &model, &[run])?;
     let checked = expect_items(rt, &model, &labels, k, wanted);
     drop(labels);

@@ -1,14 +1,26 @@
 //! Worked cases, computed by the definitions.
-ghost use Rattle.std.specs.Prelude.{◌<◌, ◌^◌, length};
+ghost use Rattle.std.specs.Prelude.{◌<◌, ◌^◌, IfOk, length};
+ghost use Rattle.evac_law.specs.Building.{IsValid};
 ghost use Rattle.evac_law.specs.Certificates.{IsTableOf};
 ghost use Rattle.plain_plan.specs.Sizes.{IsSmall};
 
-use crate::buildings::{NOBODY, ONE_ROOM, THROUGH_HALL, TWO_EXITS, TWO_ROOMS, model_of};
 use crate::labels::{LabelRun, labels_of, run};
+use building_table::ModelFault;
 use evac_law::{CutItem, Labels, Model, Move};
 use plain_plan::{cut_items, held, moved, out_by, sum_of_items};
+use sample_buildings::{EMPTY_ROOM, ONE_ROOM, THROUGH_HALL, TWO_EXITS, TWO_ROOMS, model_of};
+use std::alloc::Global;
 use std::process::Abort;
 use std::test::Fail;
+
+// The model of a text, which is small enough to be summed up plainly.
+#[tactic(auto, using(crate::proofs::Small::small))]
+fn small_model(alloc: Global, text: &str) -> Result<Model, ModelFault>
+    ensures valid { IfOk result IsValid }
+    ensures sizes { IfOk result IsSmall }
+{
+    model_of(alloc, text)
+}
 
 fn step(moment: u16, arc: u32, people: u32) -> Move {
     Move {
@@ -67,7 +79,7 @@ fn check_plan(
 ) -> Result<(), Fail>
     requires { length moves.now < 2 ^ 16 }
 {
-    let model = model_of(rt, rt.alloc(), text)?;
+    let model = small_model(rt.alloc(), text)?;
     let labels = labels_of(rt.alloc(), &model, runs)?;
     let checked = check(rt, &model, moves, &labels, curve);
     drop(labels);
@@ -86,7 +98,7 @@ fn one_room_and_one_exit(rt: HostRuntime) -> Result<(), Fail> {
 
 #[test]
 fn who_is_left_in_one_room(rt: HostRuntime) -> Result<(), Fail> {
-    let model = model_of(&rt, rt.alloc(), ONE_ROOM)?;
+    let model = small_model(rt.alloc(), ONE_ROOM)?;
     let moves = [step(0, 0, 2), step(1, 0, 1)];
     assert_eq!(rt; held(&model, &moves, 0, 0), 1);
     assert_eq!(rt; held(&model, &moves, 0, 1), 0);
@@ -98,7 +110,7 @@ fn who_is_left_in_one_room(rt: HostRuntime) -> Result<(), Fail> {
 
 #[test]
 fn an_empty_building(rt: HostRuntime) -> Result<(), Fail> {
-    check_plan(&rt, NOBODY, &[], &[], &[0])
+    check_plan(&rt, EMPTY_ROOM, &[], &[], &[0])
 }
 
 // Four people go through the hall, one behind the other.
@@ -129,7 +141,7 @@ fn a_hall_where_nobody_may_stay(rt: HostRuntime) -> Result<(), Fail> {
 
 #[test]
 fn nobody_stays_in_the_hall(rt: HostRuntime) -> Result<(), Fail> {
-    let model = model_of(&rt, rt.alloc(), THROUGH_HALL)?;
+    let model = small_model(rt.alloc(), THROUGH_HALL)?;
     let moves = through_hall();
     for moment in 0..6 {
         assert_eq!(rt; held(&model, &moves, 1, moment), 0, "at {moment}");
@@ -141,7 +153,7 @@ fn nobody_stays_in_the_hall(rt: HostRuntime) -> Result<(), Fail> {
 // The label 5 everywhere makes a cut of period 1 that is worth 1, and nobody is out by then.
 #[test]
 fn a_cut_is_worth_more_than_are_out(rt: HostRuntime) -> Result<(), Fail> {
-    let model = model_of(&rt, rt.alloc(), THROUGH_HALL)?;
+    let model = small_model(rt.alloc(), THROUGH_HALL)?;
     let runs = [run(0, 0, 5, 5), run(1, 0, 5, 5)];
     let labels = labels_of(rt.alloc(), &model, &runs)?;
     let value = value(&rt, &model, &labels, 1);
@@ -198,7 +210,7 @@ fn short_and_narrow_against_long_and_wide(rt: HostRuntime) -> Result<(), Fail> {
 
 #[test]
 fn cuts_are_of_a_narrow_way_or_of_everybody(rt: HostRuntime) -> Result<(), Fail> {
-    let model = model_of(&rt, rt.alloc(), TWO_EXITS)?;
+    let model = small_model(rt.alloc(), TWO_EXITS)?;
     let labels = labels_of(rt.alloc(), &model, &[run(0, 0, 3, 3)])?;
     let checked = expect_both(&rt, &model, &labels);
     drop(labels);

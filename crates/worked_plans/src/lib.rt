@@ -6,8 +6,6 @@
 #[cfg(test)]
 mod blocks;
 #[cfg(test)]
-mod buildings;
-#[cfg(test)]
 mod cancels;
 #[cfg(test)]
 mod cuts;

@@ -4,14 +4,15 @@ ghost use Rattle.evac_law.specs.Building.{IsValid};
 ghost use Rattle.residual_net.specs.Network.{IsWithinLimits};
 ghost use Rattle.terminal_augment.specs.Settled.{IsLabelsOf, IsSearchOf, IsSettledBelow, IsUnsetFrom};
 
-use crate::buildings::{ONE_ROOM, TWO_ROOMS, model_of};
 use crate::nets::{Settled, arrived, label, moved};
 use evac_law::{Labels, Model, Steps};
 use residual_net::Net;
+use sample_buildings::{ONE_ROOM, TWO_ROOMS, model_of};
 use std::alloc::{AllocError, Global};
 use std::marker::Brand;
 use std::process::Abort;
 use std::sync::ledger::{Blank, Ledger};
+use std::test::Fail;
 use terminal_augment::{Search, settle};
 
 /// Settles the moments below a number.
@@ -69,16 +70,16 @@ pub(crate) fn settled_text(
     alloc: Global,
     text: &str,
     end: u16,
-) -> Result<Settled, AllocError> {
-    let model = model_of(rt, alloc, text)?;
+) -> Result<Settled, Fail> {
+    let model = model_of(alloc, text)?;
     assert!(rt; end <= model.horizon);
     let settled = settled_below(alloc, &model, end);
     drop(model);
-    settled
+    Ok(settled?)
 }
 
 #[test]
-fn settles_a_room_and_an_exit(rt: HostRuntime) -> Result<(), AllocError> {
+fn settles_a_room_and_an_exit(rt: HostRuntime) -> Result<(), Fail> {
     let settled = settled_text(&rt, rt.alloc(), ONE_ROOM, 3)?;
     for (k, want) in [(0, 0), (1, 2), (2, 3)] {
         assert_eq!(rt; arrived(&rt, &settled.net, k), want);
@@ -91,7 +92,7 @@ fn settles_a_room_and_an_exit(rt: HostRuntime) -> Result<(), AllocError> {
 }
 
 #[test]
-fn labels_nothing_while_people_are_left(rt: HostRuntime) -> Result<(), AllocError> {
+fn labels_nothing_while_people_are_left(rt: HostRuntime) -> Result<(), Fail> {
     let settled = settled_text(&rt, rt.alloc(), ONE_ROOM, 2)?;
     for moment in [0, 1, 2, 20] {
         assert_eq!(rt; label(&rt, &settled.labels, 0, moment), Labels::UNSET);
@@ -101,7 +102,7 @@ fn labels_nothing_while_people_are_left(rt: HostRuntime) -> Result<(), AllocErro
 }
 
 #[test]
-fn turns_the_first_person_round(rt: HostRuntime) -> Result<(), AllocError> {
+fn turns_the_first_person_round(rt: HostRuntime) -> Result<(), Fail> {
     let settled = settled_text(&rt, rt.alloc(), TWO_ROOMS, 3)?;
     assert_eq!(rt; arrived(&rt, &settled.net, 1), 0);
     assert_eq!(rt; arrived(&rt, &settled.net, 2), 2);
@@ -113,7 +114,7 @@ fn turns_the_first_person_round(rt: HostRuntime) -> Result<(), AllocError> {
 }
 
 #[test]
-fn labels_the_moments_before_the_last_arrival(rt: HostRuntime) -> Result<(), AllocError> {
+fn labels_the_moments_before_the_last_arrival(rt: HostRuntime) -> Result<(), Fail> {
     let settled = settled_text(&rt, rt.alloc(), ONE_ROOM, 3)?;
     for moment in 0..21u16 {
         let want = if moment < 2 { 2 } else { Labels::UNSET };

@@ -2,16 +2,16 @@
 ghost use Rattle.std.specs.Prelude.{◌≡◌, ◌≤◌};
 ghost use Rattle.evac_law.specs.Building.{IsValid};
 
-use crate::buildings::{THROUGH_HALL, TOO_SHORT, model_of};
 use crate::moments::settle_below;
 use crate::nets::{Settled, arrived, label};
 use evac_law::{Labels, Model, Steps};
 use lex_flow::{Outcome, settle_all};
 use residual_net::Net;
+use sample_buildings::{THROUGH_HALL, TOO_SHORT, model_of};
 use std::alloc::{AllocError, Global};
 use std::marker::Brand;
-use std::process::Abort;
 use std::sync::ledger::{Blank, Ledger};
+use std::test::Fail;
 use terminal_augment::Search;
 
 // Settles the moments below a number, and then all from there on.
@@ -51,19 +51,16 @@ fn settled(alloc: Global, model: &Model) -> Result<(Settled, Outcome), AllocErro
 }
 
 // The building of a text, settled whole.
-fn settled_whole(
-    rt: &(impl Abort + AllocGlobal),
-    text: &str,
-) -> Result<(Settled, Outcome), AllocError> {
-    let model = model_of(rt, rt.alloc(), text)?;
-    let settled = settled(rt.alloc(), &model);
+fn settled_whole(alloc: Global, text: &str) -> Result<(Settled, Outcome), Fail> {
+    let model = model_of(alloc, text)?;
+    let settled = settled(alloc, &model);
     drop(model);
-    settled
+    Ok(settled?)
 }
 
 #[test]
-fn clears_a_hall_where_nobody_may_stay(rt: HostRuntime) -> Result<(), AllocError> {
-    let (settled, outcome) = settled_whole(&rt, THROUGH_HALL)?;
+fn clears_a_hall_where_nobody_may_stay(rt: HostRuntime) -> Result<(), Fail> {
+    let (settled, outcome) = settled_whole(rt.alloc(), THROUGH_HALL)?;
     let cleared = Outcome::Cleared {
         moment: 5,
         pushes: 4,
@@ -80,8 +77,8 @@ fn clears_a_hall_where_nobody_may_stay(rt: HostRuntime) -> Result<(), AllocError
 }
 
 #[test]
-fn shows_that_a_horizon_is_too_short(rt: HostRuntime) -> Result<(), AllocError> {
-    let (settled, outcome) = settled_whole(&rt, TOO_SHORT)?;
+fn shows_that_a_horizon_is_too_short(rt: HostRuntime) -> Result<(), Fail> {
+    let (settled, outcome) = settled_whole(rt.alloc(), TOO_SHORT)?;
     assert_eq!(rt; outcome, Outcome::Short { most: 2, pushes: 1 });
     assert_eq!(rt; label(&rt, &settled.labels, 0, 0), Labels::UNSET);
     drop(settled);
@@ -89,8 +86,8 @@ fn shows_that_a_horizon_is_too_short(rt: HostRuntime) -> Result<(), AllocError> 
 }
 
 #[test]
-fn clears_the_hall_from_a_moment_on(rt: HostRuntime) -> Result<(), AllocError> {
-    let model = model_of(&rt, rt.alloc(), THROUGH_HALL)?;
+fn clears_the_hall_from_a_moment_on(rt: HostRuntime) -> Result<(), Fail> {
+    let model = model_of(rt.alloc(), THROUGH_HALL)?;
     assert!(rt; model.horizon >= 3);
     let (settled, outcome) = settled_from(rt.alloc(), &model, 3)?;
     drop(model);

@@ -1,16 +1,17 @@
 //! The calls of a replan, each over a counter of steps that nobody reads.
-ghost use Rattle.std.specs.Prelude.{◌≡◌, IsTrue};
+ghost use Rattle.std.specs.Prelude.{◌≡◌};
 ghost use Rattle.evac_law.specs.Building.{IsValid};
 ghost use Rattle.evac_law.specs.Edits.{IsEditOf};
 
-use crate::buildings::model_of;
 use edit_session::{BeginFault, UndoRefusal, Work};
 use evac_law::{Edit, Model, Steps};
 use replan::{AdvanceFault, Replan, ReplanRefusal};
-use std::alloc::{AllocError, Global};
+use sample_buildings::{is_edit_of, model_of};
+use std::alloc::Global;
 use std::marker::Brand;
 use std::process::Abort;
 use std::sync::ledger::{Blank, Ledger};
+use std::test::Fail;
 
 fn begin_counted<L: Ledger>(alloc: Global, model: Model, blank: Blank) -> Result<Replan, BeginFault>
     requires valid { IsValid model }
@@ -29,12 +30,8 @@ fn begun(alloc: Global, model: Model) -> Result<Replan, BeginFault>
 }
 
 /// A replan on the building of a text, or why there is none.
-pub(crate) fn begin_on(
-    rt: &impl Abort,
-    alloc: Global,
-    text: &str,
-) -> Result<Result<Replan, BeginFault>, AllocError> {
-    let model = model_of(rt, alloc, text)?;
+pub(crate) fn begin_on(alloc: Global, text: &str) -> Result<Result<Replan, BeginFault>, Fail> {
+    let model = model_of(alloc, text)?;
     Ok(begun(alloc, model))
 }
 
@@ -55,27 +52,6 @@ fn advance_counted<L: Ledger>(
 /// Carries the plan out up to a moment.
 pub(crate) fn advance(replan: &mut Replan, alloc: Global, moment: u16) -> Result<(), AdvanceFault> {
     advance_counted::<Brand>(replan, alloc, moment, Blank::new(1))
-}
-
-// Whether the places that an edit names are places of a model.
-fn is_edit_of(model: &Model, edit: Edit) -> bool
-    ensures { IsTrue result → IsEditOf model.now edit }
-{
-    let nodes = model.nodes.len();
-    let arcs = model.arcs.len();
-    match edit {
-        Edit::Shut { arc }
-        | Edit::Reopen { arc }
-        | Edit::Rate { arc, .. }
-        | Edit::Window { arc, .. }
-        | Edit::Unwindow { arc, .. } => (arc as usize) < arcs,
-        Edit::ShutExit { node }
-        | Edit::ReopenExit { node }
-        | Edit::Room { node, .. }
-        | Edit::Enter { node, .. }
-        | Edit::Leave { node, .. } => (node as usize) < nodes,
-        Edit::Shift { from, to, .. } => (from as usize) < nodes && (to as usize) < nodes,
-    }
 }
 
 fn edit_counted<L: Ledger>(

@@ -1,12 +1,13 @@
 //! Plans are carried out, edited and carried out again.
-use crate::buildings::{FOUR_LATE, NEAR_AND_FAR, THROUGH_HALL, TRAPPED, TWO_EXITS};
 use crate::calls::{advance, begin_on, make, undo};
 use crate::shown::{Stand, has_entrants, stands};
 use edit_session::{BeginFault, EditRefusal, UndoRefusal};
 use evac_law::{Edit, EditFault, Entrant};
 use replan::{AdvanceFault, Replan, ReplanRefusal};
-use std::alloc::{AllocError, Global};
+use sample_buildings::{FOUR_LATE, NEAR_AND_FAR, THROUGH_HALL, TRAPPED, TWO_EXITS};
+use std::alloc::Global;
 use std::process::Abort;
+use std::test::Fail;
 
 // A call, and how it is refused, if it is.
 enum Call {
@@ -270,13 +271,8 @@ fn ask(rt: &impl Abort, alloc: Global, replan: &mut Replan, call: &Call) {
 }
 
 // Begins on a building and makes calls, after each of which the replan stands as is wanted.
-fn go_through(
-    rt: &impl Abort,
-    alloc: Global,
-    text: &str,
-    rows: &[Row],
-) -> Result<Replan, AllocError> {
-    let Ok(mut replan) = begin_on(rt, alloc, text)? else {
+fn go_through(rt: &impl Abort, alloc: Global, text: &str, rows: &[Row]) -> Result<Replan, Fail> {
+    let Ok(mut replan) = begin_on(alloc, text)? else {
         panic!(rt; "a building has a plan");
     };
     assert_eq!(rt; replan.moment(), 0);
@@ -294,7 +290,7 @@ fn leaves(
     text: &str,
     rows: &[Row],
     entrants: &[Entrant],
-) -> Result<(), AllocError> {
+) -> Result<(), Fail> {
     let replan = go_through(rt, alloc, text, rows)?;
     assert!(rt; has_entrants(&replan, entrants));
     drop(replan);
@@ -302,12 +298,12 @@ fn leaves(
 }
 
 #[test]
-fn two_of_eight_are_planned_anew(rt: HostRuntime) -> Result<(), AllocError> {
+fn two_of_eight_are_planned_anew(rt: HostRuntime) -> Result<(), Fail> {
     leaves(&rt, rt.alloc(), TWO_EXITS, WITH_TWO_EXITS, &[])
 }
 
 #[test]
-fn an_edit_before_an_advance_is_not_undone(rt: HostRuntime) -> Result<(), AllocError> {
+fn an_edit_before_an_advance_is_not_undone(rt: HostRuntime) -> Result<(), Fail> {
     let left = Entrant {
         node: 0,
         moment: 1,
@@ -317,23 +313,23 @@ fn an_edit_before_an_advance_is_not_undone(rt: HostRuntime) -> Result<(), AllocE
 }
 
 #[test]
-fn one_leaves_the_hall_at_once(rt: HostRuntime) -> Result<(), AllocError> {
+fn one_leaves_the_hall_at_once(rt: HostRuntime) -> Result<(), Fail> {
     leaves(&rt, rt.alloc(), THROUGH_HALL, WITH_A_HALL, IN_THE_HALL)
 }
 
 #[test]
-fn those_under_way_come_later(rt: HostRuntime) -> Result<(), AllocError> {
+fn those_under_way_come_later(rt: HostRuntime) -> Result<(), Fail> {
     leaves(&rt, rt.alloc(), NEAR_AND_FAR, NEAR_THE_HALL, UNDER_WAY)
 }
 
 #[test]
-fn who_comes_later_still_comes(rt: HostRuntime) -> Result<(), AllocError> {
+fn who_comes_later_still_comes(rt: HostRuntime) -> Result<(), Fail> {
     leaves(&rt, rt.alloc(), FOUR_LATE, WITH_FOUR_LATE, STILL_TO_COME)
 }
 
 #[test]
-fn nobody_gets_out_without_a_door(rt: HostRuntime) -> Result<(), AllocError> {
-    let begun = begin_on(&rt, rt.alloc(), TRAPPED)?;
+fn nobody_gets_out_without_a_door(rt: HostRuntime) -> Result<(), Fail> {
+    let begun = begin_on(rt.alloc(), TRAPPED)?;
     let refused = matches!(begun, Err(BeginFault::NotCleared(_)));
     assert!(rt; refused);
     drop(begun);

@@ -4,8 +4,6 @@
 #![tactic(auto)]
 
 #[cfg(test)]
-mod buildings;
-#[cfg(test)]
 mod calls;
 #[cfg(test)]
 mod cases;

@@ -1,7 +1,8 @@
 //! Answer blocks, each behind its model, and what the checker says of them.
 use crate::runs::{check, check_failing_source, joined, run_over, with_line};
-use crate::texts::{OFFICE, ONE_ROOM, ONE_ROOM_BLOCK, TWO_EXITS, TWO_EXITS_BLOCK};
+use crate::texts::{ONE_ROOM_BLOCK, TWO_EXITS_BLOCK};
 use line_io::MemSink;
+use sample_buildings::{OFFICE, ONE_ROOM, TWO_EXITS};
 use std::alloc::{AllocError, Global};
 use std::process::Abort;
 use std::test::Fail;

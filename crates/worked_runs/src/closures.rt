@@ -1,7 +1,8 @@
 //! Sessions in which arcs are closed from one moment to another.
 use crate::sessions::{Exchange, check_forced, check_talk, session_on};
-use crate::texts::{ONE_ROOM, ONE_ROOM_BLOCK, TWO_EXITS, TWO_EXITS_BLOCK};
+use crate::texts::{ONE_ROOM_BLOCK, TWO_EXITS_BLOCK};
 use crate::versions::{EIGHT_WINDOWS, ended};
+use sample_buildings::{ONE_ROOM, TWO_EXITS};
 use std::process::Abort;
 use std::test::Fail;
 

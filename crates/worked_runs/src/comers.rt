@@ -1,18 +1,15 @@
 //! People who come in later: in sessions, on routes and on cards.
 use crate::runs::{check, check_failing_sink, check_failing_source, joined, run_over};
 use crate::sessions::{Exchange, check_forced, check_talk, session_on};
-use crate::texts::{COMERS_BLOCK, OFFICE};
+use crate::texts::FOUR_LATE_BLOCK;
 use line_io::MemSink;
+use sample_buildings::{FOUR_LATE, OFFICE, ONE_LATE};
 use std::process::Abort;
 use std::test::Fail;
 
-// One room, into which four people come at moment 2.
-const COMERS: &str =
-    "evacplan 2\nperiod 5\nhorizon 20\nfloor 1 Ground\nnode WP1.1 10 3\nnode DS1.1\narc WP1.1 DS1.1 1 2\nentrant WP1.1 2 4\nend\n";
-
 // Who comes later is an entry of a cut, counts among the people, and can't be edited.
 const COMING: [Exchange; 9] = [
-    (COMERS, COMERS_BLOCK),
+    (FOUR_LATE, FOUR_LATE_BLOCK),
     (
         "cut 3\n",
         "cut 3 5\nentry WP1.1 3\narc 2 WP1.1 DS1.1 2\nend\n",
@@ -52,13 +49,13 @@ fn coming_at(text: &str, moment: &str) -> u32 {
 // Three people start, and four come at moment 2.
 #[test]
 fn routes_begin_where_people_come_in(rt: HostRuntime) -> Result<(), Fail> {
-    let whole = session_on(&rt, COMERS, "routes\n")?;
+    let whole = session_on(&rt, FOUR_LATE, "routes\n")?;
     let coming = coming_at(whole.as_str(), "2");
     drop(whole);
     assert_eq!(rt; coming, 4);
     check_forced(
         &rt,
-        COMERS,
+        FOUR_LATE,
         "routes\n",
         "answer 0\npeople 7\ncleared 4\nout 0 0\nout 1 2\nout 2 3\nout 3 5\nout 4 7\nend\nroutes 0\nend\n",
         7,
@@ -77,28 +74,24 @@ fn a_larger_foyer_brings_people_out_sooner(rt: HostRuntime) -> Result<(), Fail> 
     check_forced(&rt, FOYER, "cut 17\nroom LO1.1 15\n", FOYER_TEXT, 0)
 }
 
-// A room with a door for one, and one person more at moment 1.
-const QUEUE: &str =
-    "evacplan 2\nperiod 5\nhorizon 20\nfloor 1 Ground\nnode WP1.1 10 3\nnode DS1.1\narc WP1.1 DS1.1 1 1\nentrant WP1.1 1 1\nend\n";
-
-const QUEUE_BLOCK: &str =
+const ONE_LATE_BLOCK: &str =
     "answer 0\npeople 4\ncleared 4\nout 0 0\nout 1 1\nout 2 2\nout 3 3\nout 4 4\nlabel WP1.1 0 4\nmove 0 WP1.1 DS1.1 1\nmove 1 WP1.1 DS1.1 1\nmove 2 WP1.1 DS1.1 1\nmove 3 WP1.1 DS1.1 1\nend\n";
 
-const QUEUE_CARDS: &str =
+const ONE_LATE_CARDS: &str =
     "cards 0\ncard 1 WP1.1\nstep 0 WP1.1 DS1.1\ncard 2 WP1.1\nstep 1 WP1.1 DS1.1\ncard 3 WP1.1\nstep 2 WP1.1 DS1.1\ncard 4 WP1.1 1\nstep 3 WP1.1 DS1.1\nend\n";
 
 // The cards stand behind the block, or a front of both, or nothing.
-fn check_queue(rt: &(impl Abort + AllocGlobal), text: &str) -> Result<(), Fail> {
-    check(rt, &["cards"], QUEUE, 0, text)?;
-    check_failing_sink(rt, &["cards"], QUEUE, text, 10)?;
-    check_failing_source(rt, &["cards"], QUEUE, text, 7)
+fn check_late(rt: &(impl Abort + AllocGlobal), text: &str) -> Result<(), Fail> {
+    check(rt, &["cards"], ONE_LATE, 0, text)?;
+    check_failing_sink(rt, &["cards"], ONE_LATE, text, 10)?;
+    check_failing_source(rt, &["cards"], ONE_LATE, text, 7)
 }
 
 // Who comes in last goes last.
 #[test]
 fn who_comes_later_has_a_later_card(rt: HostRuntime) -> Result<(), Fail> {
-    let text = joined(rt.alloc(), QUEUE_BLOCK, QUEUE_CARDS)?;
-    let checked = check_queue(&rt, text.as_str());
+    let text = joined(rt.alloc(), ONE_LATE_BLOCK, ONE_LATE_CARDS)?;
+    let checked = check_late(&rt, text.as_str());
     drop(text);
     checked
 }

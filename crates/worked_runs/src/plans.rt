@@ -1,7 +1,8 @@
 //! Plans of small buildings, refusals of models, and sources and sinks that fail.
 use crate::runs::{check, check_failing_sink, check_failing_source, run_over, with_line};
-use crate::texts::{LONG_COMMENT, ONE_ROOM, ONE_ROOM_BLOCK, TRAPPED, TWO_EXITS, TWO_EXITS_BLOCK};
+use crate::texts::{LONG_COMMENT, ONE_ROOM_BLOCK, TWO_EXITS_BLOCK};
 use line_io::MemSink;
+use sample_buildings::{ONE_ROOM, THROUGH_HALL, TRAPPED, TWO_EXITS, TWO_ROOMS};
 use std::alloc::{AllocError, Global};
 use std::process::Abort;
 use std::test::Fail;
@@ -36,17 +37,10 @@ const LATE: &str =
 const LATE_BLOCK: &str =
     "answer 0\npeople 3\ncleared 10\nout 0 0\nout 1 0\nout 2 0\nout 3 0\nout 4 0\nout 5 0\nout 6 0\nout 7 0\nout 8 0\nout 9 0\nout 10 3\nlabel WP1.1 0 10\nmove 0 WP1.1 DS1.1 3\nend\n";
 
-// The hall where nobody may stay.
-const HALL: &str =
-    "evacplan 1\nperiod 5\nhorizon 20\nfloor 1 Ground\nnode WP1.1 5 4\nnode HA1.1 0 0\nnode DS1.1\narc WP1.1 HA1.1 1 3\narc HA1.1 DS1.1 1 1\nend\n";
-
-const HALL_BLOCK: &str =
+const THROUGH_HALL_BLOCK: &str =
     "answer 0\npeople 4\ncleared 5\nout 0 0\nout 1 0\nout 2 1\nout 3 2\nout 4 3\nout 5 4\nlabel WP1.1 0 5\nlabel HA1.1 0 1\nlabel HA1.1 1 5\nmove 0 WP1.1 HA1.1 1\nmove 1 WP1.1 HA1.1 1\nmove 1 HA1.1 DS1.1 1\nmove 2 WP1.1 HA1.1 1\nmove 2 HA1.1 DS1.1 1\nmove 3 WP1.1 HA1.1 1\nmove 3 HA1.1 DS1.1 1\nmove 4 HA1.1 DS1.1 1\nend\n";
 
-// Two rooms and one hall: who goes first by the hall has to turn round.
-const TWO_ROOMS: &str =
-    "evacplan 1\nperiod 5\nhorizon 20\nfloor 1 Ground\nnode WP1.1 1 1\nnode WP2.1 1 1\nnode HA1.1 1 0\nnode DS1.1\nnode DS2.1\narc WP1.1 HA1.1 1 1\narc WP1.1 DS2.1 2 1\narc WP2.1 HA1.1 1 1\narc HA1.1 DS1.1 1 1\nend\n";
-
+// Who goes first by the hall has to turn round.
 const TWO_ROOMS_BLOCK: &str =
     "answer 0\npeople 2\ncleared 2\nout 0 0\nout 1 0\nout 2 2\nlabel WP1.1 0 2\nlabel WP2.1 0 2\nlabel HA1.1 0 1\nlabel HA1.1 1 2\nmove 0 WP1.1 DS2.1 1\nmove 0 WP2.1 HA1.1 1\nmove 1 HA1.1 DS1.1 1\nend\n";
 
@@ -61,7 +55,7 @@ const ANSWERED: &[(&str, u8, &str)] = &[
         "refused 22 7\npeople 5\nmost 0\nin WP1.1 0 10\nend\n",
     ),
     (TWO_EXITS, 0, TWO_EXITS_BLOCK),
-    (HALL, 0, HALL_BLOCK),
+    (THROUGH_HALL, 0, THROUGH_HALL_BLOCK),
     (TWO_ROOMS, 0, TWO_ROOMS_BLOCK),
 ];
 

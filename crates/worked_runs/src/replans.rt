@@ -1,6 +1,7 @@
 //! Replans of worked buildings, and hostile lines.
 use crate::sessions::{Exchange, check_fault, check_talk_in};
-use crate::texts::{LONG_COMMENT, ONE_ROOM, ONE_ROOM_BLOCK, TWO_EXITS, TWO_EXITS_BLOCK};
+use crate::texts::{LONG_COMMENT, ONE_ROOM_BLOCK, TWO_EXITS_BLOCK};
+use sample_buildings::{ONE_ROOM, THROUGH_HALL, TRAPPED, TWO_EXITS};
 use std::test::Fail;
 
 // Five are on the long way when the plan is carried out, and one is out; two are left in the room. Nobody comes in any more, and what was carried
@@ -27,7 +28,7 @@ const DOORS: [Exchange; 7] = [
 // One stands in a hall without room for anybody, and leaves at once. Reports are on what is left.
 const HALL: [Exchange; 4] = [
     (
-        "evacplan 1\nperiod 5\nhorizon 20\nfloor 1 Ground\nnode WP1.1 5 4\nnode HA1.1 0 0\nnode DS1.1\narc WP1.1 HA1.1 1 3\narc HA1.1 DS1.1 1 1\nend\n",
+        THROUGH_HALL,
         "answer 0\npeople 4\ncleared 5\nout 0 0\nout 1 0\nout 2 1\nout 3 2\nout 4 3\nout 5 4\nlabel WP1.1 0 5\nlabel HA1.1 0 1\nlabel HA1.1 1 5\nmove 0 WP1.1 HA1.1 1\nmove 1 WP1.1 HA1.1 1\nmove 1 HA1.1 DS1.1 1\nmove 2 WP1.1 HA1.1 1\nmove 2 HA1.1 DS1.1 1\nmove 3 WP1.1 HA1.1 1\nmove 3 HA1.1 DS1.1 1\nmove 4 HA1.1 DS1.1 1\nend\n",
     ),
     (
@@ -89,10 +90,13 @@ const TOO_LONG: [Exchange; 3] = [
 ];
 
 // A room without a way out isn't opened.
-const TRAPPED: [Exchange; 1] = [(
-    "evacplan 1\nperiod 5\nhorizon 10\nfloor 1 Ground\nnode WP1.1 5 5\nnode DS1.1\nend\nadvance 1\n",
-    "refused 22 7\npeople 5\nmost 0\nin WP1.1 0 10\nend\n",
-)];
+const NO_DOOR: [Exchange; 2] = [
+    (
+        TRAPPED,
+        "refused 22 7\npeople 5\nmost 0\nin WP1.1 0 10\nend\n",
+    ),
+    ("advance 1\n", ""),
+];
 
 #[test]
 fn each_line_of_a_replan_has_its_reply(rt: HostRuntime) -> Result<(), Fail> {
@@ -100,7 +104,7 @@ fn each_line_of_a_replan_has_its_reply(rt: HostRuntime) -> Result<(), Fail> {
     check_talk_in(&rt, "replan", &HALL, 0)?;
     check_talk_in(&rt, "replan", &HOSTILE, 0)?;
     check_talk_in(&rt, "replan", &TOO_LONG, 1)?;
-    check_talk_in(&rt, "replan", &TRAPPED, 1)
+    check_talk_in(&rt, "replan", &NO_DOOR, 1)
 }
 
 // Each call takes eight bytes: the lines that were taken whole before the source fails have their replies, and with the last of them it ends.

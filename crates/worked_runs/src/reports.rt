@@ -1,9 +1,8 @@
 //! What stands behind a plan where it is asked for, drills, and words that are refused.
 use crate::runs::{check, check_failing_sink, joined, run_failing, run_over, with_line};
-use crate::texts::{
-    OFFICE, ONE_ROOM, ONE_ROOM_BLOCK, TWO_EXITS, TWO_EXITS_BLOCK, TWO_EXITS_ROUTES,
-};
+use crate::texts::{ONE_ROOM_BLOCK, TWO_EXITS_BLOCK, TWO_EXITS_ROUTES};
 use line_io::MemSink;
+use sample_buildings::{OFFICE, ONE_ROOM, TWO_EXITS};
 use std::alloc::{AllocError, Global};
 use std::process::Abort;
 use std::test::Fail;

@@ -2,10 +2,9 @@
 ghost use Rattle.std.specs.Prelude.{◌<◌};
 
 use crate::runs::{check, joined, run_failing, run_over};
-use crate::texts::{
-    LONG_COMMENT, OFFICE, ONE_ROOM, ONE_ROOM_BLOCK, TWO_EXITS, TWO_EXITS_BLOCK, TWO_EXITS_ROUTES,
-};
+use crate::texts::{LONG_COMMENT, ONE_ROOM_BLOCK, TWO_EXITS_BLOCK, TWO_EXITS_ROUTES};
 use line_io::MemSink;
+use sample_buildings::{OFFICE, ONE_ROOM, THREE_EXITS, TRAPPED, TWO_EXITS};
 use std::alloc::{AllocError, Global};
 use std::process::Abort;
 use std::test::Fail;
@@ -102,10 +101,13 @@ const REPORTS: [Exchange; 8] = [
 ];
 
 // A room without a way out.
-const TRAPPED: [Exchange; 1] = [(
-    "evacplan 1\nperiod 5\nhorizon 10\nfloor 1 Ground\nnode WP1.1 5 5\nnode DS1.1\nend\nquit\n",
-    "refused 22 7\npeople 5\nmost 0\nin WP1.1 0 10\nend\n",
-)];
+const NO_DOOR: [Exchange; 2] = [
+    (
+        TRAPPED,
+        "refused 22 7\npeople 5\nmost 0\nin WP1.1 0 10\nend\n",
+    ),
+    ("quit\n", ""),
+];
 
 // An exit is shut, and opened again.
 const CLOSED: [Exchange; 5] = [
@@ -118,10 +120,7 @@ const CLOSED: [Exchange; 5] = [
 
 // An exit to which no way leads is shut.
 const UNUSED: [Exchange; 3] = [
-    (
-        "evacplan 1\nperiod 5\nhorizon 20\nfloor 1 Ground\nnode WP1.1 8 8\nnode DS1.1\nnode DS2.1\nnode DS3.1\narc WP1.1 DS1.1 1 1\narc WP1.1 DS2.1 3 5\nend\n",
-        TWO_EXITS_BLOCK,
-    ),
+    (THREE_EXITS, TWO_EXITS_BLOCK),
     ("shutexit DS3.1\n", SECOND_BLOCK),
     ("work\n", "work 0 0\n"),
 ];
@@ -227,7 +226,7 @@ const HOSTILE: [Exchange; 28] = [
 #[test]
 fn worked_sessions_are_held(rt: HostRuntime) -> Result<(), Fail> {
     check_talk(&rt, &REPORTS, 0)?;
-    check_talk(&rt, &TRAPPED, 1)?;
+    check_talk(&rt, &NO_DOOR, 1)?;
     check_talk(&rt, &CLOSED, 0)?;
     check_talk(&rt, &UNUSED, 0)?;
     check_talk(&rt, &BETWEEN, 0)?;

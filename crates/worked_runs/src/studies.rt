@@ -1,7 +1,8 @@
 //! Studies of worked buildings, hostile lines, and sources and sinks that fail.
 use crate::runs::{check_failing_sink, check_failing_source, joined};
 use crate::sessions::{Exchange, check_talk_in};
-use crate::texts::{LONG_COMMENT, ONE_ROOM, TWO_EXITS};
+use crate::texts::LONG_COMMENT;
+use sample_buildings::{EMPTY_ROOM, ONE_ROOM, TRAPPED, TWO_EXITS};
 use std::process::Abort;
 use std::test::Fail;
 
@@ -37,10 +38,7 @@ const ROOM: [Exchange; 3] = [
 
 // A building without people needs no rate, and no cut shows that.
 const EMPTY: [Exchange; 2] = [
-    (
-        "evacplan 1\nperiod 5\nhorizon 20\nfloor 1 Ground\nnode WP1.1 10 0\nnode DS1.1\narc WP1.1 DS1.1 1 2\nend\n",
-        "",
-    ),
+    (EMPTY_ROOM, ""),
     ("least WP1.1 DS1.1 0\n", "least WP1.1 DS1.1 0 0\nend\n"),
 ];
 
@@ -64,10 +62,13 @@ const HOSTILE: [Exchange; 15] = [
 ];
 
 // A room without a way out isn't studied.
-const TRAPPED: [Exchange; 1] = [(
-    "evacplan 1\nperiod 5\nhorizon 10\nfloor 1 Ground\nnode WP1.1 5 5\nnode DS1.1\nend\nexits\n",
-    "refused 22 7\npeople 5\nmost 0\nin WP1.1 0 10\nend\n",
-)];
+const NO_DOOR: [Exchange; 2] = [
+    (
+        TRAPPED,
+        "refused 22 7\npeople 5\nmost 0\nin WP1.1 0 10\nend\n",
+    ),
+    ("exits\n", ""),
+];
 
 #[test]
 fn each_line_of_a_study_has_its_reply(rt: HostRuntime) -> Result<(), Fail> {
@@ -75,7 +76,7 @@ fn each_line_of_a_study_has_its_reply(rt: HostRuntime) -> Result<(), Fail> {
     check_talk_in(&rt, "study", &ROOM, 0)?;
     check_talk_in(&rt, "study", &EMPTY, 0)?;
     check_talk_in(&rt, "study", &HOSTILE, 1)?;
-    check_talk_in(&rt, "study", &TRAPPED, 1)
+    check_talk_in(&rt, "study", &NO_DOOR, 1)
 }
 
 // The exits of one room are asked for, and the sink or the source fails.

@@ -1,8 +1,7 @@
 //! Texts of version 2: what they say, where they are refused, and buildings written as such texts.
 use crate::runs::{check, check_failing_sink, check_failing_source, joined};
-use crate::texts::{
-    CLOSED_BLOCK, COMERS_BLOCK, OLD_ROOM, ONE_ROOM, ROOM, TRAPPED, TWO_EXITS_BLOCK,
-};
+use crate::texts::{CLOSED_BLOCK, FOUR_LATE_BLOCK, OLD_ROOM, ROOM, TWO_EXITS_BLOCK};
+use sample_buildings::{ONE_ROOM, TRAPPED};
 use std::alloc::{AllocError, Global};
 use std::process::Abort;
 use std::test::Fail;
@@ -45,7 +44,7 @@ fn windows_and_entrants_are_planned(rt: HostRuntime) -> Result<(), Fail> {
         ROOM,
         "entrant WP1.1 2 4\n",
         0,
-        COMERS_BLOCK,
+        FOUR_LATE_BLOCK,
     )
 }
 
@@ -63,7 +62,7 @@ fn check_yes(rt: &(impl Abort + AllocGlobal), lines: &str, block: &str) -> Resul
 #[test]
 fn their_blocks_are_right(rt: HostRuntime) -> Result<(), Fail> {
     check_yes(&rt, "window WP1.1 DS1.1 0 2\n", CLOSED_BLOCK)?;
-    check_yes(&rt, "entrant WP1.1 2 4\n", COMERS_BLOCK)
+    check_yes(&rt, "entrant WP1.1 2 4\n", FOUR_LATE_BLOCK)
 }
 
 // A model that is refused is so in each mode that reads one.

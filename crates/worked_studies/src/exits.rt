@@ -1,11 +1,12 @@
 //! What buildings come to without each open exit.
-use crate::buildings::{ONE_ROOM, OPENS_LATE, TWO_EXITS};
 use crate::calls::{open_after, open_on, study};
 use edit_session::Session;
 use evac_law::{Edit, Standing};
 use exit_study::ExitRow;
+use sample_buildings::{ONE_ROOM, OPENS_LATE, TWO_EXITS};
 use std::alloc::{AllocError, Global};
 use std::process::Abort;
+use std::test::Fail;
 
 // What stands on a building, and what it comes to without each open exit, which is named by its place.
 struct Case {
@@ -65,12 +66,7 @@ fn stands(session: &Session, case: &Case) -> bool {
 }
 
 // Studies all open exits of a building, which stands as before.
-fn compare(
-    rt: &impl Abort,
-    alloc: Global,
-    session: &mut Session,
-    case: &Case,
-) -> Result<(), AllocError> {
+fn compare(rt: &impl Abort, alloc: Global, session: &mut Session, case: &Case) -> Result<(), Fail> {
     assert!(rt; stands(session, case));
     let rows = study_all(alloc, session)?;
     assert!(rt; rows.as_slice() == case.rows);
@@ -79,7 +75,7 @@ fn compare(
 }
 
 // Studies all open exits of the building of a text.
-fn study_text(rt: &impl Abort, alloc: Global, text: &str, case: &Case) -> Result<(), AllocError> {
+fn study_text(rt: &impl Abort, alloc: Global, text: &str, case: &Case) -> Result<(), Fail> {
     let mut session = open_on(rt, alloc, text)?;
     let compared = compare(rt, alloc, &mut session, case);
     drop(session);
@@ -87,22 +83,22 @@ fn study_text(rt: &impl Abort, alloc: Global, text: &str, case: &Case) -> Result
 }
 
 #[test]
-fn nobody_gets_out_without_the_only_exit(rt: HostRuntime) -> Result<(), AllocError> {
+fn nobody_gets_out_without_the_only_exit(rt: HostRuntime) -> Result<(), Fail> {
     study_text(&rt, rt.alloc(), ONE_ROOM, &IN_ONE_ROOM)
 }
 
 #[test]
-fn each_of_two_exits_is_enough(rt: HostRuntime) -> Result<(), AllocError> {
+fn each_of_two_exits_is_enough(rt: HostRuntime) -> Result<(), Fail> {
     study_text(&rt, rt.alloc(), TWO_EXITS, &WITH_TWO_EXITS)
 }
 
 #[test]
-fn a_way_that_opens_late_is_enough_by_itself(rt: HostRuntime) -> Result<(), AllocError> {
+fn a_way_that_opens_late_is_enough_by_itself(rt: HostRuntime) -> Result<(), Fail> {
     study_text(&rt, rt.alloc(), OPENS_LATE, &OPENING_LATE)
 }
 
 #[test]
-fn a_shut_exit_is_passed_over(rt: HostRuntime) -> Result<(), AllocError> {
+fn a_shut_exit_is_passed_over(rt: HostRuntime) -> Result<(), Fail> {
     let shut = Edit::ShutExit { node: 1 };
     let mut session = open_after(&rt, rt.alloc(), TWO_EXITS, shut)?;
     let compared = compare(&rt, rt.alloc(), &mut session, &WITH_ONE_SHUT);

@@ -1,11 +1,12 @@
 //! The least rates of the ways of buildings.
-use crate::buildings::{ONE_ROOM, OPENS_LATE, TWO_EXITS};
 use crate::calls::{least, open_on};
 use edit_session::Session;
 use evac_law::Standing;
 use exit_study::Least;
-use std::alloc::{AllocError, Global};
+use sample_buildings::{ONE_ROOM, OPENS_LATE, TWO_EXITS};
+use std::alloc::Global;
 use std::process::Abort;
+use std::test::Fail;
 
 // The least rate of an arc at which everybody is out by a moment.
 struct Row {
@@ -121,13 +122,7 @@ fn compare(rt: &impl Abort, session: &mut Session, cleared: u16, rows: &[Row]) {
 }
 
 // Asks for rates of the ways of the building of a text.
-fn ask(
-    rt: &impl Abort,
-    alloc: Global,
-    text: &str,
-    cleared: u16,
-    rows: &[Row],
-) -> Result<(), AllocError> {
+fn ask(rt: &impl Abort, alloc: Global, text: &str, cleared: u16, rows: &[Row]) -> Result<(), Fail> {
     let mut session = open_on(rt, alloc, text)?;
     compare(rt, &mut session, cleared, rows);
     drop(session);
@@ -135,16 +130,16 @@ fn ask(
 }
 
 #[test]
-fn a_door_lets_out_one_a_period(rt: HostRuntime) -> Result<(), AllocError> {
+fn a_door_lets_out_one_a_period(rt: HostRuntime) -> Result<(), Fail> {
     ask(&rt, rt.alloc(), ONE_ROOM, 2, IN_ONE_ROOM)
 }
 
 #[test]
-fn a_narrow_way_helps_a_wide_one(rt: HostRuntime) -> Result<(), AllocError> {
+fn a_narrow_way_helps_a_wide_one(rt: HostRuntime) -> Result<(), Fail> {
     ask(&rt, rt.alloc(), TWO_EXITS, 3, WITH_TWO_EXITS)
 }
 
 #[test]
-fn no_rate_is_enough_before_a_way_opens(rt: HostRuntime) -> Result<(), AllocError> {
+fn no_rate_is_enough_before_a_way_opens(rt: HostRuntime) -> Result<(), Fail> {
     ask(&rt, rt.alloc(), OPENS_LATE, 5, OPENING_LATE)
 }

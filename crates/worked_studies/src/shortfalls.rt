@@ -2,13 +2,14 @@
 ghost use Rattle.std.specs.Prelude.{IfOk};
 ghost use Rattle.evac_law.specs.Building.{IsValid};
 
-use crate::buildings::{NEAR_AND_FAR, model_of};
-use crate::calls::{is_edit_of, open_on, try_edit};
+use crate::calls::{open_on, try_edit};
 use cut_witness::cut_value;
 use edit_session::{EditRefusal, Session};
 use evac_law::{Edit, EditFault, Labels, Model, apply};
-use std::alloc::{AllocError, Global};
+use sample_buildings::{ROOM_FOR_ONE_MORE, is_edit_of, model_of};
+use std::alloc::Global;
 use std::process::Abort;
+use std::test::Fail;
 
 // An edit of the near and the far room that would let at most so many of the people get out.
 struct Shortfall {
@@ -43,10 +44,10 @@ fn change(rt: &impl Abort, model: &mut Model, edit: Edit)
 }
 
 // The building after an edit.
-fn changed(rt: &impl Abort, alloc: Global, edit: Edit) -> Result<Model, AllocError>
+fn changed(rt: &impl Abort, alloc: Global, edit: Edit) -> Result<Model, Fail>
     ensures { IfOk result IsValid }
 {
-    let mut model = model_of(rt, alloc, NEAR_AND_FAR)?;
+    let mut model = model_of(alloc, ROOM_FOR_ONE_MORE)?;
     change(rt, &mut model, edit);
     Ok(model)
 }
@@ -77,7 +78,7 @@ fn refuse_by_cut(
     alloc: Global,
     session: &mut Session,
     case: &Shortfall,
-) -> Result<(), AllocError> {
+) -> Result<(), Fail> {
     refuse(rt, session, case);
     let model = changed(rt, alloc, case.tried)?;
     let worth = worth(rt, &model, session.refused_cut());
@@ -87,15 +88,15 @@ fn refuse_by_cut(
 }
 
 // Tries edits one after another, each of which is refused by a cut of its own.
-fn refuse_each(rt: &impl Abort, alloc: Global, session: &mut Session) -> Result<(), AllocError> {
+fn refuse_each(rt: &impl Abort, alloc: Global, session: &mut Session) -> Result<(), Fail> {
     refuse_by_cut(rt, alloc, session, &ONE_MORE_FROM_FAR)?;
     refuse_by_cut(rt, alloc, session, &DOOR_SHUT)?;
     refuse_by_cut(rt, alloc, session, &ONE_MORE_FROM_FAR)
 }
 
 #[test]
-fn the_cut_is_that_of_the_last_refusal(rt: HostRuntime) -> Result<(), AllocError> {
-    let mut session = open_on(&rt, rt.alloc(), NEAR_AND_FAR)?;
+fn the_cut_is_that_of_the_last_refusal(rt: HostRuntime) -> Result<(), Fail> {
+    let mut session = open_on(&rt, rt.alloc(), ROOM_FOR_ONE_MORE)?;
     let refused = refuse_each(&rt, rt.alloc(), &mut session);
     drop(session);
     refused

@@ -1,10 +1,10 @@
 //! Edits that are tried, and leave a session where it is.
-use crate::buildings::{ONE_ROOM, TWO_EXITS};
 use crate::calls::{open_after, open_on, try_edit};
 use edit_session::{EditRefusal, Session};
 use evac_law::{Edit, EditFault, Standing};
-use std::alloc::AllocError;
+use sample_buildings::{ONE_ROOM, TWO_EXITS};
 use std::process::Abort;
+use std::test::Fail;
 
 // An edit, and when everybody would be out behind it, or why it is refused.
 struct Trial {
@@ -74,7 +74,7 @@ fn try_all(rt: &impl Abort, session: &mut Session, cleared: u16, kept: usize, tr
 }
 
 #[test]
-fn each_of_two_exits_may_be_shut(rt: HostRuntime) -> Result<(), AllocError> {
+fn each_of_two_exits_may_be_shut(rt: HostRuntime) -> Result<(), Fail> {
     let mut session = open_on(&rt, rt.alloc(), TWO_EXITS)?;
     try_all(&rt, &mut session, 3, 0, BOTH_OPEN);
     drop(session);
@@ -82,7 +82,7 @@ fn each_of_two_exits_may_be_shut(rt: HostRuntime) -> Result<(), AllocError> {
 }
 
 #[test]
-fn a_shut_exit_is_not_shut_again(rt: HostRuntime) -> Result<(), AllocError> {
+fn a_shut_exit_is_not_shut_again(rt: HostRuntime) -> Result<(), Fail> {
     let shut = Edit::ShutExit { node: 1 };
     let mut session = open_after(&rt, rt.alloc(), TWO_EXITS, shut)?;
     try_all(&rt, &mut session, 4, 1, FIRST_SHUT);
@@ -91,7 +91,7 @@ fn a_shut_exit_is_not_shut_again(rt: HostRuntime) -> Result<(), AllocError> {
 }
 
 #[test]
-fn the_only_exit_is_not_shut(rt: HostRuntime) -> Result<(), AllocError> {
+fn the_only_exit_is_not_shut(rt: HostRuntime) -> Result<(), Fail> {
     let mut session = open_on(&rt, rt.alloc(), ONE_ROOM)?;
     try_all(&rt, &mut session, 2, 0, ONLY_EXIT);
     drop(session);

@@ -4,12 +4,12 @@ ghost use Rattle.building_table.specs.Names.{NamesFit};
 ghost use Rattle.evac_law.specs.Building.{IsValid};
 ghost use Rattle.evac_law.specs.Certificates.{IsTableOf};
 
-use crate::buildings::{building, model_of};
 use block_reader::{BlockFault, read_block};
 use building_table::Building;
 use certificate_text::{Block, write_short};
 use evac_law::{Labels, Model, Move};
 use line_io::{Lines, MemSink, MemSource, Out};
+use sample_buildings::{building_of, model_of};
 use std::alloc::{AllocError, Global};
 use std::process::Abort;
 use std::test::Fail;
@@ -47,19 +47,15 @@ fn read_for(
 }
 
 // The block of a text, where some calls of its source fail.
-fn read(
-    rt: &(impl Abort + AllocGlobal),
-    text: &str,
-    failing: &[u32],
-) -> Result<Result<Block, BlockFault>, AllocError> {
-    let building = building(rt, rt.alloc(), MODEL)?;
-    read_for(rt.alloc(), &building, text, failing)
+fn read(alloc: Global, text: &str, failing: &[u32]) -> Result<Result<Block, BlockFault>, Fail> {
+    let building = building_of(alloc, MODEL)?;
+    Ok(read_for(alloc, &building, text, failing)?)
 }
 
 // The line at which a text is refused; 0 where it isn't.
-fn refused(rt: &(impl Abort + AllocGlobal), front: &str, more: &str) -> Result<u32, AllocError> {
-    let text = format!(in rt.alloc(); "{front}{more}")?;
-    Ok(match read(rt, text.as_str(), &[])? {
+fn refused(alloc: Global, front: &str, more: &str) -> Result<u32, Fail> {
+    let text = format!(in alloc; "{front}{more}")?;
+    Ok(match read(alloc, text.as_str(), &[])? {
         Ok(_) => 0,
         Err(BlockFault::Bad { line }) => line,
         Err(_) => 999,
@@ -90,7 +86,7 @@ fn check_labels(rt: &impl Abort, labels: &Labels) {
 #[test]
 fn a_block_reads_back(rt: HostRuntime) -> Result<(), Fail> {
     let text = format!(in rt.alloc(); "{HEAD}{CURVE}{LABELS}{MOVES}")?;
-    match read(&rt, text.as_str(), &[])? {
+    match read(rt.alloc(), text.as_str(), &[])? {
         Ok(block) => {
             check_block(&rt, &block);
             check_labels(&rt, &block.labels);
@@ -108,9 +104,9 @@ fn check_refused(
     rt: &(impl Abort + AllocGlobal),
     front: &str,
     texts: &[Refusal],
-) -> Result<(), AllocError> {
+) -> Result<(), Fail> {
     for (text, want) in texts {
-        assert_eq!(rt; refused(rt, front, text)?, *want, "at {text}");
+        assert_eq!(rt; refused(rt.alloc(), front, text)?, *want, "at {text}");
     }
     Ok(())
 }
@@ -138,8 +134,7 @@ const CURVES: &[Refusal] = &[
 #[test]
 fn heads_are_refused(rt: HostRuntime) -> Result<(), Fail> {
     check_refused(&rt, "", HEADS)?;
-    check_refused(&rt, HEAD, CURVES)?;
-    Ok(())
+    check_refused(&rt, HEAD, CURVES)
 }
 
 // What stands behind the curve.
@@ -163,8 +158,7 @@ const FAULTY_LABELS: &[Refusal] = &[
 #[test]
 fn labels_are_refused(rt: HostRuntime) -> Result<(), Fail> {
     let front = format!(in rt.alloc(); "{HEAD}{CURVE}")?;
-    check_refused(&rt, front.as_str(), FAULTY_LABELS)?;
-    Ok(())
+    check_refused(&rt, front.as_str(), FAULTY_LABELS)
 }
 
 // What stands behind the labels.
@@ -184,14 +178,13 @@ const FAULTY_MOVES: &[Refusal] = &[
 #[test]
 fn moves_are_refused(rt: HostRuntime) -> Result<(), Fail> {
     let front = format!(in rt.alloc(); "{HEAD}{CURVE}{LABELS}")?;
-    check_refused(&rt, front.as_str(), FAULTY_MOVES)?;
-    Ok(())
+    check_refused(&rt, front.as_str(), FAULTY_MOVES)
 }
 
 #[test]
 fn a_source_that_fails_is_told(rt: HostRuntime) -> Result<(), Fail> {
     let text = format!(in rt.alloc(); "{HEAD}{CURVE}{LABELS}{MOVES}")?;
-    let result = read(&rt, text.as_str(), &[3])?;
+    let result = read(rt.alloc(), text.as_str(), &[3])?;
     assert!(rt; matches!(result, Err(BlockFault::ReadFault)));
     Ok(())
 }
@@ -233,6 +226,6 @@ fn check_short(rt: &(impl Abort + AllocGlobal), model: &Model) -> Result<(), Fai
 
 #[test]
 fn the_short_block_has_runs(rt: HostRuntime) -> Result<(), Fail> {
-    let model = model_of(&rt, rt.alloc(), MODEL)?;
+    let model = model_of(rt.alloc(), MODEL)?;
     check_short(&rt, &model)
 }

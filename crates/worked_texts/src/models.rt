@@ -1,9 +1,9 @@
 //! Texts of models, the buildings that they describe, and their first faults.
-use crate::buildings::building;
 use building_table::{ModelFault, NameFault, Names, edit_of, read_model};
 use evac_law::{Edit, Kind, NodeName};
 use line_io::{Lines, MemSource};
 use model_text::NamedEdit;
+use sample_buildings::building_of;
 use std::alloc::{AllocError, Global};
 use std::process::Abort;
 use std::test::Fail;
@@ -96,10 +96,11 @@ const FAR: NodeName = NodeName {
     floor: 1,
 };
 
-const TWO_EXITS: &str =
+// What stands behind the start: a title, a room and two exits, to one of which a way leads.
+const TITLED: &str =
     "title Two rooms \nnode WP1.1 8 6\nnode DS1.1\nnode DS2.1\narc WP1.1 DS2.1 3 2\nend\n";
 
-// The names of the building of two exits.
+// The names of the titled building.
 fn check_names(rt: &impl Abort, names: &Names) {
     assert_eq!(rt; names.find_node(FAR), Some(2));
     assert_eq!(rt; names.find_node(NodeName { number: 2, ..ROOM }), None);
@@ -114,7 +115,7 @@ fn check_edit(rt: &impl Abort, names: &Names, named: NamedEdit, want: Result<Edi
     assert_eq!(rt; edit_of(names, named), want);
 }
 
-// Edits by names in the building of two exits.
+// Edits by names in the titled building.
 fn check_edits(rt: &impl Abort, names: &Names) {
     let rate = NamedEdit::Rate {
         from: ROOM,
@@ -138,8 +139,8 @@ fn check_edits(rt: &impl Abort, names: &Names) {
 
 #[test]
 fn buildings_find_their_names(rt: HostRuntime) -> Result<(), Fail> {
-    let text = format!(in rt.alloc(); "{START}{TWO_EXITS}")?;
-    let building = building(&rt, rt.alloc(), text.as_str())?;
+    let text = format!(in rt.alloc(); "{START}{TITLED}")?;
+    let building = building_of(rt.alloc(), text.as_str())?;
     assert_eq!(rt; building.model.nodes.len(), 3);
     check_names(&rt, &building.names);
     check_edits(&rt, &building.names);

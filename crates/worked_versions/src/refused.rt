@@ -1,18 +1,16 @@
 //! Windows and entrants that are refused, and where.
-use building_table::{ModelFault, read_model};
-use line_io::{CleanSource, Lines};
+use building_table::ModelFault;
+use sample_buildings::building_of;
 use std::alloc::{AllocError, Global};
 use std::test::Fail;
 
 // The number and the line at which a text is refused; 0 and 0 where it isn't.
-fn refused(alloc: Global, text: &str) -> Result<(u8, u32), AllocError> {
-    let mut source = CleanSource::new(alloc, text.as_bytes())?;
-    let mut lines = Lines::new(alloc)?;
-    Ok(match read_model(alloc, &mut lines, &mut source) {
+fn refused(alloc: Global, text: &str) -> (u8, u32) {
+    match building_of(alloc, text) {
         Ok(_) => (0, 0),
         Err(ModelFault::Named { code, line }) => (code.number(), line),
         Err(_) => (255, 0),
-    })
+    }
 }
 
 // The same of one room, one exit and one arc in a version, with more lines before the end, which then stands behind line 7.
@@ -20,7 +18,7 @@ fn of_model(alloc: Global, version: u32, more: &str) -> Result<(u8, u32), AllocE
     let text = format!(in alloc;
         "evacplan {version}\nperiod 5\nhorizon 20\nfloor 1 Ground\nnode WP1.1 10 3\nnode DS1.1\narc WP1.1 DS1.1 1 2\n{more}end\n"
     )?;
-    refused(alloc, text.as_str())
+    Ok(refused(alloc, text.as_str()))
 }
 
 #[test]
