@@ -2,7 +2,7 @@
 use Rattle.std.specs.Prelude.{◌≡◌, ℕ, ◌+◌, ◌*◌, ◌≤◌, length}
 use Rattle.evac_law.specs.Building.{IsValid}
 use Rattle.drill_building.specs.Drill.{drill_model}
-use Rattle.drill_building.specs.declared.rows.TheConstants.{STOREY_LIMIT}
+use Rattle.drill_building.specs.declared.limits.TheConstants.{STOREY_LIMIT}
 
 -- the model of a number of storeys is valid, with four nodes and four arcs for each
 pub record IsDrill (n : ℕ) : Type 0 where

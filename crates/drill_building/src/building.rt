@@ -6,7 +6,8 @@ ghost use Rattle.building_table.specs.Built.{IsBuilding};
 ghost use Rattle.building_table.specs.Names.{NamesFit};
 ghost use Rattle.drill_building.specs.Drill.{drill_building};
 
-use crate::rows::{STOREY_LIMIT, drill_arcs, drill_nodes};
+use crate::limits::STOREY_LIMIT;
+use crate::rows::{drill_arcs, drill_nodes};
 use building_table::{Building, Names};
 use evac_law::{Model, Rows};
 use std::alloc::{AllocError, Global};

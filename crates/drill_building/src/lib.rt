@@ -3,10 +3,11 @@
 
 mod building;
 mod laws;
+mod limits;
 mod rows;
 mod summary;
 
 pub use building::drill_model;
 pub use laws::drills_are_valid;
-pub use rows::STOREY_LIMIT;
+pub use limits::STOREY_LIMIT;
 pub use summary::{Figures, write_drill};

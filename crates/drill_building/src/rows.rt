@@ -2,11 +2,9 @@
 ghost use Rattle.std.specs.Prelude.{◌≡◌, ◌≤◌, ◌++◌, IfOk, OnOk};
 ghost use Rattle.drill_building.specs.Drill.{drill_arcs, drill_nodes, ground_nodes, node_name, room_start, stair_place, storey_arcs, storey_nodes};
 
+use crate::limits::STOREY_LIMIT;
 use evac_law::{ArcRow, Kind, NodeName, NodeRow};
 use std::alloc::{AllocError, Global};
-
-/// The most storeys of a drill.
-pub const STOREY_LIMIT: u16 = 40;
 
 // The name of a node.
 fn name(kind: Kind, number: u16, floor: u16) -> NodeName

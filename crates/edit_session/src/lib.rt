@@ -7,6 +7,7 @@
 
 mod faults;
 mod laws;
+mod limits;
 mod made;
 mod making;
 mod mend;

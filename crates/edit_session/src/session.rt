@@ -7,6 +7,7 @@ ghost use Rattle.evac_law.specs.Stands.{Fits};
 ghost use Rattle.edit_session.specs.Sessions.{BeginEnds, EditEnds, IsNetOfState, IsSolved, TrialEnds, UndoEnds, stand_of_state};
 
 use crate::faults::{BeginFault, EditRefusal, Short, UndoRefusal};
+use crate::limits::KEPT_LIMIT;
 use crate::making::make_edit;
 use crate::mend::repair_net;
 use crate::repaired::Repaired;
@@ -18,9 +19,6 @@ use lex_flow::{Outcome, settle_all};
 use residual_net::Net;
 use std::alloc::Global;
 use std::sync::ledger::Ledger;
-
-/// The most edits that are kept for undo.
-pub const KEPT_LIMIT: usize = 64;
 
 /// A model with its best plan, which is repaired after each edit. All memory that a session needs is taken when it begins.
 #[derive(Drop)]

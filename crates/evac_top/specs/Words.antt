@@ -2,7 +2,7 @@
 use Rattle.std.specs.Prelude.{ℕ, ◌≤◌, Bool, true, false, ◌&&◌, ◌||◌, if◌then◌else◌, List, [], ◌∷◌, Some, None, codes, option_map, ⊤}
 use Rattle.std.specs.declared.option.Option.{Option}
 use Rattle.std.specs.Str.{bytes_eq}
-use Rattle.drill_building.specs.declared.rows.TheConstants.{STOREY_LIMIT}
+use Rattle.drill_building.specs.declared.limits.TheConstants.{STOREY_LIMIT}
 use Rattle.model_text.specs.NameFields.{plain_within}
 use Rattle.evac_top.specs.declared.words.Flags.{Flags}
 use Rattle.evac_top.specs.declared.words.Mode.{Mode}

@@ -4,6 +4,7 @@
 #![tactic(auto)]
 
 mod laws;
+mod limits;
 mod line;
 mod model;
 

@@ -7,13 +7,11 @@ ghost use Rattle.evac_law.specs.Names.{IsName, name_text};
 ghost use Rattle.model_text.specs.Reads.{said, said_part};
 ghost use Rattle.model_writer.specs.ModelText.{HasNames, SaysNames, ended, line_end, line_with, part_line, part_text, said_line, said_text};
 
+use crate::limits::WORD_LIMIT;
 use certificate_text::put_name;
 use evac_law::NodeName;
 use line_io::{Out, Sink, TextLine, WriteFault};
 use model_text::{Part, Statement};
-
-// The most bytes of a word of the language.
-const WORD_LIMIT: usize = 8;
 
 // A line of a word and a number.
 fn of_number(word: &[u8], number: u32) -> TextLine

@@ -6,6 +6,7 @@
 #![tactic(auto)]
 
 mod answer;
+mod limits;
 mod own_block;
 mod shut_exit;
 

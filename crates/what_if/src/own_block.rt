@@ -6,6 +6,7 @@ ghost use Rattle.certificate_text.specs.Block.{IsBlockOf};
 ghost use Rattle.plan_checker.specs.Verdicts.{IsRight};
 ghost use Rattle.session_text.specs.StateTexts.{block_text};
 
+use crate::limits::BLOCK_LIMIT;
 use block_reader::{BlockFault, read_block};
 use building_table::Names;
 use certificate_text::Block;
@@ -14,9 +15,6 @@ use line_io::{CleanSource, Lines, MemSink, Out, Sink, WriteFault};
 use plan_checker::{Verdict, check};
 use session_text::write_block;
 use std::alloc::{AllocError, Global};
-
-// The most bytes of a block.
-const BLOCK_LIMIT: usize = 15_000_000;
 
 // Brings the block of a session's plan to a sink.
 fn send_block<K: Sink>(out: &mut Out, sink: &mut K, session: &Session) -> Result<(), WriteFault>
