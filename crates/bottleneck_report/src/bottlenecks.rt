@@ -105,21 +105,14 @@ fn write_holds(
     }
 }
 
-// That many zeros.
-fn zeros(alloc: Global, many: usize) -> Result<Vec<u32>, AllocError>
-    ensures { IfOk result (λ r. length r.items ≡ many) }
-{
-    vec![in alloc; 0u32; many]
-}
-
 impl Bottlenecks {
     /// A report with room for the arcs, nodes and periods of a model.
     pub fn new(alloc: Global, model: &evac_law::Model) -> Result<Bottlenecks, AllocError>
         requires { IsValid model.now }
         ensures { IfOk result (HasCounts model.now) }
     {
-        let arcs = zeros(alloc, model.arcs.len())?;
-        let holds = zeros(alloc, model.nodes.len())?;
+        let arcs = vec![in alloc; 0u32; model.arcs.len()]?;
+        let holds = vec![in alloc; 0u32; model.nodes.len()]?;
         let ends = vec![in alloc; 0u16; usize::from(model.horizon) + 1]?;
         Ok(Bottlenecks { arcs, holds, ends })
     }

@@ -1,5 +1,5 @@
 //! A net: its flow keeps conservation.
-ghost use Rattle.std.specs.Prelude.{◌≡◌, ℕ, ◌+◌, ◌-◌, ◌<◌, ◌≤◌, ◌↔◌, IfOk, IsFalse, IsTrue, length, replicate, slice_index};
+ghost use Rattle.std.specs.Prelude.{◌≡◌, ℕ, ◌+◌, ◌-◌, ◌<◌, ◌≤◌, ◌↔◌, IfOk, IsFalse, IsTrue, length, slice_index};
 ghost use Rattle.evac_law.specs.Building.{IsValid};
 ghost use Rattle.residual_net.specs.Limits.{supply_limit};
 ghost use Rattle.residual_net.specs.Site.{IsOpenEnd, IsPlace, arrival_at, exit_at, head_of, is_barred, start_of, stop_of, tail_of};
@@ -129,13 +129,6 @@ fn lower_arrivals(arrivals: &mut [u32], grid: &Grid, path: &[PathStep], people: 
     lower(arrivals, from, people);
 }
 
-// A list of zeros.
-fn zeros(alloc: Global, count: usize) -> Result<Vec<u32>, AllocError>
-    ensures { IfOk result (λ r. r.items ≡ replicate count 0) }
-{
-    vec![in alloc; 0u32; count]
-}
-
 impl Net {
     /// A net of a model, with no flow and with the limits of the model. All memory that a net needs is taken here.
     pub fn new(alloc: Global, model: &evac_law::Model) -> Result<Net, AllocError>
@@ -146,8 +139,8 @@ impl Net {
     {
         let grid = grid_of(alloc, model)?;
         let moments = model.horizon as usize + 1;
-        let arrivals = zeros(alloc, moments)?;
-        let saved_arrivals = zeros(alloc, moments)?;
+        let arrivals = vec![in alloc; 0u32; moments]?;
+        let saved_arrivals = vec![in alloc; 0u32; moments]?;
         let supplies = model.people();
         Ok(Net {
             grid,
