@@ -10,7 +10,7 @@ use Rattle.evac_law.specs.Plans.{moved, out_by}
 use Rattle.evac_law.specs.Sums.{below, moments_to, places}
 use Rattle.evac_law.specs.declared.model.Model.{Model}
 use Rattle.evac_law.specs.declared.plan.Move.{Move}
-use Rattle.evac_law.proofs.SumLemmas.{cond_nothing, split_cond, sum_below-pick, sum_by-add, sum_by-nothing, sum_by-same, sum_moments-suc, sum_moments-zero}
+use Rattle.evac_law.proofs.SumLemmas.{by_suc, by_zero, cond_nothing, split_cond, sum_below-pick, sum_by-add, sum_by-nothing, sum_by-same, sum_moments-suc, sum_moments-zero}
 
 -- the people who arrive at exits at a moment, by the moves and by the arcs
 unfoldable pub arriving : Model → List Move → ℕ → ℕ
@@ -18,12 +18,6 @@ arriving m p k = sum_by (λ v. cond (is_exit_at m (head m v.arc) && eqb (arrival
 
 unfoldable pub arriving_by : Model → List Move → ℕ → ℕ → ℕ
 arriving_by m p k a = cond (leb (arc_at m a).travel k && is_exit_at m (head m a)) (moved p a (k - (arc_at m a).travel)) 0
-
-by_zero : (e : Bool) (r w : ℕ) → cond (e && leb r 0) w 0 ≡ cond (e && eqb r 0) w 0
-by_zero e r w = grind (arith, nat_tests)
-
-by_suc : (e : Bool) (r t w : ℕ) → cond (e && leb r (suc t)) w 0 ≡ cond (e && leb r t) w 0 + cond (e && eqb r (suc t)) w 0
-by_suc e r t w = grind (arith, nat_tests)
 
 -- whoever is out by a moment arrived at one of the moments up to it
 pub out_is_sum : (m : Model) (p : List Move) (k : ℕ) → out_by m p k ≡ sum_by (arriving m p) (moments_to k)

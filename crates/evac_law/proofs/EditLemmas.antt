@@ -124,7 +124,7 @@ valid_arc m a row v l from to travel few apart =
       entrants_sorted = v.entrants_sorted;
     }
 
-rate_of : (m : Model) (a : ℕ) → IsValid m → a < length m.arcs → (arc_at m a).rate ≤ rate_limit
+pub rate_of : (m : Model) (a : ℕ) → IsValid m → a < length m.arcs → (arc_at m a).rate ≤ rate_limit
 rate_of m a v l = (All-get_or (IsArc m.nodes) m.arcs a no_arc l v.arcs).rate_fits
 
 windows_of : (m : Model) (a : ℕ) → IsValid m → a < length m.arcs → AreWindows (windows_at m a)
@@ -223,6 +223,11 @@ valid_edited m (Window a p q) v l h =
     valid_windows m a (with_window ws (window_of p q)) v l are
 valid_edited m (Unwindow a p q) v l h =
     valid_windows m a _ v l (windows_without (windows_at m a) (window_of p q) (windows_of m a v l))
+
+-- ---- an edit that is accepted
+
+pub is_edited : (m m' : Model) (e e' : Edit) → applied m e ≡ Ok (m', e') → edited m e ≡ m'
+is_edited m m' e e' h = ap (λ t. t.0) (unless-Ok (checks m e) (edited m e, inverse_of m e) (m', e') h).1
 
 pub valid_applied : (m : Model) (e : Edit) (m' : Model) (r : Result Edit EditFault) → IsValid m → IsEditOf m e
     → IfOk r (λ e'. applied m e ≡ Ok (m', e')) → OnOk r (IsValid m')

@@ -1,5 +1,5 @@
 -- An edit keeps the shape of a model.
-use Rattle.std.proofs.Common.{◌≡◌, ℕ, ◌-◌, refl, ap, ◌∙◌, subst, Result, Ok, Err, IfOk, OnOk}
+use Rattle.std.proofs.Common.{◌≡◌, ℕ, ◌-◌, refl, ◌∙◌, subst, Result, Ok, Err, IfOk, OnOk}
 use Rattle.std.proofs.Math.Seq.{map-set_same}
 use Rattle.evac_law.specs.declared.edit.Edit.{Edit}
 use Rattle.evac_law.specs.declared.edit.Edit.TheVariants.{Shut, Reopen, ShutExit, ReopenExit, Rate, Room, Shift, Enter, Leave, Window, Unwindow}
@@ -8,9 +8,9 @@ use Rattle.evac_law.specs.declared.model.ArcRow.{ArcRow}
 use Rattle.evac_law.specs.declared.model.Model.{Model}
 use Rattle.evac_law.specs.declared.model.NodeRow.{NodeRow}
 use Rattle.evac_law.specs.Building.{arc_at, no_arc, no_node, node_at, start}
-use Rattle.evac_law.specs.Edits.{applied, checks, edited, inverse_of, with_arc, with_node, with_start}
+use Rattle.evac_law.specs.Edits.{applied, edited, with_arc, with_node, with_start}
 use Rattle.evac_law.specs.Shapes.{HasSameShape, name_of_row, way_of_row}
-use Rattle.evac_law.proofs.EditLemmas.{unless-Ok}
+use Rattle.evac_law.proofs.EditLemmas.{is_edited}
 
 arc_kept : (m : Model) (a : ℕ) (row : ArcRow) → way_of_row row ≡ way_of_row (arc_at m a) → HasSameShape m (with_arc m a row)
 arc_kept m a row e = record { names = refl; ways = map-set_same way_of_row m.arcs a row no_arc e; horizon = refl; seconds = refl; entrants = refl }
@@ -45,7 +45,7 @@ edited_keeps_shape m (Unwindow a p q) = arc_kept m a _ refl
 
 pub applied_keeps_shape : (m m' : Model) (e e' : Edit) → applied m e ≡ Ok (m', e') → HasSameShape m m'
 applied_keeps_shape m m' e e' h =
-    subst (HasSameShape m) (ap (λ t. t.0) (unless-Ok (checks m e) (edited m e, inverse_of m e) (m', e') h).1) (edited_keeps_shape m e)
+    subst (HasSameShape m) (is_edited m m' e e' h) (edited_keeps_shape m e)
 
 pub shape_kept : (m : Model) (e : Edit) (m' : Model) (r : Result Edit EditFault) → IfOk r (λ e'. applied m e ≡ Ok (m', e'))
     → OnOk r (HasSameShape m m')

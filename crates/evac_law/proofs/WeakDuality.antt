@@ -14,7 +14,7 @@ use Rattle.evac_law.specs.Sums.{below, moments_to, places}
 use Rattle.evac_law.specs.Building.{IsValid, IsArc, arc_at, no_arc, is_exit_at, capacity, tail, head, arrival, rate, entry}
 use Rattle.evac_law.specs.Cuts.{Cut, leaves_cut, cut_items, entry_items, hold_items, arc_items, number_of, cut_value}
 use Rattle.evac_law.specs.Plans.{IsFeasible, moved, came, coming, left, leaving, held, out_by}
-use Rattle.evac_law.proofs.SumLemmas.{sum_by-add, sum_by-same, sum_by-nothing, sum_by-le_all, sum_by-exchange, sum_by-flat_map, All-below, sum_below-more, sum_moments-zero, sum_moments-suc, sum2, sum2-le, gather}
+use Rattle.evac_law.proofs.SumLemmas.{by_suc, by_zero, sum_by-add, sum_by-same, sum_by-nothing, sum_by-le_all, sum_by-exchange, sum_by-flat_map, All-below, sum_below-more, sum_moments-zero, sum_moments-suc, sum2, sum2-le, gather}
 
 -- ---- the value of a cut, as sums
 
@@ -52,12 +52,6 @@ value_is m x k =
     (nested _ _ (moments_to k) (places m.arcs) (λ t a. arc_part (leaves_cut m x k t a) a t (rate m a t))))
 
 -- ---- a node from moment to moment
-
-by_zero : (b : Bool) (s p : ℕ) → cond (b && leb s 0) p 0 ≡ cond (b && eqb s 0) p 0
-by_zero b s p = grind (arith, nat_tests)
-
-by_suc : (b : Bool) (s t p : ℕ) → cond (b && leb s (suc t)) p 0 ≡ cond (b && leb s t) p 0 + cond (b && eqb s (suc t)) p 0
-by_suc b s t p = grind (arith, nat_tests)
 
 pub left-zero : (m : Model) (q : List Move) (n : ℕ) → left m q n 0 ≡ leaving m q n 0
 unfolding left leaving

@@ -15,7 +15,7 @@ use Rattle.evac_law.specs.Limits.{rate_limit}
 use Rattle.evac_law.specs.Plans.{out_by}
 use Rattle.exit_study.specs.Laws.{TooSlowIsNotEnough}
 use Rattle.exit_study.specs.Rates.{IsClearedBy, IsEnough, IsLeastRate, IsNoRate, IsSearch, IsTooSlow, TellsEnough, at_rate}
-use Rattle.evac_law.proofs.EditLemmas.{valid_arc}
+use Rattle.evac_law.proofs.EditLemmas.{rate_of, valid_arc}
 use Rattle.evac_law.proofs.Optimal.{certified_is_feasible, label_cut_is_cut, out_le_out, out_stays}
 use Rattle.evac_law.proofs.WeakDuality.{out_le_value}
 use Rattle.edit_session.specs.Sessions.{IsEdited, IsNotCleared, IsSolved, IsTrial, SessionState}
@@ -124,14 +124,11 @@ cleared_is_enough m a k r valid l few h = (
 same_rate : (m : Model) (a : ℕ) → at_rate m a (arc_at m a).rate ≡ m
 same_rate m a = ap (λ (arcs : List ArcRow). record m { arcs = arcs }) (set-get_or m.arcs a no_arc)
 
-few_rate : (m : Model) (a : ℕ) → IsValid m → a < length m.arcs → (arc_at m a).rate ≤ rate_limit
-few_rate m a valid l = (All-get_or (IsArc m.nodes) m.arcs a no_arc l valid.arcs).rate_fits
-
 -- the plan that stands is in time
 pub search_from_enough : (s : SessionState) (a k : ℕ) → IsSolved s → a < length s.model.arcs → s.last ≤ k → IsSearch s.model a k 0 (arc_at s.model a).rate
 search_from_enough s a k h l soon = record {
   ordered = omega arith;
-  in_range = omega (arith, few_rate s.model a h.valid l);
+  in_range = omega (arith, rate_of s.model a h.valid l);
   too_slow = λ q e. absurd (omega (arith, e));
   enough = λ _. cleared_by (at_rate s.model a (arc_at s.model a).rate) s k (sym (same_rate s.model a)) h soon;
 }
@@ -140,7 +137,7 @@ search_from_enough s a k h l soon = record {
 pub search_from_slow : (s : SessionState) (a k : ℕ) → IsSolved s → a < length s.model.arcs → k < s.last
     → IsSearch s.model a k ((arc_at s.model a).rate + 1) (rate_limit + 1)
 search_from_slow s a k h l late = record {
-  ordered = omega (arith, few_rate s.model a h.valid l);
+  ordered = omega (arith, rate_of s.model a h.valid l);
   in_range = omega arith;
   too_slow = λ q e.
       let same : (arc_at s.model a).rate ≡ q = omega (arith, e) in

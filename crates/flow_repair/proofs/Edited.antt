@@ -176,9 +176,6 @@ still_edit m (Unwindow a f u) i = omega (arith, arcs_long m (Unwindow a f u), i)
 
 -- ---- an edit that is accepted
 
-pub is_edited : (m m' : Model) (e e' : Edit) → applied m e ≡ Ok (m', e') → edited m e ≡ m'
-is_edited m m' e e' h = ap (λ t. t.0) (unless-Ok (checks m e) (edited m e, inverse_of m e) (m', e') h).1
-
 pub valid_after : (m m' : Model) (e e' : Edit) → IsValid m → IsEditOf m e → applied m e ≡ Ok (m', e') → IsValid m'
 valid_after m m' e e' v i h =
     let done = unless-Ok (checks m e) (edited m e, inverse_of m e) (m', e') h in

@@ -9,6 +9,7 @@ use Rattle.evac_law.specs.Edits.{IsEditOf, edited}
 use Rattle.evac_law.specs.LabelTable.{LabelTable}
 use Rattle.evac_law.specs.Plans.{above, held, moved, violation}
 use Rattle.evac_law.specs.Stands.{Fits}
+use Rattle.evac_law.proofs.EditLemmas.{is_edited}
 use Rattle.evac_law.proofs.SumLemmas.{sum2-le}
 use Rattle.residual_net.specs.declared.place.Place.{Place}
 use Rattle.residual_net.specs.declared.place.Place.TheVariants.{Arc, Hold, Supply}
@@ -27,7 +28,7 @@ use Rattle.flow_repair.specs.declared.reshaped.Reshaped.{Reshaped}
 use Rattle.flow_repair.specs.Opened.{IsClosedBelow, IsLeastOpened, IsOpened, end_number}
 use Rattle.flow_repair.specs.Refit.{IsBetween, IsEditOfNet, IsRefitted, overrun}
 use Rattle.flow_repair.specs.Touched.{touches}
-use Rattle.flow_repair.proofs.Edited.{is_edited, site_edited, still_edit, untouched, valid_after}
+use Rattle.flow_repair.proofs.Edited.{site_edited, still_edit, untouched, valid_after}
 
 -- ---- closed sets
 

@@ -11,10 +11,10 @@ use Rattle.evac_law.specs.declared.model.Model.{Model}
 use Rattle.evac_law.specs.declared.plan.Move.{Move}
 use Rattle.evac_law.specs.Building.{IsValid, node_at, people}
 use Rattle.evac_law.specs.Certificates.{IsCertified, IsClearable}
-use Rattle.evac_law.specs.Edits.{IsEditOf, applied, checks, edited, inverse_of}
+use Rattle.evac_law.specs.Edits.{IsEditOf, edited}
 use Rattle.evac_law.specs.Limits.{people_limit}
 use Rattle.evac_law.specs.Stands.{Fits}
-use Rattle.evac_law.proofs.EditLemmas.{people-set, unless-Ok}
+use Rattle.evac_law.proofs.EditLemmas.{is_edited, people-set}
 use Rattle.evac_law.proofs.Optimal.{certified_is_feasible, out_le_out, out_le_people}
 use Rattle.evac_law.proofs.ShapeLemmas.{edited_keeps_shape}
 use Rattle.edit_session.specs.declared.faults.BeginFault.{BeginFault}
@@ -183,9 +183,6 @@ keeps_people m (Leave n p) i h = absurd (cc)
 keeps_people m (Window a p q) i h = refl
 keeps_people m (Unwindow a p q) i h = refl
 
-edited_is : (m m' : Model) (e e' : Edit) → applied m e ≡ Ok (m', e') → edited m e ≡ m'
-edited_is m m' e e' h = ap (λ t. t.0) (unless-Ok (checks m e) (edited m e, inverse_of m e) (m', e') h).1
-
 -- a model of the same horizon, with no more people, may be come to as well
 within_too : (h moment : ℕ) (gone : List ℕ) (m m' : Model) → IsReachable h moment gone m → m'.horizon ≡ m.horizon → (1 ≤ moment → people m' ≡ people m)
     → IsReachable h moment gone m'
@@ -209,7 +206,7 @@ edit_keeps v v' e (Ok work) n moment gone i free ends replan =
     let m = v.state.model in
     let m' = v'.state.model in
     let on = ends.0 in
-    let is = edited_is m on.edited e on.inverse on.accepted ∙ sym on.goes_on.gone in
+    let is = is_edited m on.edited e on.inverse on.accepted ∙ sym on.goes_on.gone in
     let same : m'.horizon ≡ m.horizon = sym (ap (λ (x : Model). x.horizon) is) ∙ (edited_keeps_shape m e).horizon in
     let same_people = λ (l : 1 ≤ moment). sym (ap people is) ∙ keeps_people m e i (not_of_people moment (is_of_people e) l free) in
     let here = All-head (IsReachable m.horizon moment gone) m v.state.former replan.models in

@@ -11,7 +11,7 @@ use Rattle.evac_law.specs.declared.plan.Move.{Move}
 use Rattle.evac_law.specs.Building.{arc_at, head, tail, arrival, is_exit_at, entry}
 use Rattle.evac_law.specs.Plans.{came, left, leaving, coming, moved, out_by}
 use Rattle.evac_law.specs.Sums.{moments_to}
-use Rattle.evac_law.proofs.SumLemmas.{sum_by-add, sum_by-nothing, sum_by-same, sum_by-same_all}
+use Rattle.evac_law.proofs.SumLemmas.{by_suc, sum_by-add, sum_by-nothing, sum_by-same, sum_by-same_all}
 use Rattle.replan.specs.Committed.{moves_before, moves_from}
 
 -- what two tests let through, one behind the other
@@ -147,9 +147,6 @@ left_now m r n s h =
     sum_by-same_all _ _ r (λ i d k. let v = get_or r i d in just_now (eqb (tail m v.arc) n) v.moment s v.people (h i d k))
 
 -- ---- a moment later
-
-by_suc : (b : Bool) (s t p : ℕ) → cond (b && leb s (suc t)) p 0 ≡ cond (b && leb s t) p 0 + cond (b && eqb s (suc t)) p 0
-by_suc b s t p = grind (arith, nat_tests)
 
 pub arrived_suc : (m : Model) (p : List Move) (n t : ℕ) → arrived m p n (suc t) ≡ arrived m p n t + coming m p n (suc t)
 unfolding arrived coming

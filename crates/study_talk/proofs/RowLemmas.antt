@@ -1,8 +1,8 @@
 -- The rows of the exits, one after another.
-use Rattle.std.proofs.Common.{◌≡◌, ℕ, ◌+◌, Bool, true, false, cond, List, [], ◌∷◌, ◌++◌, length, refl, set, ap, ap₂, sym, ◌∙◌, subst, append-nil, arith, Result, add-one, length-append, append_assoc, codes}
+use Rattle.std.proofs.Common.{◌≡◌, ℕ, ◌+◌, Bool, true, false, List, [], ◌∷◌, ◌++◌, length, refl, set, ap, ap₂, sym, ◌∙◌, subst, arith, Result, length-append, append_assoc, codes}
 use Rattle.std.specs.List.{All, filter, flat_map}
 use Rattle.std.proofs.lemmas.List.{map-append, set-get_or}
-use Rattle.std.proofs.lemmas.List.Elements.{All-append, All-cons, All-nil, filter-append}
+use Rattle.std.proofs.lemmas.List.Elements.{All-append, All-cons, All-nil}
 use Rattle.evac_law.specs.declared.edit.Edit.{Edit}
 use Rattle.evac_law.specs.declared.edit.Edit.TheVariants.{ShutExit}
 use Rattle.evac_law.specs.declared.model.Model.{Model}
@@ -13,9 +13,9 @@ use Rattle.evac_law.specs.Edits.{edited}
 use Rattle.evac_law.specs.LabelTable.{LabelTable}
 use Rattle.evac_law.specs.Sums.{below}
 use Rattle.evac_law.proofs.ShapeLemmas.{edited_keeps_shape}
-use Rattle.evac_law.proofs.SumLemmas.{below-suc}
 use Rattle.certificate_text.specs.BlockText.{end_line, in_lines, name_of_node}
 use Rattle.certificate_text.specs.Short.{HasSameNames}
+use Rattle.certificate_text.proofs.ExitLemmas.{filter_no, filter_yes}
 use Rattle.certificate_text.proofs.ShortLemmas.{lines-same}
 use Rattle.edit_session.specs.Sessions.{IsSolved, SessionState}
 use Rattle.exit_study.specs.Exits.{IsClearedAt, IsExitRow, without_exit}
@@ -65,25 +65,11 @@ row_as m n node l row before result a b p q e h = subst (λ (z : Model). PutsOn 
 
 -- ---- one more node
 
-filter-one : (p : ℕ → Bool) (n : ℕ) (b : Bool) → p n ≡ b → filter p (n ∷ []) ≡ cond b (n ∷ []) []
-filter-one p n true e = ap (λ (b : Bool). cond b (n ∷ []) []) e
-filter-one p n false e = ap (λ (b : Bool). cond b (n ∷ []) []) e
-
-pub filter_more : (p : ℕ → Bool) (n : ℕ) → p n ≡ true → filter p (below (n + 1)) ≡ filter p (below n) ++ n ∷ []
-filter_more p n e =
-    ap (λ (i : ℕ). filter p (below i)) (add-one n) ∙ ap (filter p) (below-suc n) ∙ filter-append p (below n) (n ∷ [])
-    ∙ ap (λ (l : List ℕ). filter p (below n) ++ l) (filter-one p n true e)
-
-pub filter_same : (p : ℕ → Bool) (n : ℕ) → p n ≡ false → filter p (below (n + 1)) ≡ filter p (below n)
-filter_same p n e =
-    ap (λ (i : ℕ). filter p (below i)) (add-one n) ∙ ap (filter p) (below-suc n) ∙ filter-append p (below n) (n ∷ [])
-    ∙ ap (λ (l : List ℕ). filter p (below n) ++ l) (filter-one p n false e) ∙ append-nil (filter p (below n))
-
 pub count_more : (p : ℕ → Bool) (n count : ℕ) → p n ≡ true → count ≡ length (filter p (below n)) → count + 1 ≡ length (filter p (below (n + 1)))
-count_more p n count e h = rw (filter_more p n e, length-append) (omega (arith, h))
+count_more p n count e h = rw (filter_yes p n e, length-append) (omega (arith, h))
 
 pub count_same : (p : ℕ → Bool) (n count : ℕ) → p n ≡ false → count ≡ length (filter p (below n)) → count ≡ length (filter p (below (n + 1)))
-count_same p n count e h = h ∙ ap length (sym (filter_same p n e))
+count_same p n count e h = h ∙ ap length (sym (filter_no p n e))
 
 pub rows_none : (m : Model) → AreRows m (filter (is_exit_at m) (below 0)) []
 rows_none m = record { exits = refl; right = All-nil (λ (r : Row). IsExitRow m r.exit r.cut r.outcome) }
@@ -94,13 +80,13 @@ one m row right = let P : Row → Type 0 = λ r. IsExitRow m r.exit r.cut r.outc
 pub rows_more : (m : Model) (n : ℕ) (rows : List Row) (row : Row) → AreRows m (filter (is_exit_at m) (below n)) rows → is_exit_at m n ≡ true → row.exit ≡ n
     → IsExitRow m row.exit row.cut row.outcome → AreRows m (filter (is_exit_at m) (below (n + 1))) (rows ++ row ∷ [])
 rows_more m n rows row h e is right = record {
-  exits = map-append (λ (r : Row). r.exit) rows (row ∷ []) ∙ ap₂ (λ (x y : List ℕ). x ++ y) h.exits (ap (λ (i : ℕ). i ∷ []) is) ∙ sym (filter_more (is_exit_at m) n e);
+  exits = map-append (λ (r : Row). r.exit) rows (row ∷ []) ∙ ap₂ (λ (x y : List ℕ). x ++ y) h.exits (ap (λ (i : ℕ). i ∷ []) is) ∙ sym (filter_yes (is_exit_at m) n e);
   right = All-append (λ (r : Row). IsExitRow m r.exit r.cut r.outcome) rows (row ∷ []) h.right (one m row right);
 }
 
 pub rows_same : (m : Model) (n : ℕ) (rows : List Row) → AreRows m (filter (is_exit_at m) (below n)) rows → is_exit_at m n ≡ false
     → AreRows m (filter (is_exit_at m) (below (n + 1))) rows
-rows_same m n rows h e = subst (λ (l : List ℕ). AreRows m l rows) (sym (filter_same (is_exit_at m) n e)) h
+rows_same m n rows h e = subst (λ (l : List ℕ). AreRows m l rows) (sym (filter_no (is_exit_at m) n e)) h
 
 -- the row of one more exit was put behind those before it
 pub rows_put : {T E : Type 0} (m of : Model) (n : ℕ) (head : List ℕ) (rows : List Row) (before result : Result T E) (h a b : Option (List ℕ)) (t p q : List ℕ)
