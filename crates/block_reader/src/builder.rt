@@ -193,7 +193,7 @@ impl BlockBuilder {
             && label <= cleared
             && follows_run(
                 model,
-                self.runs.as_slice().last().copied(),
+                self.runs.last().copied(),
                 node,
                 moment as u16,
                 label as u16,
@@ -234,7 +234,7 @@ impl BlockBuilder {
         requires draft { IsDraft model.now self.now }
         ensures { result ≡ is_full model.now self.now }
     {
-        let behind = behind_run(self.runs.as_slice().last().copied());
+        let behind = behind_run(self.runs.last().copied());
         self.is_curve() && (self.cleared == 0 || only_exits(model, behind, model.node_count()))
     }
 
@@ -248,7 +248,7 @@ impl BlockBuilder {
         (!self.moves.is_empty() || self.is_full(model))
             && moment <= u32::from(model.horizon)
             && 0 < people
-            && follows_move(self.moves.as_slice().last().copied(), moment as u16, arc)
+            && follows_move(self.moves.last().copied(), moment as u16, arc)
     }
 
     fn take_move(

@@ -62,7 +62,7 @@ pub(crate) fn finish(
     requires draft { IsDraft model.now builder }
     ensures { IfOk result (λ block. IsStated model.now builder block) }
 {
-    let labels = labels_of(alloc, model, builder.cleared, builder.runs.as_slice())?;
+    let labels = labels_of(alloc, model, builder.cleared, &builder.runs)?;
     let BlockBuilder {
         stage: _,
         index,

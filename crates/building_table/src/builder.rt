@@ -147,7 +147,7 @@ impl Builder {
     fn has_floor(&self, floor: u16) -> bool
         ensures { result ≡ holds_floor self.now floor }
     {
-        self.floors.as_slice().contains(&floor)
+        self.floors.contains(&floor)
     }
 
     fn node_place(&self, name: NodeName) -> Option<u32>
@@ -205,7 +205,7 @@ impl Builder {
     fn has_exit(&self) -> bool
         ensures { result ≡ list_any (λ n. is_exit n.name.kind) self.now.nodes }
     {
-        has_exit_in(self.nodes.as_slice())
+        has_exit_in(&self.nodes)
     }
 
     // The seconds and the horizon, where the model may end.

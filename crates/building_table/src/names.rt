@@ -103,7 +103,7 @@ impl Names {
         ensures floors { result.now ≡ self.now.floors }
         ensures texts { length result.now ≡ length self.now.texts }
     {
-        self.floors.as_slice()
+        &self.floors
     }
 
     /// The text of the floor at a place.
@@ -111,7 +111,7 @@ impl Names {
         requires { place < length self.now.floors }
         ensures { slice_get self.now.texts place ≡ Some result.now }
     {
-        self.texts[place].as_slice()
+        &self.texts[place]
     }
 
     /// The text of the title, where one was given.

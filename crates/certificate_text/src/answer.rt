@@ -89,7 +89,7 @@ fn write_outs<K: Sink, F: Standing>(
     let arcs = arcs_out(model);
     let mut people = 0u64;
     for period in 0..cleared + 1 {
-        people += arriving(model, standing, arcs.as_slice(), period);
+        people += arriving(model, standing, &arcs, period);
         write_out(out, sink, period, people)?;
     }
     Ok(())
@@ -288,7 +288,7 @@ pub fn write_moves<K: Sink, F: Standing>(
     ensures cause { HasCause (K.faults sink.old) (K.faults sink.new) result }
 {
     let names = name_texts(model);
-    write_named_moves(out, sink, model, names.as_slice(), standing)
+    write_named_moves(out, sink, model, &names, standing)
 }
 
 fn write_lines<K: Sink, F: Standing>(
@@ -314,8 +314,8 @@ fn write_lines<K: Sink, F: Standing>(
     write_people(out, sink, people)?;
     write_cleared(out, sink, cleared)?;
     write_outs(out, sink, model, standing, cleared)?;
-    write_labels(out, sink, model, names.as_slice(), labels, cleared)?;
-    write_named_moves(out, sink, model, names.as_slice(), standing)?;
+    write_labels(out, sink, model, &names, labels, cleared)?;
+    write_named_moves(out, sink, model, &names, standing)?;
     write_end(out, sink)
 }
 

@@ -80,7 +80,7 @@ impl Clearing {
     pub fn floor_clear(&self, index: &FloorIndex, floor: u16) -> Option<u16>
         ensures { result ≡ latest (clearing_moment self.now) (listed index.now floor) }
     {
-        latest(self.moments.as_slice(), index.nodes_of(floor))
+        latest(&self.moments, index.nodes_of(floor))
     }
 
     /// The longest way to an exit of those who would meet nobody.

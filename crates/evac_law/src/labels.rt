@@ -104,8 +104,6 @@ impl Labels {
         requires horizon { self.old.horizon ≡ other.now.horizon }
         ensures { self.new ≡ other.now }
     {
-        self.labels
-            .as_mut_slice()
-            .copy_from_slice(other.labels.as_slice());
+        self.labels.as_mut_slice().copy_from_slice(&other.labels);
     }
 }

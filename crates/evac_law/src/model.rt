@@ -95,7 +95,7 @@ impl ArcRow {
     pub fn overlaps(&self, window: Window) -> bool
         ensures { result ≡ list_any (λ v. overlaps v window) self.now.windows.items }
     {
-        overlap(self.windows.as_slice(), window)
+        overlap(&self.windows, window)
     }
 
     /// Adds a window in the order of first moments.
@@ -104,7 +104,7 @@ impl ArcRow {
         requires { length self.old.windows.items < window_limit }
         ensures { self.new ≡ record self.old { windows = record { items = with_window self.old.windows.items window } } }
     {
-        let place = place_for(self.windows.as_slice(), window);
+        let place = place_for(&self.windows, window);
         self.windows.insert(place, window);
     }
 
@@ -194,7 +194,7 @@ impl Model {
         ensures { result ≡ rate self.now arc moment }
     {
         let row = self.arc(arc);
-        if row.shut || self.node(row.to).shut || is_closed(row.windows.as_slice(), moment) {
+        if row.shut || self.node(row.to).shut || is_closed(&row.windows, moment) {
             0
         } else {
             row.rate

@@ -47,7 +47,7 @@ fn main(rt: HostRuntime) -> ExitCode {
     let mut sink = StdSink::new(io::writer(&rt));
     let status = run_uncounted::<_, _, Brand>(
         rt.alloc(),
-        words.as_slice(),
+        &words,
         &mut source,
         &mut sink,
         Blank::new(1),

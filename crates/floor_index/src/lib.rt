@@ -82,8 +82,8 @@ impl FloorIndex {
     pub fn nodes_of(&self, floor: u16) -> &[u32]
         ensures { result.now ≡ listed self.now floor }
     {
-        match place_of(self.floors.as_slice(), floor) {
-            Some(place) => self.lists[place].as_slice(),
+        match place_of(&self.floors, floor) {
+            Some(place) => &self.lists[place],
             None => &[],
         }
     }

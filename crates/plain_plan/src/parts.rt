@@ -71,7 +71,7 @@ pub fn rate(model: &Model, arc: u32, moment: u64) -> u32
         return 0;
     }
     let row = model.arc(arc);
-    if row.shut || node_at(model, row.to).shut || is_closed(row.windows.as_slice(), moment) {
+    if row.shut || node_at(model, row.to).shut || is_closed(&row.windows, moment) {
         0
     } else {
         row.rate

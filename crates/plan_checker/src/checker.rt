@@ -31,13 +31,13 @@ fn first_failing(alloc: Global, model: &Model, block: &Block) -> Result<Verdict,
         return Ok(Verdict::HeldBroken { moment, node });
     }
     let curve = curve_of(alloc, model, moves, last)?;
-    if !is_all_out(model, moves, last, curve.as_slice()) {
+    if !is_all_out(model, moves, last, &curve) {
         return Ok(Verdict::NotAllOut);
     }
-    if let Some(period) = first_wrong_out(curve.as_slice(), block.outs.as_slice()) {
+    if let Some(period) = first_wrong_out(&curve, block.outs.as_slice()) {
         return Ok(Verdict::OutWrong { period });
     }
-    if let Some(period) = first_wrong_cut(alloc, model, &block.labels, curve.as_slice(), last)? {
+    if let Some(period) = first_wrong_cut(alloc, model, &block.labels, &curve, last)? {
         return Ok(Verdict::CutWrong { period });
     }
     Ok(Verdict::Yes)

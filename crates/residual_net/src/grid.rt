@@ -110,7 +110,7 @@ impl Grid {
     pub fn cells(&self) -> &[Cell]
         ensures { result.now ≡ self.now.cells }
     {
-        self.cells.as_slice()
+        &self.cells
     }
 
     /// Whether a node is an exit.
@@ -118,7 +118,7 @@ impl Grid {
         requires { node < self.now.site.shape.nodes }
         ensures { result ≡ exit_at self.now.site node }
     {
-        self.exits.as_slice()[node as usize]
+        self.exits[node as usize]
     }
 
     /// The traversal time of an arc.
@@ -126,7 +126,7 @@ impl Grid {
         requires { arc < length self.now.site.shape.ends }
         ensures { arrival_at self.now.site arc 0 ≡ result }
     {
-        self.travels.as_slice()[arc as usize]
+        self.travels[arc as usize]
     }
 
     /// When people arrive who enter an arc at a moment.
@@ -256,22 +256,18 @@ impl Grid {
     pub fn save(&mut self)
         ensures { self.new ≡ with_saved self.old }
     {
-        write_saved(&mut self.saved, self.cells.as_slice(), self.is_saved);
+        write_saved(&mut self.saved, &self.cells, self.is_saved);
         self.is_saved = true;
-        self.saved
-            .as_mut_slice()
-            .copy_from_slice(self.cells.as_slice());
+        self.saved.as_mut_slice().copy_from_slice(&self.cells);
     }
 
     /// Gives back the cells that were saved.
     pub fn restore(&mut self)
         ensures { self.new ≡ saved_of self.old }
     {
-        write_saved(&mut self.saved, self.cells.as_slice(), self.is_saved);
+        write_saved(&mut self.saved, &self.cells, self.is_saved);
         self.is_saved = true;
-        self.cells
-            .as_mut_slice()
-            .copy_from_slice(self.saved.as_slice());
+        self.cells.as_mut_slice().copy_from_slice(&self.saved);
     }
 
     /// Where a place leads from.

@@ -58,7 +58,7 @@ impl Path {
     pub fn steps(&self) -> &[PathStep]
         ensures { result.now ≡ self.now.steps }
     {
-        self.steps.as_slice()
+        &self.steps
     }
 
     /// Turns the order of the steps round.

@@ -118,7 +118,7 @@ fn opening_of(model: &Model, kind: Kind, number: u32) -> Option<Opening>
     match kind {
         Kind::Arc => {
             let row = model.arc(number);
-            if !row.windows.as_slice().is_empty() {
+            if !row.windows.is_empty() {
                 return None;
             }
             let moments = (model.horizon + 1).saturating_sub(row.travel);

@@ -60,7 +60,7 @@ impl<T: Copy + Drop> Pile<T> {
     pub fn top(&self) -> Option<T>
         ensures { result ≡ top_of self.now.list }
     {
-        self.items.as_slice().last().copied()
+        self.items.last().copied()
     }
 
     /// How many things there are.
@@ -75,7 +75,6 @@ impl<T: Copy + Drop> Pile<T> {
         requires { number < length self.now.list }
         ensures { result ≡ slice_index_or self.now.list number result }
     {
-        let items = self.items.as_slice();
-        items[items.len() - 1 - number]
+        self.items[self.items.len() - 1 - number]
     }
 }

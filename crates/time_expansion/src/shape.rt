@@ -59,7 +59,7 @@ impl Shape {
     pub fn ends(&self) -> &[Ends]
         ensures { result.now ≡ self.now.ends }
     {
-        self.ends.as_slice()
+        &self.ends
     }
 
     /// The last moment.

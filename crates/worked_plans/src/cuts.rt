@@ -225,5 +225,5 @@ fn office_runs(alloc: Global) -> Result<Vec<LabelRun>, AllocError> {
 #[test]
 fn the_plan_of_an_office(rt: HostRuntime) -> Result<(), Fail> {
     let runs = office_runs(rt.alloc())?;
-    check_cuts(&rt, OFFICE, runs.as_slice(), OFFICE_OUTS)
+    check_cuts(&rt, OFFICE, &runs, OFFICE_OUTS)
 }

@@ -43,7 +43,7 @@ fn value(
     assert!(rt; k <= model.horizon);
     let items = cut_items(rt.alloc(), model, labels, k)?;
     assert!(rt; items.len() < 1000);
-    Ok(sum_of_items(items.as_slice()))
+    Ok(sum_of_items(&items))
 }
 
 // At each period the curve has as many people out as the plan; before the last one the cut of the labels is worth as many.

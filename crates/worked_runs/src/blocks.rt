@@ -136,7 +136,7 @@ fn check_solved(rt: &(impl Abort + AllocGlobal), sink: &mut MemSink) -> Result<(
         0
     );
     let input = with_block(rt.alloc(), sink.bytes())?;
-    let checked = check_right(rt, input.as_slice());
+    let checked = check_right(rt, &input);
     drop(input);
     checked
 }

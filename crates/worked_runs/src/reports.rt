@@ -155,7 +155,7 @@ fn words_of<'a>(alloc: Global, text: &'a str) -> Result<Vec<&'a str>, AllocError
 // These words are refused.
 fn check_words(rt: &(impl Abort + AllocGlobal), text: &str) -> Result<(), Fail> {
     let words = words_of(rt.alloc(), text)?;
-    let checked = check(rt, words.as_slice(), ONE_ROOM, 2, "refused 40 0\n");
+    let checked = check(rt, &words, ONE_ROOM, 2, "refused 40 0\n");
     drop(words);
     checked
 }

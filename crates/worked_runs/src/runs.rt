@@ -43,7 +43,7 @@ fn status_of<S: Source, K: Sink>(
     sink: &mut K,
 ) -> Result<u8, AllocError> {
     let list = listed(alloc, words)?;
-    let status = run_uncounted::<_, _, Brand>(alloc, list.as_slice(), source, sink, Blank::new(1));
+    let status = run_uncounted::<_, _, Brand>(alloc, &list, source, sink, Blank::new(1));
     drop(list);
     Ok(status)
 }

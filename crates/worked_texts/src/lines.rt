@@ -100,7 +100,7 @@ fn bounds_lines(rt: HostRuntime) -> Result<(), Fail> {
     ] {
         let mut input = vec![in rt.alloc(); b'x'; count]?;
         input.extend_from_slice(end.as_bytes())?;
-        let mut source = CleanSource::new(rt.alloc(), input.as_slice())?;
+        let mut source = CleanSource::new(rt.alloc(), &input)?;
         let text = spelled(rt.alloc(), &mut source)?;
         let place = if want == b'|' { 200 } else { 0 };
         assert_eq!(rt; text.get(place).copied(), Some(want), "{count}");
