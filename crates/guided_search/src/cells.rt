@@ -1,82 +1,89 @@
-//! Cells by their numbers: a cell past the last one has no room.
+//! Cells by their numbers.
+ghost use Rattle.std.specs.Prelude.{◌≡◌, ◌<◌, length};
 
-use crate::lists::{number, stretch};
 use crate::sizes::Sizes;
 use crate::step::Step;
 use residual_net::Cell;
 
+/// How many more people may enter a cell.
+pub fn room_in(cell: Cell) -> u32 {
+    cell.limit.saturating_sub(cell.flow)
+}
+
 /// How many more people may go over a step.
-pub fn room(cells: &[Cell], step: Step) -> u32 {
-    let at = step.cell as usize;
-    if at >= cells.len() {
-        return 0;
-    }
-    let here = cells[at];
-    if step.back {
-        here.flow
-    } else {
-        here.limit.saturating_sub(here.flow)
-    }
+pub fn room(cells: &[Cell], step: Step) -> u32
+    requires { step.cell < length cells.now }
+{
+    let here = cells[step.cell as usize];
+    if step.back { here.flow } else { room_in(here) }
 }
 
 /// Whether somebody may go over a step.
-pub fn is_open(cells: &[Cell], step: Step) -> bool {
-    is_cell_open(cells, step.cell, step.back)
+pub fn is_open(cells: &[Cell], step: Step) -> bool
+    requires { step.cell < length cells.now }
+{
+    is_cell_open(cells[step.cell as usize], step.back)
 }
 
 /// Whether somebody may go over a step back again: from where it leads to where it begins.
-pub fn is_open_back(cells: &[Cell], step: Step) -> bool {
-    is_cell_open(cells, step.cell, !step.back)
+pub fn is_open_back(cells: &[Cell], step: Step) -> bool
+    requires { step.cell < length cells.now }
+{
+    is_cell_open(cells[step.cell as usize], !step.back)
 }
 
 // Whether somebody may go over a cell, forwards or backwards.
-fn is_cell_open(cells: &[Cell], cell: u32, back: bool) -> bool {
-    let at = cell as usize;
-    if at >= cells.len() {
-        return false;
-    }
-    let here = cells[at];
+fn is_cell_open(cell: Cell, back: bool) -> bool {
     if back {
-        here.flow > 0
+        cell.flow > 0
     } else {
-        here.flow < here.limit
+        cell.flow < cell.limit
     }
 }
 
 /// Sends people over a step.
-pub fn send(cells: &mut [Cell], step: Step, people: u32) {
-    let at = step.cell as usize;
-    if at < cells.len() {
-        let flow = cells[at].flow;
-        cells[at].flow = if step.back {
-            flow.wrapping_sub(people)
-        } else {
-            flow.wrapping_add(people)
-        };
-    }
+pub fn send(cells: &mut [Cell], step: Step, people: u32)
+    requires { step.cell < length cells.old }
+{
+    let here = &mut cells[step.cell as usize];
+    here.flow = if step.back {
+        here.flow.saturating_sub(people)
+    } else {
+        here.flow.saturating_add(people)
+    };
 }
 
 /// How many people who come into a node at a moment aren't sent yet.
-pub fn unsent(cells: &[Cell], sizes: Sizes, node: u32, moment: u32) -> u32 {
-    room(cells, Step::supply(sizes, node, moment))
+pub fn unsent(cells: &[Cell], sizes: Sizes, node: u32, moment: u32) -> u32
+    requires cells { length cells.now ≡ sizes.cells }
+    requires node { node < sizes.nodes }
+    requires moment { moment < sizes.moments }
+{
+    let supply = sizes.supply(sizes.pair(node, moment));
+    room_in(cells[supply as usize])
 }
 
 /// The cells of the people who come into a node.
-pub fn supplies_of(cells: &[Cell], sizes: Sizes, node: u32) -> &[Cell] {
-    stretch(cells, sizes.cell(sizes.supplies(node), 0), sizes.moments)
+pub fn supplies_of(cells: &[Cell], sizes: Sizes, node: u32) -> &[Cell]
+    requires cells { length cells.now ≡ sizes.cells }
+    requires node { node < sizes.nodes }
+    ensures { length result.now ≡ sizes.moments }
+{
+    let first = sizes.supply(sizes.first_pair(node)) as usize;
+    &cells[first..first + sizes.moments as usize]
 }
 
 // The cells of the people who come in.
-fn supplies(cells: &[Cell], sizes: Sizes) -> &[Cell] {
-    stretch(
-        cells,
-        sizes.cell(sizes.supplies(0), 0),
-        number(sizes.pairs()),
-    )
+fn supplies(cells: &[Cell], sizes: Sizes) -> &[Cell]
+    requires { length cells.now ≡ sizes.cells }
+{
+    &cells[sizes.supply(0) as usize..]
 }
 
 /// How many people are sent.
-pub fn count_sent(cells: &[Cell], sizes: Sizes) -> u32 {
+pub fn count_sent(cells: &[Cell], sizes: Sizes) -> u32
+    requires { length cells.now ≡ sizes.cells }
+{
     let mut people = 0u32;
     for cell in supplies(cells, sizes) {
         people = people.saturating_add(cell.flow);
@@ -85,7 +92,9 @@ pub fn count_sent(cells: &[Cell], sizes: Sizes) -> u32 {
 }
 
 /// Whether people come in and all of them are sent.
-pub fn is_all_sent(cells: &[Cell], sizes: Sizes) -> bool {
+pub fn is_all_sent(cells: &[Cell], sizes: Sizes) -> bool
+    requires { length cells.now ≡ sizes.cells }
+{
     let mut some = false;
     for cell in supplies(cells, sizes) {
         if cell.flow < cell.limit {
@@ -94,4 +103,13 @@ pub fn is_all_sent(cells: &[Cell], sizes: Sizes) -> bool {
         some = some || cell.limit > 0;
     }
     some
+}
+
+/// The limits of some cells, added up.
+pub fn sum_limits(cells: &[Cell]) -> u32 {
+    let mut people = 0u32;
+    for cell in cells {
+        people = people.saturating_add(cell.limit);
+    }
+    people
 }

@@ -13,11 +13,14 @@
 //! what no arrival can be come to from, once as many people are sent as can be.
 #![tactic(auto)]
 
+mod arc_step;
 mod budget;
 mod cells;
 mod distances;
 mod global_relabelling;
+mod links;
 mod lists;
+mod numbers;
 mod partial_path;
 mod path_finder;
 mod reach;
@@ -25,11 +28,14 @@ mod relabelled;
 mod residual;
 mod shortest_paths;
 mod sizes;
+mod star;
+mod stays;
 mod step;
 mod surplus;
 mod target_flow;
 mod total_flow;
 mod tuning;
+mod way;
 mod ways;
 
 pub use path_finder::PathFinder;

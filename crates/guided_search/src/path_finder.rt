@@ -1,10 +1,12 @@
 //! Who guesses at the next path: a search for shortest paths where people are unsent, else a target flow.
-ghost use Rattle.std.specs.Prelude.{◌≡◌};
+ghost use Rattle.std.specs.Prelude.{◌≡◌, ◌+◌, ◌<◌, IsTrue, length, vec_len};
+ghost use Rattle.std.specs.Coded.{Coded-set};
 
 use crate::budget::Budget;
 use crate::cells::{count_sent, is_all_sent};
 use crate::reach::Reach;
 use crate::shortest_paths::ShortestPaths;
+use crate::sizes::Sizes;
 use crate::target_flow::TargetFlow;
 use crate::total_flow::TotalFlow;
 use crate::tuning::MISS_LIMIT;
@@ -33,6 +35,8 @@ enum Phase {
 /// Guesses at augmenting paths, and at a cut.
 #[derive(Drop)]
 pub struct PathFinder {
+    /// How large the building is.
+    sizes: Sizes,
     /// The search for shortest paths.
     shortest_paths: ShortestPaths,
     /// The flow that the net is led over to where shortest paths are dear.
@@ -47,6 +51,10 @@ pub struct PathFinder {
     phase: Phase,
     /// What the search for shortest paths may cost.
     budget: Budget,
+    ghost paths_fit: { shortest_paths.sizes ≡ sizes } by { Coded-set sizes-code shortest_paths.sizes sizes },
+    ghost target_fits: { target_flow.sizes ≡ sizes } by { Coded-set sizes-code target_flow.sizes sizes },
+    ghost total_fits: { total_flow.sizes ≡ sizes } by { Coded-set sizes-code total_flow.sizes sizes },
+    ghost reach_fits: { reach.sizes ≡ sizes } by { Coded-set sizes-code reach.sizes sizes },
 }
 
 // Whether a moment follows another.
@@ -54,17 +62,43 @@ fn follows(moment: u16, before: u16) -> bool {
     moment as u32 == before as u32 + 1
 }
 
+// Whether cells are those of a building. A net of another one gets no hint.
+fn fits(cells: &[Cell], sizes: Sizes) -> bool
+    ensures { IsTrue result → (length cells.now ≡ sizes.cells) }
+{
+    cells.len() == sizes.cells as usize
+}
+
+// Whether there are as many nodes in a table of labels as in a building.
+fn nodes_fit(labels: &Labels, sizes: Sizes) -> bool
+    ensures { IsTrue result → (labels.now.nodes ≡ sizes.nodes) }
+{
+    labels.nodes() == sizes.nodes
+}
+
+// Whether there are as many moments in a table of labels as in a building.
+fn horizon_fits(labels: &Labels, sizes: Sizes) -> bool
+    ensures { IsTrue result → (labels.now.horizon + 1 ≡ sizes.moments) }
+{
+    labels.horizon() as u32 + 1 == sizes.moments
+}
+
 impl PathFinder {
     /// A path finder for a building.
     pub fn new(alloc: Global, model: &Building) -> Result<PathFinder, AllocError> {
         let shortest_paths = ShortestPaths::new(alloc, model)?;
         let sizes = shortest_paths.sizes();
+        let target_flow = TargetFlow::new(alloc, sizes)?;
+        let total_flow = TotalFlow::new(alloc, sizes)?;
+        let reach = Reach::new(alloc, sizes)?;
+        let legs = Vec::with_capacity(alloc, sizes.pairs as usize + 1)?;
         Ok(PathFinder {
+            sizes,
             shortest_paths,
-            target_flow: TargetFlow::new(alloc, sizes)?,
-            total_flow: TotalFlow::new(alloc, sizes)?,
-            reach: Reach::new(alloc, sizes)?,
-            legs: Vec::with_capacity(alloc, sizes.pairs().saturating_add(1))?,
+            target_flow,
+            total_flow,
+            reach,
+            legs,
             phase: Phase::Unknown,
             budget: Budget::Unlimited,
         })
@@ -82,24 +116,42 @@ impl PathFinder {
         ensures horizon { labels.new.horizon ≡ labels.old.horizon }
     {
         let cells = net.cells();
-        if is_all_sent(cells, self.shortest_paths.sizes()) || self.let_all_out(cells) {
+        let sizes = self.sizes;
+        if !fits(cells, sizes) || !nodes_fit(labels, sizes) || !horizon_fits(labels, sizes) {
             return false;
         }
-        self.target_flow.seek(&mut self.shortest_paths, cells);
-        let residual = self.target_flow.residual(self.shortest_paths.ways());
-        self.reach.find(residual);
+        if is_all_sent(cells, sizes) || self.let_all_out(cells) || !self.reach_all(cells) {
+            return false;
+        }
         self.reach.label(labels);
         true
     }
 
     // Whether the flow of all moments together lets everybody out.
-    fn let_all_out(&mut self, cells: &[Cell]) -> bool {
+    fn let_all_out(&mut self, cells: &[Cell]) -> bool
+        requires { length cells.now ≡ self.old.sizes.cells }
+        ensures { self.new.sizes ≡ self.old.sizes }
+    {
         self.shortest_paths.sort(cells);
         self.total_flow.let_all_out(
             cells,
             self.shortest_paths.ways(),
             self.shortest_paths.earliest(),
         )
+    }
+
+    // Finds the pairs from which an arrival can be come to once as many people are sent as can be. Whether there was memory for them.
+    fn reach_all(&mut self, cells: &[Cell]) -> bool
+        requires { length cells.now ≡ self.old.sizes.cells }
+        ensures sizes { self.new.sizes ≡ self.old.sizes }
+        ensures marks { IsTrue result → (vec_len self.new.reach.marks ≡ self.new.sizes.pairs) }
+    {
+        self.target_flow.seek(&mut self.shortest_paths, cells);
+        if !self.target_flow.is_sought() {
+            return false;
+        }
+        let residual = self.target_flow.residual(self.shortest_paths.ways());
+        self.reach.find(residual)
     }
 
     /// Whether everybody is sent and nothing is known yet, so that it is worth a search whether anybody can arrive sooner. Until
@@ -111,7 +163,7 @@ impl PathFinder {
                     return false;
                 }
             Phase::Waiting(moment) if follows(k, moment) => true,
-            _ => is_all_sent(net.cells(), self.shortest_paths.sizes()),
+            _ => fits(net.cells(), self.sizes) && is_all_sent(net.cells(), self.sizes),
         };
         self.phase = if sent {
             Phase::Waiting(k)
@@ -124,6 +176,21 @@ impl PathFinder {
     /// Begins with an arrival moment.
     pub fn begin(&mut self, net: &Net, labels: &Labels, k: u16) {
         let cells = net.cells();
+        let sizes = self.sizes;
+        if !fits(cells, sizes) || !nodes_fit(labels, sizes) || !horizon_fits(labels, sizes) {
+            self.phase = Phase::Unknown;
+        } else if (k as u32) < sizes.moments {
+            self.begin_within(cells, labels, k);
+        }
+    }
+
+    // Begins with an arrival moment up to the horizon.
+    fn begin_within(&mut self, cells: &[Cell], labels: &Labels, k: u16)
+        requires cells { length cells.now ≡ self.old.sizes.cells }
+        requires nodes { labels.now.nodes ≡ self.old.sizes.nodes }
+        requires horizon { labels.now.horizon + 1 ≡ self.old.sizes.moments }
+        requires moment { k < self.old.sizes.moments }
+    {
         self.phase = match self.phase {
             Phase::ShortestPaths { moment, missed } if follows(k, moment) => {
                 self.go_on(cells, k, missed)
@@ -132,13 +199,26 @@ impl PathFinder {
             _ => self.start(cells, labels, k),
         };
         match self.phase {
-            Phase::TargetFlow(_) => self.target_flow.begin(k),
+            Phase::TargetFlow(_) => self.begin_target(k as u32),
             _ => self.shortest_paths.begin(k as u32),
         }
     }
 
+    // Begins with an arrival moment of a target flow.
+    fn begin_target(&mut self, k: u32)
+        requires { k < self.old.sizes.moments }
+        ensures { self.new.sizes ≡ self.old.sizes }
+    {
+        if self.target_flow.is_sought() {
+            self.target_flow.begin(k);
+        }
+    }
+
     // Goes on with shortest paths, unless others sent people too often.
-    fn go_on(&mut self, cells: &[Cell], k: u16, missed: u32) -> Phase {
+    fn go_on(&mut self, cells: &[Cell], k: u16, missed: u32) -> Phase
+        requires { length cells.now ≡ self.old.sizes.cells }
+        ensures { self.new.sizes ≡ self.old.sizes }
+    {
         if missed < MISS_LIMIT {
             return Phase::ShortestPaths { moment: k, missed };
         }
@@ -147,16 +227,24 @@ impl PathFinder {
     }
 
     // Starts with a net of which nothing is known.
-    fn start(&mut self, cells: &[Cell], labels: &Labels, k: u16) -> Phase {
+    fn start(&mut self, cells: &[Cell], labels: &Labels, k: u16) -> Phase
+        requires cells { length cells.now ≡ self.old.sizes.cells }
+        requires nodes { labels.now.nodes ≡ self.old.sizes.nodes }
+        requires horizon { labels.now.horizon + 1 ≡ self.old.sizes.moments }
+        ensures { self.new.sizes ≡ self.old.sizes }
+    {
         self.shortest_paths.sort(cells);
-        let sizes = self.shortest_paths.sizes();
-        if is_all_sent(cells, sizes) {
+        if is_all_sent(cells, self.sizes) {
             self.target_flow.seek(&mut self.shortest_paths, cells);
             return Phase::TargetFlow(k);
         }
         self.shortest_paths.renew(cells, labels, k);
-        let sent = count_sent(cells, sizes);
-        self.budget = Budget::new(sizes.pairs(), sent, self.shortest_paths.unsent());
+        let sent = count_sent(cells, self.sizes);
+        self.budget = Budget::new(
+            self.sizes.pairs as usize,
+            sent,
+            self.shortest_paths.unsent(),
+        );
         Phase::ShortestPaths {
             moment: k,
             missed: 0,
@@ -172,23 +260,31 @@ impl PathFinder {
             let missed = missed.saturating_add(1);
             self.phase = Phase::ShortestPaths { moment, missed };
         }
-        self.shortest_paths.count(net.cells());
+        if fits(net.cells(), self.sizes) {
+            self.shortest_paths.count(net.cells());
+        }
     }
 
     /// Searches on to people who can be sent. Whether there are any.
     pub fn find(&mut self, net: &Net) -> bool {
         let cells = net.cells();
+        if !fits(cells, self.sizes) {
+            return false;
+        }
         match self.phase {
             Phase::ShortestPaths { moment, .. } => {
                 self.find_shortest(cells) || self.budget.left() == 0 && self.turn(cells, moment)
             }
-            Phase::TargetFlow(_) => self.target_flow.find(self.shortest_paths.ways(), cells),
+            Phase::TargetFlow(_) => self.find_target(cells),
             Phase::Unknown | Phase::Waiting(_) => false,
         }
     }
 
     // Searches on for shortest paths, as far as the budget reaches.
-    fn find_shortest(&mut self, cells: &[Cell]) -> bool {
+    fn find_shortest(&mut self, cells: &[Cell]) -> bool
+        requires { length cells.now ≡ self.old.sizes.cells }
+        ensures { self.new.sizes ≡ self.old.sizes }
+    {
         let before = self.shortest_paths.relabels();
         let most = before
             .saturating_add(self.budget.left())
@@ -199,12 +295,24 @@ impl PathFinder {
         found
     }
 
+    // Searches on by a target flow.
+    fn find_target(&mut self, cells: &[Cell]) -> bool
+        requires { length cells.now ≡ self.old.sizes.cells }
+    {
+        self.target_flow.is_sought() && self.target_flow.find(self.shortest_paths.ways(), cells)
+    }
+
     // Turns to a target flow in the middle of a moment, and searches on by it.
-    fn turn(&mut self, cells: &[Cell], k: u16) -> bool {
+    fn turn(&mut self, cells: &[Cell], k: u16) -> bool
+        requires { length cells.now ≡ self.old.sizes.cells }
+    {
         self.phase = Phase::TargetFlow(k);
         self.target_flow.seek(&mut self.shortest_paths, cells);
-        self.target_flow.begin(k);
-        self.target_flow.find(self.shortest_paths.ways(), cells)
+        if k as u32 >= self.sizes.moments {
+            return false;
+        }
+        self.begin_target(k as u32);
+        self.find_target(cells)
     }
 
     /// The most people to send along the guess.
@@ -226,12 +334,25 @@ impl PathFinder {
 
     /// People were sent along the guess.
     pub fn sent(&mut self, net: &Net, people: u32) {
+        let cells = net.cells();
+        if !fits(cells, self.sizes) {
+            return;
+        }
         match self.phase {
-            Phase::TargetFlow(_) => self.target_flow.sent(net.cells()),
+            Phase::TargetFlow(_) => self.sent_by_target(cells),
             _ => {
                 self.budget.earn(people);
-                self.shortest_paths.sent(net.cells(), people);
+                self.shortest_paths.sent(cells, people);
             }
+        }
+    }
+
+    // People were sent along the guess of a target flow.
+    fn sent_by_target(&mut self, cells: &[Cell])
+        requires { length cells.now ≡ self.old.sizes.cells }
+    {
+        if self.target_flow.is_sought() {
+            self.target_flow.sent(cells);
         }
     }
 }

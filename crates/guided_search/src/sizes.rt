@@ -2,72 +2,123 @@
 //!
 //! A pair is a node at a moment, and the pairs of a node stand one after another. A row of cells has one for each moment: rows of arcs
 //! come first, then those of the nodes' waits, and then those of their supplies. So waits and supplies stand as pairs do.
+ghost use Rattle.std.specs.Prelude.{◌≡◌, ◌+◌, ◌*◌, ◌<◌, ◌≤◌, ◌^◌, length};
 
-use crate::lists::{number, short};
 use evac_law::Model as Building;
 use residual_net::Place;
 
-/// How many nodes, arcs and moments there are.
+/// How many nodes, arcs and moments there are, and how many pairs and cells of these.
 #[derive(Clone, Copy)]
 pub struct Sizes {
     pub nodes: u32,
     pub arcs: u32,
     pub moments: u32,
+    pub pairs: u32,
+    pub cells: u32,
+    ghost some: { 0 < moments },
+    ghost short: { moments ≤ 65536 },
+    ghost pairs_are: { pairs ≡ nodes * moments },
+    ghost cells_are: { cells ≡ arcs * moments + 2 * (nodes * moments) },
+    ghost small: { cells < 2 ^ 32 },
 }
 
 impl Sizes {
-    /// The sizes of a building.
-    pub fn of(model: &Building) -> Sizes {
+    // The sizes of so many nodes and arcs at so many moments.
+    fn new(nodes: u32, arcs: u32, moments: u32) -> Sizes
+        requires some { 0 < moments }
+        requires short { moments ≤ 65536 }
+        requires small { arcs * moments + 2 * (nodes * moments) < 2 ^ 32 }
+        ensures nodes { result.nodes ≡ nodes }
+        ensures arcs { result.arcs ≡ arcs }
+    {
+        let pairs = nodes * moments;
         Sizes {
-            nodes: number(model.nodes.len()),
-            arcs: number(model.arcs.len()),
-            moments: model.horizon as u32 + 1,
+            nodes,
+            arcs,
+            moments,
+            pairs,
+            cells: arcs * moments + 2 * pairs,
         }
     }
 
-    /// The number of the pairs.
-    pub fn pairs(&self) -> usize {
-        self.nodes as usize * self.moments as usize
-    }
-
-    /// The number of the cells.
-    pub fn cells(&self) -> usize {
-        let rows = self.arcs as usize + 2 * self.nodes as usize;
-        rows.wrapping_mul(self.moments as usize)
-    }
-
-    /// The number of a pair.
-    pub fn pair(&self, node: u32, moment: u32) -> u32 {
-        node.wrapping_mul(self.moments).wrapping_add(moment)
-    }
-
-    /// The node and the moment of a pair, or the row and the moment of a cell.
-    pub fn parts(&self, number: u32) -> (u32, u32) {
-        if self.moments == 0 {
-            return (0, 0);
+    /// The sizes of a building. One with too many cells for their numbers counts as empty.
+    pub fn of(model: &Building) -> Sizes
+        ensures nodes { result.nodes ≤ length model.now.nodes }
+        ensures arcs { result.arcs ≤ length model.now.arcs }
+    {
+        let moments = model.horizon as u32 + 1;
+        let most = (u32::MAX / moments) as usize;
+        let nodes = model.nodes.len();
+        let arcs = model.arcs.len();
+        if arcs > most || nodes > (most - arcs) / 2 {
+            return Sizes::new(0, 0, moments);
         }
-        (number / self.moments, number % self.moments)
+        Sizes::new(nodes as u32, arcs as u32, moments)
+    }
+
+    /// The pair of a node at moment 0.
+    pub fn first_pair(&self, node: u32) -> u32
+        requires { node < self.now.nodes }
+        ensures { result + self.now.moments ≤ self.now.pairs }
+    {
+        node * self.moments
+    }
+
+    /// The pair of a node at a moment.
+    pub fn pair(&self, node: u32, moment: u32) -> u32
+        requires node { node < self.now.nodes }
+        requires moment { moment < self.now.moments }
+        ensures since { moment ≤ result }
+        ensures within { result < self.now.pairs }
+    {
+        self.first_pair(node) + moment
+    }
+
+    /// The node and the moment of a pair.
+    pub fn parts(&self, pair: u32) -> (u32, u32)
+        requires { pair < self.now.pairs }
+        ensures node { result.0 < self.now.nodes }
+        ensures moment { result.1 < self.now.moments }
+    {
+        (pair / self.moments, pair % self.moments)
     }
 
     /// The row of the waits in a node.
-    pub fn waits(&self, node: u32) -> u32 {
-        self.arcs.wrapping_add(node)
+    pub fn wait_row(&self, node: u32) -> u32
+        requires { node < self.now.nodes }
+        ensures { result ≡ self.now.arcs + node }
+    {
+        self.arcs + node
     }
 
-    /// The row of the people who come into a node.
-    pub fn supplies(&self, node: u32) -> u32 {
-        self.arcs.wrapping_add(self.nodes).wrapping_add(node)
+    /// The cell of an arc, or of the waits in a node, at moment 0.
+    pub fn first_cell(&self, row: u32) -> u32
+        requires { row < self.now.arcs + self.now.nodes }
+        ensures { result + self.now.moments ≤ self.now.cells }
+    {
+        row * self.moments
     }
 
-    /// The cell of a row at a moment.
-    pub fn cell(&self, row: u32, moment: u32) -> u32 {
-        row.wrapping_mul(self.moments).wrapping_add(moment)
+    /// The cell of the waits at a pair.
+    pub fn wait(&self, pair: u32) -> u32
+        requires { pair ≤ self.now.pairs }
+        ensures { result + 2 * self.now.pairs ≡ self.now.cells + pair }
+    {
+        self.cells - 2 * self.pairs + pair
+    }
+
+    /// The cell of the people who come in at a pair.
+    pub fn supply(&self, pair: u32) -> u32
+        requires { pair ≤ self.now.pairs }
+        ensures { result + self.now.pairs ≡ self.now.cells + pair }
+    {
+        self.cells - self.pairs + pair
     }
 
     /// The place of a cell.
     pub fn place(&self, cell: u32) -> Place {
-        let (row, moment) = self.parts(cell);
-        let moment = short(moment);
+        let row = cell / self.moments;
+        let moment = (cell % self.moments) as u16;
         if row < self.arcs {
             return Place::Arc { arc: row, moment };
         }

@@ -1,8 +1,9 @@
 //! Residual steps, and stays in a node before them.
+ghost use Rattle.std.specs.Prelude.{◌≡◌, ◌+◌, ◌<◌, ◌≤◌, IsFalse, IsTrue};
+ghost use Rattle.guided_search.specs.Steps.{IsStayWithin, IsStepWithin};
 
-use crate::lists::{short, stretch};
 use crate::sizes::Sizes;
-use residual_net::{Cell, Leg, PathStep};
+use residual_net::{Leg, PathStep};
 
 /// A residual step: the pair at which it begins, and the cell over which it goes on.
 #[derive(Clone, Copy)]
@@ -21,19 +22,27 @@ pub struct Step {
 
 impl Step {
     /// The step by which people come into a node at a moment.
-    pub fn supply(sizes: Sizes, node: u32, moment: u32) -> Step {
+    pub fn supply(sizes: Sizes, node: u32, moment: u32) -> Step
+        requires node { node < sizes.nodes }
+        requires moment { moment < sizes.moments }
+        ensures { IsStepWithin sizes result }
+    {
+        let pair = sizes.pair(node, moment);
         Step {
             node,
             moment,
-            pair: sizes.pair(node, moment),
-            cell: sizes.cell(sizes.supplies(node), moment),
+            pair,
+            cell: sizes.supply(pair),
             back: false,
         }
     }
 
     /// Whether it is a wait forwards.
-    pub fn waits(&self, sizes: Sizes) -> bool {
-        !self.back && self.cell == sizes.cell(sizes.waits(self.node), self.moment)
+    pub fn waits(&self, sizes: Sizes) -> bool
+        requires { IsStepWithin sizes self.now }
+        ensures { IsTrue result → IsFalse self.now.back }
+    {
+        !self.back && self.cell == sizes.wait(self.pair)
     }
 
     /// The step as the net has it.
@@ -44,11 +53,14 @@ impl Step {
     }
 
     /// The waits in its node since a moment, and then the step.
-    pub fn leg_since(&self, sizes: Sizes, since: u32) -> Leg {
+    pub fn leg_since(&self, sizes: Sizes, since: u32) -> Leg
+        requires since { since < sizes.moments }
+        requires step { IsStepWithin sizes self.now }
+    {
         Leg {
             node: self.node,
-            from: short(since),
-            to: short(self.moment),
+            from: since as u16,
+            to: self.moment as u16,
             step: self.path_step(sizes),
         }
     }
@@ -65,30 +77,39 @@ pub struct Stay {
 
 impl Stay {
     /// A step without waits before it.
-    pub fn before(step: Step) -> Stay {
+    pub fn before(step: Step) -> Stay
+        ensures { result ≡ record { since = step.moment; step = step } }
+    {
         Stay {
             since: step.moment,
             step,
         }
     }
 
-    /// The pair at which it begins.
-    pub fn pair(&self, sizes: Sizes) -> u32 {
-        sizes.pair(self.step.node, self.since)
-    }
-
     /// How many waits it has.
-    pub fn count(&self) -> u32 {
-        self.step.moment.saturating_sub(self.since)
+    pub fn count(&self) -> u32
+        requires { self.now.since ≤ self.now.step.moment }
+        ensures { result + self.now.since ≡ self.now.step.moment }
+    {
+        self.step.moment - self.since
     }
 
-    /// The cell of its earliest wait.
-    pub fn first_wait(&self, sizes: Sizes) -> u32 {
-        sizes.cell(sizes.waits(self.step.node), self.since)
+    /// The pair at which it begins.
+    pub fn pair(&self) -> u32
+        requires since { self.now.since ≤ self.now.step.moment }
+        requires pair { self.now.step.moment ≤ self.now.step.pair }
+        ensures { result + self.now.step.moment ≡ self.now.step.pair + self.now.since }
+    {
+        self.step.pair - self.count()
     }
 
-    /// The cells of its waits.
-    pub fn waits<'a>(&self, sizes: Sizes, cells: &'a [Cell]) -> &'a [Cell] {
-        stretch(cells, self.first_wait(sizes), self.count())
+    /// The numbers of the cells of its waits: the first, and behind the last.
+    pub fn waits(&self, sizes: Sizes) -> (usize, usize)
+        requires { IsStayWithin sizes self.now }
+        ensures count { result.0 + self.now.step.moment ≡ result.1 + self.now.since }
+        ensures within { result.1 ≤ sizes.cells }
+    {
+        let first = sizes.wait(self.pair());
+        (first as usize, (first + self.count()) as usize)
     }
 }

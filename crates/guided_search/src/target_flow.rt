@@ -3,15 +3,21 @@
 //! Where people are sent already, a search from no flow tells how many can arrive by each moment, and by which ways. What its
 //! flow has more than the net's at some places and less at others is made of paths that bring people to a moment, from later
 //! arrivals or from unsent people, and of circles: so each path brings people straight to where they are to arrive.
+ghost use Rattle.std.specs.Prelude.{◌≡◌, ◌+◌, ◌<◌, ◌≤◌, IfOk, IfSome, IsTrue, length, vec_capacity, vec_len};
+ghost use Rattle.std.specs.List.{All};
+ghost use Rattle.std.specs.Option.{ForSome};
+ghost use Rattle.guided_search.specs.Steps.{IsStepWithin};
+ghost use Rattle.guided_search.specs.Ways.{IsWayWithin};
 
-use crate::lists::{add, number, read, write};
+use crate::lists::add;
 use crate::residual::Residual;
 use crate::shortest_paths::ShortestPaths;
 use crate::sizes::Sizes;
 use crate::step::Step;
-use crate::surplus::{least_surplus, lower, surplus};
+use crate::surplus::{least_surplus, lower, lower_all, surplus};
 use crate::tuning::FUEL;
-use crate::ways::{Way, Ways};
+use crate::way::Way;
+use crate::ways::Ways;
 use residual_net::{Cell, Leg};
 use std::alloc::{AllocError, Global};
 
@@ -49,17 +55,28 @@ pub struct TargetFlow {
     origin: Option<Step>,
     /// How many people are to go along it.
     most: u32,
+    ghost within: { All (IsStepWithin sizes) steps.items },
+    ghost room: { sizes.pairs ≤ vec_capacity steps },
+    ghost moment_within: { moment < sizes.moments },
 }
 
 impl TargetFlow {
+    ghost use Rattle.guided_search.specs.Targets.{IsEndWithin, IsSought};
+
     /// No flow yet.
-    pub fn new(alloc: Global, sizes: Sizes) -> Result<TargetFlow, AllocError> {
+    pub fn new(alloc: Global, sizes: Sizes) -> Result<TargetFlow, AllocError>
+        ensures { IfOk result (λ target. target.sizes ≡ sizes) }
+    {
+        let cells = Vec::with_capacity(alloc, sizes.cells as usize)?;
+        let current_arcs = Vec::with_capacity(alloc, sizes.pairs as usize)?;
+        let heights = Vec::with_capacity(alloc, sizes.pairs as usize)?;
+        let steps = Vec::with_capacity(alloc, sizes.pairs as usize)?;
         Ok(TargetFlow {
             sizes,
-            cells: Vec::with_capacity(alloc, sizes.cells())?,
-            current_arcs: Vec::with_capacity(alloc, sizes.pairs())?,
-            heights: Vec::with_capacity(alloc, sizes.pairs())?,
-            steps: Vec::with_capacity(alloc, sizes.pairs())?,
+            cells,
+            current_arcs,
+            heights,
+            steps,
             door: 0,
             moment: 0,
             origin: None,
@@ -67,70 +84,117 @@ impl TargetFlow {
         })
     }
 
-    /// Finds the flow to come to, by a search from no flow.
-    pub fn seek(&mut self, shortest_paths: &mut ShortestPaths, cells: &[Cell]) {
+    /// Whether a flow was sought, with memory for it.
+    pub fn is_sought(&self) -> bool
+        ensures { IsTrue result → IsSought self.now }
+    {
+        let pairs = self.sizes.pairs as usize;
+        self.cells.len() == self.sizes.cells as usize
+            && self.current_arcs.len() == pairs
+            && self.heights.len() == pairs
+    }
+
+    /// Finds the flow to come to, by a search from no flow, as far as there is memory for it.
+    pub fn seek(&mut self, shortest_paths: &mut ShortestPaths, cells: &[Cell])
+        requires sizes { shortest_paths.old.sizes ≡ self.old.sizes }
+        requires cells { length cells.now ≡ self.old.sizes.cells }
+        ensures sizes { self.new.sizes ≡ self.old.sizes }
+        ensures shortest_paths { shortest_paths.new.sizes ≡ shortest_paths.old.sizes }
+    {
+        self.steps.clear();
         self.cells.clear();
-        for cell in cells {
-            let limit = cell.limit;
-            add(&mut self.cells, Cell { flow: 0, limit });
+        if self.forget().is_err() || self.cells.extend_from_slice(cells).is_err() {
+            return;
         }
-        self.forget();
+        empty(self.cells.as_mut_slice());
         shortest_paths.send_all(self.cells.as_mut_slice());
     }
 
     // Forgets where searches have been.
-    fn forget(&mut self) {
-        let pairs = self.sizes.pairs();
-        // Each of these lists has room for all pairs; one that were too short would end the search.
-        let _ = self.current_arcs.resize(0, 0);
-        let _ = self.current_arcs.resize(pairs, 0);
-        let _ = self.heights.resize(0, 0);
-        let _ = self.heights.resize(pairs, 0);
-        self.steps.clear();
+    fn forget(&mut self) -> Result<(), AllocError>
+        ensures sizes { self.new.sizes ≡ self.old.sizes }
+        ensures cells { vec_len self.new.cells ≡ vec_len self.old.cells }
+    {
+        let pairs = self.sizes.pairs as usize;
+        self.current_arcs.clear();
+        self.current_arcs.resize(pairs, 0)?;
+        self.heights.clear();
+        self.heights.resize(pairs, 0)
     }
 
     /// The residual network of the flow.
-    pub fn residual<'a>(&'a self, ways: &'a Ways) -> Residual<'a> {
+    pub fn residual<'a>(&'a self, ways: &'a Ways) -> Residual<'a>
+        requires sizes { ways.now.sizes ≡ self.now.sizes }
+        requires sought { IsSought self.now }
+        ensures { result.ways.now.sizes ≡ ways.now.sizes }
+    {
         Residual {
-            sizes: self.sizes,
             cells: self.cells.as_slice(),
             ways,
         }
     }
 
     // How many more people are to go over a step.
-    fn surplus(&self, cells: &[Cell], step: Step) -> u32 {
+    fn surplus(&self, cells: &[Cell], step: Step) -> u32
+        requires sought { IsSought self.now }
+        requires cells { length cells.now ≡ self.now.sizes.cells }
+        requires step { step.cell < self.now.sizes.cells }
+    {
         surplus(self.cells.as_slice(), cells, step)
     }
 
-    // Lets fewer people go over a step.
-    fn lower(&mut self, step: Step, people: u32) {
-        lower(self.cells.as_mut_slice(), step, people);
-    }
-
     /// Begins with an arrival moment.
-    pub fn begin(&mut self, k: u16) {
+    pub fn begin(&mut self, k: u32)
+        requires moment { k < self.old.sizes.moments }
+        requires sought { IsSought self.old }
+        ensures sizes { self.new.sizes ≡ self.old.sizes }
+    {
         self.leave(0);
         self.door = 0;
-        self.moment = k as u32;
+        self.moment = k;
     }
 
-    // Begins a path at the next door by which more people are to arrive at the moment. Whether there is one.
-    fn open(&mut self, ways: &Ways, cells: &[Cell]) -> bool {
+    // The next door by which more people are to arrive at the moment, and its step.
+    fn next_door(&self, ways: &Ways, cells: &[Cell]) -> Option<(usize, Step)>
+        requires sought { IsSought self.now }
+        requires sizes { ways.now.sizes ≡ self.now.sizes }
+        requires cells { length cells.now ≡ self.now.sizes.cells }
+        ensures { IfSome result (λ door. IsStepWithin self.now.sizes door.1) }
+    {
         for at in self.door..ways.doors().len() {
-            if let Some(step) = ways.door_step(at, self.moment, self.sizes.moments) {
+            if let Some(step) = ways.door_step(at, self.moment) {
                 if self.surplus(cells, step) > 0 {
-                    self.door = at;
-                    self.push(step);
-                    return true;
+                    return Some((at, step));
                 }
             }
         }
-        false
+        None
+    }
+
+    // Begins a path at the next door by which more people are to arrive at the moment. Whether there is one.
+    fn open(&mut self, ways: &Ways, cells: &[Cell]) -> bool
+        requires sought { IsSought self.old }
+        requires empty { vec_len self.old.steps ≡ 0 }
+        requires sizes { ways.now.sizes ≡ self.old.sizes }
+        requires cells { length cells.now ≡ self.old.sizes.cells }
+        ensures sought { IsSought self.new }
+        ensures sizes { self.new.sizes ≡ self.old.sizes }
+    {
+        let Some((at, step)) = self.next_door(ways, cells) else {
+            return false;
+        };
+        self.door = at;
+        self.push(step);
+        true
     }
 
     /// Searches on to people who may be sent. Whether there are any.
-    pub fn find(&mut self, ways: &Ways, cells: &[Cell]) -> bool {
+    pub fn find(&mut self, ways: &Ways, cells: &[Cell]) -> bool
+        requires sought { IsSought self.old }
+        requires sizes { ways.now.sizes ≡ self.old.sizes }
+        requires cells { length cells.now ≡ self.old.sizes.cells }
+        ensures { self.new.sizes ≡ self.old.sizes }
+    {
         for _ in 0..FUEL {
             if self.steps.is_empty() && !self.open(ways, cells) {
                 return false;
@@ -149,7 +213,14 @@ impl TargetFlow {
     }
 
     // Searches on to people who may be sent, or back to the door.
-    fn search(&mut self, ways: &Ways, cells: &[Cell]) -> TraceEnd {
+    fn search(&mut self, ways: &Ways, cells: &[Cell]) -> TraceEnd
+        requires sought { IsSought self.old }
+        requires sizes { ways.now.sizes ≡ self.old.sizes }
+        requires cells { length cells.now ≡ self.old.sizes.cells }
+        ensures sought { IsSought self.new }
+        ensures sizes { self.new.sizes ≡ self.old.sizes }
+        ensures end { IsEndWithin self.old.sizes result }
+    {
         for _ in 0..FUEL {
             if let Some(end) = self.step_on(ways, cells) {
                 return end;
@@ -159,15 +230,18 @@ impl TargetFlow {
     }
 
     // Advances a step, or retreats where no way leads on. How the search ends, if it does.
-    fn step_on(&mut self, ways: &Ways, cells: &[Cell]) -> Option<TraceEnd> {
+    fn step_on(&mut self, ways: &Ways, cells: &[Cell]) -> Option<TraceEnd>
+        requires sought { IsSought self.old }
+        requires sizes { ways.now.sizes ≡ self.old.sizes }
+        requires cells { length cells.now ≡ self.old.sizes.cells }
+        ensures sought { IsSought self.new }
+        ensures sizes { self.new.sizes ≡ self.old.sizes }
+        ensures end { IfSome result (IsEndWithin self.old.sizes) }
+    {
         let Some(last) = self.steps.as_slice().last().copied() else {
             return Some(TraceEnd::Exhausted);
         };
-        let pair = last.pair as usize;
-        if pair >= self.current_arcs.len() {
-            return Some(TraceEnd::Full);
-        }
-        let current_arc = self.current_arcs.as_slice()[pair] as usize;
+        let current_arc = self.current_arcs[last.pair as usize] as usize;
         if current_arc == 0 {
             if let Some(origin) = self.source(ways, cells, last) {
                 return Some(TraceEnd::Found(origin));
@@ -177,25 +251,31 @@ impl TargetFlow {
         let Some((number, step)) = self.wanted(ways.into(last.node), cells, from, last.moment)
         else {
             let people = self.surplus(cells, last);
-            self.lower(last, people);
+            lower(self.cells.as_mut_slice(), last, people);
             self.retreat(last);
             return None;
         };
-        self.current_arcs.as_mut_slice()[pair] = (number.wrapping_add(1) % 256) as u8;
+        self.current_arcs[last.pair as usize] = ((number % 256 + 1) % 256) as u8;
         self.advance(cells, step)
     }
 
     // The step to people at the pair of a step who may be sent: those who come in there unsent, or those who arrive later from there.
-    fn source(&self, ways: &Ways, cells: &[Cell], at: Step) -> Option<Step> {
+    fn source(&self, ways: &Ways, cells: &[Cell], at: Step) -> Option<Step>
+        requires sought { IsSought self.now }
+        requires sizes { ways.now.sizes ≡ self.now.sizes }
+        requires cells { length cells.now ≡ self.now.sizes.cells }
+        requires at { IsStepWithin self.now.sizes at }
+        ensures { IfSome result (IsStepWithin self.now.sizes) }
+    {
         let supply = Step::supply(self.sizes, at.node, at.moment);
         if self.surplus(cells, supply) > 0 {
             return Some(supply);
         }
         for way in ways.doors_of(at.node) {
-            let arrival = at.moment.wrapping_add(way.travel());
+            let arrival = at.moment + way.travel();
             if arrival < self.sizes.moments && arrival > self.moment {
                 let taken = Step {
-                    cell: way.first_cell.wrapping_add(at.moment),
+                    cell: way.first_cell + at.moment,
                     back: true,
                     ..supply
                 };
@@ -214,9 +294,15 @@ impl TargetFlow {
         cells: &[Cell],
         from: usize,
         moment: u32,
-    ) -> Option<(usize, Step)> {
+    ) -> Option<(usize, Step)>
+        requires sought { IsSought self.now }
+        requires ways { All (IsWayWithin self.now.sizes) ways.now }
+        requires cells { length cells.now ≡ self.now.sizes.cells }
+        requires moment { moment < self.now.sizes.moments }
+        ensures { IfSome result (λ found. IsStepWithin self.now.sizes found.1) }
+    {
         for number in from..ways.len() {
-            if let Some(step) = ways[number].step(moment, self.sizes.moments) {
+            if let Some(step) = ways[number].step(self.sizes, moment) {
                 if self.surplus(cells, step) > 0 {
                     return Some((number, step));
                 }
@@ -226,13 +312,20 @@ impl TargetFlow {
     }
 
     // Takes a step into the last pair. Where that closes a circle with the path, the circle is taken out of the flow.
-    fn advance(&mut self, cells: &[Cell], step: Step) -> Option<TraceEnd> {
-        let height = read(self.heights.as_slice(), step.pair as usize) as usize;
+    fn advance(&mut self, cells: &[Cell], step: Step) -> Option<TraceEnd>
+        requires sought { IsSought self.old }
+        requires cells { length cells.now ≡ self.old.sizes.cells }
+        requires step { IsStepWithin self.old.sizes step }
+        ensures sought { IsSought self.new }
+        ensures sizes { self.new.sizes ≡ self.old.sizes }
+        ensures end { IfSome result (IsEndWithin self.old.sizes) }
+    {
+        let height = self.heights[step.pair as usize] as usize;
         if height > 0 {
             self.unwind(cells, height, step);
             return None;
         }
-        if self.steps.len() >= self.steps.capacity() {
+        if self.steps.len() >= self.sizes.pairs as usize {
             return Some(TraceEnd::Full);
         }
         self.push(step);
@@ -240,46 +333,62 @@ impl TargetFlow {
     }
 
     // Adds a step to the path.
-    fn push(&mut self, step: Step) {
-        add(&mut self.steps, step);
-        let height = number(self.steps.len());
-        write(self.heights.as_mut_slice(), step.pair as usize, height);
+    fn push(&mut self, step: Step)
+        requires sought { IsSought self.old }
+        requires room { vec_len self.old.steps < self.old.sizes.pairs }
+        requires step { IsStepWithin self.old.sizes step }
+        ensures sought { IsSought self.new }
+        ensures sizes { self.new.sizes ≡ self.old.sizes }
+    {
+        self.steps.push_reserved(step);
+        self.heights[step.pair as usize] = self.steps.len() as u32;
     }
 
     // Goes back a step, the last one.
-    fn retreat(&mut self, last: Step) {
-        write(self.heights.as_mut_slice(), last.pair as usize, 0);
+    fn retreat(&mut self, last: Step)
+        requires sought { IsSought self.old }
+        requires last { IsStepWithin self.old.sizes last }
+        ensures sought { IsSought self.new }
+        ensures sizes { self.new.sizes ≡ self.old.sizes }
+    {
+        self.heights[last.pair as usize] = 0;
         // The step is let go.
         let _ = self.steps.pop();
     }
 
     // Takes a circle out of the flow: a step, and those of the path from a number on. The search goes on before the first of these
     // over which nobody is to go then.
-    fn unwind(&mut self, cells: &[Cell], first: usize, closing: Step) {
+    fn unwind(&mut self, cells: &[Cell], first: usize, closing: Step)
+        requires sought { IsSought self.old }
+        requires cells { length cells.now ≡ self.old.sizes.cells }
+        requires closing { IsStepWithin self.old.sizes closing }
+        ensures sought { IsSought self.new }
+        ensures sizes { self.new.sizes ≡ self.old.sizes }
+    {
         let around = least_surplus(self.cells.as_slice(), cells, self.steps.as_slice(), first);
         let people = self.surplus(cells, closing).min(around);
-        self.lower(closing, people);
         let target = self.cells.as_mut_slice();
-        let mut left = self.steps.len();
-        for (at, step) in self.steps.as_slice().iter().enumerate().skip(first) {
-            lower(target, *step, people);
-            if at < left && surplus(target, cells, *step) == 0 {
-                left = at;
-            }
-        }
+        lower(target, closing, people);
+        let left = lower_all(target, cells, self.steps.as_slice(), first, people);
         self.leave(left);
     }
 
     // Goes back to a number of steps.
-    fn leave(&mut self, count: usize) {
-        for step in self.steps.as_slice().iter().skip(count) {
-            write(self.heights.as_mut_slice(), step.pair as usize, 0);
-        }
+    fn leave(&mut self, count: usize)
+        requires { IsSought self.old }
+        ensures sought { IsSought self.new }
+        ensures sizes { self.new.sizes ≡ self.old.sizes }
+    {
+        clear_heights(self.heights.as_mut_slice(), self.steps.as_slice(), count);
         self.steps.truncate(count);
     }
 
     // How many people are to go the whole path.
-    fn count(&self, cells: &[Cell], origin: Step) -> u32 {
+    fn count(&self, cells: &[Cell], origin: Step) -> u32
+        requires sought { IsSought self.now }
+        requires cells { length cells.now ≡ self.now.sizes.cells }
+        requires origin { IsStepWithin self.now.sizes origin }
+    {
         let along = least_surplus(self.cells.as_slice(), cells, self.steps.as_slice(), 0);
         self.surplus(cells, origin).min(along)
     }
@@ -297,7 +406,8 @@ impl TargetFlow {
         }
         let mut since = 0;
         let mut begins = true;
-        for step in self.steps.as_slice().iter().rev() {
+        for at in 0..self.steps.len() {
+            let step = self.steps[self.steps.len() - 1 - at];
             if begins {
                 since = step.moment;
             }
@@ -309,11 +419,42 @@ impl TargetFlow {
     }
 
     /// People were sent along the guess: goes back to the pair before the first step over which no more are to go.
-    pub fn sent(&mut self, cells: &[Cell]) {
-        let target = self.cells.as_slice();
-        let done = |step: &Step| surplus(target, cells, *step) == 0;
-        if let Some(at) = self.steps.as_slice().iter().position(done) {
+    pub fn sent(&mut self, cells: &[Cell])
+        requires sought { IsSought self.old }
+        requires cells { length cells.now ≡ self.old.sizes.cells }
+        ensures { self.new.sizes ≡ self.old.sizes }
+    {
+        if let Some(at) = self.first_done(cells) {
             self.leave(at);
         }
+    }
+
+    // The number of the first step of the path over which no more people are to go.
+    fn first_done(&self, cells: &[Cell]) -> Option<usize>
+        requires sought { IsSought self.now }
+        requires cells { length cells.now ≡ self.now.sizes.cells }
+    {
+        for at in 0..self.steps.len() {
+            if self.surplus(cells, self.steps[at]) == 0 {
+                return Some(at);
+            }
+        }
+        None
+    }
+}
+
+// Lets nobody go over cells.
+fn empty(cells: &mut [Cell]) {
+    for cell in cells.iter_mut() {
+        cell.flow = 0;
+    }
+}
+
+// Takes the pairs of some steps, from a number on, off a path.
+fn clear_heights(heights: &mut [u32], steps: &[Step], first: usize)
+    requires { All (λ step. step.pair < length heights.old) steps.now }
+{
+    for at in first..steps.len() {
+        heights[steps[at].pair as usize] = 0;
     }
 }

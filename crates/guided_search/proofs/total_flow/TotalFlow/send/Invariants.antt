@@ -1,0 +1,5 @@
+use Rattle.std.proofs.Common.{◌≡◌, ◌+◌, ◌<◌, ◌≤◌, length, vec_len}
+use Rattle.guided_search.proofs.total_flow.TotalFlow.send.Given as goal
+
+abbrev pub invariant-loop : goal.invariant-loop
+invariant-loop l = (l.self.sizes ≡ l.initial.self.sizes) × (l.node < l.self.sizes.nodes)
