@@ -1,10 +1,12 @@
 -- Where the source failed, no whole line of a block ended the run.
-use Rattle.std.proofs.Common.{◌≡◌, ℕ, ◌+◌, List, [], ◌++◌, Result, Ok, Err, refl, sym, ap, subst, ◌∙◌, append_assoc}
+use Rattle.std.proofs.Common.{◌≡◌, ℕ, ◌+◌, false, true, List, [], ◌++◌, Result, Ok, Err, refl, sym, ap, subst, ◌∙◌, append_assoc}
 use Rattle.std.specs.declared.option.Option.{Option}
 use Rattle.evac_law.specs.declared.code.Code.{Code}
 use Rattle.evac_law.specs.declared.code.Code.TheVariants.{BadBlock}
 use Rattle.evac_law.specs.declared.model.Model.{Model}
+use Rattle.line_io.specs.Causes.{Count, Rose}
 use Rattle.line_io.specs.Line.{Line, text_lines}
+use Rattle.line_io.specs.Reader.{Drained, is_settled}
 use Rattle.line_io.specs.View.{Reader}
 use Rattle.line_io.proofs.PassLemmas.{passes-then, text_lines-append}
 use Rattle.building_table.specs.Passes.{ReadsLines}
@@ -20,9 +22,9 @@ use Rattle.certificate_text.specs.BlockReadings as blocks
 use Rattle.certificate_text.specs.BlockReadings.{ReadsAs}
 use Rattle.block_reader.specs.BlockReads.{ReadsBlockLines}
 use Rattle.evac_top.specs.Inputs.{Claimed, ClaimsBehind, IsClaimOf, IsOpenClaim, unless_fault}
-use Rattle.evac_top.specs.Reads.{IsFresh, PassesTail}
+use Rattle.evac_top.specs.Reads.{IsFresh, PassesTail, Takes, block_fault}
 use Rattle.evac_top.proofs.OpenLemmas.{described-lines, opening-further, tail-none}
-use Rattle.evac_top.proofs.TakeLemmas.{lines-count}
+use Rattle.evac_top.proofs.TakeLemmas.{Failed, fresh-drained, lines-count, read-fault, takes, takes-value}
 
 -- ---- in the block
 
@@ -75,3 +77,69 @@ open-behind-block r0 r1 r2 r3 l0 l1 l2 l3 building block result fresh h g t is =
     (claim-further (text_lines h.texts) (text_lines behind) d r1.number (Ok claim) (described-lines r0 r1 l0 l1 building fresh h)
     (blocks.Stated block r2.number zs, read, sym (ap (λ f. unless_fault f claim) (tail-none result r2 r3 l2 l3 t is)))) in
     (Ok claim, claimed, tt)
+
+-- ---- what was taken
+
+-- a block isn't read because of a read fault only where there is one
+failed-reading : (fault : BlockFault) → block_fault fault ≡ ReadFault → fault ≡ block_faults.ReadFault
+failed-reading (block_faults.Bad line) e = cc
+failed-reading (block_faults.LineTooLong line) e = cc
+failed-reading (block_faults.InputTooLong line) e = cc
+failed-reading block_faults.ReadFault e = refl
+failed-reading block_faults.Memory e = cc
+
+-- the source failed in a block
+abbrev pub BlockFailed : Result Block BlockFault → Type 0
+BlockFailed result = result ≡ Err block_faults.ReadFault
+
+-- the fault of an input is that of a block only where the source failed in the block
+block-failed : {T : Type 0} (found : ModelFault) (fault : BlockFault) → found ≡ block_fault fault → Failed {T = T} (Err found) → fault ≡ block_faults.ReadFault
+block-failed {T} found fault is e = failed-reading fault (sym is ∙ read-fault {T = T} found e)
+
+pub rose-as-block : {T : Type 0} (found : ModelFault) (fault : BlockFault) (n k : Count) → found ≡ block_fault fault → (BlockFailed (Err fault) → Rose n k)
+    → Failed {T = T} (Err found) → Rose n k
+rose-as-block {T} found fault n k is rose e = rose (ap Err (block-failed {T = T} found fault is e))
+
+block-fault : (fault : BlockFault) → BlockFailed (Err fault) → fault ≡ block_faults.ReadFault
+block-fault fault e = cc
+
+block-not-failed : (block : Block) → BlockFailed (Ok block) → ⊥
+block-not-failed block e = cc
+
+pub quiet-as-block : {T : Type 0} (found : ModelFault) (fault : BlockFault) (n k : Count) → found ≡ block_fault fault → ((BlockFailed (Err fault) → ⊥) → k ≡ n)
+    → (Failed {T = T} (Err found) → ⊥) → k ≡ n
+quiet-as-block found fault n k is quiet not = quiet (λ e. not (ap Err (is ∙ ap block_fault (block-fault fault e))))
+
+-- behind a block that was read without a fault
+pub rose-behind : {T : Type 0} (block : Block) (fault : ModelFault) (n0 n1 n2 : Count) → ((BlockFailed (Ok block) → ⊥) → n1 ≡ n0)
+    → (Failed {T = Unit {0}} (Err fault) → Rose n1 n2) → Failed {T = T} (Err fault) → Rose n0 n2
+rose-behind {T} block fault n0 n1 n2 quiet rose e =
+    subst (λ (n : Count). Rose n n2) (quiet (block-not-failed block)) (rose (ap Err (read-fault {T = T} fault e)))
+
+pub quiet-behind : (block : Block) (n0 n1 : Count) → ((BlockFailed (Ok block) → ⊥) → n1 ≡ n0) → n1 ≡ n0
+quiet-behind block n0 n1 quiet = quiet (block-not-failed block)
+
+pub takes-block-fault : {T : Type 0} (found : ModelFault) (r0 r1 r2 : Reader) (l0 l1 l2 : Option (List ℕ)) (building : Building) (fault : BlockFault)
+    → found ≡ block_fault fault → IsFresh r0 → ReadsLines (Ok building) r0 r1 l0 l1 → ReadsBlockLines building.model (Err fault) r1 r2 l1 l2
+    → (BlockFailed (Err fault) → is_settled r2 ≡ false) → Takes {T = T} IsOpenClaim (Err found) l0 l2
+takes-block-fault {T} found r0 r1 r2 l0 l1 l2 building fault is fresh h g unfinished =
+    takes {T = T} IsOpenClaim (Err found) r0 r2 l0 l2 (h.texts ++ g.texts) fresh (passes-then r0 r1 r2 l0 l1 l2 h.texts g.texts h.passes g.passes) tt
+    (λ e. (let f : fault ≡ block_faults.ReadFault = block-failed {T = T} found fault is e in
+    (unfinished (ap Err f), open-in-block r0 r1 r2 l0 l1 l2 building fault fresh h g f)))
+
+pub takes-block : {T : Type 0} (value : T) (r0 r1 r2 r3 : Reader) (l0 l1 l2 l3 : Option (List ℕ)) (building : Building) (block : Block)
+    → IsFresh r0 → ReadsLines (Ok building) r0 r1 l0 l1 → ReadsBlockLines building.model (Ok block) r1 r2 l1 l2 → PassesTail (Ok tt) r2 r3 l2 l3 → (Drained r0 l0 → Drained r1 l1)
+    → (Drained r1 l1 → Drained r2 l2) → (Drained r2 l2 → Drained r3 l3) → r3.ended ≡ true → Takes {T = T} IsOpenClaim (Ok value) l0 l3
+takes-block value r0 r1 r2 r3 l0 l1 l2 l3 building block fresh h g t first second third ended =
+    takes-value IsOpenClaim value r0 r3 l0 l3 (h.texts ++ (g.texts ++ t.texts)) fresh
+    (passes-then r0 r1 r3 l0 l1 l3 h.texts (g.texts ++ t.texts) h.passes (passes-then r1 r2 r3 l1 l2 l3 g.texts t.texts g.passes t.passes))
+    (third (second (first (fresh-drained r0 l0 fresh))) ended)
+
+pub takes-block-tail : {T : Type 0} (fault : ModelFault) (r0 r1 r2 r3 : Reader) (l0 l1 l2 l3 : Option (List ℕ)) (building : Building) (block : Block)
+    → IsFresh r0 → ReadsLines (Ok building) r0 r1 l0 l1 → ReadsBlockLines building.model (Ok block) r1 r2 l1 l2 → PassesTail (Err fault) r2 r3 l2 l3
+    → (Failed {T = Unit {0}} (Err fault) → is_settled r3 ≡ false) → Takes {T = T} IsOpenClaim (Err fault) l0 l3
+takes-block-tail {T} fault r0 r1 r2 r3 l0 l1 l2 l3 building block fresh h g t unfinished =
+    takes {T = T} IsOpenClaim (Err fault) r0 r3 l0 l3 (h.texts ++ (g.texts ++ t.texts)) fresh
+    (passes-then r0 r1 r3 l0 l1 l3 h.texts (g.texts ++ t.texts) h.passes (passes-then r1 r2 r3 l1 l2 l3 g.texts t.texts g.passes t.passes)) tt
+    (λ e. (let f : Failed {T = Unit {0}} (Err fault) = ap Err (read-fault {T = T} fault e) in
+    (unfinished f, open-behind-block r0 r1 r2 r3 l0 l1 l2 l3 building block (Err fault) fresh h g t f)))

@@ -1,8 +1,10 @@
 -- What an input with a block says, by its parts, and how a checked block ends a run.
-use Rattle.std.proofs.Common.{◌≡◌, ◌≤◌, arith, ℕ, List, Ok, Err, Some, None, refl, sym, ap, subst}
+use Rattle.std.proofs.Common.{◌≡◌, ◌≤◌, arith, ℕ, List, Result, Ok, Err, Some, None, refl, sym, ap, subst, ◌∙◌}
 use Rattle.std.specs.declared.option.Option.{Option}
 use Rattle.evac_law.specs.declared.code.Code.{Code}
 use Rattle.line_io.specs.Line.{Line, lines_of}
+use Rattle.line_io.specs.Reader.{lines_left}
+use Rattle.line_io.specs.View.{Reader}
 use Rattle.evac_law.specs.declared.model.Model.{Model}
 use Rattle.evac_law.specs.Building.{IsValid}
 use Rattle.evac_law.proofs.Optimal.{certified_is_best}
@@ -21,19 +23,20 @@ use Rattle.plan_checker.specs.declared.verdict.Verdict.{Verdict}
 use Rattle.plan_checker.specs.declared.verdict.Verdict.TheVariants.{Yes, PeopleWrong, RateBroken, HeldBroken, NotAllOut, OutWrong, CutWrong}
 use Rattle.plan_checker.specs.Verdicts.{IsRight, IsVerdict}
 use Rattle.plan_checker.proofs.LawLemmas.{one_verdict, yes_is_certified}
-use Rattle.evac_top.specs.Accounts.{Account}
+use Rattle.evac_top.specs.Accounts.{Account, Told}
 use Rattle.evac_top.specs.Answers.{runs_of}
 use Rattle.evac_top.specs.Check.{IsChecked, IsVerdictOf, verdict_status, verdict_text}
 use Rattle.evac_top.specs.Inputs.{Claimed, ClaimsBehind, unless_fault}
-use Rattle.evac_top.specs.Reads.{ClaimIs, ReadsTail, block_fault}
+use Rattle.evac_top.specs.Reads.{ClaimIs, IsFresh, ReadsTail, block_fault}
 use Rattle.evac_top.specs.declared.claim.Claim.{Claim}
 use Rattle.evac_top.specs.declared.words.Mode.TheVariants.{Check}
+use Rattle.evac_top.proofs.InputLemmas.{told-model}
 use Rattle.evac_top.proofs.TellLemmas.{FaultIs}
 
 -- ---- reading
 
 -- the building and the block are there, and nothing behind them
-pub said-claim : (building : Building) (block : Block) (n1 n2 : ℕ) (bytes : List ℕ) (b c : Option (List Line))
+said-claim : (building : Building) (block : Block) (n1 n2 : ℕ) (bytes : List ℕ) (b c : Option (List Line))
     → ReadsModel (Ok building) 0 n1 (Some (lines_of bytes)) b → ReadsBlock building.model (Ok block) n1 n2 b c → ReadsTail (Ok tt) n2 c
     → ClaimIs (Ok (record { building = building; block = block })) bytes
 said-claim building block n1 n2 bytes None c h g f = absurd h
@@ -60,7 +63,7 @@ block-refused building n1 code line bytes x y (d, e, is) refused =
     let here = subst (λ (m : Model). ReadsAs m n1 x (blocks.Refused code line)) is.model refused in
     subst (λ r. ClaimsBehind r (Err (code, line))) (sym e) (blocks.Refused code line, here, refl)
 
-pub said-block-fault : (building : Building) (fault : BlockFault) (n1 n2 : ℕ) (bytes : List ℕ) (b c : Option (List Line))
+said-block-fault : (building : Building) (fault : BlockFault) (n1 n2 : ℕ) (bytes : List ℕ) (b c : Option (List Line))
     → ReadsModel (Ok building) 0 n1 (Some (lines_of bytes)) b → ReadsBlock building.model (Err fault) n1 n2 b c → ClaimIs (Err (block_fault fault)) bytes
 said-block-fault building fault n1 n2 bytes None c h g = absurd h
 said-block-fault building fault n1 n2 bytes (Some x) None h g = absurd g
@@ -69,14 +72,6 @@ said-block-fault building (block_faults.LineTooLong line) n1 n2 bytes (Some x) (
 said-block-fault building (block_faults.InputTooLong line) n1 n2 bytes (Some x) (Some y) h g = block-refused building n1 _ line bytes x y h g
 said-block-fault building block_faults.ReadFault n1 n2 bytes (Some x) (Some y) h g = tt
 said-block-fault building block_faults.Memory n1 n2 bytes (Some x) (Some y) h g = tt
-
--- a block isn't read because of a read fault only where there is one
-pub failed-reading : (fault : BlockFault) → block_fault fault ≡ ReadFault → fault ≡ block_faults.ReadFault
-failed-reading (block_faults.Bad line) e = cc
-failed-reading (block_faults.LineTooLong line) e = cc
-failed-reading (block_faults.InputTooLong line) e = cc
-failed-reading block_faults.ReadFault e = refl
-failed-reading block_faults.Memory e = cc
 
 -- a line behind the block is refused
 said-tail-fault : (building : Building) (block : Block) (code : Code) (line n1 n2 : ℕ) (bytes : List ℕ) (b c : Option (List Line))
@@ -90,12 +85,43 @@ said-tail-fault building block code line n1 n2 bytes (Some x) (Some y) (d, e, is
     subst (λ r. ClaimsBehind r (Err (code, line))) (sym e) (blocks.Stated block n2 y, here, sym (ap (λ f. unless_fault f claimed) fault))
 
 -- what is said of the lines behind a block
-pub said-tail : (building : Building) (block : Block) (fault : ModelFault) (n1 n2 : ℕ) (bytes : List ℕ) (b c : Option (List Line))
+said-tail : (building : Building) (block : Block) (fault : ModelFault) (n1 n2 : ℕ) (bytes : List ℕ) (b c : Option (List Line))
     → ReadsModel (Ok building) 0 n1 (Some (lines_of bytes)) b → ReadsBlock building.model (Ok block) n1 n2 b c → ReadsTail (Err fault) n2 c
     → ClaimIs (Err fault) bytes
 said-tail building block (Named code line) n1 n2 bytes b c h g f = said-tail-fault building block code line n1 n2 bytes b c h g f
 said-tail building block ReadFault n1 n2 bytes b c h g f = tt
 said-tail building block Memory n1 n2 bytes b c h g f = tt
+
+-- ---- the same by a fresh reader
+
+abbrev refused-block : ModelFault → Result Block ModelFault
+refused-block fault = Err fault
+
+same-refusal : (fault other : ModelFault) → refused-block fault ≡ refused-block other → fault ≡ other
+same-refusal fault other e = cc
+
+pub told-block-fault : (r : Reader) (left : Option (List ℕ)) (building : Building) (told found : ModelFault) (fault : BlockFault) (n1 n2 : ℕ)
+    (b c : Option (List Line)) → told ≡ block_fault fault → refused-block told ≡ refused-block found → IsFresh r
+    → ReadsModel (Ok building) r.number n1 (lines_left r left) b → ReadsBlock building.model (Err fault) n1 n2 b c → Told left (ClaimIs (Err found))
+told-block-fault r left building told found fault n1 n2 b c is e fresh h g =
+    told-model r left building n1 b (ClaimIs (Err found)) fresh h (λ bytes read.
+    subst (λ (f : ModelFault). ClaimIs (Err f) bytes) (sym is ∙ same-refusal told found e)
+    (said-block-fault building fault n1 n2 bytes b c read g))
+
+pub told-claim : (r : Reader) (left : Option (List ℕ)) (building : Building) (block : Block) (n1 n2 : ℕ) (b c : Option (List Line))
+    → IsFresh r → ReadsModel (Ok building) r.number n1 (lines_left r left) b → ReadsBlock building.model (Ok block) n1 n2 b c → ReadsTail (Ok tt) n2 c
+    → Told left (ClaimIs (Ok (record { building = building; block = block })))
+told-claim r left building block n1 n2 b c fresh h g f =
+    told-model r left building n1 b (ClaimIs (Ok (record { building = building; block = block }))) fresh h
+    (λ bytes read. said-claim building block n1 n2 bytes b c read g f)
+
+pub told-tail : (r : Reader) (left : Option (List ℕ)) (building : Building) (block : Block) (fault found : ModelFault) (n1 n2 : ℕ)
+    (b c : Option (List Line)) → refused-block fault ≡ refused-block found → IsFresh r
+    → ReadsModel (Ok building) r.number n1 (lines_left r left) b → ReadsBlock building.model (Ok block) n1 n2 b c → ReadsTail (Err fault) n2 c → Told left (ClaimIs (Err found))
+told-tail r left building block fault found n1 n2 b c e fresh h g f =
+    told-model r left building n1 b (ClaimIs (Err found)) fresh h (λ bytes read.
+    subst (λ (x : ModelFault). ClaimIs (Err x) bytes) (same-refusal fault found e)
+    (said-tail building block fault n1 n2 bytes b c read g f))
 
 -- ---- checking
 
@@ -150,10 +176,12 @@ verdict-of m b (CutWrong k) h = tt
 
 pub said-checked : (claim : Claim) (bytes : List ℕ) → ClaimIs (Ok claim) bytes → (x : Account) → x.taken ≡ bytes → IsChecked claim.building.model claim.block x
     → (runs_of (Some Check)).Answers bytes x
+unfolding runs_of
 said-checked claim bytes (c, e, is, same) x all checked =
     (Ok c, e, (all, subst (λ (b : Block). IsChecked c.building.model b x) (sym same) (subst (λ (m : Model). IsChecked m claim.block x) is.model checked)))
 
 pub check-fault : (fault : ModelFault) (bytes : List ℕ) → ClaimIs (Err fault) bytes → FaultIs Check fault bytes
+unfolding runs_of
 check-fault (Named code line) bytes e = λ x is. (Err (code, line), e, is)
 check-fault ReadFault bytes e = tt
 check-fault Memory bytes e = tt

@@ -113,6 +113,7 @@ upgrades-all input (Ok asked) x h = h.1.over
 upgrades-all input (Err fault) x h = h
 
 answers-all : (mode : Option Mode) (input : List ℕ) (x : Account) → (runs_of mode).Answers input x → (runs_of mode).AnswersAll input x
+unfolding runs_of
 answers-all None input x h = h.1.over
 answers-all (Some (Solve flags)) input x h = solves-all flags input (input_of (lines_of input)) x h
 answers-all (Some Check) input x (claim, is, h) = record { claim = claim; of_lines = is; alone = λ other g. one-claim-of (lines_of input) claim other is g; answered = checks-all input claim x h }
@@ -127,4 +128,5 @@ runs-answer mode status before after r reads_kept writes_kept memory =
     let three : status ≡ 3 → ⊥ = λ e. reads_kept (r.causes.reads_rose e) in
     let four : status ≡ 4 → ⊥ = λ e. writes_kept (r.causes.writes_rose e) in
     let known : status ≤ 5 = r.causes.known in
-    of-input (runs_of mode).reads before.source.bytes _ _ (λ input. answers-all mode input r.did) (r.answered (omega (arith, known, three, four, memory)))
+    of-input (runs_of mode).reads before.source.bytes (λ input. (runs_of mode).Answers input r.did) (λ input. (runs_of mode).AnswersAll input r.did)
+    (λ input. answers-all mode input r.did) (r.answered (omega (arith, known, three, four, memory)))

@@ -136,9 +136,14 @@ answered-all mode status before after r reads_kept writes_kept memory =
     let known : status ≤ 5 = r.causes.known in
     r.answered (omega (arith, known, three, four, memory))
 
+session-kept : (input : List ℕ) (x : Account) → (runs_of (Some Session)).Answers input x → KeepsSession (model_of (lines_of input)) x
+unfolding runs_of
+session-kept input x h = keeps-session (model_of (lines_of input)) x h.0
+
 pub sessions-keep-promise : SessionsKeepPromise
 sessions-keep-promise status before after r reads_kept writes_kept memory =
-    of-input true before.source.bytes _ _ (λ input h. keeps-session (model_of (lines_of input)) r.did h.0)
+    of-input (runs_of (Some Session)).reads before.source.bytes (λ input. (runs_of (Some Session)).Answers input r.did)
+    (λ input. KeepsSession (model_of (lines_of input)) r.did) (λ input h. session-kept input r.did h)
     (answered-all (Some Session) status before after r reads_kept writes_kept memory)
 
 -- ---- a plan that is carried out
@@ -207,9 +212,14 @@ keeps-replans (Described d last rest) x (inl run) = λ can. replans-keep d last 
 keeps-replans (Described d last rest) x (inr short) = λ can. absurd (short.short.barred can)
 keeps-replans (Refused code line) x h = tt
 
+replan-kept : (input : List ℕ) (x : Account) → (runs_of (Some Replan)).Answers input x → KeepsReplans (model_of (lines_of input)) x
+unfolding runs_of
+replan-kept input x h = keeps-replans (model_of (lines_of input)) x h.0
+
 pub replans-keep-promise : ReplansKeepPromise
 replans-keep-promise status before after r reads_kept writes_kept memory =
-    of-input true before.source.bytes _ _ (λ input h. keeps-replans (model_of (lines_of input)) r.did h.0)
+    of-input (runs_of (Some Replan)).reads before.source.bytes (λ input. (runs_of (Some Replan)).Answers input r.did)
+    (λ input. KeepsReplans (model_of (lines_of input)) r.did) (λ input h. replan-kept input r.did h)
     (answered-all (Some Replan) status before after r reads_kept writes_kept memory)
 
 -- ---- a plan that is written
@@ -229,7 +239,12 @@ keeps-plan flags input (Ok asked) x (all, inl h) = λ can. keeps-block flags (na
 keeps-plan flags input (Ok asked) x (all, inr short) = λ can. absurd (short.barred can)
 keeps-plan flags input (Err fault) x h = tt
 
+plan-kept : (flags : Flags) (input : List ℕ) (x : Account) → (runs_of (Some (Solve flags))).Answers input x → KeepsPlan flags (input_of (lines_of input)) x
+unfolding runs_of
+plan-kept flags input x h = keeps-plan flags input (input_of (lines_of input)) x h
+
 pub plans-keep-promise : PlansKeepPromise
 plans-keep-promise flags status before after r reads_kept writes_kept memory =
-    of-input true before.source.bytes _ _ (λ input h. keeps-plan flags input (input_of (lines_of input)) r.did h)
+    of-input (runs_of (Some (Solve flags))).reads before.source.bytes (λ input. (runs_of (Some (Solve flags))).Answers input r.did)
+    (λ input. KeepsPlan flags (input_of (lines_of input)) r.did) (λ input h. plan-kept flags input r.did h)
     (answered-all (Some (Solve flags)) status before after r reads_kept writes_kept memory)

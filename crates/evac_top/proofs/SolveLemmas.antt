@@ -106,6 +106,7 @@ drilled-few n x (inr h) = omega (arith, h.refused)
 
 pub said-building : (flags : Flags) (input : Input) (bytes : List ℕ) → InputIs (Ok input) bytes → (x : Account) → x.taken ≡ bytes
     → IsPlannedOrShort flags input.building.names input.building.model input.last x → (runs_of (Some (Solve flags))).Answers bytes x
+unfolding runs_of
 said-building flags input bytes (asked, e, is, same) x all solved =
     subst (λ (r : _). Solves flags bytes r x) (sym e) (
       all,
@@ -115,6 +116,7 @@ said-building flags input bytes (asked, e, is, same) x all solved =
     )
 
 pub solve-fault : (flags : Flags) (fault : ModelFault) (bytes : List ℕ) → InputIs (Err fault) bytes → FaultIs (Solve flags) fault bytes
+unfolding runs_of
 solve-fault flags (Named code line) bytes e = λ x is. subst (λ (r : _). Solves flags bytes r x) (sym e) is
 solve-fault flags ReadFault bytes e = tt
 solve-fault flags Memory bytes e = tt

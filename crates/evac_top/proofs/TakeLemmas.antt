@@ -1,7 +1,8 @@
 -- What a fresh reader took, by the lines that went by.
-use Rattle.std.proofs.Common.{◌≡◌, ℕ, ◌+◌, ◌≤◌, Bool, true, false, List, [], ◌∷◌, ◌++◌, length, Result, Err, OnOk, refl, sym, ap, subst, ◌∙◌, arith, inl, inr, ◌⊎◌}
+use Rattle.std.proofs.Common.{◌≡◌, ℕ, ◌+◌, ◌≤◌, Bool, true, false, List, [], ◌∷◌, ◌++◌, length, Result, Ok, Err, OnOk, refl, sym, ap, subst, ◌∙◌, arith, inl, inr, ◌⊎◌}
 use Rattle.std.specs.declared.option.Option.{Option}
 use Rattle.std.specs.Io.KnownBytes.{IsAtEnd}
+use Rattle.line_io.specs.Causes.{Count, Rose}
 use Rattle.line_io.specs.Line.{IsWhole, input_limit, Line, lines_after, lines_of, pieces, text_lines, whole_part}
 use Rattle.line_io.specs.Passes.{Passes}
 use Rattle.line_io.specs.Reader.{Drained, HasRoom, is_settled}
@@ -9,6 +10,7 @@ use Rattle.line_io.specs.declared.limits.TheConstants.{BUFFER_SIZE}
 use Rattle.line_io.specs.View.{Reader}
 use Rattle.line_io.proofs.LineLemmas.{unsettled-open, whole_part-unsettled}
 use Rattle.line_io.proofs.PassLemmas.{passes-few}
+use Rattle.building_table.specs.declared.building.Building.{Building}
 use Rattle.building_table.specs.declared.faults.ModelFault.{ModelFault}
 use Rattle.building_table.specs.declared.faults.ModelFault.TheVariants.{ReadFault}
 use Rattle.evac_top.specs.Reads.{IsFresh, Takes}
@@ -20,6 +22,26 @@ true-false p q = cc
 length-text_lines : (texts : List (List ℕ)) → length (text_lines texts) ≡ length texts
 length-text_lines [] = refl
 length-text_lines (t ∷ ts) = omega (arith, length-text_lines ts)
+
+-- ---- a read that failed
+
+abbrev pub Failed : {T : Type 0} → Result T ModelFault → Type 0
+Failed result = result ≡ Err ReadFault
+
+pub not-failed : {T : Type 0} (value : T) → Failed (Ok value) → ⊥
+not-failed value e = cc
+
+pub read-fault : {T : Type 0} (fault : ModelFault) → Failed {T = T} (Err fault) → fault ≡ ReadFault
+read-fault fault e = cc
+
+-- behind a model that was read without a fault
+pub rose-then : {T : Type 0} (building : Building) (result : Result T ModelFault) (n0 n1 n2 : Count) → ((Failed {T = Building} (Ok building) → ⊥) → n1 ≡ n0)
+    → (Failed result → Rose n1 n2) → Failed result → Rose n0 n2
+rose-then building result n0 n1 n2 quiet rose e = subst (λ (n : Count). Rose n n2) (quiet (not-failed building)) (rose e)
+
+pub quiet-then : {T : Type 0} (building : Building) (result : Result T ModelFault) (n0 n1 n2 : Count) → ((Failed {T = Building} (Ok building) → ⊥) → n1 ≡ n0)
+    → ((Failed result → ⊥) → n2 ≡ n1) → (Failed result → ⊥) → n2 ≡ n0
+quiet-then building result n0 n1 n2 first second n = second n ∙ first (not-failed building)
 
 -- ---- the lines of the bytes taken
 
@@ -60,6 +82,23 @@ takes IsOpen result r0 r1 l0 l1 texts fresh p all is_open = record {
   open_lines = λ e. (let (u, o) = is_open e in subst IsOpen (sym (whole-lines r0 r1 l0 l1 texts fresh p u)) o);
 }
 
+-- the same of a value that was read
+pub takes-value : {T : Type 0} (IsOpen : List Line → Type 0) (value : T) (r0 r1 : Reader) (l0 l1 : Option (List ℕ)) (texts : List (List ℕ)) → IsFresh r0
+    → Passes r0 r1 l0 l1 texts → IsAtEnd l1 → Takes {T = T} IsOpen (Ok value) l0 l1
+takes-value IsOpen value r0 r1 l0 l1 texts fresh p all = takes IsOpen (Ok value) r0 r1 l0 l1 texts fresh p all (λ e. absurd (not-failed value e))
+
 -- a fresh reader's source isn't known to have ended
 pub fresh-drained : (r : Reader) (left : Option (List ℕ)) → IsFresh r → Drained r left
 fresh-drained r left fresh = λ e. absurd (true-false e (ap (λ (x : Reader). x.ended) fresh))
+
+-- ---- the same of another result
+
+pub taken-value : {T U : Type 0} (IsOpen : List Line → Type 0) (value : T) (other : U) (l0 l1 : Option (List ℕ)) → Takes {T = T} IsOpen (Ok value) l0 l1
+    → Takes {T = U} IsOpen (Ok other) l0 l1
+taken-value {T} {U} IsOpen value other l0 l1 t =
+    record { taken = t.taken; consumed = t.consumed; few = t.few; all = t.all; open_lines = λ e. absurd (not-failed {T = U} other e) }
+
+pub taken-fault : {T U : Type 0} (IsOpen : List Line → Type 0) (fault : ModelFault) (l0 l1 : Option (List ℕ)) → Takes {T = T} IsOpen (Err fault) l0 l1
+    → Takes {T = U} IsOpen (Err fault) l0 l1
+taken-fault {T} {U} IsOpen fault l0 l1 t =
+    record { taken = t.taken; consumed = t.consumed; few = t.few; all = tt; open_lines = λ e. t.open_lines (ap Err (read-fault {T = U} fault e)) }

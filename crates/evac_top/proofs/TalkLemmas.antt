@@ -1,5 +1,5 @@
 -- What a run did that holds a talk, by what reading its model and holding its talk did.
-use Rattle.std.proofs.Common.{◌≡◌, ℕ, ◌+◌, true, false, List, [], ◌∷◌, ◌++◌, length, Result, Ok, Err, Some, None, refl, sym, ap, subst, ◌∙◌, arith, append-nil, append_assoc, inl, inr, ◌⊎◌}
+use Rattle.std.proofs.Common.{◌≡◌, ℕ, ◌+◌, true, false, List, [], ◌∷◌, ◌++◌, length, Ok, Err, Some, None, refl, sym, ap, subst, ◌∙◌, arith, append-nil, append_assoc, inl, inr, ◌⊎◌}
 use Rattle.std.specs.declared.option.Option.{Option}
 use Rattle.std.specs.Io.KnownBytes.{Consumes, IsAtEnd}
 use Rattle.std.proofs.Math.Path.{subst₂}
@@ -24,7 +24,7 @@ use Rattle.session_talk.specs.Sessions.{session}
 use Rattle.study_talk.specs.Studies.{study}
 use Rattle.talk.specs.Held.{EndsByQuit, HoldsTalk, IsReadOut, OfLines, around}
 use Rattle.talk.specs.Talks.{Spoken, Talk, TalkAnswers, TalkFront, TalkGoesOn, TalkWants}
-use Rattle.evac_top.specs.Accounts.{Account, Outside, Told}
+use Rattle.evac_top.specs.Accounts.{Account, Outside, Side, Told}
 use Rattle.evac_top.specs.Answers.{WritesNothing, runs_of}
 use Rattle.evac_top.specs.Reads.{IsFresh}
 use Rattle.evac_top.specs.Runs.{Runs}
@@ -32,8 +32,8 @@ use Rattle.evac_top.specs.Talking.{HasQuit, ReadsOn, TalkOn, Talks, TalksFront, 
 use Rattle.evac_top.specs.Tells.{Stops}
 use Rattle.evac_top.specs.declared.words.Mode.{Mode}
 use Rattle.evac_top.specs.declared.words.Mode.TheVariants.{Replan, Session, Study}
-use Rattle.evac_top.proofs.OpenLemmas.{described-lines, model-missing, opening-further}
-use Rattle.evac_top.proofs.TakeLemmas.{few-taken, takes, whole-lines}
+use Rattle.evac_top.proofs.OpenLemmas.{described-lines, opening-further, takes-model}
+use Rattle.evac_top.proofs.TakeLemmas.{Failed, few-taken, not-failed, read-fault, whole-lines}
 use Rattle.evac_top.proofs.TellLemmas.{FaultIs, ReadsFirst, stopped, told-input}
 
 -- a mode that holds a talk: what it answers is what a talk comes to
@@ -56,10 +56,6 @@ front-of : {S : Type 0} (talk : TalkOn S) (r : Reading) (x : Account)
 front-of talk (Described d last rest) x h = inl h
 front-of talk (Refused code line) x h = h
 
--- the source failed in a model
-abbrev failed : Result Building ModelFault → Type 0
-failed result = result ≡ Err ReadFault
-
 pub talk-reads : {S : Type 0} (mode : Mode) (talk : TalkOn S) → IsTalk mode talk → ReadsFirst mode IsUndecided
 talk-reads mode talk m = record {
   input = m.input;
@@ -67,13 +63,6 @@ talk-reads mode talk m = record {
   so_far = λ lines x e nothing. m.so_far lines x (not-whole talk lines x e nothing);
   memory = λ x e. m.memory x (inl e);
 }
-
--- the result of a model with a fault
-abbrev faulty : ModelFault → Result Building ModelFault
-faulty fault = Err fault
-
-same-fault : (f h : ModelFault) → faulty f ≡ faulty h → f ≡ h
-same-fault f h e = cc
 
 -- what the fault of a model says of the input
 fault-is : {S : Type 0} (mode : Mode) (talk : TalkOn S) → IsTalk mode talk → (fault : ModelFault) (n : ℕ) (bytes : List ℕ) (after : List Line)
@@ -94,18 +83,17 @@ told-fault mode talk m r (Some bytes) fault n b fresh h =
     by_lines (Some after) e = fault-is mode talk m fault n bytes after e
 
 -- a run whose model isn't read is over
-pub not-read : {S : Type 0} (mode : Mode) (talk : TalkOn S) → IsTalk mode talk → (fault : ModelFault) (status : ℕ) (r0 r1 : Reader) (before after : Outside)
-    → IsFresh r0 → ReadsLines (Err fault) r0 r1 before.source.bytes after.source.bytes
-    → ReadsModel (Err fault) r0.number r1.number (lines_left r0 before.source.bytes) (lines_left r1 after.source.bytes)
-    → (failed (Err fault) → is_settled r1 ≡ false) → (failed (Err fault) → Rose before.source.faults after.source.faults)
-    → ((failed (Err fault) → ⊥) → after.source.faults ≡ before.source.faults) → after.steps ≡ before.steps → Stops fault status before.sink after.sink
-    → Runs (Some mode) status before after
-not-read mode talk m fault status r0 r1 before after fresh bytes reading unfinished rose quiet kept stops =
-    stopped mode (talk-reads mode talk m) fault status before after
-    (takes IsUndecided (Err fault) r0 r1 before.source.bytes after.source.bytes bytes.texts fresh bytes.passes tt
-    (λ e. (unfinished e, model-missing r0 r1 before.source.bytes after.source.bytes (Err fault) fresh bytes e)))
-    (λ e. rose (ap Err e)) (λ n. quiet (λ e. n (same-fault fault ReadFault e))) kept stops
-    (told-fault mode talk m r0 before.source.bytes fault r1.number (lines_left r1 after.source.bytes) fresh reading)
+pub not-read : {S : Type 0} (mode : Mode) (talk : TalkOn S) → IsTalk mode talk → (fault : ModelFault) (status : ℕ) (r0 r1 : Reader) (steps : ℕ)
+    (source source' sink sink' : Side) → IsFresh r0 → ReadsLines (Err fault) r0 r1 source.bytes source'.bytes
+    → ReadsModel (Err fault) r0.number r1.number (lines_left r0 source.bytes) (lines_left r1 source'.bytes)
+    → (Failed {T = Building} (Err fault) → is_settled r1 ≡ false) → (Failed {T = Building} (Err fault) → Rose source.faults source'.faults)
+    → ((Failed {T = Building} (Err fault) → ⊥) → source'.faults ≡ source.faults) → Stops fault status sink sink'
+    → Runs (Some mode) status (record { source = source; sink = sink; steps = steps }) (record { source = source'; sink = sink'; steps = steps })
+not-read mode talk m fault status r0 r1 steps source source' sink sink' fresh bytes reading unfinished rose quiet stops =
+    stopped mode (talk-reads mode talk m) fault status (record { source = source; sink = sink; steps = steps }) (record { source = source'; sink = sink'; steps = steps })
+    (takes-model {T = Building} IsUndecided (λ lines e. e) fault r0 r1 source.bytes source'.bytes fresh bytes unfinished)
+    (λ e. rose (ap Err e)) (λ n. quiet (λ e. n (read-fault {T = Building} fault e))) refl stops
+    (told-fault mode talk m r0 source.bytes fault r1.number (lines_left r1 source'.bytes) fresh reading)
 
 -- ---- a talk that was held
 
@@ -169,7 +157,7 @@ pub record Parts {S : Type 0} (talk : TalkOn S) (building : Building) (status : 
   pub fresh : IsFresh r0
   pub read : ReadsLines (Ok building) r0 r1 before.source.bytes l1
   pub reading : ReadsModel (Ok building) r0.number r1.number (lines_left r0 before.source.bytes) (lines_left r1 l1)
-  pub quiet : f1 ≡ before.source.faults
+  pub quiet : (Failed {T = Building} (Ok building) → ⊥) → f1 ≡ before.source.faults
   pub held : HoldsTalk (talk building.names building.model) status (around r1 l1 f1 before.sink.bytes before.sink.faults before.steps)
       (around r2 after.source.bytes after.source.faults after.sink.bytes after.sink.faults after.steps)
   pub drained : Drained r2 after.source.bytes
@@ -269,12 +257,13 @@ talk-held mode talk m building status r0 r1 r2 before after l1 f1 parts =
     let d = read.described.0 in
     let is = read.described.2 in
     let e : opening_of 0 (text_lines read.texts) ≡ Described d r1.number [] = described-lines r0 r1 left l1 building parts.fresh read in
+    let quiet : f1 ≡ before.source.faults = parts.quiet (not-failed building) in
     record {
       words = λ two. absurd (h.known.1 two);
       causes = record {
         known = h.known.0;
-        reads_same = λ other. h.reads.same other ∙ parts.quiet;
-        reads_rose = λ three. subst (λ (n : Count). Rose n after.source.faults) parts.quiet (h.reads.rose three);
+        reads_same = λ other. h.reads.same other ∙ quiet;
+        reads_rose = λ three. subst (λ (n : Count). Rose n after.source.faults) quiet (h.reads.rose three);
         writes_same = h.writes.same;
         writes_rose = h.writes.rose;
       };
@@ -305,6 +294,7 @@ nothing-written talk never x (inr wants) = absurd (by_reading (model_of (lines_o
     by_reading (Refused code line) w = w
 
 pub session-talks : IsTalk Session session
+unfolding runs_of
 session-talks = record {
   input = refl;
   answers = λ input x talks reads_on. (talks, reads_on);
@@ -315,6 +305,7 @@ session-talks = record {
 }
 
 pub study-talks : IsTalk Study study
+unfolding runs_of
 study-talks = record {
   input = refl;
   answers = λ input x talks reads_on. (talks, reads_on);
@@ -325,6 +316,7 @@ study-talks = record {
 }
 
 pub replan-talks : IsTalk Replan replan
+unfolding runs_of
 replan-talks = record {
   input = refl;
   answers = λ input x talks reads_on. (talks, reads_on);

@@ -22,6 +22,7 @@ use Rattle.evac_top.specs.Tells.{Stops, Tells}
 use Rattle.evac_top.specs.declared.words.Flags.{Flags}
 use Rattle.evac_top.specs.declared.words.Mode.{Mode}
 use Rattle.evac_top.specs.declared.words.Mode.TheVariants.{Solve, Check, Upgrade, Drill}
+use Rattle.evac_top.proofs.TakeLemmas.{Failed, not-failed, read-fault}
 
 -- ---- telling
 
@@ -148,16 +149,20 @@ all-taken (Some xs) None taken P consumed end told = absurd consumed
 all-taken (Some xs) (Some ys) taken P consumed end told =
     λ x e. told x (e ∙ sym (append-nil taken) ∙ ap (λ l. taken ++ l) (sym end) ∙ sym consumed)
 
--- an input was read
-pub read-told : {T : Type 0} {IsOpen : List Line → Type 0} (mode : Mode) → ReadsFirst mode IsOpen → (Holds : Account → Type 0) (value : T) (status steps : ℕ)
-    (before after : Outside) → Takes {T = T} IsOpen (Ok value) before.source.bytes after.source.bytes → after.source.faults ≡ before.source.faults
-    → after.steps ≡ before.steps + steps → Tells Holds status steps before.sink after.sink → ((x : Account) → Holds x → x.status ≤ 1)
-    → Told before.source.bytes (λ input. (x : Account) → x.taken ≡ input → Holds x → (runs_of (Some mode)).Answers input x) → Runs (Some mode) status before after
-read-told mode m Holds value status steps before after t same counted tells few holds =
-    runs-told (Some mode) Holds status steps before after t.taken t.consumed t.few same counted tells (λ x h e. absurd (omega (arith, few x h, e)))
-    (told-input m.input before.source.bytes _
-    (all-taken before.source.bytes after.source.bytes t.taken (λ input x. Holds x → (runs_of (Some mode)).Answers input x) t.consumed t.all holds)) m.front
-    (λ x e w. m.memory x w)
+-- an input was read as a value
+pub read-told : {T : Type 0} {IsOpen : List Line → Type 0} (mode : Mode) → ReadsFirst mode IsOpen → (Is : Result T ModelFault → List ℕ → Type 0)
+    (Holds : Account → Type 0) (value : T) → ((x : Account) → Holds x → x.status ≤ 1)
+    → ((bytes : List ℕ) → Is (Ok value) bytes → (x : Account) → x.taken ≡ bytes → Holds x → (runs_of (Some mode)).Answers bytes x)
+    → (status steps old new : ℕ) (source source' sink sink' : Side) → Takes {T = T} IsOpen (Ok value) source.bytes source'.bytes
+    → ((Failed {T = T} (Ok value) → ⊥) → source'.faults ≡ source.faults) → new ≡ old + steps → Tells Holds status steps sink sink' → Told source.bytes (Is (Ok value))
+    → Runs (Some mode) status (record { source = source; sink = sink; steps = old }) (record { source = source'; sink = sink'; steps = new })
+read-told mode m Is Holds value few said status steps old new source source' sink sink' t quiet counted tells told =
+    let Answers : List ℕ → Account → Type 0 = (runs_of (Some mode)).Answers in
+    runs-told (Some mode) Holds status steps (record { source = source; sink = sink; steps = old }) (record { source = source'; sink = sink'; steps = new }) t.taken
+    t.consumed t.few (quiet (not-failed value)) counted tells (λ x h e. absurd (omega (arith, few x h, e)))
+    (told-input m.input source.bytes (λ input. (x : Account) → x.taken ≡ t.taken → Holds x → Answers input x)
+    (all-taken source.bytes source'.bytes t.taken (λ input x. Holds x → Answers input x) t.consumed t.all
+    (told-map source.bytes (Is (Ok value)) (λ input. (x : Account) → x.taken ≡ input → Holds x → Answers input x) said told))) m.front (λ x e w. m.memory x w)
 
 -- an input isn't read: what its fault says of it
 abbrev pub FaultIs : Mode → ModelFault → List ℕ → Type 0
@@ -212,15 +217,33 @@ stopped mode m Memory status before after t rose quiet kept (five, same) told =
       memory = λ e. m.memory x refl;
     }
 
+-- an input isn't read
+pub fault-told : {T : Type 0} {IsOpen : List Line → Type 0} (mode : Mode) → ReadsFirst mode IsOpen → (Is : Result T ModelFault → List ℕ → Type 0)
+    (fault : ModelFault) → ((bytes : List ℕ) → Is (Err fault) bytes → FaultIs mode fault bytes) → (status steps : ℕ) (source source' sink sink' : Side)
+    → Takes {T = T} IsOpen (Err fault) source.bytes source'.bytes → (Failed {T = T} (Err fault) → Rose source.faults source'.faults)
+    → ((Failed {T = T} (Err fault) → ⊥) → source'.faults ≡ source.faults) → Stops fault status sink sink' → Told source.bytes (Is (Err fault))
+    → Runs (Some mode) status (record { source = source; sink = sink; steps = steps }) (record { source = source'; sink = sink'; steps = steps })
+fault-told {T} mode m Is fault said status steps source source' sink sink' t rose quiet tells told =
+    stopped mode m fault status (record { source = source; sink = sink; steps = steps }) (record { source = source'; sink = sink'; steps = steps }) t
+    (λ e. rose (ap Err e)) (λ n. quiet (λ e. n (read-fault {T = T} fault e))) refl tells
+    (told-map source.bytes (Is (Err fault)) (FaultIs mode fault) said told)
+
+-- who reads nothing isn't in a mode that reads
+pub reads-not : (m n : Option Mode) → m ≡ n → (runs_of n).reads ≡ true → (runs_of m).reads ≡ false → ⊥
+reads-not m n same reads not = cc
+
 -- ---- the modes
 
 pub solve-reads : (flags : Flags) → ReadsFirst (Solve flags) IsOpenInput
+unfolding runs_of
 solve-reads flags = record { input = refl; front = λ input x h. h; so_far = λ lines x is nothing. (is, nothing); memory = λ x e. e }
 
 pub upgrade-reads : ReadsFirst Upgrade IsOpenInput
+unfolding runs_of
 upgrade-reads = record { input = refl; front = λ input x h. h; so_far = λ lines x is nothing. (is, nothing); memory = λ x e. e }
 
 pub check-reads : ReadsFirst Check IsOpenClaim
+unfolding runs_of
 check-reads = record { input = refl; front = λ input x h. h; so_far = λ lines x is nothing. (is, nothing); memory = λ x e. e }
 
 -- what is told of one account of a building is told of an account of it
@@ -242,6 +265,7 @@ tells-as Holds Others status steps before after f t = record {
 pub drill-told : (n status steps : ℕ) (source before after : Side) (old new : ℕ) → new ≡ old + steps → ((x : Account) → IsDrillSolved n x → x.status ≤ 1)
     → Tells (IsDrillSolved n) status steps before after
     → Runs (Some (Drill n)) status (record { source = source; sink = before; steps = old }) (record { source = source; sink = after; steps = new })
+unfolding runs_of
 drill-told n status steps source before after old new counted few tells =
     runs-told (Some (Drill n)) (IsDrillSolved n) status steps (record { source = source; sink = before; steps = old }) (record { source = source; sink = after; steps = new }) []
     (Consumes-nil source.bytes) (omega arith) refl counted tells (λ x h e. absurd (omega (arith, few x h, e))) (λ x none h. (none, h)) (λ input x h. h)
@@ -254,6 +278,7 @@ RefusesBy x = Ends x 2 words_text 0
 
 pub words-told : (status : ℕ) (source : Side) (steps : ℕ) (before after : Side) → Tells RefusesBy status 0 before after
     → Runs None status (record { source = source; sink = before; steps = steps }) (record { source = source; sink = after; steps = steps })
+unfolding runs_of
 words-told status source steps before after tells =
     runs-told None RefusesBy status 0 (record { source = source; sink = before; steps = steps }) (record { source = source; sink = after; steps = steps }) []
     (Consumes-nil source.bytes) (omega arith) refl (omega arith) tells (λ x h e. refl) (λ x none h. (none, h)) (λ input x h. h) (λ x none nothing. (none, nothing))

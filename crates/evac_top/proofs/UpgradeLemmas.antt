@@ -39,6 +39,7 @@ described-again bytes asked e =
 
 pub said-upgraded : (input : Input) (bytes : List ℕ) → InputIs (Ok input) bytes → (x : Account) → x.taken ≡ bytes → IsUpgraded input.building x
     → (runs_of (Some Upgrade)).Answers bytes x
+unfolding runs_of
 said-upgraded input bytes (asked, e, is, same) x all ends =
     subst (λ (r : _). Upgrades bytes r x) (sym e) (
       all,
@@ -47,6 +48,7 @@ said-upgraded input bytes (asked, e, is, same) x all ends =
     )
 
 pub upgrade-fault : (fault : ModelFault) (bytes : List ℕ) → InputIs (Err fault) bytes → FaultIs Upgrade fault bytes
+unfolding runs_of
 upgrade-fault (Named code line) bytes e = λ x is. subst (λ (r : _). Upgrades bytes r x) (sym e) is
 upgrade-fault ReadFault bytes e = tt
 upgrade-fault Memory bytes e = tt

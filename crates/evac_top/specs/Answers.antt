@@ -90,7 +90,7 @@ abbrev pub ChecksInput : List ℕ → Account → Type 0
 ChecksInput input x = (claim : Result Claimed (Code × ℕ)) × IsClaimOf (lines_of input) claim × Checks input claim x
 
 -- what the runs of each mode do, and those of words that ask for none
-abbrev pub runs_of : Option Mode → ModeRuns
+unfoldable pub runs_of : Option Mode → ModeRuns
 runs_of None = reads_nothing RefusesWords (λ x. x.status ≡ 2)
 runs_of (Some (Solve flags)) =
     reads_first IsOpenInput (λ input x. Solves flags input (input_of (lines_of input)) x) (λ input x. SolvesAll (input_of (lines_of input)) x)

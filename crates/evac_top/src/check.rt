@@ -9,12 +9,13 @@ ghost use Rattle.evac_top.specs.Tells.{Tells};
 ghost use Rattle.evac_top.specs.declared.words.Mode.TheVariants.{Check};
 ghost use Rattle.talk.specs.Statuses.{status_number};
 
-use crate::claim::read_claim;
+use crate::claim::{Claim, read_claim};
+use crate::room::take_room;
 use crate::stop::stop;
 use crate::verdict::send_verdict;
 use certificate_text::Block;
 use evac_law::Model;
-use line_io::{Lines, Out, Sink, Source};
+use line_io::{Out, Sink, Source};
 use plan_checker::Verdict;
 use std::alloc::Global;
 use talk::{Status, status_after};
@@ -47,21 +48,30 @@ fn judge<K: Sink>(
     status_after(send_verdict(out, sink, model, verdict), status_of(verdict))
 }
 
+// Sends the same, and drops what was read.
+fn judge_claim<K: Sink>(alloc: Global, out: &mut Out, sink: &mut K, claim: Claim) -> Status
+    requires fresh { out.old ≡ [] }
+    requires valid { IsValid claim.building.model }
+    requires block { IsBlockOf claim.building.model claim.block }
+    ensures { Tells (IsChecked claim.building.model claim.block) (status_number result) 0
+        (side (K.held sink.old) (K.faults sink.old)) (side (K.held sink.new) (K.faults sink.new)) }
+{
+    let status = judge(alloc, out, sink, &claim.building.model, &claim.block);
+    drop(claim);
+    status
+}
+
 /// Runs the mode. It counts no steps.
 pub(crate) fn check<S: Source, K: Sink>(alloc: Global, source: &mut S, sink: &mut K) -> Status
     ensures { (steps : ℕ) → Runs (Some Check) (status_number result)
         (record { source = side (S.left source.old) (S.faults source.old); sink = side (K.held sink.old) (K.faults sink.old); steps = steps })
         (record { source = side (S.left source.new) (S.faults source.new); sink = side (K.held sink.new) (K.faults sink.new); steps = steps }) }
 {
-    let (Ok(mut lines), Ok(mut out)) = (Lines::new(alloc), Out::new(alloc)) else {
+    let Ok((mut lines, mut out)) = take_room(alloc) else {
         return Status::NoMemory;
     };
     match read_claim(alloc, &mut lines, source) {
-        Ok(claim) => {
-            let status = judge(alloc, &mut out, sink, &claim.building.model, &claim.block);
-            drop(claim);
-            status
-        }
+        Ok(claim) => judge_claim(alloc, &mut out, sink, claim),
         Err(fault) => stop(&mut out, sink, fault),
     }
 }

@@ -1,7 +1,13 @@
 //! The building and the block that an input of `check` states.
-ghost use Rattle.std.specs.Prelude.{◌≡◌, Err, IfOk};
+ghost use Rattle.std.specs.Prelude.{◌≡◌, ℕ, List, Err, IfOk, Ok};
+ghost use Rattle.std.specs.declared.option.Option.{Option};
 ghost use Rattle.evac_law.specs.Building.{IsValid};
 ghost use Rattle.line_io.specs.Causes.{Rose};
+ghost use Rattle.line_io.specs.Reader.{Drained, lines_left};
+ghost use Rattle.line_io.specs.View.{Reader};
+ghost use Rattle.building_table.specs.Names.{NamesFit};
+ghost use Rattle.building_table.specs.declared.faults.ModelFault.{ModelFault as FaultValue};
+ghost use Rattle.building_table.specs.Passes.{ReadsLines, ReadsModel};
 ghost use Rattle.certificate_text.specs.Block.{IsBlockOf};
 ghost use Rattle.evac_top.specs.Inputs.{IsOpenClaim};
 ghost use Rattle.evac_top.specs.Accounts.{Told};
@@ -36,6 +42,67 @@ fn block_fault(fault: BlockFault) -> ModelFault
     ModelFault::Named { code, line }
 }
 
+// Reads the block behind a building, and to the end of the input behind it. What they say with the building is said of a reader that read it.
+fn read_block_alone<S: Source>(
+    alloc: Global,
+    lines: &mut Lines,
+    source: &mut S,
+    building: &Building,
+) -> Result<Block, ModelFault>
+    requires valid { IsValid building.now.model }
+    requires names { NamesFit building.now.names building.now.model }
+    ensures block { IfOk result (λ block. IsBlockOf building.now.model block) }
+    ensures stated { (first : Reader) (left : Option (List ℕ)) → IsFresh first
+        → ReadsModel (Ok building.now) first.number lines.old.number (lines_left first left) (lines_left lines.old (S.left source.old))
+        → IfOk result (λ block. Told left (ClaimIs (Ok (record { building = building.now; block = block })))) }
+    ensures refused { (first : Reader) (left : Option (List ℕ)) (fault : FaultValue) → IsFresh first
+        → ReadsModel (Ok building.now) first.number lines.old.number (lines_left first left) (lines_left lines.old (S.left source.old))
+        → result ≡ Err fault → Told left (ClaimIs (Err fault)) }
+    ensures takes { (first : Reader) (left : Option (List ℕ)) → IsFresh first → ReadsLines (Ok building.now) first lines.old left (S.left source.old)
+        → (Drained first left → Drained lines.old (S.left source.old)) → Takes IsOpenClaim result left (S.left source.new) }
+    ensures failed { result ≡ Err ModelFault.ReadFault → Rose (S.faults source.old) (S.faults source.new) }
+    ensures quiet { (result ≡ Err ModelFault.ReadFault → ⊥) → S.faults source.new ≡ S.faults source.old }
+{
+    let block = match read_block(alloc, lines, source, &building.model, &building.names) {
+        Ok(block) => block,
+        Err(fault) => return Err(block_fault(fault)),
+    };
+    match read_tail(lines, source) {
+        Ok(()) => Ok(block),
+        Err(fault) => {
+            drop(block);
+            Err(fault)
+        }
+    }
+}
+
+// The same with the building itself.
+fn read_behind<S: Source>(
+    alloc: Global,
+    lines: &mut Lines,
+    source: &mut S,
+    building: Building,
+) -> Result<Claim, ModelFault>
+    requires valid { IsValid building.model }
+    requires names { NamesFit building.names building.model }
+    ensures input { (first : Reader) (left : Option (List ℕ)) → IsFresh first
+        → ReadsModel (Ok building) first.number lines.old.number (lines_left first left) (lines_left lines.old (S.left source.old)) → Told left (ClaimIs result) }
+    ensures valid { IfOk result (λ claim. IsValid claim.building.model) }
+    ensures block { IfOk result (λ claim. IsBlockOf claim.building.model claim.block) }
+    ensures takes { (first : Reader) (left : Option (List ℕ)) → IsFresh first → ReadsLines (Ok building) first lines.old left (S.left source.old)
+        → (Drained first left → Drained lines.old (S.left source.old)) → Takes IsOpenClaim result left (S.left source.new) }
+    ensures failed { result ≡ Err ModelFault.ReadFault → Rose (S.faults source.old) (S.faults source.new) }
+    ensures quiet { (result ≡ Err ModelFault.ReadFault → ⊥) → S.faults source.new ≡ S.faults source.old }
+{
+    match read_block_alone(alloc, lines, source, &building) {
+        Ok(block) => Ok(Claim { building, block }),
+        Err(fault) => {
+            drop(building);
+            Err(fault)
+        }
+    }
+}
+
 /// Reads the building and the block of an input that has nothing but blank lines and comments behind them.
 pub(crate) fn read_claim<S: Source>(
     alloc: Global,
@@ -50,16 +117,8 @@ pub(crate) fn read_claim<S: Source>(
     ensures failed { result ≡ Err ModelFault.ReadFault → Rose (S.faults source.old) (S.faults source.new) }
     ensures quiet { (result ≡ Err ModelFault.ReadFault → ⊥) → S.faults source.new ≡ S.faults source.old }
 {
-    let building = match read_model(alloc, lines, source) {
-        Ok(building) => building,
-        Err(fault) => return Err(fault),
-    };
-    let block = match read_block(alloc, lines, source, &building.model, &building.names) {
-        Ok(block) => block,
-        Err(fault) => return Err(block_fault(fault)),
-    };
-    match read_tail(lines, source) {
-        Ok(()) => Ok(Claim { building, block }),
+    match read_model(alloc, lines, source) {
+        Ok(building) => read_behind(alloc, lines, source, building),
         Err(fault) => Err(fault),
     }
 }

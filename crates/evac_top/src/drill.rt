@@ -1,5 +1,5 @@
 //! The mode `drill`: the building of a drill is planned, and the summary of its plan is sent.
-ghost use Rattle.std.specs.Prelude.{◌≡◌, ℕ, ◌≤◌, [], IfOk, Some};
+ghost use Rattle.std.specs.Prelude.{◌≡◌, ℕ, ◌+◌, ◌≤◌, [], IfOk, Some};
 ghost use Rattle.clearing_report.specs.Walks.{IsUncongested};
 ghost use Rattle.drill_building.specs.Drill.{drill_model};
 ghost use Rattle.drill_building.specs.Summary.{drill_text, figures_of};
@@ -16,6 +16,7 @@ ghost use Rattle.talk.specs.Statuses.{status_number};
 
 use crate::reply::flush_behind;
 use crate::stop::stop_short;
+use building_table::Building;
 use clearing_report::Clearing;
 use drill_building::{Figures, STOREY_LIMIT, drill_model, write_drill};
 use edit_session::{BeginFault, Session};
@@ -113,6 +114,32 @@ fn tell<K: Sink>(
     }
 }
 
+// Begins a session on a building, and drops its names.
+fn begin<L: Ledger>(
+    alloc: Global,
+    building: Building,
+    steps: &mut Steps<L>,
+) -> Result<Session, BeginFault>
+    requires { IsValid building.model }
+    ensures { (count : ℕ) × (steps.new ≡ steps.old + count) × BeginEnds building.model result count }
+{
+    drop(building.names);
+    Session::begin(alloc, building.model, steps)
+}
+
+// Takes the memory to write, and makes the building.
+fn take_building(alloc: Global, number: u32) -> Result<(Out, Building), AllocError>
+    requires { number ≤ STOREY_LIMIT }
+    ensures empty { IfOk result (λ made. made.0 ≡ []) }
+    ensures model { IfOk result (λ made. made.1.model ≡ drill_model number) }
+    ensures valid { IfOk result (λ made. IsValid made.1.model) }
+{
+    let (Ok(out), Ok(building)) = (Out::new(alloc), drill_model(alloc, number)) else {
+        return Err(AllocError);
+    };
+    Ok((out, building))
+}
+
 /// Runs the mode. It reads nothing.
 pub(crate) fn drill<K: Sink, L: Ledger>(
     alloc: Global,
@@ -125,11 +152,10 @@ pub(crate) fn drill<K: Sink, L: Ledger>(
         (record { source = source; sink = side (K.held sink.old) (K.faults sink.old); steps = steps.old })
         (record { source = source; sink = side (K.held sink.new) (K.faults sink.new); steps = steps.new }) }
 {
-    let (Ok(mut out), Ok(building)) = (Out::new(alloc), drill_model(alloc, number)) else {
+    let Ok((mut out, building)) = take_building(alloc, number) else {
         return Status::NoMemory;
     };
-    drop(building.names);
-    let begun = Session::begin(alloc, building.model, steps);
+    let begun = begin(alloc, building, steps);
     let status = tell(alloc, &mut out, sink, number, begun);
     drop(out);
     status

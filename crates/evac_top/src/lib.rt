@@ -14,6 +14,7 @@ mod read;
 mod replanning;
 mod reply;
 mod report_tables;
+mod room;
 mod session;
 mod solve;
 mod stop;

@@ -1,8 +1,11 @@
 //! The building that an input describes.
-ghost use Rattle.std.specs.Prelude.{◌≡◌, ◌≤◌, Err, IfOk, Ok, OnOk, false, true};
+ghost use Rattle.std.specs.Prelude.{◌≡◌, ℕ, ◌≤◌, List, Err, IfOk, Ok, OnOk, false, true};
+ghost use Rattle.std.specs.declared.option.Option.{Option};
 ghost use Rattle.evac_law.specs.Building.{IsValid};
 ghost use Rattle.line_io.specs.Causes.{Rose};
 ghost use Rattle.line_io.specs.Reader.{Drained, is_settled, lines_left};
+ghost use Rattle.line_io.specs.View.{Reader};
+ghost use Rattle.building_table.specs.Passes.{ReadsLines, ReadsModel};
 ghost use Rattle.model_text.specs.Grammar.{statement_of};
 ghost use Rattle.evac_top.specs.Inputs.{IsOpenInput, says_nothing};
 ghost use Rattle.evac_top.specs.Accounts.{Told};
@@ -100,6 +103,31 @@ pub struct Input {
     pub last: u32,
 }
 
+// Reads to the end of the input behind a building. What is said of the input is said of a reader that read the building.
+fn read_end<S: Source>(
+    lines: &mut Lines,
+    source: &mut S,
+    building: Building,
+) -> Result<Input, ModelFault>
+    requires { IsValid building.model }
+    ensures input { (first : Reader) (left : Option (List ℕ)) → IsFresh first
+        → ReadsModel (Ok building) first.number lines.old.number (lines_left first left) (lines_left lines.old (S.left source.old)) → Told left (InputIs result) }
+    ensures valid { IfOk result (λ input. IsValid input.building.model) }
+    ensures takes { (first : Reader) (left : Option (List ℕ)) → IsFresh first → ReadsLines (Ok building) first lines.old left (S.left source.old)
+        → (Drained first left → Drained lines.old (S.left source.old)) → Takes IsOpenInput result left (S.left source.new) }
+    ensures failed { result ≡ Err ModelFault.ReadFault → Rose (S.faults source.old) (S.faults source.new) }
+    ensures quiet { (result ≡ Err ModelFault.ReadFault → ⊥) → S.faults source.new ≡ S.faults source.old }
+{
+    let last = lines.number();
+    match read_tail(lines, source) {
+        Ok(()) => Ok(Input { building, last }),
+        Err(fault) => {
+            drop(building);
+            Err(fault)
+        }
+    }
+}
+
 /// Reads the building of an input that has nothing but blank lines and comments behind its end.
 pub(crate) fn read_input<S: Source>(
     alloc: Global,
@@ -113,13 +141,8 @@ pub(crate) fn read_input<S: Source>(
     ensures failed { result ≡ Err ModelFault.ReadFault → Rose (S.faults source.old) (S.faults source.new) }
     ensures quiet { (result ≡ Err ModelFault.ReadFault → ⊥) → S.faults source.new ≡ S.faults source.old }
 {
-    let building = match read_model(alloc, lines, source) {
-        Ok(building) => building,
-        Err(fault) => return Err(fault),
-    };
-    let last = lines.number();
-    match read_tail(lines, source) {
-        Ok(()) => Ok(Input { building, last }),
+    match read_model(alloc, lines, source) {
+        Ok(building) => read_end(lines, source, building),
         Err(fault) => Err(fault),
     }
 }

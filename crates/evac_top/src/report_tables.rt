@@ -29,6 +29,23 @@ fn make_reports(alloc: Global, session: &Session, names: &Names) -> Result<Repor
     Ok(space)
 }
 
+// Room for the routes of a session's plan, where they are asked for.
+fn room_for_routes(
+    alloc: Global,
+    flags: Flags,
+    session: &Session,
+) -> Result<Option<Routes>, AllocError>
+    ensures asked { IfOk result (λ r. is_some r ≡ flags.routes) }
+    ensures site { IfOk result (λ r. IfSome r (λ routes. IsSameSite session.now.state.model routes.model)) }
+{
+    let routes = if flags.routes {
+        Some(Routes::new(alloc, session.model())?)
+    } else {
+        None
+    };
+    Ok(routes)
+}
+
 // Room for the cards of a session's plan, where they are asked for.
 fn room_for_cards(
     alloc: Global,
@@ -45,6 +62,73 @@ fn room_for_cards(
     }
 }
 
+// The reports on where a session stands, where they are asked for.
+fn reports_asked(
+    alloc: Global,
+    asked: bool,
+    session: &Session,
+    names: &Names,
+) -> Result<Option<ReportSpace>, AllocError>
+    ensures asked { IfOk result (λ r. is_some r ≡ asked) }
+    ensures made { IfOk result (λ r. IfSome r (HasReports names.now session.now.state)) }
+{
+    if asked {
+        Ok(Some(make_reports(alloc, session, names)?))
+    } else {
+        Ok(None)
+    }
+}
+
+// The tables with these routes and cards.
+fn with_reports(
+    alloc: Global,
+    flags: Flags,
+    session: &Session,
+    names: &Names,
+    routes: Option<Routes>,
+    cards: Option<Cards>,
+) -> Result<Tables, AllocError>
+    requires routes { is_some routes ≡ flags.routes }
+    requires site { IfSome routes (λ r. IsSameSite session.now.state.model r.model) }
+    requires cards { is_some cards ≡ flags.cards }
+    requires cards_site { IfSome cards (λ c. IsSameSite session.now.state.model c.model) }
+    ensures { IfOk result (HasTablesAsked flags names.now session.now.state) }
+{
+    match reports_asked(alloc, flags.reports, session, names) {
+        Ok(reports) => Ok(Tables {
+            routes,
+            cards,
+            reports,
+        }),
+        Err(fault) => {
+            drop(cards);
+            drop(routes);
+            Err(fault)
+        }
+    }
+}
+
+// The tables with these routes.
+fn with_cards(
+    alloc: Global,
+    flags: Flags,
+    session: &Session,
+    names: &Names,
+    routes: Option<Routes>,
+) -> Result<Tables, AllocError>
+    requires routes { is_some routes ≡ flags.routes }
+    requires site { IfSome routes (λ r. IsSameSite session.now.state.model r.model) }
+    ensures { IfOk result (HasTablesAsked flags names.now session.now.state) }
+{
+    match room_for_cards(alloc, flags.cards, session) {
+        Ok(cards) => with_reports(alloc, flags, session, names, routes, cards),
+        Err(fault) => {
+            drop(routes);
+            Err(fault)
+        }
+    }
+}
+
 impl Tables {
     /// Takes all memory that what is asked for needs, and makes the reports.
     pub(crate) fn new(
@@ -55,21 +139,9 @@ impl Tables {
     ) -> Result<Tables, AllocError>
         ensures { IfOk result (HasTablesAsked flags names.now session.now.state) }
     {
-        let routes = if flags.routes {
-            Some(Routes::new(alloc, session.model())?)
-        } else {
-            None
-        };
-        let cards = room_for_cards(alloc, flags.cards, session)?;
-        let reports = if flags.reports {
-            Some(make_reports(alloc, session, names)?)
-        } else {
-            None
-        };
-        Ok(Tables {
-            routes,
-            cards,
-            reports,
-        })
+        match room_for_routes(alloc, flags, session) {
+            Ok(routes) => with_cards(alloc, flags, session, names, routes),
+            Err(fault) => Err(fault),
+        }
     }
 }

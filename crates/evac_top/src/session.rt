@@ -5,10 +5,11 @@ ghost use Rattle.evac_top.specs.Runs.{Runs};
 ghost use Rattle.evac_top.specs.declared.words.Mode.TheVariants.{Session};
 ghost use Rattle.talk.specs.Statuses.{status_number};
 
+use crate::room::take_room;
 use crate::stop::stop;
 use building_table::read_model;
 use evac_law::Steps;
-use line_io::{Lines, Out, Sink, Source};
+use line_io::{Sink, Source};
 use session_talk::hold_session;
 use std::alloc::Global;
 use std::sync::ledger::Ledger;
@@ -25,7 +26,7 @@ pub(crate) fn session<S: Source, K: Sink, L: Ledger>(
         (record { source = side (S.left source.old) (S.faults source.old); sink = side (K.held sink.old) (K.faults sink.old); steps = steps.old })
         (record { source = side (S.left source.new) (S.faults source.new); sink = side (K.held sink.new) (K.faults sink.new); steps = steps.new }) }
 {
-    let (Ok(mut lines), Ok(mut out)) = (Lines::new(alloc), Out::new(alloc)) else {
+    let Ok((mut lines, mut out)) = take_room(alloc) else {
         return Status::NoMemory;
     };
     match read_model(alloc, &mut lines, source) {

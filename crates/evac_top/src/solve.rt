@@ -13,12 +13,13 @@ ghost use Rattle.talk.specs.Statuses.{status_number};
 use crate::plan::send_plan;
 use crate::read::{Input, read_input};
 use crate::report_tables::Tables;
+use crate::room::take_room;
 use crate::stop::{stop, stop_short};
 use crate::words::Flags;
 use building_table::Names;
 use edit_session::{BeginFault, Session};
 use evac_law::Steps;
-use line_io::{Lines, Out, Sink, Source};
+use line_io::{Out, Sink, Source};
 use std::alloc::Global;
 use std::sync::ledger::Ledger;
 use talk::{Status, status_after};
@@ -40,10 +41,9 @@ fn answer_plan<K: Sink>(
     let Ok(mut tables) = Tables::new(alloc, flags, session, names) else {
         return Status::NoMemory;
     };
-    status_after(
-        send_plan(out, sink, session, names, &mut tables),
-        Status::Done,
-    )
+    let sent = send_plan(out, sink, session, names, &mut tables);
+    drop(tables);
+    status_after(sent, Status::Done)
 }
 
 // Sends the plan with which a session begins, and ends the session.
@@ -102,7 +102,9 @@ fn answer<K: Sink, L: Ledger>(
 {
     let names = input.building.names;
     let begun = Session::begin(alloc, input.building.model, steps);
-    tell(alloc, flags, out, sink, begun, &names, input.last)
+    let status = tell(alloc, flags, out, sink, begun, &names, input.last);
+    drop(names);
+    status
 }
 
 /// Runs the mode.
@@ -117,7 +119,7 @@ pub(crate) fn solve<S: Source, K: Sink, L: Ledger>(
         (record { source = side (S.left source.old) (S.faults source.old); sink = side (K.held sink.old) (K.faults sink.old); steps = steps.old })
         (record { source = side (S.left source.new) (S.faults source.new); sink = side (K.held sink.new) (K.faults sink.new); steps = steps.new }) }
 {
-    let (Ok(mut lines), Ok(mut out)) = (Lines::new(alloc), Out::new(alloc)) else {
+    let Ok((mut lines, mut out)) = take_room(alloc) else {
         return Status::NoMemory;
     };
     match read_input(alloc, &mut lines, source) {

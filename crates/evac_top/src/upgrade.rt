@@ -13,9 +13,10 @@ ghost use Rattle.talk.specs.Statuses.{status_number};
 
 use crate::read::read_input;
 use crate::reply::flush_behind;
+use crate::room::take_room;
 use crate::stop::stop;
 use building_table::Building;
-use line_io::{Lines, Out, Sink, Source, WriteFault};
+use line_io::{Out, Sink, Source, WriteFault};
 use model_writer::write_model;
 use std::alloc::Global;
 use talk::{Status, status_after};
@@ -48,7 +49,7 @@ pub(crate) fn upgrade<S: Source, K: Sink>(alloc: Global, source: &mut S, sink: &
         (record { source = side (S.left source.old) (S.faults source.old); sink = side (K.held sink.old) (K.faults sink.old); steps = steps })
         (record { source = side (S.left source.new) (S.faults source.new); sink = side (K.held sink.new) (K.faults sink.new); steps = steps }) }
 {
-    let (Ok(mut lines), Ok(mut out)) = (Lines::new(alloc), Out::new(alloc)) else {
+    let Ok((mut lines, mut out)) = take_room(alloc) else {
         return Status::NoMemory;
     };
     match read_input(alloc, &mut lines, source) {

@@ -16,16 +16,16 @@ returns-in_default g c = λ source.
 
 pub tell-status-requires-clause-begun : goal.tell-status-requires-clause-begun
 tell-status-requires-clause-begun g c =
-    let made = c.in-Ok-Ok in
+    let made = c.in-Ok in
     let b = c.begin-begun.ensures in
-    let same : made.building.model ≡ drill_model c.args.number = made.ensures'.building.model in
-    (b.0, subst IsValid same made.ensures'.valid, subst (λ (m : Model). BeginEnds m c.begin-begun.result b.0) same b.2)
+    let same : made.building.model ≡ drill_model c.args.number = made.ensures.model in
+    (b.0, subst IsValid same made.ensures.valid, subst (λ (m : Model). BeginEnds m c.begin-begun.result b.0) same b.2)
 
 pub returns : goal.returns
 returns g c = λ source.
     let n = c.args.number in
-    let made = c.in-Ok-Ok in
+    let made = c.in-Ok in
     let b = c.begin-begun.ensures in
-    let same : made.building.model ≡ drill_model n = made.ensures'.building.model in
+    let same : made.building.model ≡ drill_model n = made.ensures.model in
     let ends = subst (λ (m : Model). BeginEnds m c.begin-begun.result b.0) same b.2 in
     drill-told n (status_number c.tell-status.result) b.0 source _ _ c.args.steps.now c.begin-begun.new.steps b.1 (drilled-few n) (c.tell-status.ensures b.0 ends)

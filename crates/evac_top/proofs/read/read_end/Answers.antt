@@ -1,0 +1,33 @@
+use Rattle.std.proofs.Common.{Err, ap}
+use Rattle.evac_top.proofs.InputLemmas.{told-building, told-fault}
+use Rattle.evac_top.proofs.OpenLemmas.{takes-tail, takes-tail-fault}
+use Rattle.evac_top.proofs.TakeLemmas.{not-failed, read-fault}
+use Rattle.evac_top.proofs.read.read_end.Goals as goal
+
+pub returns-in-Ok-clause-input : goal.returns-in-Ok-clause-input
+returns-in-Ok-clause-input g c = λ first left fresh reading.
+    told-building first left c.args.building c.number-last.result _ _ fresh reading c.in-Ok.ensures.tail c.number-last.ensures.number
+
+pub returns-in-Ok-clause-takes : goal.returns-in-Ok-clause-takes
+returns-in-Ok-clause-takes g c = λ first left fresh reads drained.
+    let tail = c.in-Ok.ensures in
+    takes-tail _ first c.args.lines.now c.read_tail.new.lines left _ _ c.args.building fresh reads tail.passes drained tail.drained tail.ended
+
+pub returns-in-Err-clause-input : goal.returns-in-Err-clause-input
+returns-in-Err-clause-input g c = λ first left fresh reading. told-fault first left c.args.building c.in-Err.fault _ _ fresh reading c.in-Err.ensures.tail
+
+pub returns-in-Err-clause-takes : goal.returns-in-Err-clause-takes
+returns-in-Err-clause-takes g c = λ first left fresh reads drained.
+    takes-tail-fault c.in-Err.fault first c.args.lines.now c.read_tail.new.lines left _ _ c.args.building fresh reads c.in-Err.ensures.passes c.in-Err.ensures.unfinished
+
+pub returns-in-Ok-clause-failed : goal.returns-in-Ok-clause-failed
+returns-in-Ok-clause-failed g c = λ e. absurd (not-failed _ e)
+
+pub returns-in-Ok-clause-quiet : goal.returns-in-Ok-clause-quiet
+returns-in-Ok-clause-quiet g c = λ not. c.in-Ok.ensures.quiet (not-failed tt)
+
+pub returns-in-Err-clause-failed : goal.returns-in-Err-clause-failed
+returns-in-Err-clause-failed g c = λ e. c.in-Err.ensures.failed (ap Err (read-fault c.in-Err.fault e))
+
+pub returns-in-Err-clause-quiet : goal.returns-in-Err-clause-quiet
+returns-in-Err-clause-quiet g c = λ not. c.in-Err.ensures.quiet (λ e. not (ap Err (read-fault c.in-Err.fault e)))
