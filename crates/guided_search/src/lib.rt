@@ -1,8 +1,9 @@
 //! Hints at the paths along which people can be sent to an arrival moment.
 //!
-//! **What this crate answers is a hint, and no contract speaks of it.** It is proved to be safe and to end, and no more: its numbers
-//! may be wrong or stale. Whoever takes a path from it looks at each of its steps before people are sent along it, and finishes a
-//! moment by a search that needs no hint. So a wrong number costs time, and never a right answer.
+//! **What this crate answers is a hint, and no contract speaks of it.** It is proved to be safe and to end, and no more: its contracts
+//! are on sizes alone, so that nothing is read or written but where it stands, and its numbers may be wrong or stale. A net of another
+//! size than the building's gets no hint. Whoever takes a path from it looks at each of its steps before people are sent along it, and
+//! finishes a moment by a search that needs no hint. So a wrong number costs time, and never a right answer.
 //!
 //! A `PathFinder` hints in two ways. While people are unsent, it finds shortest augmenting paths: a search goes back from the arrival
 //! along steps that distance labels call admissible, and relabels where there is none; the labels outlive the moments. Where everybody
