@@ -10,13 +10,13 @@ use Rattle.building_table.specs.declared.faults.ModelFault.TheVariants.{Named, R
 use Rattle.building_table.specs.Built.{IsBuilding}
 
 -- a building is the one that a text describes up to its `end`; or the first fault of the text is named
-abbrev pub Describes : List ℕ → Result Building ModelFault → Type 0
-Describes text (Ok building) = (d : Description) × (last : ℕ) × (rest : List Line) × (model_of (lines_of text) ≡ Described d last rest) × IsBuilding building d
-Describes text (Err (Named code line)) = model_of (lines_of text) ≡ Refused code line
-Describes text (Err ReadFault) = ⊥
-Describes text (Err Memory) = ⊤
+abbrev pub GivesBuilding : List ℕ → Result Building ModelFault → Type 0
+GivesBuilding text (Ok building) = (d : Description) × (last : ℕ) × (rest : List Line) × (model_of (lines_of text) ≡ Described d last rest) × IsBuilding building d
+GivesBuilding text (Err (Named code line)) = model_of (lines_of text) ≡ Refused code line
+GivesBuilding text (Err ReadFault) = ⊥
+GivesBuilding text (Err Memory) = ⊤
 
 -- a model is that of the building that a text describes; or the first fault of the text is named
-abbrev pub DescribesModel : List ℕ → Result Model ModelFault → Type 0
-DescribesModel text (Ok model) = (d : Description) × (last : ℕ) × (rest : List Line) × (model_of (lines_of text) ≡ Described d last rest) × (model ≡ d.model)
-DescribesModel text (Err fault) = Describes text (Err fault)
+abbrev pub GivesModel : List ℕ → Result Model ModelFault → Type 0
+GivesModel text (Ok model) = (d : Description) × (last : ℕ) × (rest : List Line) × (model_of (lines_of text) ≡ Described d last rest) × (model ≡ d.model)
+GivesModel text (Err fault) = GivesBuilding text (Err fault)
