@@ -321,7 +321,7 @@ RT_SLOW=1 "$here/repo/build" 3 2>"$here/first" &
 await test -e "$here/slow"
 RT_SLOW=1 "$here/repo/build" 3 >"$here/out" 2>"$here/err" &
 second=$!
-await grep -q 'another build' "$here/err"
+await grep -qs 'another build' "$here/err"
 touch "$here/go"
 wait "$second"
 status=$?

@@ -1,5 +1,5 @@
 -- A session that keeps the headline answers the first line behind its building.
-use Rattle.std.proofs.Common.{◌≡◌, ◌≢◌, ℕ, ◌+◌, List, [], ◌∷◌, ◌++◌, length, Result, Ok, Err, refl, sym, ap, subst, ◌∙◌, arith, append-nil, append_assoc, length-append, inl, inr}
+use Rattle.std.proofs.Common.{◌≡◌, ℕ, ◌+◌, List, [], ◌∷◌, ◌++◌, length, Result, Ok, Err, refl, sym, ap, subst, ◌∙◌, arith, append-nil, append_assoc, length-append, inl, inr}
 use Rattle.evac_law.specs.declared.edit.Edit.{Edit}
 use Rattle.evac_law.specs.declared.edit.EditFault.{EditFault}
 use Rattle.evac_law.specs.declared.model.Model.{Model}
@@ -13,14 +13,14 @@ use Rattle.model_text.specs.declared.fault.TextFault.{TextFault}
 use Rattle.model_text.specs.Commands.{command_of}
 use Rattle.model_text.specs.Taken.{Description}
 use Rattle.building_table.specs.declared.faults.NameFault.{NameFault}
-use Rattle.building_table.specs.Names.{NameTable, names_of}
-use Rattle.certificate_text.specs.BlockText.{answer_line, answer_text, cleared_line, end_line, label_lines, move_lines, out_lines, people_line, refusal_line}
+use Rattle.building_table.specs.Names.{names_of}
+use Rattle.certificate_text.specs.BlockText.{answer_text, end_line, refusal_line}
 use Rattle.session_text.specs.StateTexts.{block_text}
 use Rattle.session_talk.specs.Sessions.{AsksEdit, Edits, Replies, State, session}
 use Rattle.talk.specs.Talks.{EndsAt, RepliesTo, Reply, Spoken, Talk, followed}
 use Rattle.evac_top.specs.Accounts.{Account}
 use Rattle.evac_top.specs.FirstLine.{FirstEditGetsItsBlock, GoesOnWith, IsAcceptedEdit, StoppingIsRefused}
-use Rattle.evac_top.specs.Headline.{IsBestBlock, KeepsAll, KeepsPromise}
+use Rattle.evac_top.specs.Headline.{IsBestBlock, KeepsPromise}
 use Rattle.evac_top.specs.Talking.{spoken}
 use Rattle.evac_top.proofs.HeadlineLemmas.{best-block}
 
