@@ -1,11 +1,12 @@
 -- A flow with its limits.
-use Rattle.std.specs.Prelude.{◌≡◌, ℕ, ◌+◌, ◌-◌, ◌≤◌, if◌then◌else◌, List, length, slice_index_or, slice_set, IsTrue}
+use Rattle.std.specs.Prelude.{◌≡◌, ℕ, ◌+◌, ◌-◌, ◌≤◌, if◌then◌else◌, List, length, slice_index_or, slice_set, Option, Some, None, IsTrue}
 use Rattle.residual_net.specs.declared.place.Place.{Place}
 use Rattle.residual_net.specs.declared.place.Place.TheVariants.{Supply}
 use Rattle.residual_net.specs.declared.place.PathStep.{PathStep}
 use Rattle.residual_net.specs.declared.place.Cell.{Cell}
+use Rattle.residual_net.specs.declared.place.Transit.{Transit}
 use Rattle.residual_net.specs.Limits.{supply_limit}
-use Rattle.residual_net.specs.Site.{Site, IsSite, IsPlace, End_test, at, is_door, is_source, door_by, head_of, tail_of, is_barred, sum_places, cell_of, all_cells}
+use Rattle.residual_net.specs.Site.{Site, IsSite, IsPlace, End_test, at, is_door, is_source, door_by, head_of, tail_of, start_of, stop_of, is_barred, sum_places, cell_of, all_cells}
 use Rattle.residual_net.specs.declared.end.End.TheVariants.{Pair, Door}
 
 -- a net as contracts see it: its network, the flow and the limit at its places, and what was saved of these; only `flow_at` and `limit_at` look into the cells
@@ -37,6 +38,11 @@ saved_of w = record w { cells = w.saved }
 -- the people who may go over a step: forwards what the limit leaves, backwards the flow
 abbrev pub residual_room : Network → PathStep → ℕ
 residual_room w x = if x.back then flow_at w x.place else limit_at w x.place - flow_at w x.place
+
+-- where a step starts and stops and the people who may go over it, or none where its place isn't the network's
+abbrev pub IsTransit : Network → PathStep → Option Transit → Type 0
+IsTransit w x None = IsPlace w.site x.place → ⊥
+IsTransit w x (Some p) = IsPlace w.site x.place × (p ≡ record { start = start_of w.site x; stop = stop_of w.site x; room = residual_room w x })
 
 -- the people of a node and moment who aren't sent yet
 abbrev pub unsent_at : Network → ℕ → ℕ → ℕ

@@ -1,5 +1,5 @@
 //! The cells of a net, with no rule on its flow.
-ghost use Rattle.std.specs.Prelude.{◌≡◌, ◌∷◌, [], ◌≤◌, ◌<◌, ◌+◌, ◌-◌, IfOk, length, map, vec_capacity};
+ghost use Rattle.std.specs.Prelude.{◌≡◌, ◌∷◌, [], ◌≤◌, ◌<◌, ◌+◌, ◌-◌, ◌↔◌, IfOk, IsTrue, length, map, vec_capacity};
 ghost use Rattle.std.specs.List.{All};
 ghost use Rattle.residual_net.specs.Site.{IsSite, IsPlace, all_cells, arrival_at, cell_of, exit_at, head_of, start_of, stop_of, tail_of};
 ghost use Rattle.residual_net.specs.Network.{IsGrid, flow_at, limit_at, residual_room, saved_of, with_cell, with_saved};
@@ -10,7 +10,7 @@ ghost use Rattle.residual_net.specs.Start.{emptied, saved_cells};
 ghost use Rattle.residual_net.specs.declared.place.Place.TheVariants.{Arc};
 
 use crate::end::End;
-use crate::place::{Cell, PathStep, Place};
+use crate::place::{Cell, PathStep, Place, Transit};
 use std::alloc::{AllocError, Global};
 use std::marker::Model;
 use time_expansion::Shape;
@@ -331,6 +331,47 @@ impl Grid {
             self.tail(step.place)
         } else {
             self.head(step.place)
+        }
+    }
+
+    /// Whether a place is one of the network's.
+    pub fn has(&self, place: Place) -> bool
+        ensures { IsTrue result ↔ IsPlace self.now.site place }
+    {
+        let shape = self.shape();
+        match place {
+            Place::Arc { arc, moment } => {
+                (arc as usize) < shape.ends().len() && moment <= shape.horizon()
+            }
+            Place::Hold { node, moment } | Place::Supply { node, moment } => {
+                node < shape.nodes() && moment <= shape.horizon()
+            }
+        }
+    }
+
+    /// Where a step starts and stops, and how many may go over it.
+    pub fn transit(&self, step: PathStep) -> Transit
+        requires place { IsPlace self.now.site step.place }
+        requires within { flow_at self.now step.place ≤ limit_at self.now step.place }
+        ensures start { result.start ≡ start_of self.now.site step }
+        ensures stop { result.stop ≡ stop_of self.now.site step }
+        ensures room { result.room ≡ residual_room self.now step }
+    {
+        let tail = self.tail(step.place);
+        let head = self.head(step.place);
+        let cell = self.get(step.place);
+        if step.back {
+            Transit {
+                start: head,
+                stop: tail,
+                room: cell.flow,
+            }
+        } else {
+            Transit {
+                start: tail,
+                stop: head,
+                room: cell.limit - cell.flow,
+            }
         }
     }
 }

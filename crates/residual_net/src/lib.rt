@@ -28,5 +28,5 @@ pub use legs::Leg;
 pub use limits::SUPPLY_LIMIT;
 pub use net::Net;
 pub use path::Path;
-pub use place::{Cell, PathStep, Place};
+pub use place::{Cell, PathStep, Place, Transit};
 pub use start::{Kind, limit_of, place_of};

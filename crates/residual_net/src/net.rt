@@ -1,9 +1,9 @@
 //! A net: its flow keeps conservation.
-ghost use Rattle.std.specs.Prelude.{◌≡◌, ℕ, ◌+◌, ◌-◌, ◌<◌, ◌≤◌, ◌↔◌, IfOk, IsFalse, IsTrue, length, slice_index};
+ghost use Rattle.std.specs.Prelude.{◌≡◌, ℕ, ◌+◌, ◌-◌, ◌<◌, ◌≤◌, ◌↔◌, IfOk, IsFalse, IsTrue, MatchOption, length, slice_index};
 ghost use Rattle.evac_law.specs.Building.{IsValid};
 ghost use Rattle.residual_net.specs.Limits.{supply_limit};
 ghost use Rattle.residual_net.specs.Site.{IsOpenEnd, IsPlace, arrival_at, exit_at, head_of, is_barred, start_of, stop_of, tail_of};
-ghost use Rattle.residual_net.specs.Network.{IsAllSent, IsGrid, IsNet, IsStored, IsWithinLimits, arrived_by, excess_at, flow_at, limit_at, residual_room, saved_of, unsent_at, with_saved};
+ghost use Rattle.residual_net.specs.Network.{IsAllSent, IsGrid, IsNet, IsStored, IsTransit, IsWithinLimits, arrived_by, excess_at, flow_at, limit_at, residual_room, saved_of, unsent_at, with_saved};
 ghost use Rattle.residual_net.specs.Route.{IsPushable, IsPushed};
 ghost use Rattle.residual_net.specs.Legs.{IsShiftable, IsUnderwayBetween, steps_of_leg, steps_of_legs};
 ghost use Rattle.residual_net.specs.Change.{IsCancelled, IsFewerBy, IsLimitSet, IsLowering, supply_limits_with};
@@ -17,7 +17,7 @@ use crate::end::End;
 use crate::grid::Grid;
 use crate::legs::Leg;
 use crate::path::Path;
-use crate::place::{Cell, PathStep, Place};
+use crate::place::{Cell, PathStep, Place, Transit};
 use crate::standing::last_some;
 use crate::start::grid_of;
 use evac_law::Steps;
@@ -229,6 +229,19 @@ impl Net {
         ensures { result ≡ stop_of self.now.site step }
     {
         self.grid.stop(step)
+    }
+
+    /// Where a step starts and stops and the people who may go over it, if its place is one of the net's.
+    pub fn transit(&self, step: PathStep) -> Option<Transit>
+        requires within { IsWithinLimits self.now }
+        ensures transit { IsTransit self.now step result }
+        ensures open { MatchOption result (Unit {0}) (λ p. 0 < p.room → IsOpenEnd self.now.site p.start) }
+    {
+        if self.grid.has(step.place) {
+            Some(self.grid.transit(step))
+        } else {
+            None
+        }
     }
 
     /// The people who may go over a step.

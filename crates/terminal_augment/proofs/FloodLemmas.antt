@@ -1,16 +1,16 @@
 -- A search that goes on from all pairs that it has met.
-use Rattle.std.proofs.Common.{◌≡◌, ℕ, suc, ◌+◌, ◌-◌, ◌<◌, ◌≤◌, Bool, true, false, not, ◌&&◌, ◌||◌, eqb, ltb, List, [], ◌∷◌, length, get_or, drop, Option, ap, sym, subst, ◌∙◌, refl, arith, inl, inr, add-one, drop-cons}
+use Rattle.std.proofs.Common.{◌≡◌, ℕ, suc, ◌+◌, ◌-◌, ◌<◌, ◌≤◌, Bool, true, false, cond, not, ◌&&◌, ◌||◌, eqb, leb, ltb, List, [], ◌∷◌, length, get_or, drop, Option, ap, sym, subst, ◌∙◌, refl, arith, inl, inr, add-one, drop-cons}
 use Rattle.std.specs.List.{All}
-use Rattle.std.proofs.lemmas.Bool.{cases_Bool, or_cases, ltb-false, ltb-true}
+use Rattle.std.proofs.lemmas.Bool.{cases_Bool, le-leb, or_cases, ltb-false, ltb-true}
 use Rattle.std.proofs.lemmas.List.{drop-drop, length-set}
 use Rattle.evac_law.specs.LabelTable.{LabelTable, label_at}
-use Rattle.time_expansion.specs.Expansion.{arcs_from, arcs_to}
+use Rattle.time_expansion.specs.Expansion.{arcs_from, arcs_to, from_at, no_ends, to_at}
 use Rattle.residual_net.specs.declared.place.PathStep.{PathStep}
 use Rattle.residual_net.specs.declared.place.Place.TheVariants.{Arc, Hold, Supply}
 use Rattle.residual_net.specs.Closed.{reached}
 use Rattle.residual_net.specs.Network.{Network}
-use Rattle.residual_net.specs.Site.{Site, IsOpenPair, start_of}
-use Rattle.residual_net.specs.declared.end.End.TheVariants.{Pair}
+use Rattle.residual_net.specs.Site.{Site, IsOpenPair, IsSite, arc_count, arrival_at, exit_at, start_of}
+use Rattle.residual_net.specs.declared.end.End.TheVariants.{Door, Pair}
 use Rattle.terminal_augment.specs.declared.spot.Frame.{Frame}
 use Rattle.terminal_augment.specs.declared.spot.Spot.{Spot}
 use Rattle.terminal_augment.specs.declared.work.Work.{Work}
@@ -21,6 +21,7 @@ use Rattle.terminal_augment.specs.Piles.{Pile}
 use Rattle.terminal_augment.specs.Searching.{AreDoorsDone, IsUnmarked, IsExplored, IsResting, IsWork, noted}
 use Rattle.terminal_augment.specs.Spots.{has}
 use Rattle.terminal_augment.specs.Ways.{IsDone, in_count, out_count, passed, way_at, way_back, way_before, way_behind, way_by_arc, way_in}
+use Rattle.terminal_augment.proofs.ClosedLemmas.{doors_more}
 use Rattle.terminal_augment.proofs.MarkLemmas.{IsIn, marked_grows, marked_here, marked_listed, open_few, open_marked}
 use Rattle.terminal_augment.proofs.SearchLemmas.{all_cons, at_spot, cleared_work, done_grows, is_in, or_later, way_done}
 use Rattle.terminal_augment.proofs.WayLemmas.{each_way}
@@ -156,6 +157,31 @@ done_later w l k x y z g h = done_grows w l x.marks y.marks k z g.marks h
 
 pub doors_later : (w : Network) (l : LabelTable) (k n : ℕ) (x y : Work) → IsGrown x y → AreDoorsDone w l x.marks k n → AreDoorsDone w l y.marks k n
 doors_later w l k n x y g h a t q place stop = done_later w l k x y (record { place = Arc a t; back = false }) g (h a t q place stop)
+
+-- an arc leads from a pair that people can be at
+pub arc_inside : (s : Site) (a t : ℕ) → IsSite s → a < arc_count s → t ≤ s.shape.horizon → IsOpenPair s (from_at s.shape a) t
+arc_inside s a t h i j = record { node = (h.shape.ends_in a no_ends i).0; moment = j; no_exit = h.from_no_exit a i }
+
+-- the step over an arc that arrives at moment k is done where the way over the arc is
+by_way : (w : Network) (l : LabelTable) (m : MarkTable) (k a t : ℕ) → IsWayDone w l m k (way_in w.site a k) → arrival_at w.site a t ≡ k
+    → IsDone w l m k (record { place = Arc a t; back = false })
+by_way w l m k a t done when =
+    let early : leb (arrival_at w.site a 0) k ≡ true = le-leb _ _ (omega (arith, when)) in
+    let same : k - arrival_at w.site a 0 ≡ t = omega (arith, when) in
+    subst (λ i. IsDone w l m k (record { place = Arc a i; back = false })) same (rw early at done)
+
+-- one more arc is done, where it leads into an exit
+pub doors_next : (w : Network) (l : LabelTable) (k a : ℕ) (x y : Work) → IsGrown x y
+    → (exit_at w.site (to_at w.site.shape a) ≡ true → IsWayDone w l y.marks k (way_in w.site a k)) → AreDoorsDone w l x.marks k a
+    → AreDoorsDone w l y.marks k (a + 1)
+doors_next w l k a x y g here old =
+    doors_more w l y.marks k a (doors_later w l k a x y g old) (λ t place stop. by_exit t (exit_at w.site (to_at w.site.shape a)) refl stop)
+  where
+    by_exit : (t : ℕ) (e : Bool) → exit_at w.site (to_at w.site.shape a) ≡ e
+        → cond e (Door (arrival_at w.site a t)) (Pair (to_at w.site.shape a) (arrival_at w.site a t)) ≡ Door k
+        → IsDone w l y.marks k (record { place = Arc a t; back = false })
+    by_exit t true e h = let when : arrival_at w.site a t ≡ k = cc in by_way w l y.marks k a t (here e) when
+    by_exit t false e h = absurd (cc)
 
 pub expanded_by : (w : Network) (l : LabelTable) (m : MarkTable) (k n t : ℕ) → IsOpenPair w.site n t → IsDone w l m k (record { place = Supply n t; back = false })
     → ((i : ℕ) → i < in_count w.site n → IsWayDone w l m k (way_in w.site (get_or (arcs_to w.site.shape n) i 0) t)) → IsWayDone w l m k (way_before n t)

@@ -3,7 +3,7 @@ ghost use Rattle.std.specs.Prelude.{◌≡◌, ℕ, ◌+◌, ◌-◌, ◌<◌, �
 ghost use Rattle.std.specs.List.{All};
 ghost use Rattle.residual_net.specs.Legs.{steps_of_legs, wait_at};
 ghost use Rattle.residual_net.specs.Network.{IsNet, IsWithinLimits, residual_room};
-ghost use Rattle.residual_net.specs.Site.{IsOpenPair, IsPlace};
+ghost use Rattle.residual_net.specs.Site.{IsOpenPair};
 ghost use Rattle.terminal_augment.specs.Guesses.{CarriesPeople, IsLookedOver, IsMarkedOn, IsMarkedOver, IsMarksOf, IsStep};
 ghost use Rattle.terminal_augment.specs.Marking.{IsMarks};
 ghost use Rattle.terminal_augment.specs.Searching.{IsWork};
@@ -14,25 +14,11 @@ use crate::spot::Spot;
 use crate::work::Work;
 use evac_law::{Labels, Steps};
 use guided_search::PathFinder;
-use residual_net::{Cell, End, Leg, Net, PathStep, Place};
+use residual_net::{Cell, End, Leg, Net, PathStep, Transit};
 use std::sync::ledger::Ledger;
 
 // The most guesses at one arrival moment.
 const FUEL: u64 = 1_000_000_000_000;
-
-// Whether a place is one of a net's.
-fn is_place(net: &Net, place: Place) -> bool
-    ensures { IsTrue result → IsPlace net.now.site place }
-{
-    let shape = net.shape();
-    match place {
-        Place::Arc { arc, moment } => {
-            (arc as usize) < shape.ends().len() && moment <= shape.horizon()
-        }
-        Place::Hold { node, moment } => node < shape.nodes() && moment <= shape.horizon(),
-        Place::Supply { node, moment } => node < shape.nodes() && moment <= shape.horizon(),
-    }
-}
 
 // The least room of some cells for more people, or the most people where that is less.
 fn least_room(cells: &[Cell], most: u32) -> u32
@@ -137,21 +123,20 @@ fn turn_back(legs: &[Leg]) -> bool
     false
 }
 
-// Where a step starts, if it is one of the net's, has room and stops at an end.
-fn begins(net: &Net, step: PathStep, end: End) -> Option<End>
+// Where a step starts and its room, if it is one of the net's, has room and stops at an end.
+fn begins(net: &Net, step: PathStep, end: End) -> Option<Transit>
     requires { IsWithinLimits net.now }
-    ensures { MatchOption result (Unit {0}) (λ r. IsStep net.now step r end) }
+    ensures step { MatchOption result (Unit {0}) (λ r. IsStep net.now step r.start end) }
+    ensures room { MatchOption result (Unit {0}) (λ r. r.room ≡ residual_room net.now step) }
 {
-    if !is_place(net, step.place) {
+    let transit = net.transit(step)?;
+    if transit.stop != end {
         return None;
     }
-    if net.stop(step) != end {
+    if transit.room == 0 {
         return None;
     }
-    if net.room(step) == 0 {
-        return None;
-    }
-    Some(net.start(step))
+    Some(transit)
 }
 
 // Whether a leg is the first one, and no wait comes before its step.
@@ -184,8 +169,8 @@ fn carried(net: &Net, marks: &mut Marks, legs: &[Leg], most: u32, k: u16) -> u32
         let Some(before) = begins(net, leg.step, end) else {
             return 0;
         };
-        people = people.min(net.room(leg.step));
-        match before {
+        people = people.min(before.room);
+        match before.start {
             End::Pair { node, moment } => {
                 let spot = Spot { node, moment };
                 let Some(look) = over_waits(net, leg, Look { spot, people }) else {

@@ -9,10 +9,6 @@ pub open_all-requires-clause-flooding : goal.open_all-requires-clause-flooding
 open_all-requires-clause-flooding c =
     flooding_begins c.args.net.now.site c.args.labels.now c.args.k c.args.work.now c.clear.new.self c.requires.work c.clear.ensures
 
-pub returns-then-not-open_all-clause-resting : goal.returns-then-not-open_all-clause-resting
-returns-then-not-open_all-clause-resting c =
-    flooding_rests c.args.net.now.site c.args.labels.now c.args.k c.open_all.new.work c.open_all.ensures.flooding
-
 pub returns-then-not-expand-clause-resting : goal.returns-then-not-expand-clause-resting
 returns-then-not-expand-clause-resting c =
     flooding_rests c.args.net.now.site c.args.labels.now c.args.k c.expand.new.work c.expand.ensures.flooding

@@ -12,11 +12,11 @@ use Rattle.terminal_augment.proofs.GuessLemmas.{IsOver, IsTail, all_carried, beg
 use Rattle.terminal_augment.proofs.guess.carried.Goals as goal
 
 pub over_waits-requires-clause-inside : goal.over_waits-requires-clause-inside
-over_waits-requires-clause-inside c = subst (IsOpenEnd c.args.net.now.site) c.in-Pair.is c.in-Some.ensures.inside
+over_waits-requires-clause-inside c = subst (IsOpenEnd c.args.net.now.site) c.in-Pair.is c.in-Some.ensures.step.inside
 
 pub overflow_add-moment : goal.overflow_add-moment
 overflow_add-moment c =
-    let inside : IsOpenPair c.args.net.now.site c.in-Pair.node c.in-Pair.moment = subst (IsOpenEnd c.args.net.now.site) c.in-Pair.is c.in-Some.ensures.inside in
+    let inside : IsOpenPair c.args.net.now.site c.in-Pair.node c.in-Pair.moment = subst (IsOpenEnd c.args.net.now.site) c.in-Pair.is c.in-Some.ensures.step.inside in
     omega (arith, inside.moment, (sizes c.args.net.now.site.shape c.shape.ensures.net.site.shape).horizon)
 
 pub loop-left-preserved : goal.loop-left-preserved
@@ -35,11 +35,11 @@ loop-left-preserved c =
     let at = c.loop-left.left - 1 in
     let g : Leg = get_or legs at blank in
     let rest = steps_of_legs (drop c.loop-left.left legs) in
-    let step : IsStep w g.step (Pair c.in-Pair.node c.in-Pair.moment) c.loop-left.end = subst (λ e. IsStep w g.step e c.loop-left.end) c.in-Pair.is c.in-Some.ensures in
+    let step : IsStep w g.step (Pair c.in-Pair.node c.in-Pair.moment) c.loop-left.end = subst (λ e. IsStep w g.step e c.loop-left.end) c.in-Pair.is c.in-Some.ensures.step in
     let lt : at < length legs = omega (arith, some, old.fits) in
     let one = leg_over turns w k m v c.loop-left.end g x y c.loop-left.people rest old.tail step back
-    (omega (arith, c.min-people.ensures, c.room.ensures, old.tail.some, c.in-Some.ensures.room)) (omega (arith, c.min-people.ensures))
-    (omega (arith, c.min-people.ensures, c.room.ensures))
+    (omega (arith, c.min-people.ensures, c.in-Some.ensures.room, old.tail.some, c.in-Some.ensures.step.room)) (omega (arith, c.min-people.ensures))
+    (omega (arith, c.min-people.ensures, c.in-Some.ensures.room))
     (λ h. begins_before w g.step c.in-Pair.node c.in-Pair.moment c.loop-left.end c.shape.ensures.net.site step (c.turn_back-turns.ensures h at blank lt))
     (λ h. c.if-not-is_new.ensures.over refl h) in
     let path = steps_of_legs (drop at legs) in
@@ -57,15 +57,15 @@ returns-then-is_first-clause-path c some =
     let old = c.loop-left.invariant in
     let first = c.is_first.ensures c.if-is_first.true in
     let whole = legs_whole c.args.legs.now c.loop-left.left blank c.loop-left-test.true old.fits first.0 first.1 in
-    all_carried c.args.net.now c.args.k (IsOver c.turn_back-turns.result c.loop-left.marks c.loop-left.end) c.loop-left.end c.in-Some.before c.loop-left.people
-    c.min-people.result _ _ (steps_of_legs c.args.legs.now) old.tail c.in-Some.ensures (subst (IsOrigin c.args.k) (sym c.in-Source.is) tt)
-    (omega (arith, c.min-people.ensures)) (omega (arith, c.min-people.ensures, c.room.ensures)) whole
+    all_carried c.args.net.now c.args.k (IsOver c.turn_back-turns.result c.loop-left.marks c.loop-left.end) c.loop-left.end c.in-Some.before.start c.loop-left.people
+    c.min-people.result _ _ (steps_of_legs c.args.legs.now) old.tail c.in-Some.ensures.step (subst (IsOrigin c.args.k) (sym c.in-Source.is) tt)
+    (omega (arith, c.min-people.ensures)) (omega (arith, c.min-people.ensures, c.in-Some.ensures.room)) whole
 
 pub returns-then-k-moment-clause-path : goal.returns-then-k-moment-clause-path
 returns-then-k-moment-clause-path c some =
     let old = c.loop-left.invariant in
     let first = c.is_first-in-Door.ensures c.if-is_first-2.true in
     let whole = legs_whole c.args.legs.now c.loop-left.left blank c.loop-left-test.true old.fits first.0 first.1 in
-    all_carried c.args.net.now c.args.k (IsOver c.turn_back-turns.result c.loop-left.marks c.loop-left.end) c.loop-left.end c.in-Some.before c.loop-left.people
-    c.min-people.result _ _ (steps_of_legs c.args.legs.now) old.tail c.in-Some.ensures (subst (IsOrigin c.args.k) (sym c.in-Door.is) c.if-k-moment.true)
-    (omega (arith, c.min-people.ensures)) (omega (arith, c.min-people.ensures, c.room.ensures)) whole
+    all_carried c.args.net.now c.args.k (IsOver c.turn_back-turns.result c.loop-left.marks c.loop-left.end) c.loop-left.end c.in-Some.before.start c.loop-left.people
+    c.min-people.result _ _ (steps_of_legs c.args.legs.now) old.tail c.in-Some.ensures.step (subst (IsOrigin c.args.k) (sym c.in-Door.is) c.if-k-moment.true)
+    (omega (arith, c.min-people.ensures)) (omega (arith, c.min-people.ensures, c.in-Some.ensures.room)) whole
