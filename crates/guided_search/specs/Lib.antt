@@ -1,3 +1,4 @@
+pub mod Cuts
 pub mod Flows
 pub mod Steps
 pub mod Targets

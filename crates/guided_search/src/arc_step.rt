@@ -9,4 +9,6 @@ pub struct ArcStep {
     pub arc: u32,
     /// Whether it goes backwards.
     pub back: bool,
+    /// How many people may go over it and on to an exit.
+    pub room: u32,
 }

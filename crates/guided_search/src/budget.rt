@@ -1,20 +1,12 @@
-//! How much a search for shortest paths may cost in a net that is almost full.
+//! How much a search for shortest paths may cost in a net from which people were taken.
+ghost use Rattle.std.specs.Prelude.{◌<◌};
 
 use crate::tuning::{CROWD_SHARE, EARNED_SHARE, FIRST_SHARE};
 
-/// How many pairs may still be relabelled globally. In a net from which people were taken the same pairs would be relabelled again and
-/// again, so these are few at first, and more for each person who is sent.
+/// How many pairs may still be relabelled globally. The same pairs would be relabelled again and again there, so these are few at
+/// first, and more for each person who is sent.
 #[derive(Clone, Copy)]
-pub enum Budget {
-    /// As many as one likes.
-    Unlimited,
-    /// Those of an account.
-    Limited(Account),
-}
-
-/// What was spent and earned, in a net from which people were taken.
-#[derive(Clone, Copy)]
-pub struct Account {
+pub struct Budget {
     /// How many pairs there are.
     pairs: u64,
     /// How many people there are.
@@ -22,16 +14,17 @@ pub struct Account {
     /// How many of them were sent since.
     sent: u64,
     /// How many pairs were relabelled globally since.
-    spent: usize,
+    spent: u64,
+    ghost some: { 0 < people },
 }
 
 impl Budget {
-    /// The budget in a net of some pairs, where some people are sent already and some aren't.
-    pub fn new(pairs: usize, sent: u32, unsent: u32) -> Budget {
+    /// The budget in a net of some pairs, where some people are sent already and some aren't. Where nobody is sent yet there is none.
+    pub fn new(pairs: u32, sent: u32, unsent: u32) -> Option<Budget> {
         if sent == 0 {
-            return Budget::Unlimited;
+            return None;
         }
-        Budget::Limited(Account {
+        Some(Budget {
             pairs: pairs as u64,
             people: sent as u64 + unsent as u64,
             sent: 0,
@@ -41,35 +34,18 @@ impl Budget {
 
     /// How many pairs may still be relabelled.
     pub fn left(&self) -> usize {
-        match self {
-            Budget::Unlimited => usize::MAX,
-            Budget::Limited(account) => account.left(),
-        }
+        let first = (self.pairs / FIRST_SHARE).saturating_add(self.people / CROWD_SHARE);
+        let earned = self.pairs.saturating_mul(self.sent) / self.people / EARNED_SHARE;
+        first.saturating_add(earned).saturating_sub(self.spent) as usize
     }
 
     /// Some pairs were relabelled.
     pub fn spend(&mut self, pairs: usize) {
-        if let Budget::Limited(account) = self {
-            account.spent = account.spent.saturating_add(pairs);
-        }
+        self.spent = self.spent.saturating_add(pairs as u64);
     }
 
     /// Some people were sent.
     pub fn earn(&mut self, people: u32) {
-        if let Budget::Limited(account) = self {
-            account.sent = account.sent.saturating_add(people as u64);
-        }
-    }
-}
-
-impl Account {
-    // How many pairs may still be relabelled.
-    fn left(&self) -> usize {
-        if self.people == 0 {
-            return 0;
-        }
-        let first = (self.pairs / FIRST_SHARE).saturating_add(self.people / CROWD_SHARE);
-        let earned = self.pairs.saturating_mul(self.sent) / self.people / EARNED_SHARE;
-        (first.saturating_add(earned) as usize).saturating_sub(self.spent)
+        self.sent = self.sent.saturating_add(people as u64);
     }
 }

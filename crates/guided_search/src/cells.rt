@@ -10,35 +10,30 @@ pub fn room_in(cell: Cell) -> u32 {
     cell.limit.saturating_sub(cell.flow)
 }
 
+// How many more people may go over a cell, forwards or backwards.
+fn room_over(cell: Cell, back: bool) -> u32 {
+    if back { cell.flow } else { room_in(cell) }
+}
+
 /// How many more people may go over a step.
 pub fn room(cells: &[Cell], step: Step) -> u32
     requires { step.cell < length cells.now }
 {
-    let here = cells[step.cell as usize];
-    if step.back { here.flow } else { room_in(here) }
+    room_over(cells[step.cell as usize], step.back)
 }
 
 /// Whether somebody may go over a step.
 pub fn is_open(cells: &[Cell], step: Step) -> bool
     requires { step.cell < length cells.now }
 {
-    is_cell_open(cells[step.cell as usize], step.back)
+    room(cells, step) > 0
 }
 
 /// Whether somebody may go over a step back again: from where it leads to where it begins.
 pub fn is_open_back(cells: &[Cell], step: Step) -> bool
     requires { step.cell < length cells.now }
 {
-    is_cell_open(cells[step.cell as usize], !step.back)
-}
-
-// Whether somebody may go over a cell, forwards or backwards.
-fn is_cell_open(cell: Cell, back: bool) -> bool {
-    if back {
-        cell.flow > 0
-    } else {
-        cell.flow < cell.limit
-    }
+    room_over(cells[step.cell as usize], !step.back) > 0
 }
 
 /// Sends people over a step.
@@ -84,32 +79,23 @@ fn supplies(cells: &[Cell], sizes: Sizes) -> &[Cell]
 pub fn count_sent(cells: &[Cell], sizes: Sizes) -> u32
     requires { length cells.now ≡ sizes.cells }
 {
-    let mut people = 0u32;
-    for cell in supplies(cells, sizes) {
-        people = people.saturating_add(cell.flow);
-    }
-    people
+    supplies(cells, sizes)
+        .iter()
+        .fold(0u32, |people, cell| people.saturating_add(cell.flow))
 }
 
 /// Whether people come in and all of them are sent.
 pub fn is_all_sent(cells: &[Cell], sizes: Sizes) -> bool
     requires { length cells.now ≡ sizes.cells }
 {
-    let mut some = false;
-    for cell in supplies(cells, sizes) {
-        if cell.flow < cell.limit {
-            return false;
-        }
-        some = some || cell.limit > 0;
-    }
-    some
+    let supplies = supplies(cells, sizes);
+    supplies.iter().any(|cell| cell.limit > 0)
+        && supplies.iter().all(|cell| cell.flow >= cell.limit)
 }
 
 /// The limits of some cells, added up.
 pub fn sum_limits(cells: &[Cell]) -> u32 {
-    let mut people = 0u32;
-    for cell in cells {
-        people = people.saturating_add(cell.limit);
-    }
-    people
+    cells
+        .iter()
+        .fold(0u32, |people, cell| people.saturating_add(cell.limit))
 }

@@ -2,8 +2,10 @@
 //!
 //! The distance label of a pair is meant to be at most the number of backward steps on any residual path from unsent people to it.
 ghost use Rattle.std.specs.Prelude.{◌≡◌, ◌+◌, ◌<◌, ◌≤◌, IfOk, length, vec_len};
+ghost use Rattle.guided_search.specs.Steps.{IsStepWithin};
 
 use crate::cells::{supplies_of, unsent};
+use crate::residual::Residual;
 use crate::sizes::Sizes;
 use crate::step::Step;
 use crate::tuning::FAR;
@@ -58,20 +60,14 @@ impl Distances {
         self.labels[pair as usize] as u32
     }
 
-    /// Gives a pair a distance label.
-    pub fn set(&mut self, pair: u32, label: u32)
+    /// Gives a pair a distance label and a current arc.
+    pub fn set(&mut self, pair: u32, label: u32, number: usize)
         requires pair { pair < self.old.sizes.pairs }
         requires label { label ≤ 65535 }
         ensures { self.new.sizes ≡ self.old.sizes }
     {
         self.labels[pair as usize] = label as u16;
-    }
-
-    /// The distance label that a step allows the pair to which it leads: a step backwards weighs 1, and one forwards nothing.
-    pub fn through(&self, step: Step) -> u32
-        requires { step.pair < self.now.sizes.pairs }
-    {
-        self.get(step.pair) + step.back as u32
+        self.set_current_arc(pair, number);
     }
 
     /// The current arc of a pair.
@@ -89,23 +85,40 @@ impl Distances {
         self.current_arcs[pair as usize] = (number % 256) as u8;
     }
 
-    /// The distance labels and the current arcs of some pairs one after another, each current arc that of the pair behind.
-    pub fn before(&self, first: u32, end: u32) -> (&[u16], &[u8])
-        requires ordered { first ≤ end }
-        requires within { end < self.now.sizes.pairs }
-        ensures labels { length result.0.now + first ≡ end }
-        ensures current_arcs { length result.1.now + first ≡ end }
+    /// Whether unsent people come into a node at a moment.
+    pub fn is_source(&self, cells: &[Cell], node: u32, moment: u32) -> bool
+        requires cells { length cells.now ≡ self.now.sizes.cells }
+        requires node { node < self.now.sizes.nodes }
+        requires moment { moment < self.now.sizes.moments }
     {
-        let (first, end) = (first as usize, end as usize);
-        let labels = &self.labels.as_slice()[first..end];
-        (labels, &self.current_arcs.as_slice()[first + 1..end + 1])
+        moment < self.unsent_until[node as usize] && unsent(cells, self.sizes, node, moment) > 0
     }
 
-    /// The moment after the last at which unsent people come into a node.
-    pub fn unsent_until(&self, node: u32) -> u32
-        requires { node < self.now.sizes.nodes }
+    /// The lowest moment down to which waits from a step on are admissible, first among their ways, and have room, and nobody comes in
+    /// between who is unsent: whoever comes in last can wait for the fewest moments, and so goes first.
+    pub fn wait_back(&self, residual: Residual<'_>, step: Step, label: u32) -> u32
+        requires residual { residual.ways.now.sizes ≡ self.now.sizes }
+        requires step { IsStepWithin self.now.sizes step }
     {
-        self.unsent_until[node as usize]
+        let first = step.pair - step.moment;
+        let labels = &self.labels.as_slice()[first as usize..step.pair as usize];
+        let current_arcs = &self.current_arcs.as_slice()[first as usize + 1..step.pair as usize
+            + 1];
+        let first_wait = self.sizes.wait(first) as usize;
+        let waits = &residual.cells[first_wait..first_wait + step.moment as usize];
+        let unsent_until = self.unsent_until[step.node as usize];
+        for before in (0..step.moment).rev() {
+            let at = before as usize;
+            let low = before + 1;
+            let goes_on = labels[at] as u32 == label
+                && current_arcs[at] == 0
+                && waits[at].flow < waits[at].limit
+                && (low >= unsent_until || unsent(residual.cells, self.sizes, step.node, low) == 0);
+            if !goes_on {
+                return low;
+            }
+        }
+        0
     }
 
     /// When people first come to each node.
@@ -115,36 +128,33 @@ impl Distances {
         self.earliest.as_slice()
     }
 
-    /// Whether unsent people come into a node at a moment.
-    pub fn is_source(&self, cells: &[Cell], node: u32, moment: u32) -> bool
-        requires cells { length cells.now ≡ self.now.sizes.cells }
-        requires node { node < self.now.sizes.nodes }
-        requires moment { moment < self.now.sizes.moments }
-    {
-        moment < self.unsent_until(node) && unsent(cells, self.sizes, node, moment) > 0
-    }
-
-    /// Counts the unsent people, and finds when the last of them come.
-    pub fn count_unsent(&mut self, cells: &[Cell]) -> u32
-        requires { length cells.now ≡ self.old.sizes.cells }
-        ensures { self.new.sizes ≡ self.old.sizes }
-    {
-        count_unsent(self.unsent_until.as_mut_slice(), cells, self.sizes)
-    }
-
-    /// The distance labels where no label of the net is known: no pair before people first come to its node leads out.
-    pub fn begin(&mut self, cells: &[Cell], ways: &Ways)
+    /// Finds when people first come to each node, be it along arcs.
+    pub fn find_earliest(&mut self, cells: &[Cell], ways: &Ways)
         requires cells { length cells.now ≡ self.old.sizes.cells }
         requires ways { ways.now.sizes ≡ self.old.sizes }
         ensures { self.new.sizes ≡ self.old.sizes }
     {
-        self.find_earliest(cells, ways);
-        label_all(
-            self.labels.as_mut_slice(),
-            self.earliest.as_slice(),
-            self.sizes,
-        );
+        let earliest = self.earliest.as_mut_slice();
+        enter(earliest, cells, self.sizes);
+        for _ in 0..self.sizes.nodes {
+            if !come_earlier(earliest, ways) {
+                return;
+            }
+        }
+    }
+
+    /// The distance labels where no label of the net is known: no pair before people first come to its node leads out.
+    pub fn begin(&mut self)
+        ensures { self.new.sizes ≡ self.old.sizes }
+    {
         self.current_arcs.as_mut_slice().fill(0);
+        for node in 0..self.sizes.nodes {
+            let first = self.sizes.first_pair(node);
+            let end = first + self.sizes.moments;
+            let early = (self.earliest[node as usize] as u32).min(self.sizes.moments);
+            self.labels[first as usize..(first + early) as usize].fill(FAR as u16);
+            self.labels[(first + early) as usize..end as usize].fill(0);
+        }
     }
 
     /// From no pair that the net labels below a moment can one get out.
@@ -153,91 +163,57 @@ impl Distances {
         requires horizon { labels.now.horizon + 1 ≡ self.old.sizes.moments }
         ensures { self.new.sizes ≡ self.old.sizes }
     {
-        if k > 0 {
-            close_all(self.labels.as_mut_slice(), self.sizes, labels, k);
+        for pair in 0..self.sizes.pairs {
+            let (node, moment) = self.sizes.parts(pair);
+            if labels.get(node, moment as u16) < k {
+                self.labels[pair as usize] = FAR as u16;
+            }
         }
     }
 
-    /// Finds when people first come to each node, be it along arcs.
-    pub fn find_earliest(&mut self, cells: &[Cell], ways: &Ways)
-        requires cells { length cells.now ≡ self.old.sizes.cells }
-        requires ways { ways.now.sizes ≡ self.old.sizes }
+    /// Counts the unsent people, and finds when the last of them come.
+    pub fn count_unsent(&mut self, cells: &[Cell]) -> u32
+        requires { length cells.now ≡ self.old.sizes.cells }
         ensures { self.new.sizes ≡ self.old.sizes }
     {
-        let earliest = self.earliest.as_mut_slice();
+        let mut people = 0u32;
         for node in 0..self.sizes.nodes {
-            earliest[node as usize] = first_entry(cells, self.sizes, node);
+            let (unsent, until) = count_in(cells, self.sizes, node);
+            self.unsent_until[node as usize] = until;
+            people = people.saturating_add(unsent);
         }
-        for _ in 0..self.sizes.nodes {
-            if !come_earlier(earliest, ways) {
-                return;
-            }
-        }
+        people
     }
 }
 
-// Counts the unsent people, and finds of each node when the last of them come.
-fn count_unsent(unsent_until: &mut [u32], cells: &[Cell], sizes: Sizes) -> u32
-    requires nodes { length unsent_until.old ≡ sizes.nodes }
-    requires cells { length cells.now ≡ sizes.cells }
-{
-    let mut people = 0u32;
-    for node in 0..sizes.nodes {
-        let mut until = 0u32;
-        let supplies = supplies_of(cells, sizes, node);
-        for moment in 0..sizes.moments {
-            let cell = supplies[moment as usize];
-            if cell.flow < cell.limit {
-                people = people.saturating_add(cell.limit - cell.flow);
-                until = moment + 1;
-            }
-        }
-        unsent_until[node as usize] = until;
-    }
-    people
-}
-
-// Labels all pairs before people first come to their nodes as far, and the others as near.
-fn label_all(labels: &mut [u16], earliest: &[u16], sizes: Sizes)
-    requires pairs { length labels.old ≡ sizes.pairs }
-    requires nodes { length earliest.now ≡ sizes.nodes }
-{
-    for node in 0..sizes.nodes {
-        let first = sizes.first_pair(node);
-        let early = (earliest[node as usize] as u32).min(sizes.moments);
-        labels[first as usize..(first + early) as usize].fill(FAR as u16);
-        labels[(first + early) as usize..(first + sizes.moments) as usize].fill(0);
-    }
-}
-
-// Labels as far the pairs that the net labels below a moment.
-fn close_all(distances: &mut [u16], sizes: Sizes, labels: &Labels, k: u16)
-    requires pairs { length distances.old ≡ sizes.pairs }
-    requires nodes { labels.now.nodes ≡ sizes.nodes }
-    requires horizon { labels.now.horizon + 1 ≡ sizes.moments }
-{
-    for node in 0..sizes.nodes {
-        let first = sizes.first_pair(node);
-        for moment in 0..sizes.moments {
-            if labels.get(node, moment as u16) < k {
-                distances[(first + moment) as usize] = FAR as u16;
-            }
-        }
-    }
-}
-
-// When people first come into a node from outside.
-fn first_entry(cells: &[Cell], sizes: Sizes, node: u32) -> u16
+// How many unsent people come into a node, and the moment after the last at which they do.
+fn count_in(cells: &[Cell], sizes: Sizes, node: u32) -> (u32, u32)
     requires cells { length cells.now ≡ sizes.cells }
     requires node { node < sizes.nodes }
 {
     let supplies = supplies_of(cells, sizes, node);
+    let mut people = 0u32;
+    let mut until = 0;
     for moment in 0..sizes.moments {
-        if supplies[moment as usize].limit > 0 {
-            return moment as u16;
+        let cell = supplies[moment as usize];
+        if cell.flow < cell.limit {
+            people = people.saturating_add(cell.limit - cell.flow);
+            until = moment + 1;
         }
     }
-    FAR as u16
+    (people, until)
+}
+
+// Lets people come to each node when they first come in there from outside.
+fn enter(earliest: &mut [u16], cells: &[Cell], sizes: Sizes)
+    requires nodes { length earliest.old ≡ sizes.nodes }
+    requires cells { length cells.now ≡ sizes.cells }
+{
+    for node in 0..sizes.nodes {
+        let supplies = supplies_of(cells, sizes, node);
+        let first = supplies.iter().position(|cell| cell.limit > 0);
+        earliest[node as usize] = first.map_or(FAR as u16, |moment| moment as u16);
+    }
 }
 
 // Lets people come earlier to each node by the ways forwards into it. Whether some do.

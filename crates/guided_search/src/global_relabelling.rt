@@ -3,217 +3,166 @@
 //! Relabelling one pair after another can go on for long where many pairs raise each other by 1. So after some vain tries all
 //! relabelled pairs get the labels that those around them allow, as in a search for shortest paths by levels. What the pairs around
 //! don't reach is dead.
-ghost use Rattle.std.specs.Prelude.{◌≡◌, ◌<◌, ◌≤◌, IfOk, length, vec_len};
-ghost use Rattle.std.specs.List.{All};
+ghost use Rattle.std.specs.Prelude.{◌≡◌, ◌<◌, ◌≤◌};
 
 use crate::cells::{is_open, is_open_back};
-use crate::distances::Distances;
-use crate::numbers::Numbers;
-use crate::relabelled::Relabelled;
 use crate::residual::Residual;
-use crate::sizes::Sizes;
-use crate::tuning::{FAR, FUEL};
-use std::alloc::{AllocError, Global};
+use crate::search::Search;
+use crate::tuning::FAR;
 
-/// The scratch of a global relabelling.
-#[derive(Drop)]
-pub struct GlobalRelabelling {
-    /// The pairs that have labels by those around, each behind its label.
-    order: Vec<(u32, u32)>,
-    /// The pairs of a level.
-    now: Numbers,
-    /// The pairs of the next level.
-    after: Numbers,
-    ghost same: { after.limit ≡ now.limit },
-    ghost within: { All (λ labelled. labelled.1 < now.limit) order.items },
-}
-
-impl GlobalRelabelling {
-    /// Nothing to relabel.
-    pub fn new(alloc: Global, sizes: Sizes) -> Result<GlobalRelabelling, AllocError>
-        ensures { IfOk result (λ scratch. scratch.now.limit ≡ sizes.pairs) }
+impl Search {
+    /// Computes the labels of the relabelled pairs anew, leaves those of them that aren't dead, and lets the search begin anew.
+    pub fn relabel_all(&mut self, residual: Residual<'_>)
+        requires { residual.ways.now.sizes ≡ self.old.sizes }
+        ensures { self.new.sizes ≡ self.old.sizes }
     {
-        let order = Vec::with_capacity(alloc, sizes.pairs as usize)?;
-        let now = Numbers::new(alloc, sizes.pairs)?;
-        let after = Numbers::new(alloc, sizes.pairs)?;
-        Ok(GlobalRelabelling { order, now, after })
-    }
-
-    /// Computes the labels of the relabelled pairs anew, and leaves those of them that aren't dead.
-    pub fn relabel(
-        &mut self,
-        residual: Residual<'_>,
-        distances: &mut Distances,
-        relabelled: &mut Relabelled,
-    )
-        requires scratch { self.old.now.limit ≡ residual.ways.now.sizes.pairs }
-        requires distances { distances.old.sizes ≡ residual.ways.now.sizes }
-        requires relabelled { relabelled.old.sizes ≡ residual.ways.now.sizes }
-        ensures scratch { self.new.now.limit ≡ self.old.now.limit }
-        ensures distances { distances.new.sizes ≡ distances.old.sizes }
-        ensures relabelled { relabelled.new.sizes ≡ relabelled.old.sizes }
-    {
-        self.seed(residual, distances, relabelled);
+        self.unlabel();
+        self.look_around(residual);
         self.sort();
-        self.spread_all(residual, distances, relabelled);
-        relabelled.drop_dead(distances);
+        self.spread_all(residual);
+        self.leave_living();
+        self.path.clear();
+        self.vain = 0;
     }
 
-    /// Adds the pairs that lead to those relabelled, and computes the labels of them all anew: no pair is left around them but dead
-    /// ones. The answer is how many they are.
-    pub fn relabel_behind(
-        &mut self,
-        residual: Residual<'_>,
-        distances: &mut Distances,
-        relabelled: &mut Relabelled,
-    ) -> usize
-        requires scratch { self.old.now.limit ≡ residual.ways.now.sizes.pairs }
-        requires distances { distances.old.sizes ≡ residual.ways.now.sizes }
-        requires relabelled { relabelled.old.sizes ≡ residual.ways.now.sizes }
-        ensures scratch { self.new.now.limit ≡ self.old.now.limit }
-        ensures distances { distances.new.sizes ≡ distances.old.sizes }
-        ensures relabelled { relabelled.new.sizes ≡ relabelled.old.sizes }
+    /// Adds the pairs from which steps lead to those relabelled, and from which to these again: no pair is left around them but dead
+    /// ones.
+    pub fn add_behind(&mut self, residual: Residual<'_>)
+        requires { residual.ways.now.sizes ≡ self.old.sizes }
+        ensures { self.new.sizes ≡ self.old.sizes }
     {
-        add_behind(residual, distances, relabelled);
-        let behind = relabelled.len();
-        self.seed_sources(residual, distances, relabelled);
-        self.spread_all(residual, distances, relabelled);
-        relabelled.drop_dead(distances);
-        behind
+        for at in 0..self.sizes.pairs as usize {
+            if at >= self.relabelled.pairs.len() {
+                return;
+            }
+            let pair = self.relabelled.pairs.get(at);
+            self.add_into(residual, pair);
+        }
     }
 
-    // Puts the pairs with labels by those around in order.
+    // Adds the pairs from which steps lead to a pair, but for the dead ones.
+    fn add_into(&mut self, residual: Residual<'_>, pair: u32)
+        requires residual { residual.ways.now.sizes ≡ self.old.sizes }
+        requires pair { pair < self.old.sizes.pairs }
+        ensures { self.new.sizes ≡ self.old.sizes }
+    {
+        let incoming = residual.incoming_at(pair);
+        for way in incoming.ways {
+            let Some(step) = incoming.step(*way) else {
+                continue;
+            };
+            if !self.relabelled.has(step.pair)
+                && self.distances.get(step.pair) < FAR
+                && is_open(residual.cells, step)
+            {
+                self.relabelled.add(step.pair);
+            }
+        }
+    }
+
+    // Lets the relabelled pairs be dead for now.
+    fn unlabel(&mut self)
+        ensures { self.new.sizes ≡ self.old.sizes }
+    {
+        for at in 0..self.relabelled.pairs.len() {
+            self.distances.set(self.relabelled.pairs.get(at), FAR, 0);
+        }
+    }
+
+    // Finds the labels that the pairs around the relabelled ones allow these.
+    fn look_around(&mut self, residual: Residual<'_>)
+        requires { residual.ways.now.sizes ≡ self.old.sizes }
+        ensures { self.new.sizes ≡ self.old.sizes }
+    {
+        self.borders.clear();
+        for at in 0..self.relabelled.pairs.len() {
+            let pair = self.relabelled.pairs.get(at);
+            let label = self.border(residual, pair);
+            if label < FAR && self.borders.len() < self.borders.capacity() {
+                self.borders.push_reserved((label, pair));
+            }
+        }
+    }
+
+    // The least label that a pair may have by the steps to it.
+    fn border(&self, residual: Residual<'_>, pair: u32) -> u32
+        requires residual { residual.ways.now.sizes ≡ self.now.sizes }
+        requires pair { pair < self.now.sizes.pairs }
+    {
+        let (node, moment) = self.sizes.parts(pair);
+        if self.distances.is_source(residual.cells, node, moment) {
+            return 0;
+        }
+        residual.incoming(node, moment).least(&self.distances).0
+    }
+
+    // Puts these labels in order.
     fn sort(&mut self)
-        ensures { self.new.now.limit ≡ self.old.now.limit }
+        ensures { self.new.sizes ≡ self.old.sizes }
     {
-        self.order.as_mut_slice().sort_unstable();
+        self.borders.as_mut_slice().sort_unstable();
     }
 
-    // Adds a pair with a label by those around, while there is room.
-    fn add(&mut self, label: u32, pair: u32)
-        requires { pair < self.old.now.limit }
-        ensures { self.new.now.limit ≡ self.old.now.limit }
-    {
-        if self.order.len() < self.order.capacity() {
-            self.order.push_reserved((label, pair));
-        }
-    }
-
-    // Gives each relabelled pair the label that the pairs around allow it.
-    fn seed(&mut self, residual: Residual<'_>, distances: &mut Distances, relabelled: &Relabelled)
-        requires scratch { self.old.now.limit ≡ residual.ways.now.sizes.pairs }
-        requires distances { distances.old.sizes ≡ residual.ways.now.sizes }
-        requires relabelled { relabelled.now.sizes ≡ residual.ways.now.sizes }
-        ensures scratch { self.new.now.limit ≡ self.old.now.limit }
-        ensures distances { distances.new.sizes ≡ distances.old.sizes }
-    {
-        self.order.clear();
-        for pair in relabelled.pairs().iter().copied() {
-            let label = border(residual, distances, relabelled, pair);
-            distances.set(pair, label);
-            distances.set_current_arc(pair, 0);
-            if label < FAR {
-                self.add(label, pair);
-            }
-        }
-    }
-
-    // Gives each relabelled pair at which unsent people come in the label 0, and lets the others be dead for now.
-    fn seed_sources(
-        &mut self,
-        residual: Residual<'_>,
-        distances: &mut Distances,
-        relabelled: &Relabelled,
-    )
-        requires scratch { self.old.now.limit ≡ residual.ways.now.sizes.pairs }
-        requires distances { distances.old.sizes ≡ residual.ways.now.sizes }
-        requires relabelled { relabelled.now.sizes ≡ residual.ways.now.sizes }
-        ensures scratch { self.new.now.limit ≡ self.old.now.limit }
-        ensures distances { distances.new.sizes ≡ distances.old.sizes }
-    {
-        self.order.clear();
-        for pair in relabelled.pairs().iter().copied() {
-            let is_source = is_source(residual, distances, pair);
-            distances.set(pair, if is_source { 0 } else { FAR });
-            distances.set_current_arc(pair, 0);
-            if is_source {
-                self.add(0, pair);
-            }
-        }
-    }
-
-    // Spreads from the sorted pairs, level by level.
-    fn spread_all(
-        &mut self,
-        residual: Residual<'_>,
-        distances: &mut Distances,
-        relabelled: &Relabelled,
-    )
-        requires scratch { self.old.now.limit ≡ residual.ways.now.sizes.pairs }
-        requires distances { distances.old.sizes ≡ residual.ways.now.sizes }
-        requires relabelled { relabelled.now.sizes ≡ residual.ways.now.sizes }
-        ensures scratch { self.new.now.limit ≡ self.old.now.limit }
-        ensures distances { distances.new.sizes ≡ distances.old.sizes }
+    // Spreads the labels, level by level.
+    fn spread_all(&mut self, residual: Residual<'_>)
+        requires { residual.ways.now.sizes ≡ self.old.sizes }
+        ensures { self.new.sizes ≡ self.old.sizes }
     {
         self.now.clear();
-        let mut seed = 0usize;
-        let mut level = 0u32;
-        for _ in 0..FUEL {
-            if self.now.len() == 0 {
-                if seed >= self.order.len() {
-                    break;
-                }
-                level = self.order[seed].0;
+        let mut joined = 0;
+        for level in 0..FAR {
+            joined = self.join(level, joined);
+            if self.now.len() == 0 && joined >= self.borders.len() {
+                return;
             }
-            seed = join(&mut self.now, self.order.as_slice(), distances, level, seed);
             self.after.clear();
-            self.spread_level(residual, distances, relabelled, level);
+            self.spread_level(residual, level);
             std::mem::swap(&mut self.now, &mut self.after);
-            level = level.saturating_add(1);
         }
+    }
+
+    // Adds the pairs to which those around allow a level, from one of them on. The answer is how many are done.
+    fn join(&mut self, level: u32, from: usize) -> usize
+        requires { level < 65535 }
+        ensures { self.new.sizes ≡ self.old.sizes }
+    {
+        for at in from..self.borders.len() {
+            let (label, pair) = self.borders[at];
+            if label != level {
+                return at;
+            }
+            if level < self.distances.get(pair) {
+                self.distances.set(pair, level, 0);
+                self.now.add(pair);
+            }
+        }
+        self.borders.len()
     }
 
     // Spreads from all pairs of a level, those that come to it meanwhile too.
-    fn spread_level(
-        &mut self,
-        residual: Residual<'_>,
-        distances: &mut Distances,
-        relabelled: &Relabelled,
-        level: u32,
-    )
-        requires scratch { self.old.now.limit ≡ residual.ways.now.sizes.pairs }
-        requires distances { distances.old.sizes ≡ residual.ways.now.sizes }
-        requires relabelled { relabelled.now.sizes ≡ residual.ways.now.sizes }
-        ensures scratch { self.new.now.limit ≡ self.old.now.limit }
-        ensures distances { distances.new.sizes ≡ distances.old.sizes }
+    fn spread_level(&mut self, residual: Residual<'_>, level: u32)
+        requires residual { residual.ways.now.sizes ≡ self.old.sizes }
+        requires level { level < 65535 }
+        ensures { self.new.sizes ≡ self.old.sizes }
     {
-        for at in 0..residual.sizes().pairs as usize {
+        for at in 0..self.sizes.pairs as usize {
             if at >= self.now.len() {
                 return;
             }
             let pair = self.now.get(at);
-            if distances.get(pair) == level {
-                self.spread(residual, distances, relabelled, pair, level);
+            if self.distances.get(pair) == level {
+                self.spread(residual, pair, level);
             }
         }
     }
 
     // Lets the relabelled pairs to which steps lead from a pair have no higher label than it allows. The step that leads on to a pair
     // goes over the cell of one that leads in from there, the other way.
-    fn spread(
-        &mut self,
-        residual: Residual<'_>,
-        distances: &mut Distances,
-        relabelled: &Relabelled,
-        pair: u32,
-        level: u32,
-    )
-        requires scratch { self.old.now.limit ≡ residual.ways.now.sizes.pairs }
-        requires distances { distances.old.sizes ≡ residual.ways.now.sizes }
-        requires relabelled { relabelled.now.sizes ≡ residual.ways.now.sizes }
-        requires pair { pair < residual.ways.now.sizes.pairs }
-        ensures scratch { self.new.now.limit ≡ self.old.now.limit }
-        ensures distances { distances.new.sizes ≡ distances.old.sizes }
+    fn spread(&mut self, residual: Residual<'_>, pair: u32, level: u32)
+        requires residual { residual.ways.now.sizes ≡ self.old.sizes }
+        requires pair { pair < self.old.sizes.pairs }
+        requires level { level < 65535 }
+        ensures { self.new.sizes ≡ self.old.sizes }
     {
         let incoming = residual.incoming_at(pair);
         for way in incoming.ways {
@@ -221,12 +170,12 @@ impl GlobalRelabelling {
                 continue;
             };
             let other = step.pair;
-            let label = level.saturating_add(!step.back as u32);
-            if relabelled.has(other)
-                && label < distances.get(other)
+            let label = level + !step.back as u32;
+            if self.relabelled.has(other)
+                && label < self.distances.get(other)
                 && is_open_back(residual.cells, step)
             {
-                distances.set(other, label);
+                self.distances.set(other, label, 0);
                 if label == level {
                     self.now.add(other);
                 } else {
@@ -235,97 +184,18 @@ impl GlobalRelabelling {
             }
         }
     }
-}
 
-// Adds the pairs whose label is a level by those around. The answer is how many of the sorted pairs are done.
-fn join(
-    now: &mut Numbers,
-    order: &[(u32, u32)],
-    distances: &Distances,
-    level: u32,
-    from: usize,
-) -> usize
-    requires distances { distances.now.sizes.pairs ≡ now.old.limit }
-    requires order { All (λ labelled. labelled.1 < now.old.limit) order.now }
-    ensures { now.new.limit ≡ now.old.limit }
-{
-    for at in from..order.len() {
-        let (label, pair) = order[at];
-        if label != level {
-            return at;
-        }
-        if distances.get(pair) == level {
-            now.add(pair);
-        }
-    }
-    order.len()
-}
-
-// Whether unsent people come in at a pair.
-fn is_source(residual: Residual<'_>, distances: &Distances, pair: u32) -> bool
-    requires distances { distances.now.sizes ≡ residual.ways.now.sizes }
-    requires pair { pair < residual.ways.now.sizes.pairs }
-{
-    let (node, moment) = residual.sizes().parts(pair);
-    distances.is_source(residual.cells, node, moment)
-}
-
-// The least label that a pair may have by the steps from pairs that weren't relabelled.
-fn border(residual: Residual<'_>, distances: &Distances, relabelled: &Relabelled, pair: u32) -> u32
-    requires distances { distances.now.sizes ≡ residual.ways.now.sizes }
-    requires relabelled { relabelled.now.sizes ≡ residual.ways.now.sizes }
-    requires pair { pair < residual.ways.now.sizes.pairs }
-    ensures { result ≤ 65535 }
-{
-    if is_source(residual, distances, pair) {
-        return 0;
-    }
-    let incoming = residual.incoming_at(pair);
-    let mut best = FAR;
-    for way in incoming.ways {
-        let Some(step) = incoming.step(*way) else {
-            continue;
-        };
-        let label = distances.through(step);
-        if label < best && !relabelled.has(step.pair) && is_open(residual.cells, step) {
-            best = label;
-        }
-    }
-    best
-}
-
-// Adds the pairs from which steps lead to those relabelled, and from which to these again, but for the dead ones.
-fn add_behind(residual: Residual<'_>, distances: &Distances, relabelled: &mut Relabelled)
-    requires distances { distances.now.sizes ≡ residual.ways.now.sizes }
-    requires relabelled { relabelled.old.sizes ≡ residual.ways.now.sizes }
-    ensures { relabelled.new.sizes ≡ relabelled.old.sizes }
-{
-    for at in 0..residual.sizes().pairs as usize {
-        if at >= relabelled.len() {
-            return;
-        }
-        let pair = relabelled.get(at);
-        add_into(residual, distances, relabelled, pair);
-    }
-}
-
-// Adds the pairs from which steps lead to a pair, but for the dead ones.
-fn add_into(residual: Residual<'_>, distances: &Distances, relabelled: &mut Relabelled, pair: u32)
-    requires distances { distances.now.sizes ≡ residual.ways.now.sizes }
-    requires relabelled { relabelled.old.sizes ≡ residual.ways.now.sizes }
-    requires pair { pair < residual.ways.now.sizes.pairs }
-    ensures { relabelled.new.sizes ≡ relabelled.old.sizes }
-{
-    let incoming = residual.incoming_at(pair);
-    for way in incoming.ways {
-        let Some(step) = incoming.step(*way) else {
-            continue;
-        };
-        if !relabelled.has(step.pair)
-            && distances.get(step.pair) < FAR
-            && is_open(residual.cells, step)
-        {
-            relabelled.add(step.pair);
+    // Leaves those of the relabelled pairs that aren't dead.
+    fn leave_living(&mut self)
+        ensures { self.new.sizes ≡ self.old.sizes }
+    {
+        std::mem::swap(&mut self.now, &mut self.relabelled.pairs);
+        self.relabelled.clear();
+        for at in 0..self.now.len() {
+            let pair = self.now.get(at);
+            if self.distances.get(pair) < FAR {
+                self.relabelled.add(pair);
+            }
         }
     }
 }

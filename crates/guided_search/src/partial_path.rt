@@ -1,207 +1,172 @@
-//! A search back from an arrival along admissible steps: those over which the distance label falls by just the step's weight.
-//!
-//! It advances while there is one. Where there is none it relabels the pair, and retreats a step.
-ghost use Rattle.std.specs.Prelude.{◌≡◌, ◌-◌, ◌<◌, ◌≤◌, IfOk, IfSome, slice_index_or, vec_len};
+//! The path of a search, as far as it has come.
+ghost use Rattle.std.specs.Prelude.{◌≡◌, ◌<◌, ◌≤◌, IfOk, IfSome, length, vec_len};
 ghost use Rattle.std.specs.List.{All};
 ghost use Rattle.guided_search.specs.Steps.{IsStayWithin, IsStepWithin};
 
-use crate::distances::Distances;
-use crate::relabelled::Relabelled;
-use crate::residual::Residual;
+use crate::cells::{is_open, room, room_in, send};
+use crate::lists::add;
 use crate::sizes::Sizes;
-use crate::stays::Stays;
 use crate::step::{Stay, Step};
-use crate::tuning::{FAR, FUEL, VAIN_LIMIT};
+use residual_net::{Cell, Leg};
 use std::alloc::{AllocError, Global};
 
-/// How a search ended.
-#[derive(Clone, Copy)]
-pub enum SearchEnd {
-    /// At unsent people.
-    Found,
-    /// At too many pairs relabelled in vain.
-    Stale,
-    /// Back at its door.
-    Exhausted,
-    /// For want of room for its path.
-    Full,
-}
-
-// What comes of an attempt to advance.
-enum Progress {
-    // The path is longer.
-    Longer,
-    // There is no admissible way.
-    Blocked,
-    // There is no room for a longer path.
-    Full,
-}
-
-/// The path of a search, as far as it has come.
+/// The path of a search, as far as it has come. Memory past its stays isn't touched.
 #[derive(Drop)]
 pub struct PartialPath {
+    /// How large the building is.
+    sizes: Sizes,
     /// Its stays, from its door on.
-    pub stays: Stays,
-    /// How many pairs were relabelled in vain.
-    pub vain: usize,
+    list: Vec<Stay>,
+    ghost within: { All (IsStayWithin sizes) list.items },
 }
 
 impl PartialPath {
     /// An empty path, with room for some stays.
     pub fn new(alloc: Global, sizes: Sizes, room: usize) -> Result<PartialPath, AllocError>
-        ensures { IfOk result (λ path. path.stays.sizes ≡ sizes) }
+        ensures { IfOk result (λ path. path.sizes ≡ sizes) }
     {
-        let stays = Stays::new(alloc, sizes, room)?;
-        Ok(PartialPath { stays, vain: 0 })
+        let list = Vec::with_capacity(alloc, room)?;
+        Ok(PartialPath { sizes, list })
     }
-}
 
-// The lowest moment down to which waits from a step on are admissible, first among their ways, and have room, and nobody comes in
-// between who is unsent: whoever comes in last can wait for the fewest moments, and so goes first.
-fn advance_by_waits(residual: Residual<'_>, distances: &Distances, step: Step, label: u32) -> u32
-    requires distances { distances.now.sizes ≡ residual.ways.now.sizes }
-    requires step { IsStepWithin residual.ways.now.sizes step }
-    ensures { result ≤ step.moment }
-{
-    let node = step.node;
-    let first = step.pair - step.moment;
-    let (labels, current_arcs) = distances.before(first, step.pair);
-    let first_wait = residual.sizes().wait(first) as usize;
-    let waits = &residual.cells[first_wait..first_wait + step.moment as usize];
-    let unsent_until = distances.unsent_until(node);
-    for before in (0..step.moment).rev() {
-        let at = before as usize;
-        let low = before + 1;
-        let goes_on = labels[at] as u32 == label
-            && current_arcs[at] == 0
-            && waits[at].flow < waits[at].limit
-            && (low >= unsent_until || !distances.is_source(residual.cells, node, low));
-        if !goes_on {
-            return low;
+    /// The last stay.
+    pub fn last(&self) -> Option<Stay>
+        ensures { IfSome result (IsStayWithin self.now.sizes) }
+    {
+        self.list.as_slice().last().copied()
+    }
+
+    /// Begins a stay where a step into the last pair begins. Whether there was room for it.
+    pub fn push(&mut self, step: Step) -> bool
+        requires { IsStepWithin self.old.sizes step }
+        ensures { self.new.sizes ≡ self.old.sizes }
+    {
+        if self.list.len() >= self.list.capacity() {
+            return false;
+        }
+        self.list.push_reserved(Stay::before(step));
+        true
+    }
+
+    /// Lets the last stay begin at another moment, at that of its step at the latest.
+    pub fn wait_since(&mut self, since: u32)
+        ensures { self.new.sizes ≡ self.old.sizes }
+    {
+        let count = self.list.len();
+        if count > 0 {
+            let stay = &mut self.list[count - 1];
+            stay.since = since.min(stay.step.moment);
         }
     }
-    0
-}
 
-// Takes an admissible way into the last pair, where there is one: a wait makes its stay longer, another way begins a stay.
-fn advance(
-    residual: Residual<'_>,
-    distances: &mut Distances,
-    stays: &mut Stays,
-    last: Stay,
-    label: u32,
-) -> Progress
-    requires distances { distances.old.sizes ≡ residual.ways.now.sizes }
-    requires stays { stays.old.sizes ≡ residual.ways.now.sizes }
-    requires within { IsStayWithin residual.ways.now.sizes last }
-    requires some { 0 < vec_len stays.old.list }
-    requires last { (d : Stay) → slice_index_or stays.old.list.items (vec_len stays.old.list - 1) d ≡ last }
-    ensures distances { distances.new.sizes ≡ distances.old.sizes }
-    ensures stays { stays.new.sizes ≡ stays.old.sizes }
-    ensures some { 0 < vec_len stays.new.list }
-{
-    let pair = last.pair();
-    let incoming = residual.incoming(last.step.node, last.since);
-    let from = distances.current_arc(pair);
-    let Some((number, step)) = incoming.admissible(distances, from, label) else {
-        return Progress::Blocked;
-    };
-    distances.set_current_arc(pair, number);
-    if !step.waits(residual.sizes()) {
-        return if stays.push(step) {
-            Progress::Longer
+    /// Goes back a step: from the last stay to its next moment, or to the stay before.
+    pub fn retreat(&mut self)
+        ensures { self.new.sizes ≡ self.old.sizes }
+    {
+        let count = self.list.len();
+        if count == 0 {
+            return;
+        }
+        let stay = &mut self.list[count - 1];
+        if stay.since < stay.step.moment {
+            stay.since += 1;
         } else {
-            Progress::Full
+            self.list.truncate(count - 1);
+        }
+    }
+
+    /// Goes back to before its door.
+    pub fn clear(&mut self)
+        ensures { self.new.sizes ≡ self.old.sizes }
+    {
+        self.list.clear();
+    }
+
+    /// Goes back to the pair before the full step nearest the exit.
+    pub fn turn_back(&mut self, cells: &[Cell])
+        requires { length cells.now ≡ self.old.sizes.cells }
+        ensures { self.new.sizes ≡ self.old.sizes }
+    {
+        for at in 0..self.list.len() {
+            let stay = self.list[at];
+            if !is_open(cells, stay.step) {
+                self.list.truncate(at);
+                return;
+            }
+            if let Some(since) = full_wait(cells, self.sizes, stay) {
+                self.list[at].since = since;
+                self.list.truncate(at + 1);
+                return;
+            }
+        }
+    }
+
+    // The step by which people come in where the path begins.
+    fn supply(&self) -> Option<Step>
+        ensures { IfSome result (IsStepWithin self.now.sizes) }
+    {
+        let first = self.last()?;
+        Some(Step::supply(self.sizes, first.step.node, first.since))
+    }
+
+    /// Fills a list with the legs of the path.
+    pub fn lay(&self, legs: &mut Vec<Leg>) {
+        legs.clear();
+        if let Some(supply) = self.supply() {
+            add(legs, Leg::of(supply.path_step(self.sizes)));
+        }
+        for stay in self.list.as_slice().iter().rev() {
+            add(legs, stay.step.leg_since(self.sizes, stay.since));
+        }
+    }
+
+    // The most people who may go along the stays.
+    fn most(&self, cells: &[Cell]) -> u32
+        requires { length cells.now ≡ self.now.sizes.cells }
+    {
+        let mut people = u32::MAX;
+        for stay in self.list.as_slice() {
+            let (first, end) = stay.waits(self.sizes);
+            let most = people.min(room(cells, stay.step));
+            let waits = cells[first..end].iter();
+            people = waits.fold(most, |least, wait| least.min(room_in(*wait)));
+        }
+        people
+    }
+
+    /// Sends as many people as may go along the path. The answer is how many.
+    pub fn carry(&self, cells: &mut [Cell]) -> u32
+        requires { length cells.old ≡ self.now.sizes.cells }
+    {
+        let Some(supply) = self.supply() else {
+            return 0;
         };
-    }
-    let since = if number == 0 {
-        advance_by_waits(residual, distances, step, label)
-    } else {
-        step.moment
-    };
-    stays.wait_since(since);
-    Progress::Longer
-}
-
-// Raises the distance label of a pair to what its ways allow.
-fn relabel(
-    residual: Residual<'_>,
-    distances: &mut Distances,
-    relabelled: &mut Relabelled,
-    last: Stay,
-)
-    requires distances { distances.old.sizes ≡ residual.ways.now.sizes }
-    requires relabelled { relabelled.old.sizes ≡ residual.ways.now.sizes }
-    requires within { IsStayWithin residual.ways.now.sizes last }
-    ensures distances { distances.new.sizes ≡ distances.old.sizes }
-    ensures relabelled { relabelled.new.sizes ≡ relabelled.old.sizes }
-{
-    let pair = last.pair();
-    let incoming = residual.incoming(last.step.node, last.since);
-    let (label, number) = incoming.least(distances);
-    distances.set(pair, label);
-    distances.set_current_arc(pair, number);
-    if label < FAR {
-        relabelled.add(pair);
-    }
-}
-
-// Advances a step, or retreats where no way is admissible. How the search ends, if it does.
-fn step_on(
-    residual: Residual<'_>,
-    distances: &mut Distances,
-    relabelled: &mut Relabelled,
-    path: &mut PartialPath,
-) -> Option<SearchEnd>
-    requires distances { distances.old.sizes ≡ residual.ways.now.sizes }
-    requires relabelled { relabelled.old.sizes ≡ residual.ways.now.sizes }
-    requires path { path.old.stays.sizes ≡ residual.ways.now.sizes }
-    ensures distances { distances.new.sizes ≡ distances.old.sizes }
-    ensures relabelled { relabelled.new.sizes ≡ relabelled.old.sizes }
-    ensures path { path.new.stays.sizes ≡ path.old.stays.sizes }
-{
-    let Some(last) = path.stays.last() else {
-        return Some(SearchEnd::Exhausted);
-    };
-    let label = distances.get(last.pair());
-    if label == 0 && distances.is_source(residual.cells, last.step.node, last.since) {
-        return Some(SearchEnd::Found);
-    }
-    if label < FAR {
-        match advance(residual, distances, &mut path.stays, last, label) {
-            Progress::Longer => return None,
-            Progress::Full => return Some(SearchEnd::Full),
-            Progress::Blocked => {}
+        let people = self.most(cells).min(room(cells, supply));
+        send(cells, supply, people);
+        for stay in self.list.as_slice() {
+            send(cells, stay.step, people);
+            let (first, end) = stay.waits(self.sizes);
+            send_waits(&mut cells[first..end], people);
         }
-        relabel(residual, distances, relabelled, last);
-        path.vain = path.vain.saturating_add(1);
-    }
-    path.stays.retreat();
-    if path.vain > relabelled.len().saturating_add(VAIN_LIMIT) {
-        Some(SearchEnd::Stale)
-    } else {
-        None
+        people
     }
 }
 
-/// Goes on until the search comes to unsent people, or fails.
-pub fn search(
-    residual: Residual<'_>,
-    distances: &mut Distances,
-    relabelled: &mut Relabelled,
-    path: &mut PartialPath,
-) -> SearchEnd
-    requires distances { distances.old.sizes ≡ residual.ways.now.sizes }
-    requires relabelled { relabelled.old.sizes ≡ residual.ways.now.sizes }
-    requires path { path.old.stays.sizes ≡ residual.ways.now.sizes }
-    ensures distances { distances.new.sizes ≡ distances.old.sizes }
-    ensures relabelled { relabelled.new.sizes ≡ relabelled.old.sizes }
-    ensures path { path.new.stays.sizes ≡ path.old.stays.sizes }
+// The moment after the last full wait of a stay.
+fn full_wait(cells: &[Cell], sizes: Sizes, stay: Stay) -> Option<u32>
+    requires cells { length cells.now ≡ sizes.cells }
+    requires stay { IsStayWithin sizes stay }
+    ensures { IfSome result (λ moment. moment ≤ stay.step.moment) }
 {
-    for _ in 0..FUEL {
-        if let Some(end) = step_on(residual, distances, relabelled, path) {
-            return end;
-        }
+    let (first, end) = stay.waits(sizes);
+    let mut waits = cells[first..end].iter().rev();
+    let passed = waits.position(|wait| wait.flow >= wait.limit)?;
+    Some(stay.step.moment - passed as u32)
+}
+
+// Sends people over waits.
+fn send_waits(waits: &mut [Cell], people: u32) {
+    for wait in waits.iter_mut() {
+        wait.flow = wait.flow.saturating_add(people);
     }
-    SearchEnd::Full
 }

@@ -1,10 +1,13 @@
 //! Who guesses at the next path: a search for shortest paths where people are unsent, else a target flow.
-ghost use Rattle.std.specs.Prelude.{◌≡◌, ◌+◌, ◌<◌, IsTrue, length, vec_len};
+ghost use Rattle.std.specs.Prelude.{◌≡◌, ◌<◌, IsTrue, length};
 ghost use Rattle.std.specs.Coded.{Coded-set};
+ghost use Rattle.guided_search.specs.Cuts.{AreLabelsOf};
 
 use crate::budget::Budget;
 use crate::cells::{count_sent, is_all_sent};
-use crate::reach::Reach;
+use crate::numbers::Numbers;
+use crate::reach::label_reach;
+use crate::residual::Residual;
 use crate::shortest_paths::ShortestPaths;
 use crate::sizes::Sizes;
 use crate::target_flow::TargetFlow;
@@ -19,17 +22,12 @@ use std::alloc::{AllocError, Global};
 enum Phase {
     // The net isn't what it was, or nothing is known of it yet.
     Unknown,
-    // Everybody was sent at a moment, and no search was worth it there.
-    Waiting(u16),
-    // It follows shortest paths.
-    ShortestPaths {
-        // The moment with which it began last.
-        moment: u16,
-        // At how many moments people were sent by others.
-        missed: u32,
-    },
-    // It follows a target flow since the moment with which it began last.
-    TargetFlow(u16),
+    // Everybody was sent at the moment, and no search was worth it there.
+    Waiting,
+    // It follows shortest paths. At so many moments people were sent by others.
+    ShortestPaths { missed: u32 },
+    // It follows a target flow.
+    TargetFlow,
 }
 
 /// Guesses at augmenting paths, and at a cut.
@@ -43,23 +41,20 @@ pub struct PathFinder {
     target_flow: TargetFlow,
     /// The flow of all moments together.
     total_flow: TotalFlow,
-    /// The pairs from which people can arrive.
-    reach: Reach,
+    /// The pairs from which people can arrive, in the order in which they were met.
+    reach: Numbers,
     /// The legs of the guess.
     legs: Vec<Leg>,
-    /// Which of the two guesses, and since when.
+    /// Which of the two guesses.
     phase: Phase,
-    /// What the search for shortest paths may cost.
-    budget: Budget,
+    /// The moment with which it began last, or waited last.
+    moment: u16,
+    /// What the search for shortest paths may cost, if not as much as it likes.
+    budget: Option<Budget>,
     ghost paths_fit: { shortest_paths.sizes ≡ sizes } by { Coded-set sizes-code shortest_paths.sizes sizes },
     ghost target_fits: { target_flow.sizes ≡ sizes } by { Coded-set sizes-code target_flow.sizes sizes },
     ghost total_fits: { total_flow.sizes ≡ sizes } by { Coded-set sizes-code total_flow.sizes sizes },
-    ghost reach_fits: { reach.sizes ≡ sizes } by { Coded-set sizes-code reach.sizes sizes },
-}
-
-// Whether a moment follows another.
-fn follows(moment: u16, before: u16) -> bool {
-    moment as u32 == before as u32 + 1
+    ghost reach_fits: { reach.limit ≡ sizes.pairs },
 }
 
 // Whether cells are those of a building. A net of another one gets no hint.
@@ -69,18 +64,11 @@ fn fits(cells: &[Cell], sizes: Sizes) -> bool
     cells.len() == sizes.cells as usize
 }
 
-// Whether there are as many nodes in a table of labels as in a building.
-fn nodes_fit(labels: &Labels, sizes: Sizes) -> bool
-    ensures { IsTrue result → (labels.now.nodes ≡ sizes.nodes) }
+// Whether there is a label for each node of a building at each moment.
+fn are_labels_of(labels: &Labels, sizes: Sizes) -> bool
+    ensures { IsTrue result → AreLabelsOf sizes labels.now }
 {
-    labels.nodes() == sizes.nodes
-}
-
-// Whether there are as many moments in a table of labels as in a building.
-fn horizon_fits(labels: &Labels, sizes: Sizes) -> bool
-    ensures { IsTrue result → (labels.now.horizon + 1 ≡ sizes.moments) }
-{
-    labels.horizon() as u32 + 1 == sizes.moments
+    labels.nodes() == sizes.nodes && labels.horizon() as u32 + 1 == sizes.moments
 }
 
 impl PathFinder {
@@ -90,7 +78,7 @@ impl PathFinder {
         let sizes = shortest_paths.sizes();
         let target_flow = TargetFlow::new(alloc, sizes)?;
         let total_flow = TotalFlow::new(alloc, sizes)?;
-        let reach = Reach::new(alloc, sizes)?;
+        let reach = Numbers::new(alloc, sizes.pairs)?;
         let legs = Vec::with_capacity(alloc, sizes.pairs as usize + 1)?;
         Ok(PathFinder {
             sizes,
@@ -100,7 +88,8 @@ impl PathFinder {
             reach,
             legs,
             phase: Phase::Unknown,
-            budget: Budget::Unlimited,
+            moment: 0,
+            budget: None,
         })
     }
 
@@ -116,139 +105,94 @@ impl PathFinder {
         ensures horizon { labels.new.horizon ≡ labels.old.horizon }
     {
         let cells = net.cells();
-        let sizes = self.sizes;
-        if !fits(cells, sizes) || !nodes_fit(labels, sizes) || !horizon_fits(labels, sizes) {
+        if !fits(cells, self.sizes)
+            || !are_labels_of(labels, self.sizes)
+            || is_all_sent(cells, self.sizes)
+        {
             return false;
         }
-        if is_all_sent(cells, sizes) || self.let_all_out(cells) || !self.reach_all(cells) {
+        self.shortest_paths.sort(cells);
+        let ways = self.shortest_paths.ways();
+        let earliest = self.shortest_paths.earliest();
+        let residual = Residual { cells, ways };
+        if self.total_flow.let_all_out(residual, earliest) {
             return false;
         }
-        self.reach.label(labels);
+        self.target_flow.seek(&mut self.shortest_paths, cells);
+        let Some(residual) = self.target_flow.residual(self.shortest_paths.ways()) else {
+            return false;
+        };
+        label_reach(residual, &mut self.reach, labels);
         true
     }
 
-    // Whether the flow of all moments together lets everybody out.
-    fn let_all_out(&mut self, cells: &[Cell]) -> bool
-        requires { length cells.now ≡ self.old.sizes.cells }
-        ensures { self.new.sizes ≡ self.old.sizes }
-    {
-        self.shortest_paths.sort(cells);
-        self.total_flow.let_all_out(
-            cells,
-            self.shortest_paths.ways(),
-            self.shortest_paths.earliest(),
-        )
-    }
-
-    // Finds the pairs from which an arrival can be come to once as many people are sent as can be. Whether there was memory for them.
-    fn reach_all(&mut self, cells: &[Cell]) -> bool
-        requires { length cells.now ≡ self.old.sizes.cells }
-        ensures sizes { self.new.sizes ≡ self.old.sizes }
-        ensures marks { IsTrue result → (vec_len self.new.reach.marks ≡ self.new.sizes.pairs) }
-    {
-        self.target_flow.seek(&mut self.shortest_paths, cells);
-        if !self.target_flow.is_sought() {
-            return false;
-        }
-        let residual = self.target_flow.residual(self.shortest_paths.ways());
-        self.reach.find(residual)
+    // Whether a moment follows the one with which it began last.
+    fn is_next(&self, k: u16) -> bool {
+        k as u32 == self.moment as u32 + 1
     }
 
     /// Whether everybody is sent and nothing is known yet, so that it is worth a search whether anybody can arrive sooner. Until
     /// somebody is found by it, the moments after it need no further look.
     pub fn waits(&mut self, net: &Net, k: u16) -> bool {
+        let cells = net.cells();
         let sent = match self.phase {
-            Phase::ShortestPaths { moment, .. } | Phase::TargetFlow(moment) if follows(k, moment) =>
-                {
-                    return false;
-                }
-            Phase::Waiting(moment) if follows(k, moment) => true,
-            _ => fits(net.cells(), self.sizes) && is_all_sent(net.cells(), self.sizes),
+            Phase::ShortestPaths { .. } | Phase::TargetFlow if self.is_next(k) => return false,
+            Phase::Waiting if self.is_next(k) => true,
+            _ => fits(cells, self.sizes) && is_all_sent(cells, self.sizes),
         };
-        self.phase = if sent {
-            Phase::Waiting(k)
-        } else {
-            Phase::Unknown
-        };
+        self.moment = k;
+        self.phase = if sent { Phase::Waiting } else { Phase::Unknown };
         sent
     }
 
-    /// Begins with an arrival moment.
+    /// Begins with an arrival moment. Shortest paths go on, unless others sent people too often.
     pub fn begin(&mut self, net: &Net, labels: &Labels, k: u16) {
         let cells = net.cells();
-        let sizes = self.sizes;
-        if !fits(cells, sizes) || !nodes_fit(labels, sizes) || !horizon_fits(labels, sizes) {
+        if !fits(cells, self.sizes) || !are_labels_of(labels, self.sizes) {
             self.phase = Phase::Unknown;
-        } else if (k as u32) < sizes.moments {
-            self.begin_within(cells, labels, k);
+            return;
         }
-    }
-
-    // Begins with an arrival moment up to the horizon.
-    fn begin_within(&mut self, cells: &[Cell], labels: &Labels, k: u16)
-        requires cells { length cells.now ≡ self.old.sizes.cells }
-        requires nodes { labels.now.nodes ≡ self.old.sizes.nodes }
-        requires horizon { labels.now.horizon + 1 ≡ self.old.sizes.moments }
-        requires moment { k < self.old.sizes.moments }
-    {
-        self.phase = match self.phase {
-            Phase::ShortestPaths { moment, missed } if follows(k, moment) => {
-                self.go_on(cells, k, missed)
-            }
-            Phase::TargetFlow(moment) if follows(k, moment) => Phase::TargetFlow(k),
-            _ => self.start(cells, labels, k),
-        };
+        if k as u32 >= self.sizes.moments {
+            return;
+        }
+        let goes_on = self.is_next(k);
+        self.moment = k;
         match self.phase {
-            Phase::TargetFlow(_) => self.begin_target(k as u32),
-            _ => self.shortest_paths.begin(k as u32),
+            Phase::ShortestPaths { missed } if goes_on && missed < MISS_LIMIT => {
+                self.shortest_paths.begin(k as u32)
+            }
+            Phase::ShortestPaths { .. } if goes_on => self.seek(cells),
+            Phase::TargetFlow if goes_on => self.target_flow.begin(k as u32),
+            _ => self.start(cells, labels, k),
         }
-    }
-
-    // Begins with an arrival moment of a target flow.
-    fn begin_target(&mut self, k: u32)
-        requires { k < self.old.sizes.moments }
-        ensures { self.new.sizes ≡ self.old.sizes }
-    {
-        if self.target_flow.is_sought() {
-            self.target_flow.begin(k);
-        }
-    }
-
-    // Goes on with shortest paths, unless others sent people too often.
-    fn go_on(&mut self, cells: &[Cell], k: u16, missed: u32) -> Phase
-        requires { length cells.now ≡ self.old.sizes.cells }
-        ensures { self.new.sizes ≡ self.old.sizes }
-    {
-        if missed < MISS_LIMIT {
-            return Phase::ShortestPaths { moment: k, missed };
-        }
-        self.target_flow.seek(&mut self.shortest_paths, cells);
-        Phase::TargetFlow(k)
     }
 
     // Starts with a net of which nothing is known.
-    fn start(&mut self, cells: &[Cell], labels: &Labels, k: u16) -> Phase
+    fn start(&mut self, cells: &[Cell], labels: &Labels, k: u16)
         requires cells { length cells.now ≡ self.old.sizes.cells }
-        requires nodes { labels.now.nodes ≡ self.old.sizes.nodes }
-        requires horizon { labels.now.horizon + 1 ≡ self.old.sizes.moments }
-        ensures { self.new.sizes ≡ self.old.sizes }
+        requires labels { AreLabelsOf self.old.sizes labels.now }
+        requires moment { k < self.old.sizes.moments }
     {
         self.shortest_paths.sort(cells);
         if is_all_sent(cells, self.sizes) {
-            self.target_flow.seek(&mut self.shortest_paths, cells);
-            return Phase::TargetFlow(k);
+            self.seek(cells);
+            return;
         }
         self.shortest_paths.renew(cells, labels, k);
+        self.shortest_paths.begin(k as u32);
         let sent = count_sent(cells, self.sizes);
-        self.budget = Budget::new(
-            self.sizes.pairs as usize,
-            sent,
-            self.shortest_paths.unsent(),
-        );
-        Phase::ShortestPaths {
-            moment: k,
-            missed: 0,
-        }
+        self.budget = Budget::new(self.sizes.pairs, sent, self.shortest_paths.unsent());
+        self.phase = Phase::ShortestPaths { missed: 0 };
+    }
+
+    // Seeks a target flow, and follows it.
+    fn seek(&mut self, cells: &[Cell])
+        requires { length cells.now ≡ self.old.sizes.cells }
+        ensures { self.new.sizes ≡ self.old.sizes }
+    {
+        self.target_flow.seek(&mut self.shortest_paths, cells);
+        self.target_flow.begin(self.moment as u32);
+        self.phase = Phase::TargetFlow;
     }
 
     /// People were sent otherwise at the moment, along so many paths.
@@ -256,9 +200,8 @@ impl PathFinder {
         if pushes == 0 {
             return;
         }
-        if let Phase::ShortestPaths { moment, missed } = self.phase {
-            let missed = missed.saturating_add(1);
-            self.phase = Phase::ShortestPaths { moment, missed };
+        if let Phase::ShortestPaths { missed } = &mut self.phase {
+            *missed = missed.saturating_add(1);
         }
         if fits(net.cells(), self.sizes) {
             self.shortest_paths.count(net.cells());
@@ -271,12 +214,25 @@ impl PathFinder {
         if !fits(cells, self.sizes) {
             return false;
         }
-        match self.phase {
-            Phase::ShortestPaths { moment, .. } => {
-                self.find_shortest(cells) || self.budget.left() == 0 && self.turn(cells, moment)
+        if let Phase::ShortestPaths { .. } = self.phase {
+            let found = self.find_shortest(cells);
+            if found || self.left() > 0 {
+                return found;
             }
-            Phase::TargetFlow(_) => self.find_target(cells),
-            Phase::Unknown | Phase::Waiting(_) => false,
+            self.seek(cells);
+        }
+        if let Phase::TargetFlow = self.phase {
+            let ways = self.shortest_paths.ways();
+            return self.target_flow.find(Residual { cells, ways });
+        }
+        false
+    }
+
+    // How many pairs the search for shortest paths may still relabel globally.
+    fn left(&self) -> usize {
+        match self.budget {
+            Some(budget) => budget.left(),
+            None => usize::MAX,
         }
     }
 
@@ -287,38 +243,20 @@ impl PathFinder {
     {
         let before = self.shortest_paths.relabels();
         let most = before
-            .saturating_add(self.budget.left())
+            .saturating_add(self.left())
             .min(self.shortest_paths.patience());
         let found = self.shortest_paths.find(cells, most);
         let spent = self.shortest_paths.relabels().saturating_sub(before);
-        self.budget.spend(spent);
-        found
-    }
-
-    // Searches on by a target flow.
-    fn find_target(&mut self, cells: &[Cell]) -> bool
-        requires { length cells.now ≡ self.old.sizes.cells }
-    {
-        self.target_flow.is_sought() && self.target_flow.find(self.shortest_paths.ways(), cells)
-    }
-
-    // Turns to a target flow in the middle of a moment, and searches on by it.
-    fn turn(&mut self, cells: &[Cell], k: u16) -> bool
-        requires { length cells.now ≡ self.old.sizes.cells }
-    {
-        self.phase = Phase::TargetFlow(k);
-        self.target_flow.seek(&mut self.shortest_paths, cells);
-        if k as u32 >= self.sizes.moments {
-            return false;
+        if let Some(budget) = &mut self.budget {
+            budget.spend(spent);
         }
-        self.begin_target(k as u32);
-        self.find_target(cells)
+        found
     }
 
     /// The most people to send along the guess.
     pub fn most(&self) -> u32 {
         match self.phase {
-            Phase::TargetFlow(_) => self.target_flow.most(),
+            Phase::TargetFlow => self.target_flow.most(),
             _ => u32::MAX,
         }
     }
@@ -326,7 +264,7 @@ impl PathFinder {
     /// The legs of the guess.
     pub fn lay(&mut self) -> &[Leg] {
         match self.phase {
-            Phase::TargetFlow(_) => self.target_flow.lay(&mut self.legs),
+            Phase::TargetFlow => self.target_flow.lay(&mut self.legs),
             _ => self.shortest_paths.lay(&mut self.legs),
         }
         self.legs.as_slice()
@@ -338,21 +276,14 @@ impl PathFinder {
         if !fits(cells, self.sizes) {
             return;
         }
-        match self.phase {
-            Phase::TargetFlow(_) => self.sent_by_target(cells),
-            _ => {
-                self.budget.earn(people);
-                self.shortest_paths.sent(cells, people);
-            }
+        if let Phase::TargetFlow = self.phase {
+            let ways = self.shortest_paths.ways();
+            self.target_flow.sent(Residual { cells, ways });
+            return;
         }
-    }
-
-    // People were sent along the guess of a target flow.
-    fn sent_by_target(&mut self, cells: &[Cell])
-        requires { length cells.now ≡ self.old.sizes.cells }
-    {
-        if self.target_flow.is_sought() {
-            self.target_flow.sent(cells);
+        if let Some(budget) = &mut self.budget {
+            budget.earn(people);
         }
+        self.shortest_paths.sent(cells, people);
     }
 }

@@ -83,6 +83,14 @@ impl Sizes {
         (pair / self.moments, pair % self.moments)
     }
 
+    /// The number of the list of a node's doors.
+    pub fn doors_list(&self, node: u32) -> u32
+        requires { node < self.now.nodes }
+        ensures { result ≡ self.now.nodes + node }
+    {
+        self.nodes + node
+    }
+
     /// The row of the waits in a node.
     pub fn wait_row(&self, node: u32) -> u32
         requires { node < self.now.nodes }

@@ -9,8 +9,9 @@ ghost use Rattle.guided_search.specs.Flows.{IsArcStepWithin};
 ghost use Rattle.guided_search.specs.Ways.{IsWayWithin};
 
 use crate::arc_step::ArcStep;
-use crate::cells::{sum_limits, supplies_of};
+use crate::cells::{room_in, sum_limits, supplies_of};
 use crate::numbers::Numbers;
+use crate::residual::Residual;
 use crate::sizes::Sizes;
 use crate::tuning::FUEL;
 use crate::way::Way;
@@ -23,18 +24,15 @@ use std::alloc::{AllocError, Global};
 pub struct TotalFlow {
     /// How large the building is.
     sizes: Sizes,
-    /// Of each arc how many people go over it.
-    flows: Vec<u32>,
-    /// Of each arc how many more may.
-    rooms: Vec<u32>,
+    /// Of each arc how many people go over it, and how many may.
+    arcs: Vec<Cell>,
     /// Of each node how many people are left in it.
     left: Vec<u32>,
     /// Of each node to which a search has come the step by which people can go out.
     steps: Vec<Option<ArcStep>>,
     /// These nodes, in the order in which it came to them.
     met: Numbers,
-    ghost flows_fit: { vec_len flows ≡ sizes.arcs },
-    ghost rooms_fit: { vec_len rooms ≡ sizes.arcs },
+    ghost arcs_fit: { vec_len arcs ≡ sizes.arcs },
     ghost left_fits: { vec_len left ≡ sizes.nodes },
     ghost steps_fit: { vec_len steps ≡ sizes.nodes },
     ghost met_fits: { met.limit ≡ sizes.nodes },
@@ -46,15 +44,13 @@ impl TotalFlow {
     pub fn new(alloc: Global, sizes: Sizes) -> Result<TotalFlow, AllocError>
         ensures { IfOk result (λ flow. flow.sizes ≡ sizes) }
     {
-        let flows = vec![in alloc; 0u32; sizes.arcs as usize]?;
-        let rooms = vec![in alloc; 0u32; sizes.arcs as usize]?;
+        let arcs = vec![in alloc; Cell { flow: 0, limit: 0 }; sizes.arcs as usize]?;
         let left = vec![in alloc; 0u32; sizes.nodes as usize]?;
         let steps = vec![in alloc; None; sizes.nodes as usize]?;
         let met = Numbers::new(alloc, sizes.nodes)?;
         Ok(TotalFlow {
             sizes,
-            flows,
-            rooms,
+            arcs,
             left,
             steps,
             met,
@@ -62,22 +58,35 @@ impl TotalFlow {
     }
 
     /// Whether the totals let everybody out, where `earliest` tells when people first come to each node.
-    pub fn let_all_out(&mut self, cells: &[Cell], ways: &Ways, earliest: &[u16]) -> bool
-        requires cells { length cells.now ≡ self.old.sizes.cells }
-        requires ways { ways.now.sizes ≡ self.old.sizes }
+    pub fn let_all_out(&mut self, residual: Residual<'_>, earliest: &[u16]) -> bool
+        requires residual { residual.ways.now.sizes ≡ self.old.sizes }
         requires earliest { length earliest.now ≡ self.old.sizes.nodes }
         ensures { self.new.sizes ≡ self.old.sizes }
     {
-        self.flows.as_mut_slice().fill(0);
-        count_people(self.left.as_mut_slice(), cells, self.sizes);
-        open_all(self.rooms.as_mut_slice(), cells, ways, earliest);
+        self.begin(residual, earliest);
         for _ in 0..FUEL {
-            match self.search(ways) {
+            match self.search(residual.ways) {
                 Some(node) => self.send(node),
-                None => return is_empty(self.left.as_slice()),
+                None => return self.left.as_slice().iter().all(|people| *people == 0),
             }
         }
         true
+    }
+
+    // Lets nobody go anywhere, and finds how many people come into each node and how many may go over each arc.
+    fn begin(&mut self, residual: Residual<'_>, earliest: &[u16])
+        requires residual { residual.ways.now.sizes ≡ self.old.sizes }
+        requires earliest { length earliest.now ≡ self.old.sizes.nodes }
+        ensures { self.new.sizes ≡ self.old.sizes }
+    {
+        let ways = residual.ways;
+        for node in 0..self.sizes.nodes {
+            self.left[node as usize] = sum_limits(supplies_of(residual.cells, self.sizes, node));
+            let arcs = self.arcs.as_mut_slice();
+            let travel_out = ways.travel_out(node);
+            open(arcs, residual, earliest, ways.into(node), travel_out);
+            open(arcs, residual, earliest, ways.doors_of(node), 0);
+        }
     }
 
     // Searches back from the exits for a node with somebody left.
@@ -88,7 +97,7 @@ impl TotalFlow {
     {
         self.steps.as_mut_slice().fill(None);
         self.met.clear();
-        if let Some(node) = self.meet_all(ways.doors(), None) {
+        if let Some(node) = self.meet(ways.doors(), None, u32::MAX) {
             return Some(node);
         }
         for at in 0..self.sizes.nodes as usize {
@@ -96,54 +105,54 @@ impl TotalFlow {
                 return None;
             }
             let node = self.met.get(at);
-            if let Some(found) = self.meet_all(ways.into(node), Some(node)) {
+            let room = self.room_from(node);
+            if let Some(found) = self.meet(ways.into(node), Some(node), room) {
                 return Some(found);
             }
         }
         None
     }
 
-    // Comes back over some ways to the nodes where they begin. The first of these in which somebody is left.
-    fn meet_all(&mut self, ways: &[Way], to: Option<u32>) -> Option<u32>
+    // How many people may go out of a node along the steps of a search.
+    fn room_from(&self, node: u32) -> u32
+        requires { node < self.now.sizes.nodes }
+    {
+        match self.steps[node as usize] {
+            Some(step) => step.room,
+            None => 0,
+        }
+    }
+
+    // Comes back over arcs to the nodes where they begin, where somebody more may go over them, and at most so many on. The first of these
+    // nodes in which somebody is left.
+    fn meet(&mut self, ways: &[Way], to: Option<u32>, most: u32) -> Option<u32>
         requires ways { All (IsWayWithin self.old.sizes) ways.now }
         requires to { ForSome to (λ node. node < self.old.sizes.nodes) }
         ensures sizes { self.new.sizes ≡ self.old.sizes }
         ensures node { IfSome result (λ node. node < self.old.sizes.nodes) }
     {
         for way in ways {
-            if self.meet(*way, to) {
+            let (arc, back) = (way.row, way.back);
+            let node = way.node as usize;
+            if arc >= self.sizes.arcs || self.steps[node].is_some() {
+                continue;
+            }
+            let room = room(self.arcs[arc as usize], back).min(most);
+            if room == 0 {
+                continue;
+            }
+            self.steps[node] = Some(ArcStep {
+                to,
+                arc,
+                back,
+                room,
+            });
+            self.met.add(way.node);
+            if self.left[node] > 0 {
                 return Some(way.node);
             }
         }
         None
-    }
-
-    // Comes back over an arc to the node where it begins, if somebody more may go over it. Whether somebody is left in that node.
-    fn meet(&mut self, way: Way, to: Option<u32>) -> bool
-        requires way { IsWayWithin self.old.sizes way }
-        requires to { ForSome to (λ node. node < self.old.sizes.nodes) }
-        ensures { self.new.sizes ≡ self.old.sizes }
-    {
-        let arc = way.row;
-        let back = way.back;
-        let node = way.node as usize;
-        if arc >= self.sizes.arcs || self.room(arc, back) == 0 || self.steps[node].is_some() {
-            return false;
-        }
-        self.steps[node] = Some(ArcStep { to, arc, back });
-        self.met.add(way.node);
-        self.left[node] > 0
-    }
-
-    // How many more people may go over an arc, or over it backwards.
-    fn room(&self, arc: u32, back: bool) -> u32
-        requires { arc < self.now.sizes.arcs }
-    {
-        if back {
-            self.flows[arc as usize]
-        } else {
-            self.rooms[arc as usize]
-        }
     }
 
     // Sends people from a node out along the steps of a search.
@@ -151,131 +160,47 @@ impl TotalFlow {
         requires { from < self.old.sizes.nodes }
         ensures { self.new.sizes ≡ self.old.sizes }
     {
-        let people = self.left[from as usize].min(self.least_room(from));
+        let people = self.left[from as usize].min(self.room_from(from));
         self.left[from as usize] -= people;
         let mut node = from;
         for _ in 0..self.sizes.nodes {
             let Some(step) = self.steps[node as usize] else {
                 return;
             };
-            self.send_over(step, people);
+            let cell = &mut self.arcs[step.arc as usize];
+            cell.flow = if step.back {
+                cell.flow.saturating_sub(people)
+            } else {
+                cell.flow.saturating_add(people)
+            };
             let Some(to) = step.to else {
                 return;
             };
             node = to;
         }
     }
-
-    // Sends people over an arc.
-    fn send_over(&mut self, step: ArcStep, people: u32)
-        requires { step.arc < self.old.sizes.arcs }
-        ensures sizes { self.new.sizes ≡ self.old.sizes }
-        ensures steps { self.new.steps ≡ self.old.steps }
-    {
-        let flow = &mut self.flows[step.arc as usize];
-        let room = &mut self.rooms[step.arc as usize];
-        if step.back {
-            *flow = flow.saturating_sub(people);
-            *room = room.saturating_add(people);
-        } else {
-            *flow = flow.saturating_add(people);
-            *room = room.saturating_sub(people);
-        }
-    }
-
-    // How many people may go out of a node along the steps of a search.
-    fn least_room(&self, from: u32) -> u32
-        requires { from < self.now.sizes.nodes }
-    {
-        let mut people = u32::MAX;
-        let mut node = from;
-        for _ in 0..self.sizes.nodes {
-            let Some(step) = self.steps[node as usize] else {
-                return people;
-            };
-            people = people.min(self.room(step.arc, step.back));
-            let Some(to) = step.to else {
-                return people;
-            };
-            node = to;
-        }
-        people
-    }
 }
 
-// Whether nobody is left in any node.
-fn is_empty(left: &[u32]) -> bool {
-    for people in left {
-        if *people > 0 {
-            return false;
-        }
-    }
-    true
+// How many more people may go over an arc, or over it backwards.
+fn room(arc: Cell, back: bool) -> u32 {
+    if back { arc.flow } else { room_in(arc) }
 }
 
-// Finds how many people come into each node.
-fn count_people(left: &mut [u32], cells: &[Cell], sizes: Sizes)
-    requires nodes { length left.old ≡ sizes.nodes }
-    requires cells { length cells.now ≡ sizes.cells }
-{
-    for node in 0..sizes.nodes {
-        left[node as usize] = sum_limits(supplies_of(cells, sizes, node));
-    }
-}
-
-// Finds how many people may go over each arc.
-fn open_all(rooms: &mut [u32], cells: &[Cell], ways: &Ways, earliest: &[u16])
-    requires rooms { length rooms.old ≡ ways.now.sizes.arcs }
-    requires cells { length cells.now ≡ ways.now.sizes.cells }
-    requires earliest { length earliest.now ≡ ways.now.sizes.nodes }
-{
-    let sizes = ways.sizes();
-    for node in 0..sizes.nodes {
-        open(
-            rooms,
-            cells,
-            sizes,
-            earliest,
-            ways.into(node),
-            ways.travel_out(node),
-        );
-    }
-    open(rooms, cells, sizes, earliest, ways.doors(), 0);
-}
-
-// Finds how many people may go over arcs from whose end the shortest way out takes so long.
-fn open(
-    rooms: &mut [u32],
-    cells: &[Cell],
-    sizes: Sizes,
-    earliest: &[u16],
-    ways: &[Way],
-    travel_out: u32,
-)
-    requires rooms { length rooms.old ≡ sizes.arcs }
-    requires cells { length cells.now ≡ sizes.cells }
-    requires earliest { length earliest.now ≡ sizes.nodes }
-    requires ways { All (IsWayWithin sizes) ways.now }
+// Lets nobody go over arcs from whose end the shortest way out takes so long, and finds how many may.
+fn open(arcs: &mut [Cell], residual: Residual<'_>, earliest: &[u16], ways: &[Way], travel_out: u32)
+    requires arcs { length arcs.old ≡ residual.ways.now.sizes.arcs }
+    requires earliest { length earliest.now ≡ residual.ways.now.sizes.nodes }
+    requires ways { All (IsWayWithin residual.ways.now.sizes) ways.now }
     requires travel { travel_out ≤ 65535 }
 {
+    let sizes = residual.sizes();
     for way in ways {
         if way.is_arc(sizes) {
-            let first = earliest[way.node as usize] as u32;
             let end = sizes.moments.saturating_sub(way.travel() + travel_out);
-            rooms[way.row as usize] = entering(cells, sizes, *way, first, end);
+            let first = (earliest[way.node as usize] as u32).min(end);
+            let (first, end) = (way.first_cell + first, way.first_cell + end);
+            let limit = sum_limits(&residual.cells[first as usize..end as usize]);
+            arcs[way.row as usize] = Cell { flow: 0, limit };
         }
     }
-}
-
-// How many people may enter a way over an arc from one moment up to another.
-fn entering(cells: &[Cell], sizes: Sizes, way: Way, first: u32, end: u32) -> u32
-    requires cells { length cells.now ≡ sizes.cells }
-    requires way { IsWayWithin sizes way }
-    requires end { end ≤ sizes.moments }
-{
-    if first >= end {
-        return 0;
-    }
-    let row = way.first_cell as usize;
-    sum_limits(&cells[row + first as usize..row + end as usize])
 }

@@ -6,50 +6,67 @@ ghost use Rattle.guided_search.specs.Ways.{IsWayWithin};
 use crate::sizes::Sizes;
 use crate::step::Step;
 
+/// When a way has its turn among those of its list that lead as it does, forwards or backwards.
+#[derive(Clone, Copy, PartialEq, Eq, PartialOrd, Ord)]
+pub enum Turn {
+    /// Before all others.
+    First,
+    /// By its row.
+    ByRow,
+}
+
 /// A residual arc into a node: over an arc of the building or a wait, forwards or backwards. At each moment it is a step.
-#[derive(Clone, Copy)]
+///
+/// The order of the fields is that of the ways.
+#[derive(Clone, Copy, PartialEq, Eq, PartialOrd, Ord)]
 pub struct Way {
-    /// The node in which it begins.
-    pub node: u32,
-    /// The pair of that node at moment 0.
-    pub first_pair: u32,
+    /// The number of its list: the node into which it leads, but for doors.
+    pub list: u32,
+    /// Whether it leads backwards.
+    pub back: bool,
+    /// When it has its turn in its list.
+    pub turn: Turn,
     /// The row of its cells.
     pub row: u32,
     /// The cell of that row at moment 0.
     pub first_cell: u32,
+    /// The node in which it begins.
+    pub node: u32,
+    /// The pair of that node at moment 0.
+    pub first_pair: u32,
     /// From the moment at which the way ends to that at which it begins: back by its travel forwards, and on by it backwards.
     pub shift: i32,
-    /// Whether it leads backwards.
-    pub back: bool,
 }
 
 impl Way {
-    /// From a node over a row, forwards.
-    pub fn forwards(sizes: Sizes, node: u32, row: u32, travel: u16) -> Way
+    /// A way of a list from a node over a row, forwards.
+    pub fn forwards(sizes: Sizes, list: u32, node: u32, row: u32, travel: u16) -> Way
         requires node { node < sizes.nodes }
         requires row { row < sizes.arcs + sizes.nodes }
         ensures { IsWayWithin sizes result }
     {
         Way {
-            node,
-            first_pair: sizes.first_pair(node),
+            list,
+            back: false,
+            turn: Turn::ByRow,
             row,
             first_cell: sizes.first_cell(row),
+            node,
+            first_pair: sizes.first_pair(node),
             shift: -(travel as i32),
-            back: false,
         }
     }
 
-    /// From a node over a row, backwards.
-    pub fn backwards(sizes: Sizes, node: u32, row: u32, travel: u16) -> Way
+    /// A way of a list from a node over a row, backwards.
+    pub fn backwards(sizes: Sizes, list: u32, node: u32, row: u32, travel: u16) -> Way
         requires node { node < sizes.nodes }
         requires row { row < sizes.arcs + sizes.nodes }
         ensures { IsWayWithin sizes result }
     {
         Way {
-            shift: travel as i32,
             back: true,
-            ..Way::forwards(sizes, node, row, travel)
+            shift: travel as i32,
+            ..Way::forwards(sizes, list, node, row, travel)
         }
     }
 

@@ -1,5 +1,5 @@
-use Rattle.std.proofs.Common.{◌≡◌, ◌+◌, ◌<◌, ◌≤◌, length, vec_len}
+use Rattle.std.proofs.Common.{◌<◌, IfSome}
 use Rattle.guided_search.proofs.target_flow.TargetFlow.lay.Given as goal
 
-abbrev pub invariant-loop-at : goal.invariant-loop-at
-invariant-loop-at l = l.since < l.self.sizes.moments
+abbrev pub invariant-loop-step : goal.invariant-loop-step
+invariant-loop-step l = IfSome l.waited (λ since. since < l.self.sizes.moments)

@@ -1,4 +1,4 @@
-use Rattle.std.proofs.Common.{◌≡◌, ◌+◌, ◌<◌, ◌≤◌, length, vec_len}
+use Rattle.std.proofs.Common.{◌≡◌}
 use Rattle.guided_search.proofs.total_flow.TotalFlow.let_all_out.Given as goal
 
 abbrev pub invariant-loop : goal.invariant-loop
