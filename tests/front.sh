@@ -305,6 +305,22 @@ begin 'a program that is not there is status 70'
 RT_FAILS=program run "$here/repo/build" 3
 expect status=70 'says=was not built' calls=version,ci
 
+for processors in 4 2; do
+  begin "with $processors processors the longest row of crates has $((processors / 4)) runs of its own"
+  printf 'low:\nlex_flow: low\nevacplan: lex_flow\n' >"$here/repo/crates.txt"
+  mkdir -p "$here/repo/crates/lex_flow/src"
+  printf '#!/bin/sh\necho %s\n' "$processors" >"$here/bin/nproc"
+  chmod +x "$here/bin/nproc"
+  RT_SLOW=1 "$here/repo/build" >"$here/out" 2>"$here/err" &
+  await grep -qsx ci "$here/calls"
+  [ "$processors" -lt 4 ] || await grep -qx 'ci lex_flow' "$here/calls"
+  [ "$(grep -cx 'ci lex_flow' "$here/calls")" -eq $((processors / 4)) ] || echo 'another number of runs' >>"$here/out"
+  touch "$here/go"
+  wait $!
+  status=$?
+  expect status=0 out= 'says=program is built'
+done
+
 begin 'another kit builds nothing'
 RT_LOGIC=fedcba9876543210 run "$here/repo/build"
 expect status=70 lines=1 'says=logic fedcba9876543210' calls=version
