@@ -144,10 +144,8 @@ fn opening_of(model: &Model, kind: Kind, number: u32) -> Option<Opening>
 fn add_cells(cells: &mut Vec<Cell>, count: u16, limit: u32) -> Result<(), AllocError>
     ensures { IfOk result (λ _. cells.new.items ≡ cells.old.items ++ replicate count (record { flow = 0; limit = limit })) }
 {
-    for _moment in 0..count {
-        cells.push(Cell { flow: 0, limit })?;
-    }
-    Ok(())
+    let len = cells.len() + count as usize;
+    cells.resize(len, Cell { flow: 0, limit })
 }
 
 // Adds the cells of the places of a kind with a number, moment by moment.
