@@ -93,7 +93,8 @@ impl Search {
         if self.distances.is_source(residual.cells, node, moment) {
             return 0;
         }
-        residual.incoming(node, moment).least(&self.distances).0
+        let incoming = residual.incoming(node, moment);
+        incoming.least(&self.distances, incoming.ways.len()).0
     }
 
     // Puts these labels in order.

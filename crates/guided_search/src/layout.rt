@@ -24,6 +24,16 @@ pub fn all_ways(alloc: Global, model: &Building, sizes: Sizes) -> Result<Vec<Way
     Ok(ways)
 }
 
+// Adds a way.
+fn add(ways: &mut Vec<Way>, sizes: Sizes, way: Way) -> Result<(), AllocError>
+    requires way { IsWayWithin sizes way }
+    requires ways { All (IsWayWithin sizes) ways.old.items }
+    ensures { All (IsWayWithin sizes) ways.new.items }
+{
+    ways.push(way)?;
+    Ok(())
+}
+
 // Adds the ways over arcs.
 fn add_arcs(ways: &mut Vec<Way>, model: &Building, sizes: Sizes) -> Result<(), AllocError>
     requires nodes { sizes.nodes ≤ length model.now.nodes }
@@ -54,9 +64,9 @@ fn add_arc(
     if arc.from >= sizes.nodes || arc.to >= sizes.nodes {
         return Ok(());
     }
-    ways.push(Way::forwards(sizes, arc.to, arc.from, row, arc.travel))?;
-    ways.push(outgoing(model, sizes, arc, row))?;
-    Ok(())
+    let way = Way::forwards(sizes, arc.to, arc.from, row, arc.travel);
+    add(ways, sizes, way)?;
+    add(ways, sizes, outgoing(model, sizes, arc, row))
 }
 
 // The way over an arc at the node where it begins: a door where it leads into an exit, else the way backwards.
@@ -88,8 +98,8 @@ fn add_waits(ways: &mut Vec<Way>, model: &Building, sizes: Sizes) -> Result<(), 
         } else {
             Turn::ByRow
         };
-        ways.push(Way { turn, ..wait })?;
-        ways.push(Way::backwards(sizes, node, node, row, 1))?;
+        add(ways, sizes, Way { turn, ..wait })?;
+        add(ways, sizes, Way::backwards(sizes, node, node, row, 1))?;
     }
     Ok(())
 }

@@ -1,7 +1,7 @@
 //! The residual network: what a search goes over.
 ghost use Rattle.std.specs.Prelude.{◌≡◌, ◌<◌, ◌≤◌, IfSome, IsFalse, length};
 ghost use Rattle.std.specs.List.{All};
-ghost use Rattle.guided_search.specs.Steps.{IsStepWithin};
+ghost use Rattle.guided_search.specs.Steps.{IsLookWithin, IsStepWithin};
 ghost use Rattle.guided_search.specs.Ways.{IsWayWithin};
 
 use crate::cells::is_open;
@@ -72,6 +72,15 @@ impl<'a> Residual<'a> {
     }
 }
 
+/// What a look at the ways into a pair finds.
+#[derive(Clone, Copy)]
+pub enum Look {
+    /// An admissible way, and its step.
+    Admissible { number: usize, step: Step },
+    /// None; the least distance label that the ways allow the pair, and the number of a way that gives it.
+    Least { label: u32, number: usize },
+}
+
 impl Incoming<'_> {
     /// The step that a way is, where it begins within the horizon.
     pub fn step(&self, way: Way) -> Option<Step>
@@ -81,47 +90,59 @@ impl Incoming<'_> {
         way.step(self.sizes, self.moment)
     }
 
-    /// The first admissible way from a number on: one over which the distance label falls by just its weight, and that has room.
-    pub fn admissible(
-        &self,
-        distances: &Distances,
-        from: usize,
-        label: u32,
-    ) -> Option<(usize, Step)>
+    /// Looks for an admissible way from a number on: one over which the distance label falls by just its weight, and that has room.
+    pub fn look(&self, distances: &Distances, from: usize, label: u32) -> Look
         requires { distances.now.sizes ≡ self.now.sizes }
-        ensures within { IfSome result (λ found. IsStepWithin self.now.sizes found.1) }
-        ensures forwards { IfSome result (λ found. IsFalse found.1.back → found.1.moment ≤ self.now.moment) }
+        ensures { IsLookWithin self.now.sizes self.now.moment result }
     {
+        let mut least = FAR;
+        let mut at = 0;
         for number in from..self.ways.len() {
             let way = self.ways[number];
             if let Some(begun) = way.begun(self.sizes, self.moment) {
-                if distances.get(way.first_pair + begun) + way.weight() == label {
+                let allowed = distances.get(way.first_pair + begun) + way.weight();
+                if allowed < least {
                     let step = way.step_between(begun, self.moment);
                     if is_open(self.cells, step) {
-                        return Some((number, step));
+                        if allowed == label {
+                            return Look::Admissible { number, step };
+                        }
+                        least = allowed;
+                        at = number;
                     }
                 }
             }
         }
-        None
+        let before = self.least(distances, from);
+        if before.0 <= least {
+            Look::Least {
+                label: before.0,
+                number: before.1,
+            }
+        } else {
+            Look::Least {
+                label: least,
+                number: at,
+            }
+        }
     }
 
-    /// The least distance label that the ways allow, and the number of a way that gives it.
-    pub fn least(&self, distances: &Distances) -> (u32, usize)
+    /// The least distance label that the ways before a number allow, and the number of a way that gives it.
+    pub fn least(&self, distances: &Distances, end: usize) -> (u32, usize)
         requires { distances.now.sizes ≡ self.now.sizes }
         ensures { result.0 ≤ 65535 }
     {
-        let mut best = FAR;
+        let mut least = FAR;
         let mut at = 0;
-        for (number, way) in self.ways.iter().enumerate() {
+        for (number, way) in self.ways.iter().enumerate().take(end) {
             if let Some(begun) = way.begun(self.sizes, self.moment) {
-                let label = distances.get(way.first_pair + begun) + way.weight();
-                if label < best && is_open(self.cells, way.step_between(begun, self.moment)) {
-                    best = label;
+                let allowed = distances.get(way.first_pair + begun) + way.weight();
+                if allowed < least && is_open(self.cells, way.step_between(begun, self.moment)) {
+                    least = allowed;
                     at = number;
                 }
             }
         }
-        (best, at)
+        (least, at)
     }
 }

@@ -1,19 +1,19 @@
 //! A search back from an arrival along admissible steps: those over which the distance label falls by just the step's weight.
 //!
 //! It advances while there is one. Where there is none it relabels the pair, and retreats a step.
-ghost use Rattle.std.specs.Prelude.{◌≡◌, ◌<◌, IfOk};
+ghost use Rattle.std.specs.Prelude.{◌≡◌, ◌<◌, ◌≤◌, IfOk};
 ghost use Rattle.std.specs.Coded.{Coded-set};
 ghost use Rattle.std.specs.List.{All};
-ghost use Rattle.guided_search.specs.Steps.{IsStayWithin};
+ghost use Rattle.guided_search.specs.Steps.{IsStepWithin};
 
 use crate::distances::Distances;
 use crate::numbers::Numbers;
 use crate::partial_path::PartialPath;
 use crate::relabelled::Relabelled;
-use crate::residual::Residual;
+use crate::residual::{Look, Residual};
 use crate::sizes::Sizes;
-use crate::step::Stay;
-use crate::tuning::{FAR, PATH_LIMIT, VAIN_LIMIT};
+use crate::step::Step;
+use crate::tuning::{FAR, PATH_LIMIT, VAIN_FACTOR, VAIN_LIMIT};
 use std::alloc::{AllocError, Global};
 
 /// What comes of a step of a search.
@@ -99,43 +99,47 @@ impl Search {
         let Some(last) = self.path.last() else {
             return Progress::Exhausted;
         };
-        let label = self.distances.get(last.pair());
-        let cells = residual.cells;
-        if label == 0 && self.distances.is_source(cells, last.step.node, last.since) {
+        let pair = last.pair();
+        let label = self.distances.get(pair);
+        if label == 0
+            && self
+                .distances
+                .is_source(residual.cells, last.step.node, last.since)
+        {
             return Progress::Found;
         }
         if label < FAR {
-            if let Some(progress) = self.advance(residual, last, label) {
-                return progress;
+            let incoming = residual.incoming(last.step.node, last.since);
+            let from = self.distances.current_arc(pair);
+            match incoming.look(&self.distances, from, label) {
+                Look::Admissible { number, step } => {
+                    self.distances.set_current_arc(pair, number);
+                    return self.advance(residual, label, number, step);
+                }
+                Look::Least { label, number } => self.relabel(pair, label, number),
             }
-            self.relabel(residual, last);
         }
         self.path.retreat();
-        if self.vain > self.relabelled.pairs.len().saturating_add(VAIN_LIMIT) {
+        let enough = self.relabelled.pairs.len().saturating_mul(VAIN_FACTOR);
+        if self.vain > enough.saturating_add(VAIN_LIMIT) {
             Progress::Stale
         } else {
             Progress::Going
         }
     }
 
-    // Takes an admissible way into the last pair, where there is one: a wait makes its stay longer, another way begins a stay.
-    fn advance(&mut self, residual: Residual<'_>, last: Stay, label: u32) -> Option<Progress>
+    // Takes an admissible step into the last pair: a wait makes its stay longer, another step begins a stay.
+    fn advance(&mut self, residual: Residual<'_>, label: u32, number: usize, step: Step) -> Progress
         requires residual { residual.ways.now.sizes ≡ self.old.sizes }
-        requires last { IsStayWithin self.old.sizes last }
+        requires step { IsStepWithin self.old.sizes step }
         ensures { self.new.sizes ≡ self.old.sizes }
     {
-        let pair = last.pair();
-        let incoming = residual.incoming(last.step.node, last.since);
-        let from = self.distances.current_arc(pair);
-        let (number, step) = incoming.admissible(&self.distances, from, label)?;
-        self.distances.set_current_arc(pair, number);
         if !step.waits(self.sizes) {
-            let has_room = self.path.push(step);
-            return Some(if has_room {
+            return if self.path.push(step) {
                 Progress::Going
             } else {
                 Progress::Full
-            });
+            };
         }
         let since = if number == 0 {
             self.distances.wait_back(residual, step, label)
@@ -143,18 +147,15 @@ impl Search {
             step.moment
         };
         self.path.wait_since(since);
-        Some(Progress::Going)
+        Progress::Going
     }
 
-    // Raises the distance label of the last pair to what its ways allow.
-    fn relabel(&mut self, residual: Residual<'_>, last: Stay)
-        requires residual { residual.ways.now.sizes ≡ self.old.sizes }
-        requires last { IsStayWithin self.old.sizes last }
+    // Raises the distance label of a pair to what its ways allow.
+    fn relabel(&mut self, pair: u32, label: u32, number: usize)
+        requires pair { pair < self.old.sizes.pairs }
+        requires label { label ≤ 65535 }
         ensures { self.new.sizes ≡ self.old.sizes }
     {
-        let pair = last.pair();
-        let incoming = residual.incoming(last.step.node, last.since);
-        let (label, number) = incoming.least(&self.distances);
         self.distances.set(pair, label, number);
         if label < FAR {
             self.relabelled.add(pair);

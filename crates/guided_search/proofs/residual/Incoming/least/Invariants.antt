@@ -2,4 +2,4 @@ use Rattle.std.proofs.Common.{◌≤◌}
 use Rattle.guided_search.proofs.residual.Incoming.least.Given as goal
 
 abbrev pub invariant-loop-number : goal.invariant-loop-number
-invariant-loop-number l = l.best ≤ 65535
+invariant-loop-number l = l.least ≤ 65535
