@@ -7,32 +7,11 @@ ghost use Rattle.edit_session.specs.Mended.{IsMended, IsRepairable, IsScratchOf,
 use crate::repaired::Repaired;
 use crate::scratch::Scratch;
 use crate::work::Work;
-use cut_witness::cut_value;
 use evac_law::{Edit, Labels, Model, Steps};
 use flow_repair::reshape;
 use lex_flow::{Outcome, settle_all};
 use residual_net::Net;
 use std::sync::ledger::Ledger;
-
-// What a cut is worth at the horizon that shows that not everybody can get out of a model, where a search guesses at one. The scratch has
-// its labels.
-fn find_shortfall(net: &Net, model: &Model, scratch: &mut Scratch) -> Option<u32>
-    requires valid { IsValid model.now }
-    requires of { net.now.site ≡ site_of model.now }
-    requires scratch { IsScratchOf net.now.site scratch.old }
-    ensures scratch { IsScratchOf net.now.site scratch.new }
-    ensures shown { MatchOption result (Unit {0}) (λ most. IsShown model.now scratch.new.labels most) }
-{
-    if !scratch.search.guess_cut(net, &mut scratch.labels) {
-        return None;
-    }
-    let most = cut_value(model, &scratch.labels, model.horizon);
-    if most < u64::from(model.people()) {
-        Some(most as u32)
-    } else {
-        None
-    }
-}
 
 /// Brings a standing net to an edited model; the scratch gets the labels of its new plan, and what is saved is the net before. Where not
 /// everybody can get out, the net is left as it was, and the scratch has the labels that show it.
@@ -53,12 +32,6 @@ pub fn repair_net<L: Ledger>(
     let _ = net.shape();
     net.save();
     let taken = reshape(net, model, edit, labels, &mut scratch.path, steps);
-    if let Some(most) = find_shortfall(net, model, scratch) {
-        // a net keeps its flow in balance
-        let _ = net.shape();
-        net.restore();
-        return Repaired::Short { most };
-    }
     scratch.labels.copy_from(labels);
     match settle_all(
         net,

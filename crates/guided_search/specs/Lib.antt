@@ -1,5 +1,4 @@
-pub mod Cuts
-pub mod Flows
+pub mod Labelled
 pub mod Steps
 pub mod Targets
 pub mod Ways

@@ -92,10 +92,3 @@ pub fn is_all_sent(cells: &[Cell], sizes: Sizes) -> bool
     supplies.iter().any(|cell| cell.limit > 0)
         && supplies.iter().all(|cell| cell.flow >= cell.limit)
 }
-
-/// The limits of some cells, added up.
-pub fn sum_limits(cells: &[Cell]) -> u32 {
-    cells
-        .iter()
-        .fold(0u32, |people, cell| people.saturating_add(cell.limit))
-}

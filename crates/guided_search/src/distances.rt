@@ -121,13 +121,6 @@ impl Distances {
         0
     }
 
-    /// When people first come to each node.
-    pub fn earliest(&self) -> &[u16]
-        ensures { length result.now ≡ self.now.sizes.nodes }
-    {
-        self.earliest.as_slice()
-    }
-
     /// Finds when people first come to each node, be it along arcs.
     pub fn find_earliest(&mut self, cells: &[Cell], ways: &Ways)
         requires cells { length cells.now ≡ self.old.sizes.cells }

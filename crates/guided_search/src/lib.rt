@@ -9,12 +9,8 @@
 //! along steps that distance labels call admissible, and relabels where there is none; the labels outlive the moments. Where everybody
 //! is sent already, as after an exit is opened again, a `TargetFlow` is a flow of the best arrivals, found by that search from no flow;
 //! what it has more or less than the net's leads people straight to where they are to arrive.
-//!
-//! A `PathFinder` also guesses at a cut that shows that not everybody can get out, where the `TotalFlow` of the rates doesn't let them:
-//! what no arrival can be come to from, once as many people are sent as can be.
 #![tactic(auto)]
 
-mod arc_step;
 mod budget;
 mod cells;
 mod distances;
@@ -24,7 +20,6 @@ mod lists;
 mod numbers;
 mod partial_path;
 mod path_finder;
-mod reach;
 mod relabelled;
 mod residual;
 mod search;
@@ -33,7 +28,6 @@ mod sizes;
 mod step;
 mod surplus;
 mod target_flow;
-mod total_flow;
 mod tuning;
 mod way;
 mod ways;

@@ -1,17 +1,14 @@
 //! Who guesses at the next path: a search for shortest paths where people are unsent, else a target flow.
 ghost use Rattle.std.specs.Prelude.{◌≡◌, ◌<◌, IsTrue, length};
 ghost use Rattle.std.specs.Coded.{Coded-set};
-ghost use Rattle.guided_search.specs.Cuts.{AreLabelsOf};
+ghost use Rattle.guided_search.specs.Labelled.{HasLabels};
 
 use crate::budget::Budget;
 use crate::cells::{count_sent, is_all_sent};
-use crate::numbers::Numbers;
-use crate::reach::label_reach;
 use crate::residual::Residual;
 use crate::shortest_paths::ShortestPaths;
 use crate::sizes::Sizes;
 use crate::target_flow::TargetFlow;
-use crate::total_flow::TotalFlow;
 use crate::tuning::MISS_LIMIT;
 use evac_law::{Labels, Model as Building};
 use residual_net::{Cell, Leg, Net};
@@ -30,7 +27,7 @@ enum Phase {
     TargetFlow,
 }
 
-/// Guesses at augmenting paths, and at a cut.
+/// Guesses at augmenting paths.
 #[derive(Drop)]
 pub struct PathFinder {
     /// How large the building is.
@@ -39,10 +36,6 @@ pub struct PathFinder {
     shortest_paths: ShortestPaths,
     /// The flow that the net is led over to where shortest paths are dear.
     target_flow: TargetFlow,
-    /// The flow of all moments together.
-    total_flow: TotalFlow,
-    /// The pairs from which people can arrive, in the order in which they were met.
-    reach: Numbers,
     /// The legs of the guess.
     legs: Vec<Leg>,
     /// Which of the two guesses.
@@ -53,8 +46,6 @@ pub struct PathFinder {
     budget: Option<Budget>,
     ghost paths_fit: { shortest_paths.sizes ≡ sizes } by { Coded-set sizes-code shortest_paths.sizes sizes },
     ghost target_fits: { target_flow.sizes ≡ sizes } by { Coded-set sizes-code target_flow.sizes sizes },
-    ghost total_fits: { total_flow.sizes ≡ sizes } by { Coded-set sizes-code total_flow.sizes sizes },
-    ghost reach_fits: { reach.limit ≡ sizes.pairs },
 }
 
 // Whether cells are those of a building. A net of another one gets no hint.
@@ -65,8 +56,8 @@ fn fits(cells: &[Cell], sizes: Sizes) -> bool
 }
 
 // Whether there is a label for each node of a building at each moment.
-fn are_labels_of(labels: &Labels, sizes: Sizes) -> bool
-    ensures { IsTrue result → AreLabelsOf sizes labels.now }
+fn has_labels(labels: &Labels, sizes: Sizes) -> bool
+    ensures { IsTrue result → HasLabels sizes labels.now }
 {
     labels.nodes() == sizes.nodes && labels.horizon() as u32 + 1 == sizes.moments
 }
@@ -75,17 +66,13 @@ impl PathFinder {
     /// A path finder for a building.
     pub fn new(alloc: Global, model: &Building) -> Result<PathFinder, AllocError> {
         let shortest_paths = ShortestPaths::new(alloc, model)?;
-        let sizes = shortest_paths.sizes();
+        let sizes = shortest_paths.sizes;
         let target_flow = TargetFlow::new(alloc, sizes)?;
-        let total_flow = TotalFlow::new(alloc, sizes)?;
-        let reach = Numbers::new(alloc, sizes.pairs)?;
         let legs = Vec::with_capacity(alloc, sizes.pairs as usize + 1)?;
         Ok(PathFinder {
             sizes,
             shortest_paths,
             target_flow,
-            total_flow,
-            reach,
             legs,
             phase: Phase::Unknown,
             moment: 0,
@@ -96,34 +83,6 @@ impl PathFinder {
     /// Forgets what it knows: the net isn't what it was.
     pub fn renew(&mut self) {
         self.phase = Phase::Unknown;
-    }
-
-    /// Guesses at a cut that shows that not everybody can get out: labels with the horizon the pairs from which people may still arrive
-    /// by then, and unsets the others. Whether there may be one.
-    pub fn guess_cut(&mut self, net: &Net, labels: &mut Labels) -> bool
-        ensures nodes { labels.new.nodes ≡ labels.old.nodes }
-        ensures horizon { labels.new.horizon ≡ labels.old.horizon }
-    {
-        let cells = net.cells();
-        if !fits(cells, self.sizes)
-            || !are_labels_of(labels, self.sizes)
-            || is_all_sent(cells, self.sizes)
-        {
-            return false;
-        }
-        self.shortest_paths.sort(cells);
-        let ways = self.shortest_paths.ways();
-        let earliest = self.shortest_paths.earliest();
-        let residual = Residual { cells, ways };
-        if self.total_flow.let_all_out(residual, earliest) {
-            return false;
-        }
-        self.target_flow.seek(&mut self.shortest_paths, cells);
-        let Some(residual) = self.target_flow.residual(self.shortest_paths.ways()) else {
-            return false;
-        };
-        label_reach(residual, &mut self.reach, labels);
-        true
     }
 
     // Whether a moment follows the one with which it began last.
@@ -148,7 +107,7 @@ impl PathFinder {
     /// Begins with an arrival moment. Shortest paths go on, unless others sent people too often.
     pub fn begin(&mut self, net: &Net, labels: &Labels, k: u16) {
         let cells = net.cells();
-        if !fits(cells, self.sizes) || !are_labels_of(labels, self.sizes) {
+        if !fits(cells, self.sizes) || !has_labels(labels, self.sizes) {
             self.phase = Phase::Unknown;
             return;
         }
@@ -170,7 +129,7 @@ impl PathFinder {
     // Starts with a net of which nothing is known.
     fn start(&mut self, cells: &[Cell], labels: &Labels, k: u16)
         requires cells { length cells.now ≡ self.old.sizes.cells }
-        requires labels { AreLabelsOf self.old.sizes labels.now }
+        requires labels { HasLabels self.old.sizes labels.now }
         requires moment { k < self.old.sizes.moments }
     {
         self.shortest_paths.sort(cells);
@@ -181,7 +140,7 @@ impl PathFinder {
         self.shortest_paths.renew(cells, labels, k);
         self.shortest_paths.begin(k as u32);
         let sent = count_sent(cells, self.sizes);
-        self.budget = Budget::new(self.sizes.pairs, sent, self.shortest_paths.unsent());
+        self.budget = Budget::new(self.sizes.pairs, sent, self.shortest_paths.unsent);
         self.phase = Phase::ShortestPaths { missed: 0 };
     }
 
@@ -241,12 +200,12 @@ impl PathFinder {
         requires { length cells.now ≡ self.old.sizes.cells }
         ensures { self.new.sizes ≡ self.old.sizes }
     {
-        let before = self.shortest_paths.relabels();
+        let before = self.shortest_paths.relabels;
         let most = before
             .saturating_add(self.left())
             .min(self.shortest_paths.patience());
         let found = self.shortest_paths.find(cells, most);
-        let spent = self.shortest_paths.relabels().saturating_sub(before);
+        let spent = self.shortest_paths.relabels.saturating_sub(before);
         if let Some(budget) = &mut self.budget {
             budget.spend(spent);
         }

@@ -14,7 +14,6 @@ use crate::sizes::Sizes;
 use crate::step::Step;
 use crate::surplus::{Surplus, lower, lower_all};
 use crate::tuning::FUEL;
-use crate::ways::Ways;
 use residual_net::{Cell, Leg};
 use std::alloc::{AllocError, Global};
 
@@ -110,18 +109,6 @@ impl TargetFlow {
             empty(self.cells.as_mut_slice());
             shortest_paths.send_all(self.cells.as_mut_slice());
         }
-    }
-
-    /// The residual network of the flow, if one was sought.
-    pub fn residual<'a>(&'a self, ways: &'a Ways) -> Option<Residual<'a>>
-        requires { ways.now.sizes ≡ self.now.sizes }
-        ensures { IfSome result (λ residual. residual.ways.now.sizes ≡ ways.now.sizes) }
-    {
-        if !self.is_sought() {
-            return None;
-        }
-        let cells = self.cells.as_slice();
-        Some(Residual { cells, ways })
     }
 
     /// Begins with an arrival moment.

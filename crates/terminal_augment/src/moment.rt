@@ -202,16 +202,6 @@ impl Search {
         Ok(Search { work, finder })
     }
 
-    /// Guesses at a cut that shows that not everybody can get out of a net by its horizon: labels with the horizon the pairs from which
-    /// people may still arrive by then, and unsets the others. Whether there may be one: it is a hint, and whoever asks sums the cut.
-    pub fn guess_cut(&mut self, net: &Net, labels: &mut Labels) -> bool
-        ensures search { self.new ≡ self.old }
-        ensures nodes { labels.new.nodes ≡ labels.old.nodes }
-        ensures horizon { labels.new.horizon ≡ labels.old.horizon }
-    {
-        self.finder.guess_cut(net, labels)
-    }
-
     /// Forgets what earlier moments told, as the flow or the limits of the net aren't what they were.
     pub fn renew(&mut self)
         ensures { self.new ≡ self.old }

@@ -1,6 +1,4 @@
 use Rattle.std.proofs.Common.{◌≡◌, ℕ, ◌+◌, ◌-◌, ◌≤◌, ap, ap₂, subst, sym, arith, ◌∙◌}
-use Rattle.evac_law.specs.Certificates.{label_cut}
-use Rattle.evac_law.specs.Cuts.{cut_value}
 use Rattle.evac_law.specs.Plans.{violation}
 use Rattle.residual_net.specs.Network.{Network, arrived_by, flow_at, saved_of}
 use Rattle.residual_net.specs.OfModel.{IsNetOf, last_move, plan_of}
@@ -8,7 +6,6 @@ use Rattle.residual_net.specs.Site.{Site, IsPlace}
 use Rattle.residual_net.proofs.SentLemmas.{arrived_all_sent}
 use Rattle.residual_net.proofs.Kept.{same_saved}
 use Rattle.residual_net.proofs.LastArrival.{last_fits}
-use Rattle.residual_net.proofs.Law.{arrived_within}
 use Rattle.terminal_augment.specs.Settled.{IsClosedBelow}
 use Rattle.lex_flow.specs.declared.outcome.Outcome.{Outcome}
 use Rattle.lex_flow.specs.declared.outcome.Outcome.TheVariants.{Cleared, Short}
@@ -17,7 +14,7 @@ use Rattle.lex_flow.specs.Settling.{arrivals_below}
 use Rattle.terminal_augment.proofs.KeptLemmas.{net_of_kept}
 use Rattle.flow_repair.proofs.Whole.{valid_now}
 use Rattle.edit_session.specs.declared.work.Work.{Work}
-use Rattle.edit_session.specs.Mended.{IsShown, last_arrival_of}
+use Rattle.edit_session.specs.Mended.{last_arrival_of}
 use Rattle.edit_session.proofs.Saved.{arrived_saved, edit_saved, flow_saved, of_saved, plan_saved, reshapable_saved}
 use Rattle.edit_session.proofs.Thrifty.{spent, thrifty}
 use Rattle.edit_session.proofs.mend.repair_net.Goals as goal
@@ -26,36 +23,6 @@ pub reshape-taken-requires : goal.reshape-taken-requires
 reshape-taken-requires g c =
     rw c.save.ensures (reshapable_saved c.args.model.now c.args.edit c.args.net.now c.args.labels.now c.args.scratch.now.path.room c.requires.repairable
     c.requires.scratch.room)
-
-pub find_shortfall-requires-clause-valid : goal.find_shortfall-requires-clause-valid
-find_shortfall-requires-clause-valid g c =
-    let m = c.args.model.now in
-    let w = c.args.net.now in
-    valid_now m c.args.edit c.save.new.self (rw c.save.ensures (edit_saved m c.args.edit w c.args.labels.now c.requires.repairable))
-
-pub returns-in-Some-clause-counted : goal.returns-in-Some-clause-counted
-returns-in-Some-clause-counted g c =
-    let m = c.args.model.now in
-    let w = c.args.net.now in
-    let s = c.save.new.self in
-    let v = c.reshape-taken.new.net in
-    let most = c.in-Some.most in
-    let taken = c.reshape-taken.ensures in
-    let valid = valid_now m c.args.edit s (rw c.save.ensures (edit_saved m c.args.edit w c.args.labels.now c.requires.repairable)) in
-    let shown : IsShown m c.find_shortfall.new.scratch.labels most = c.in-Some.ensures.shown in
-    let few : arrived_by v m.horizon ≤ cut_value m (label_cut m c.find_shortfall.new.scratch.labels m.horizon) m.horizon =
-    arrived_within m v valid c.shape-in-Some.ensures.net taken.net.of taken.net.within
-    (label_cut m c.find_shortfall.new.scratch.labels m.horizon) m.horizon (omega arith) in (
-      taken.steps.counted,
-      λ b valid_b of_b.
-          let of_s : IsNetOf b s = rw c.save.ensures (of_saved b w of_b) in
-          let other : m.horizon ≡ b.horizon = ap (λ (z : Site). z.shape.horizon) (sym taken.net.of.site ∙ taken.net.site ∙ of_s.site) in
-          let all : arrived_by v b.horizon ≤ most = omega (arith, ap (arrived_by v) (sym other), few, shown.shortfall.worth) in
-          spent b m w v v c.reshape-taken.result.cancelled 0 most (c.reshape-taken.new.steps - c.args.steps.now) valid_b c.shape.ensures.net of_b
-          (subst (λ z. c.reshape-taken.result.cancelled ≤ violation b z m) (ap plan_of c.save.ensures ∙ plan_saved w) (taken.taken.few b valid_b of_s))
-          (λ k. omega (arith, taken.taken.arrivals k, ap (λ (z : Network). arrived_by z k) c.save.ensures, arrived_saved w k))
-          (omega arith) all (omega (arith, taken.steps.ticked, taken.steps.counted)),
-    )
 
 pub settle_all-requires : goal.settle_all-requires
 settle_all-requires g c =
@@ -72,7 +39,10 @@ settle_all-requires g c =
         nodes = ap (λ z. z.nodes) c.copy_from.ensures ∙ labels.nodes ∙ ap (λ (z : Site). z.shape.nodes) (sym site);
         horizon = ap (λ z. z.horizon) c.copy_from.ensures ∙ labels.horizon ∙ ap (λ (z : Site). z.shape.horizon) (sym site);
       };
-      search = c.find_shortfall.ensures.scratch.search;
+      search = record {
+        nodes = c.requires.scratch.search.nodes ∙ ap (λ (z : Site). z.shape.nodes) (sym site);
+        horizon = c.requires.scratch.search.horizon ∙ ap (λ (z : Site). z.shape.horizon) (sym site);
+      };
       from = omega (arith, taken.labels.least.most, last, last_fits w c.shape.ensures.net, ap (λ (z : Site). z.shape.horizon) site);
       within = taken.net.within;
       closed = rw c.copy_from.ensures taken.labels.closed;
@@ -143,7 +113,7 @@ returns-in-Short-clause-mended g c =
     let same : s.site ≡ w.site = ap (λ (z : Network). z.site) c.save.ensures in
     let of_w = sym (c.reshape-taken.ensures.net.site ∙ same) ∙ c.reshape-taken.ensures.net.of.site in
     record {
-      net = c.restore-in-Short.ensures
+      net = c.restore.ensures
           ∙ same_saved s u (c.settle_all.ensures.net.limits.site ∙ c.reshape-taken.ensures.net.site) (c.settle_all.ensures.net.limits.saved ∙ c.reshape-taken.ensures.net.saved)
           ∙ ap saved_of c.save.ensures;
       shown = record {

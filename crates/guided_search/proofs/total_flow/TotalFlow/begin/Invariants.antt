@@ -1,5 +1,0 @@
-use Rattle.std.proofs.Common.{◌≡◌}
-use Rattle.guided_search.proofs.total_flow.TotalFlow.begin.Given as goal
-
-abbrev pub invariant-loop-node : goal.invariant-loop-node
-invariant-loop-node l = l.self.sizes ≡ l.initial.self.sizes
