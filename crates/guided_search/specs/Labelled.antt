@@ -1,7 +1,7 @@
 -- The labels of a building.
 use Rattle.std.specs.Prelude.{◌≡◌, ◌+◌}
 use Rattle.evac_law.specs.LabelTable.{LabelTable}
-use Rattle.guided_search.specs.declared.sizes.Sizes.{Sizes}
+use Rattle.residual_ways.specs.declared.sizes.Sizes.{Sizes}
 
 -- there is a label for each node of a building at each of its moments
 abbrev pub HasLabels : Sizes → LabelTable → Type 0

@@ -1,4 +1,3 @@
 pub mod Labelled
-pub mod Steps
+pub mod Looks
 pub mod Targets
-pub mod Ways

@@ -1,6 +1,6 @@
 -- Target flows.
 use Rattle.std.specs.Prelude.{◌≡◌, vec_len}
-use Rattle.guided_search.specs.declared.sizes.Sizes.{Sizes}
+use Rattle.residual_ways.specs.declared.sizes.Sizes.{Sizes}
 use Rattle.guided_search.specs.declared.target_flow.TargetFlow.{TargetFlow}
 
 -- a flow was sought for a building: it has each cell, and tells of each pair how far a search has come there

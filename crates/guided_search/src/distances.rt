@@ -2,16 +2,12 @@
 //!
 //! The distance label of a pair is meant to be at most the number of backward steps on any residual path from unsent people to it.
 ghost use Rattle.std.specs.Prelude.{◌≡◌, ◌+◌, ◌<◌, ◌≤◌, IfOk, length, vec_len};
-ghost use Rattle.guided_search.specs.Steps.{IsStepWithin};
+ghost use Rattle.residual_ways.specs.Steps.{IsStepWithin};
 
-use crate::cells::{supplies_of, unsent};
-use crate::residual::Residual;
-use crate::sizes::Sizes;
-use crate::step::Step;
 use crate::tuning::FAR;
-use crate::ways::Ways;
 use evac_law::Labels;
 use residual_net::Cell;
+use residual_ways::{Residual, Sizes, Step, Ways, supplies_of, unsent};
 use std::alloc::{AllocError, Global};
 
 /// Distance labels and current arcs of pairs, and when people come to nodes.
@@ -214,7 +210,7 @@ fn come_earlier(earliest: &mut [u16], ways: &Ways) -> bool
     requires { length earliest.old ≡ ways.now.sizes.nodes }
 {
     let mut changed = false;
-    for node in 0..ways.sizes().nodes {
+    for node in 0..ways.sizes.nodes {
         let moment = first_by(earliest, ways, node);
         if moment < earliest[node as usize] {
             earliest[node as usize] = moment;

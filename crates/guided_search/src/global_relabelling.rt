@@ -5,10 +5,10 @@
 //! don't reach is dead.
 ghost use Rattle.std.specs.Prelude.{◌≡◌, ◌<◌, ◌≤◌};
 
-use crate::cells::{is_open, is_open_back};
-use crate::residual::Residual;
+use crate::look::least_label;
 use crate::search::Search;
 use crate::tuning::FAR;
+use residual_ways::{Residual, is_open, is_open_back};
 
 impl Search {
     /// Computes the labels of the relabelled pairs anew, leaves those of them that aren't dead, and lets the search begin anew.
@@ -94,7 +94,7 @@ impl Search {
             return 0;
         }
         let incoming = residual.incoming(node, moment);
-        incoming.least(&self.distances, incoming.ways.len()).0
+        least_label(&incoming, &self.distances, incoming.ways.len()).0
     }
 
     // Puts these labels in order.

@@ -5,31 +5,25 @@
 //! size than the building's gets no hint. Whoever takes a path from it looks at each of its steps before people are sent along it, and
 //! finishes a moment by a search that needs no hint. So a wrong number costs time, and never a right answer.
 //!
-//! A `PathFinder` hints in two ways. While people are unsent, it finds shortest augmenting paths: a search goes back from the arrival
-//! along steps that distance labels call admissible, and relabels where there is none; the labels outlive the moments. Where everybody
-//! is sent already, as after an exit is opened again, a `TargetFlow` is a flow of the best arrivals, found by that search from no flow;
-//! what it has more or less than the net's leads people straight to where they are to arrive.
+//! A `PathFinder` hints in two ways, both over the ways that `residual_ways` lays out. While people are unsent, it finds shortest
+//! augmenting paths: a search goes back from the arrival along steps that distance labels call admissible, and relabels where there is
+//! none; the labels outlive the moments. Where everybody is sent already, as after an exit is opened again, a `TargetFlow` is a flow of
+//! the best arrivals, found by that search from no flow; what it has more or less than the net's leads people straight to where they are
+//! to arrive.
 #![tactic(auto)]
 
 mod budget;
-mod cells;
 mod distances;
 mod global_relabelling;
-mod layout;
 mod lists;
-mod numbers;
+mod look;
 mod partial_path;
 mod path_finder;
 mod relabelled;
-mod residual;
 mod search;
 mod shortest_paths;
-mod sizes;
-mod step;
 mod surplus;
 mod target_flow;
 mod tuning;
-mod way;
-mod ways;
 
 pub use path_finder::PathFinder;

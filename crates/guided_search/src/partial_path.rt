@@ -1,13 +1,11 @@
 //! The path of a search, as far as it has come.
 ghost use Rattle.std.specs.Prelude.{◌≡◌, ◌<◌, ◌≤◌, IfOk, IfSome, length, vec_len};
 ghost use Rattle.std.specs.List.{All};
-ghost use Rattle.guided_search.specs.Steps.{IsStayWithin, IsStepWithin};
+ghost use Rattle.residual_ways.specs.Steps.{IsStayWithin, IsStepWithin};
 
-use crate::cells::{is_open, room, room_in, send};
 use crate::lists::add;
-use crate::sizes::Sizes;
-use crate::step::{Stay, Step};
 use residual_net::{Cell, Leg};
+use residual_ways::{Sizes, Stay, Step, is_open, room, room_in, send};
 use std::alloc::{AllocError, Global};
 
 /// The path of a search, as far as it has come. Memory past its stays isn't touched.

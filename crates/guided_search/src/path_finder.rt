@@ -4,14 +4,12 @@ ghost use Rattle.std.specs.Coded.{Coded-set};
 ghost use Rattle.guided_search.specs.Labelled.{HasLabels};
 
 use crate::budget::Budget;
-use crate::cells::{count_sent, is_all_sent};
-use crate::residual::Residual;
 use crate::shortest_paths::ShortestPaths;
-use crate::sizes::Sizes;
 use crate::target_flow::TargetFlow;
 use crate::tuning::MISS_LIMIT;
 use evac_law::{Labels, Model as Building};
 use residual_net::{Cell, Leg, Net};
+use residual_ways::{Residual, Sizes, count_sent, is_all_sent};
 use std::alloc::{AllocError, Global};
 
 // How far a path finder is with a net.

@@ -1,7 +1,7 @@
 //! The pairs that were relabelled in vain, each once.
 ghost use Rattle.std.specs.Prelude.{◌≡◌, ◌<◌, IfOk, vec_len};
 
-use crate::numbers::Numbers;
+use crate::lists::Numbers;
 use std::alloc::{AllocError, Global};
 
 /// A set of pairs. A pair is in it while its stamp is the latest, so that clearing it costs nothing.

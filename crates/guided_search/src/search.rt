@@ -4,16 +4,15 @@
 ghost use Rattle.std.specs.Prelude.{◌≡◌, ◌<◌, ◌≤◌, IfOk};
 ghost use Rattle.std.specs.Coded.{Coded-set};
 ghost use Rattle.std.specs.List.{All};
-ghost use Rattle.guided_search.specs.Steps.{IsStepWithin};
+ghost use Rattle.residual_ways.specs.Steps.{IsStepWithin};
 
 use crate::distances::Distances;
-use crate::numbers::Numbers;
+use crate::lists::Numbers;
+use crate::look::{Look, look_from};
 use crate::partial_path::PartialPath;
 use crate::relabelled::Relabelled;
-use crate::residual::{Look, Residual};
-use crate::sizes::Sizes;
-use crate::step::Step;
 use crate::tuning::{FAR, PATH_LIMIT, VAIN_FACTOR, VAIN_LIMIT};
+use residual_ways::{Residual, Sizes, Step};
 use std::alloc::{AllocError, Global};
 
 /// What comes of a step of a search.
@@ -111,7 +110,7 @@ impl Search {
         if label < FAR {
             let incoming = residual.incoming(last.step.node, last.since);
             let from = self.distances.current_arc(pair);
-            match incoming.look(&self.distances, from, label) {
+            match look_from(&incoming, &self.distances, from, label) {
                 Look::Admissible { number, step } => {
                     self.distances.set_current_arc(pair, number);
                     return self.advance(residual, label, number, step);

@@ -4,14 +4,11 @@
 //! the search's path, or otherwise, are accounted for by themselves. A surplus only falls, so a way without any is never looked at again.
 ghost use Rattle.std.specs.Prelude.{◌≡◌, ◌<◌, IfSome, length};
 ghost use Rattle.std.specs.List.{All};
-ghost use Rattle.guided_search.specs.Steps.{IsStepWithin};
-ghost use Rattle.guided_search.specs.Ways.{IsWayWithin};
+ghost use Rattle.residual_ways.specs.Steps.{IsStepWithin};
+ghost use Rattle.residual_ways.specs.Ways.{IsWayWithin};
 
-use crate::cells::send;
-use crate::residual::Residual;
-use crate::step::Step;
-use crate::way::Way;
 use residual_net::Cell;
+use residual_ways::{Residual, Step, Way, send};
 
 /// A target flow beside a net's.
 #[derive(Clone, Copy)]

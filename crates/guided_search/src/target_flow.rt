@@ -5,16 +5,14 @@
 //! arrivals or from unsent people, and of circles: so each path brings people straight to where they are to arrive.
 ghost use Rattle.std.specs.Prelude.{◌≡◌, ◌<◌, ◌≤◌, IfOk, IfSome, IsTrue, length, vec_capacity};
 ghost use Rattle.std.specs.List.{All};
-ghost use Rattle.guided_search.specs.Steps.{IsStepWithin};
+ghost use Rattle.residual_ways.specs.Steps.{IsStepWithin};
 
 use crate::lists::add;
-use crate::residual::Residual;
 use crate::shortest_paths::ShortestPaths;
-use crate::sizes::Sizes;
-use crate::step::Step;
 use crate::surplus::{Surplus, lower, lower_all};
 use crate::tuning::FUEL;
 use residual_net::{Cell, Leg};
+use residual_ways::{Residual, Sizes, Step};
 use std::alloc::{AllocError, Global};
 
 // How far a search along the surplus is.

@@ -1,0 +1,11 @@
+-- What a look at the ways into a pair finds.
+use Rattle.std.specs.Prelude.{ℕ, ◌≤◌, IsFalse}
+use Rattle.guided_search.specs.declared.look.Look.{Look}
+use Rattle.guided_search.specs.declared.look.Look.TheVariants.{Admissible, Least}
+use Rattle.residual_ways.specs.Steps.{IsStepWithin}
+use Rattle.residual_ways.specs.declared.sizes.Sizes.{Sizes}
+
+-- the step of an admissible way is one of the building, and begins no later than a moment if it is forwards; a label is one
+abbrev pub IsLookWithin : Sizes → ℕ → Look → Type 0
+IsLookWithin sizes moment (Admissible number step) = IsStepWithin sizes step × (IsFalse step.back → step.moment ≤ moment)
+IsLookWithin sizes moment (Least label number) = label ≤ 65535

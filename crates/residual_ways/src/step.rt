@@ -1,0 +1,115 @@
+//! Residual steps, and stays in a node before them.
+ghost use Rattle.std.specs.Prelude.{◌≡◌, ◌+◌, ◌<◌, ◌≤◌, IsFalse, IsTrue};
+ghost use Rattle.residual_ways.specs.Steps.{IsStayWithin, IsStepWithin};
+
+use crate::sizes::Sizes;
+use residual_net::{Leg, PathStep};
+
+/// A residual step: the pair at which it begins, and the cell over which it goes on.
+#[derive(Clone, Copy)]
+pub struct Step {
+    /// The node in which it begins.
+    pub node: u32,
+    /// The moment at which it begins.
+    pub moment: u32,
+    /// That pair.
+    pub pair: u32,
+    /// Its cell.
+    pub cell: u32,
+    /// Whether it takes people off that cell.
+    pub back: bool,
+}
+
+impl Step {
+    /// The step by which people come into a node at a moment.
+    pub fn supply(sizes: Sizes, node: u32, moment: u32) -> Step
+        requires node { node < sizes.nodes }
+        requires moment { moment < sizes.moments }
+        ensures { IsStepWithin sizes result }
+    {
+        let pair = sizes.pair(node, moment);
+        Step {
+            node,
+            moment,
+            pair,
+            cell: sizes.supply(pair),
+            back: false,
+        }
+    }
+
+    /// Whether it is a wait forwards.
+    pub fn waits(&self, sizes: Sizes) -> bool
+        requires { IsStepWithin sizes self.now }
+        ensures { IsTrue result → IsFalse self.now.back }
+    {
+        !self.back && self.cell == sizes.wait(self.pair)
+    }
+
+    /// The step as the net has it.
+    pub fn path_step(&self, sizes: Sizes) -> PathStep {
+        let place = sizes.place(self.cell);
+        let back = self.back;
+        PathStep { place, back }
+    }
+
+    /// The waits in its node since a moment, and then the step.
+    pub fn leg_since(&self, sizes: Sizes, since: u32) -> Leg
+        requires since { since < sizes.moments }
+        requires step { IsStepWithin sizes self.now }
+    {
+        Leg {
+            node: self.node,
+            from: since as u16,
+            to: self.moment as u16,
+            step: self.path_step(sizes),
+        }
+    }
+}
+
+/// Waits in a node, and the step that leads on from there.
+#[derive(Clone, Copy)]
+pub struct Stay {
+    /// The moment since which people wait.
+    pub since: u32,
+    /// The step that leads on.
+    pub step: Step,
+}
+
+impl Stay {
+    /// A step without waits before it.
+    pub fn before(step: Step) -> Stay
+        ensures { result ≡ record { since = step.moment; step = step } }
+    {
+        Stay {
+            since: step.moment,
+            step,
+        }
+    }
+
+    // How many waits it has.
+    fn count(&self) -> u32
+        requires { self.now.since ≤ self.now.step.moment }
+        ensures { result + self.now.since ≡ self.now.step.moment }
+    {
+        self.step.moment - self.since
+    }
+
+    /// The pair at which it begins.
+    pub fn pair(&self) -> u32
+        requires since { self.now.since ≤ self.now.step.moment }
+        requires pair { self.now.step.moment ≤ self.now.step.pair }
+        ensures { result + self.now.step.moment ≡ self.now.step.pair + self.now.since }
+    {
+        self.step.pair - self.count()
+    }
+
+    /// The numbers of the cells of its waits: the first, and behind the last.
+    pub fn waits(&self, sizes: Sizes) -> (usize, usize)
+        requires { IsStayWithin sizes self.now }
+        ensures count { result.0 + self.now.step.moment ≡ result.1 + self.now.since }
+        ensures within { result.1 ≤ sizes.cells }
+    {
+        let first = sizes.wait(self.pair());
+        (first as usize, (first + self.count()) as usize)
+    }
+}

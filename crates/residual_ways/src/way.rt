@@ -1,0 +1,135 @@
+//! The ways into the pairs of a node.
+ghost use Rattle.std.specs.Prelude.{◌≡◌, ◌+◌, ◌<◌, ◌≤◌, ◌^◌, ◌≤ℤ◌, pos, IfSome, IsTrue, max};
+ghost use Rattle.residual_ways.specs.Steps.{IsStepWithin};
+ghost use Rattle.residual_ways.specs.Ways.{IsWayWithin};
+
+use crate::sizes::Sizes;
+use crate::step::Step;
+
+/// When a way has its turn among those of its list that lead as it does, forwards or backwards.
+#[derive(Clone, Copy, PartialEq, Eq, PartialOrd, Ord)]
+pub enum Turn {
+    /// Before all others.
+    First,
+    /// By its row.
+    ByRow,
+}
+
+/// A residual arc into a node: over an arc of the building or a wait, forwards or backwards. At each moment it is a step.
+///
+/// The order of the fields is that of the ways.
+#[derive(Clone, Copy, PartialEq, Eq, PartialOrd, Ord)]
+pub struct Way {
+    /// The number of its list: the node into which it leads, but for doors.
+    pub(crate) list: u32,
+    /// Whether it leads backwards.
+    pub back: bool,
+    /// When it has its turn in its list.
+    pub(crate) turn: Turn,
+    /// The row of its cells.
+    pub(crate) row: u32,
+    /// The cell of that row at moment 0.
+    pub first_cell: u32,
+    /// The node in which it begins.
+    pub node: u32,
+    /// The pair of that node at moment 0.
+    pub first_pair: u32,
+    /// From the moment at which the way ends to that at which it begins: back by its travel forwards, and on by it backwards.
+    pub shift: i32,
+}
+
+impl Way {
+    /// A way of a list from a node over a row, forwards.
+    pub(crate) fn forwards(sizes: Sizes, list: u32, node: u32, row: u32, travel: u16) -> Way
+        requires node { node < sizes.nodes }
+        requires row { row < sizes.arcs + sizes.nodes }
+        ensures { IsWayWithin sizes result }
+    {
+        Way {
+            list,
+            back: false,
+            turn: Turn::ByRow,
+            row,
+            first_cell: sizes.first_cell(row),
+            node,
+            first_pair: sizes.first_pair(node),
+            shift: -(travel as i32),
+        }
+    }
+
+    /// A way of a list from a node over a row, backwards.
+    pub(crate) fn backwards(sizes: Sizes, list: u32, node: u32, row: u32, travel: u16) -> Way
+        requires node { node < sizes.nodes }
+        requires row { row < sizes.arcs + sizes.nodes }
+        ensures { IsWayWithin sizes result }
+    {
+        Way {
+            back: true,
+            shift: travel as i32,
+            ..Way::forwards(sizes, list, node, row, travel)
+        }
+    }
+
+    /// What it weighs: 1 backwards, where it takes people off, and 0 forwards.
+    pub fn weight(&self) -> u32
+        ensures { result ≤ 1 }
+    {
+        self.back as u32
+    }
+
+    /// Whether it leads over an arc forwards.
+    pub(crate) fn is_arc(&self, sizes: Sizes) -> bool
+        ensures { IsTrue result → (self.now.row < sizes.arcs) }
+    {
+        !self.back && self.row < sizes.arcs
+    }
+
+    /// How many periods lie between its ends.
+    pub fn travel(&self) -> u32
+        ensures { result ≤ 2 ^ 31 }
+    {
+        self.shift.unsigned_abs()
+    }
+
+    /// The moment at which it begins where it ends at a moment, if that is within the horizon.
+    pub fn begun(&self, sizes: Sizes, moment: u32) -> Option<u32>
+        ensures within { IfSome result (λ begun. begun < sizes.moments) }
+        ensures forwards { IfSome result (λ begun. self.now.shift ≤ℤ pos 0 → begun ≤ moment) }
+    {
+        let begun = moment as i64 + self.shift as i64;
+        if begun < 0 || begun >= sizes.moments as i64 {
+            return None;
+        }
+        Some(begun as u32)
+    }
+
+    /// The step that it is from one moment into another. Its cell is that of the earlier of the two.
+    pub fn step_between(&self, begun: u32, moment: u32) -> Step
+        requires pair { self.now.first_pair + begun < 2 ^ 32 }
+        requires cell { self.now.first_cell + max begun moment < 2 ^ 32 }
+        ensures node { result.node ≡ self.now.node }
+        ensures moment { result.moment ≡ begun }
+        ensures pair { result.pair ≡ self.now.first_pair + begun }
+        ensures cell { result.cell ≤ self.now.first_cell + max begun moment }
+        ensures back { result.back ≡ self.now.back }
+    {
+        let entered = if self.back { moment } else { begun };
+        Step {
+            node: self.node,
+            moment: begun,
+            pair: self.first_pair + begun,
+            cell: self.first_cell + entered,
+            back: self.back,
+        }
+    }
+
+    /// The step that it is into a moment, where that begins within the horizon.
+    pub fn step(&self, sizes: Sizes, moment: u32) -> Option<Step>
+        requires way { IsWayWithin sizes self.now }
+        requires moment { moment < sizes.moments }
+        ensures { IfSome result (IsStepWithin sizes) }
+    {
+        let begun = self.begun(sizes, moment)?;
+        Some(self.step_between(begun, moment))
+    }
+}
