@@ -2,7 +2,9 @@
 //!
 //! A pair is a node at a moment, and the pairs of a node stand one after another. A row of cells has one for each moment: rows of arcs
 //! come first, then those of the nodes' waits, and then those of their supplies. So waits and supplies stand as pairs do.
-ghost use Rattle.std.specs.Prelude.{◌≡◌, ◌+◌, ◌*◌, ◌<◌, ◌≤◌, ◌^◌, length};
+ghost use Rattle.std.specs.Prelude.{◌≡◌, ℕ, ◌+◌, ◌*◌, ◌<◌, ◌≤◌, ◌^◌, length};
+ghost use Rattle.residual_net.specs.Site.{Site, cell_of};
+ghost use Rattle.residual_net.specs.declared.place.Place.TheVariants.{Arc, Hold, Supply};
 
 use evac_law::Model as Building;
 use residual_net::Place;
@@ -23,6 +25,8 @@ pub struct Sizes {
 }
 
 impl Sizes {
+    ghost use Rattle.residual_ways.specs.Layout.{AreSizesOf};
+
     // The sizes of so many nodes and arcs at so many moments.
     fn new(nodes: u32, arcs: u32, moments: u32) -> Sizes
         requires some { 0 < moments }
@@ -59,7 +63,8 @@ impl Sizes {
     /// The pair of a node at moment 0.
     pub fn first_pair(&self, node: u32) -> u32
         requires { node < self.now.nodes }
-        ensures { result + self.now.moments ≤ self.now.pairs }
+        ensures pair { result ≡ node * self.now.moments }
+        ensures within { result + self.now.moments ≤ self.now.pairs }
     {
         node * self.moments
     }
@@ -68,7 +73,7 @@ impl Sizes {
     pub(crate) fn pair(&self, node: u32, moment: u32) -> u32
         requires node { node < self.now.nodes }
         requires moment { moment < self.now.moments }
-        ensures since { moment ≤ result }
+        ensures pair { result ≡ node * self.now.moments + moment }
         ensures within { result < self.now.pairs }
     {
         self.first_pair(node) + moment
@@ -77,6 +82,7 @@ impl Sizes {
     /// The node and the moment of a pair.
     pub fn parts(&self, pair: u32) -> (u32, u32)
         requires { pair < self.now.pairs }
+        ensures pair { result.0 * self.now.moments + result.1 ≡ pair }
         ensures node { result.0 < self.now.nodes }
         ensures moment { result.1 < self.now.moments }
     {
@@ -102,7 +108,9 @@ impl Sizes {
     /// The cell of an arc, or of the waits in a node, at moment 0.
     pub(crate) fn first_cell(&self, row: u32) -> u32
         requires { row < self.now.arcs + self.now.nodes }
-        ensures { result + self.now.moments ≤ self.now.cells }
+        ensures arc { (site : Site) → AreSizesOf site self.now → row < self.now.arcs → cell_of site (Arc row 0) ≡ result }
+        ensures wait { (site : Site) (node : ℕ) → AreSizesOf site self.now → self.now.arcs + node ≡ row → cell_of site (Hold node 0) ≡ result }
+        ensures within { result + self.now.moments ≤ self.now.cells }
     {
         row * self.moments
     }
@@ -110,7 +118,8 @@ impl Sizes {
     /// The cell of the waits at a pair.
     pub fn wait(&self, pair: u32) -> u32
         requires { pair ≤ self.now.pairs }
-        ensures { result + 2 * self.now.pairs ≡ self.now.cells + pair }
+        ensures cell { (site : Site) (node moment : ℕ) → AreSizesOf site self.now → node * self.now.moments + moment ≡ pair → cell_of site (Hold node moment) ≡ result }
+        ensures within { result + 2 * self.now.pairs ≡ self.now.cells + pair }
     {
         self.cells - 2 * self.pairs + pair
     }
@@ -118,13 +127,16 @@ impl Sizes {
     /// The cell of the people who come in at a pair.
     pub(crate) fn supply(&self, pair: u32) -> u32
         requires { pair ≤ self.now.pairs }
-        ensures { result + self.now.pairs ≡ self.now.cells + pair }
+        ensures cell { (site : Site) (node moment : ℕ) → AreSizesOf site self.now → node * self.now.moments + moment ≡ pair → cell_of site (Supply node moment) ≡ result }
+        ensures within { result + self.now.pairs ≡ self.now.cells + pair }
     {
         self.cells - self.pairs + pair
     }
 
     /// The place of a cell.
-    pub(crate) fn place(&self, cell: u32) -> Place {
+    pub(crate) fn place(&self, cell: u32) -> Place
+        ensures { (site : Site) → AreSizesOf site self.now → cell_of site result ≡ cell }
+    {
         let row = cell / self.moments;
         let moment = (cell % self.moments) as u16;
         if row < self.arcs {

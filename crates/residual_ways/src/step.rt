@@ -1,5 +1,7 @@
 //! Residual steps, and stays in a node before them.
 ghost use Rattle.std.specs.Prelude.{◌≡◌, ◌+◌, ◌<◌, ◌≤◌, IsFalse, IsTrue};
+ghost use Rattle.residual_net.specs.Site.{Site, cell_of};
+ghost use Rattle.residual_ways.specs.Layout.{AreSizesOf};
 ghost use Rattle.residual_ways.specs.Steps.{IsStayWithin, IsStepWithin};
 
 use crate::sizes::Sizes;
@@ -46,7 +48,10 @@ impl Step {
     }
 
     /// The step as the net has it.
-    pub fn path_step(&self, sizes: Sizes) -> PathStep {
+    pub fn path_step(&self, sizes: Sizes) -> PathStep
+        ensures cell { (site : Site) → AreSizesOf site sizes → cell_of site result.place ≡ self.now.cell }
+        ensures back { result.back ≡ self.now.back }
+    {
         let place = sizes.place(self.cell);
         let back = self.back;
         PathStep { place, back }
