@@ -15,8 +15,8 @@ use crate::work::Work;
 use evac_law::Labels;
 use residual_net::{End, Net, PathStep, Place};
 
-// Marks the pair at which a step starts, if the step may be taken.
-fn meet(net: &Net, labels: &Labels, work: &mut Work, step: PathStep, spot: Spot, k: u16)
+// Marks the pair at which a step starts, if the step may be taken. Whether it is.
+fn meet(net: &Net, labels: &Labels, work: &mut Work, step: PathStep, spot: Spot, k: u16) -> bool
     requires searchable { IsSearchable net.now labels.now }
     requires place { IsPlace net.now.site step.place }
     requires start { start_of net.now.site step ≡ Pair spot.node spot.moment }
@@ -27,12 +27,13 @@ fn meet(net: &Net, labels: &Labels, work: &mut Work, step: PathStep, spot: Spot,
     ensures done { IsDone net.now labels.now work.new.marks k step }
 {
     if !is_fresh(labels, &work.marks, spot, k) {
-        return;
+        return false;
     }
     if net.room(step) == 0 {
-        return;
+        return false;
     }
     work.note(spot);
+    true
 }
 
 // Marks where an arc begins by which people come to its end at a moment.
@@ -69,7 +70,8 @@ fn expand_in(net: &Net, labels: &Labels, work: &mut Work, spot: Spot, k: u16)
     }
 }
 
-// Marks where the wait before a pair begins.
+// Marks where the waits before a pair begin, one after another, as far as they may be taken. Pairs that lie together are looked at
+// together so.
 fn meet_before(net: &Net, labels: &Labels, work: &mut Work, spot: Spot, k: u16)
     requires searchable { IsSearchable net.now labels.now }
     requires inside { IsOpenPair net.now.site spot.node spot.moment }
@@ -78,13 +80,15 @@ fn meet_before(net: &Net, labels: &Labels, work: &mut Work, spot: Spot, k: u16)
     ensures grown { IsGrown work.old work.new }
     ensures done { IsWayDone net.now labels.now work.new.marks k (way_before spot.node spot.moment) }
 {
-    if spot.moment == 0 {
-        return;
-    }
     let node = spot.node;
-    let moment = spot.moment - 1;
-    let step = forth(Place::Hold { node, moment });
-    meet(net, labels, work, step, Spot { node, moment }, k);
+    let mut moment = spot.moment;
+    while moment > 0 {
+        moment -= 1;
+        let step = forth(Place::Hold { node, moment });
+        if !meet(net, labels, work, step, Spot { node, moment }, k) {
+            return;
+        }
+    }
 }
 
 // Marks where an arc leads by which people leave a node at a moment. Whether nobody can be sent from there.

@@ -122,7 +122,7 @@ pub fn is_fresh(labels: &Labels, marks: &Marks, spot: Spot, k: u16) -> bool
     requires marks_moment { spot.moment ≤ marks.now.horizon }
     ensures { result ≡ not (passed labels.now marks.now k spot.node spot.moment) }
 {
-    k <= labels.get(spot.node, spot.moment) && !marks.is_marked(spot)
+    !marks.is_marked(spot) && k <= labels.get(spot.node, spot.moment)
 }
 
 /// Whether a step has room, and begins neither at what is passed nor at an arrival by k.
