@@ -1,5 +1,5 @@
 //! Lists whose memory was taken before.
-ghost use Rattle.std.specs.Prelude.{◌≡◌, ◌<◌, IfOk, vec_len};
+ghost use Rattle.std.specs.Prelude.{◌≡◌, ◌<◌, IfOk, vec_capacity, vec_len};
 ghost use Rattle.std.specs.List.{All};
 
 use std::alloc::{AllocError, Global};
@@ -62,7 +62,9 @@ impl Numbers {
 }
 
 /// Adds to a list, as far as its memory reaches.
-pub fn add<T: Copy + Drop>(list: &mut Vec<T>, item: T) {
+pub fn add<T: Copy + Drop>(list: &mut Vec<T>, item: T)
+    ensures { vec_capacity list.new ≡ vec_capacity list.old }
+{
     if list.len() < list.capacity() {
         list.push_reserved(item);
     }

@@ -1,5 +1,5 @@
 //! The path of a search, as far as it has come.
-ghost use Rattle.std.specs.Prelude.{◌≡◌, ◌<◌, ◌≤◌, IfOk, IfSome, length, vec_len};
+ghost use Rattle.std.specs.Prelude.{◌≡◌, ◌<◌, ◌≤◌, IfOk, IfSome, length, vec_capacity, vec_len};
 ghost use Rattle.std.specs.List.{All};
 ghost use Rattle.residual_ways.specs.Steps.{IsStayWithin, IsStepWithin};
 
@@ -108,7 +108,9 @@ impl PartialPath {
     }
 
     /// Fills a list with the legs of the path.
-    pub fn lay(&self, legs: &mut Vec<Leg>) {
+    pub fn lay(&self, legs: &mut Vec<Leg>)
+        ensures { vec_capacity legs.new ≡ vec_capacity legs.old }
+    {
         legs.clear();
         if let Some(supply) = self.supply() {
             add(legs, Leg::of(supply.path_step(self.sizes)));

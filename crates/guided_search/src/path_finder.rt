@@ -1,5 +1,5 @@
 //! Who guesses at the next path: a search for shortest paths where people are unsent, else a target flow.
-ghost use Rattle.std.specs.Prelude.{◌≡◌, ◌<◌, IsTrue, length};
+ghost use Rattle.std.specs.Prelude.{◌≡◌, ◌<◌, ◌≤◌, IfOk, IsTrue, length};
 ghost use Rattle.std.specs.Coded.{Coded-set};
 ghost use Rattle.guided_search.specs.Labelled.{HasLabels};
 
@@ -62,7 +62,10 @@ fn has_labels(labels: &Labels, sizes: Sizes) -> bool
 
 impl PathFinder {
     /// A path finder for a building.
-    pub fn new(alloc: Global, model: &Building) -> Result<PathFinder, AllocError> {
+    pub fn new(alloc: Global, model: &Building) -> Result<PathFinder, AllocError>
+        ensures nodes { IfOk result (λ finder. finder.sizes.nodes ≤ length model.now.nodes) }
+        ensures arcs { IfOk result (λ finder. finder.sizes.arcs ≤ length model.now.arcs) }
+    {
         let shortest_paths = ShortestPaths::new(alloc, model)?;
         let sizes = shortest_paths.sizes;
         let target_flow = TargetFlow::new(alloc, sizes)?;
@@ -79,7 +82,9 @@ impl PathFinder {
     }
 
     /// Forgets what it knows: the net isn't what it was.
-    pub fn renew(&mut self) {
+    pub fn renew(&mut self)
+        ensures { self.new.sizes ≡ self.old.sizes }
+    {
         self.phase = Phase::Unknown;
     }
 
@@ -90,7 +95,9 @@ impl PathFinder {
 
     /// Whether everybody is sent and nothing is known yet, so that it is worth a search whether anybody can arrive sooner. Until
     /// somebody is found by it, the moments after it need no further look.
-    pub fn waits(&mut self, net: &Net, k: u16) -> bool {
+    pub fn waits(&mut self, net: &Net, k: u16) -> bool
+        ensures { self.new.sizes ≡ self.old.sizes }
+    {
         let cells = net.cells();
         let sent = match self.phase {
             Phase::ShortestPaths { .. } | Phase::TargetFlow if self.is_next(k) => return false,
@@ -103,7 +110,9 @@ impl PathFinder {
     }
 
     /// Begins with an arrival moment. Shortest paths go on, unless others sent people too often.
-    pub fn begin(&mut self, net: &Net, labels: &Labels, k: u16) {
+    pub fn begin(&mut self, net: &Net, labels: &Labels, k: u16)
+        ensures { self.new.sizes ≡ self.old.sizes }
+    {
         let cells = net.cells();
         if !fits(cells, self.sizes) || !has_labels(labels, self.sizes) {
             self.phase = Phase::Unknown;
@@ -129,6 +138,7 @@ impl PathFinder {
         requires cells { length cells.now ≡ self.old.sizes.cells }
         requires labels { HasLabels self.old.sizes labels.now }
         requires moment { k < self.old.sizes.moments }
+        ensures { self.new.sizes ≡ self.old.sizes }
     {
         self.shortest_paths.sort(cells);
         if is_all_sent(cells, self.sizes) {
@@ -153,7 +163,9 @@ impl PathFinder {
     }
 
     /// People were sent otherwise at the moment, along so many paths.
-    pub fn miss(&mut self, net: &Net, pushes: u32) {
+    pub fn miss(&mut self, net: &Net, pushes: u32)
+        ensures { self.new.sizes ≡ self.old.sizes }
+    {
         if pushes == 0 {
             return;
         }
@@ -166,7 +178,9 @@ impl PathFinder {
     }
 
     /// Searches on to people who can be sent. Whether there are any.
-    pub fn find(&mut self, net: &Net) -> bool {
+    pub fn find(&mut self, net: &Net) -> bool
+        ensures { self.new.sizes ≡ self.old.sizes }
+    {
         let cells = net.cells();
         if !fits(cells, self.sizes) {
             return false;
@@ -228,7 +242,9 @@ impl PathFinder {
     }
 
     /// People were sent along the guess.
-    pub fn sent(&mut self, net: &Net, people: u32) {
+    pub fn sent(&mut self, net: &Net, people: u32)
+        ensures { self.new.sizes ≡ self.old.sizes }
+    {
         let cells = net.cells();
         if !fits(cells, self.sizes) {
             return;

@@ -20,11 +20,11 @@ use std::alloc::{AllocError, Global};
 pub enum Progress {
     /// It goes on.
     Going,
-    /// It has come to unsent people.
+    /// It has come to people who can be sent.
     Found,
     /// Too many pairs were relabelled in vain.
     Stale,
-    /// It is back at its door.
+    /// It has come to an end without any.
     Exhausted,
     /// There is no room for a longer path.
     Full,

@@ -8,28 +8,17 @@ ghost use Rattle.std.specs.List.{All};
 ghost use Rattle.residual_ways.specs.Steps.{IsStepWithin};
 
 use crate::lists::add;
+use crate::search::Progress;
 use crate::shortest_paths::ShortestPaths;
 use crate::surplus::{Surplus, lower, lower_all};
-use crate::tuning::FUEL;
 use residual_net::{Cell, Leg};
 use residual_ways::{Residual, Sizes, Step};
 use std::alloc::{AllocError, Global};
 
-// How far a search along the surplus is.
-#[derive(Clone, Copy)]
-enum Progress {
-    // It goes on.
-    Searching,
-    // It came to people who may be sent.
-    Found,
-    // It ended without any, or there is no room for its path.
-    Failed,
-}
-
 // How far a search has come at a pair.
 #[derive(Clone, Copy, Default)]
 struct Visit {
-    // 0 until nobody at the pair may be sent, and then 1 more than its current arc.
+    // 0 until nobody at the pair may be sent, and then 1 more than its current arc. Past 254 ways it begins again.
     current_arc: u8,
     // The number of the steps up to it on the path, and 0 where it isn't on it.
     height: u32,
@@ -128,11 +117,11 @@ impl TargetFlow {
         if !self.is_sought() {
             return false;
         }
-        for _ in 0..FUEL {
+        for _ in 0..net.ways.rounds() {
             match self.step_on(net) {
-                Progress::Searching => {}
+                Progress::Going => {}
                 Progress::Found => return true,
-                Progress::Failed => return false,
+                Progress::Stale | Progress::Exhausted | Progress::Full => return false,
             }
         }
         false
@@ -156,7 +145,7 @@ impl TargetFlow {
         let wanted = Surplus { target, net }.wanted(ways, from, last.moment);
         let Some((number, step)) = wanted else {
             self.retreat(net, last);
-            return Progress::Searching;
+            return Progress::Going;
         };
         self.visits[last.pair as usize].current_arc = ((number % 256 + 1) % 256) as u8;
         self.advance(net, step)
@@ -168,13 +157,13 @@ impl TargetFlow {
         ensures { IsSought net.entry.ways.now.sizes self.new }
     {
         if self.moment >= self.sizes.moments {
-            return Progress::Failed;
+            return Progress::Exhausted;
         }
         let doors = net.ways.doors();
         let target = self.cells.as_slice();
         let wanted = Surplus { target, net }.wanted(doors, self.door, self.moment);
         let Some((at, step)) = wanted else {
-            return Progress::Failed;
+            return Progress::Exhausted;
         };
         self.door = at;
         self.push(step)
@@ -207,7 +196,7 @@ impl TargetFlow {
             return self.push(step);
         }
         self.unwind(net, height, step);
-        Progress::Searching
+        Progress::Going
     }
 
     // Adds a step to the path, if there is room for it.
@@ -217,11 +206,11 @@ impl TargetFlow {
         ensures { IsSought self.old.sizes self.new }
     {
         if self.steps.len() >= self.sizes.pairs as usize {
-            return Progress::Failed;
+            return Progress::Full;
         }
         self.steps.push_reserved(step);
         self.visits[step.pair as usize].height = self.steps.len() as u32;
-        Progress::Searching
+        Progress::Going
     }
 
     // Goes back a step, the last one. Nobody is to go over it any more.
@@ -278,7 +267,9 @@ impl TargetFlow {
     }
 
     /// Fills a list with the legs of the guess.
-    pub fn lay(&self, legs: &mut Vec<Leg>) {
+    pub fn lay(&self, legs: &mut Vec<Leg>)
+        ensures { vec_capacity legs.new ≡ vec_capacity legs.old }
+    {
         legs.clear();
         if let Some(origin) = self.origin {
             add(legs, Leg::of(origin.path_step(self.sizes)));

@@ -5,10 +5,6 @@
 /// The distance label of a pair to which nobody can come: more than any other label.
 pub const FAR: u32 = 65_535;
 
-/// The most rounds of a loop, so that it ends whatever its numbers are. Each ends by itself long before: so many rounds would take
-/// hours.
-pub const FUEL: u64 = 1_000_000_000_000;
-
 /// The most stays of an augmenting path. A longer one ends the search, and others take over. Memory past the longest path isn't
 /// touched.
 pub const PATH_LIMIT: usize = 8_192;
