@@ -1,8 +1,12 @@
 -- Steps and stays of a building.
-use Rattle.std.specs.Prelude.{◌<◌, ◌≤◌}
+use Rattle.std.specs.Prelude.{ℕ, ◌<◌, ◌≤◌}
 use Rattle.residual_ways.specs.declared.sizes.Sizes.{Sizes}
 use Rattle.residual_ways.specs.declared.step.Step.{Step}
 use Rattle.residual_ways.specs.declared.step.Stay.{Stay}
+
+-- a node of a building at one of its moments
+abbrev pub IsPair : Sizes → ℕ → ℕ → Type 0
+IsPair sizes node moment = (node < sizes.nodes) × (moment < sizes.moments)
 
 -- a step begins at a pair of the building, and goes over one of its cells
 pub record IsStepWithin (sizes : Sizes) (step : Step) : Type 0 where

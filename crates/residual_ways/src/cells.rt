@@ -1,23 +1,34 @@
 //! Cells by their numbers.
-ghost use Rattle.std.specs.Prelude.{◌≡◌, ◌<◌, length};
+ghost use Rattle.std.specs.Prelude.{◌≡◌, ◌-◌, ◌<◌, ◌≤◌, ◌↔◌, not, false, IsTrue, drop, length, slice_index_or, take};
+ghost use Rattle.residual_net.specs.Network.{no_cell};
+ghost use Rattle.residual_net.specs.Site.{Site, cell_of};
+ghost use Rattle.residual_net.specs.declared.place.Place.TheVariants.{Supply};
+ghost use Rattle.residual_ways.specs.Layout.{AreSizesOf};
+ghost use Rattle.residual_ways.specs.Rooms.{AreAllSent, cell_of_step, flow_with, room_of, room_over, with_sent};
+ghost use Rattle.residual_ways.specs.Steps.{IsPair};
 
 use crate::sizes::Sizes;
 use crate::step::Step;
 use residual_net::Cell;
 
 /// How many more people may enter a cell.
-pub fn room_in(cell: Cell) -> u32 {
+pub fn room_in(cell: Cell) -> u32
+    ensures { result ≡ room_over cell false }
+{
     cell.limit.saturating_sub(cell.flow)
 }
 
 // How many more people may go over a cell, forwards or backwards.
-fn room_over(cell: Cell, back: bool) -> u32 {
+fn room_over(cell: Cell, back: bool) -> u32
+    ensures { result ≡ room_over cell back }
+{
     if back { cell.flow } else { room_in(cell) }
 }
 
 /// How many more people may go over a step.
 pub fn room(cells: &[Cell], step: Step) -> u32
     requires { step.cell < length cells.now }
+    ensures { result ≡ room_of cells.now step }
 {
     room_over(cells[step.cell as usize], step.back)
 }
@@ -25,6 +36,7 @@ pub fn room(cells: &[Cell], step: Step) -> u32
 /// Whether somebody may go over a step.
 pub fn is_open(cells: &[Cell], step: Step) -> bool
     requires { step.cell < length cells.now }
+    ensures { IsTrue result ↔ (0 < room_of cells.now step) }
 {
     room(cells, step) > 0
 }
@@ -32,27 +44,36 @@ pub fn is_open(cells: &[Cell], step: Step) -> bool
 /// Whether somebody may go over a step back again: from where it leads to where it begins.
 pub fn is_open_back(cells: &[Cell], step: Step) -> bool
     requires { step.cell < length cells.now }
+    ensures { IsTrue result ↔ (0 < room_over (cell_of_step cells.now step) (not step.back)) }
 {
     room_over(cells[step.cell as usize], !step.back) > 0
+}
+
+// The flow over a cell once so many more people go over it.
+fn flow_with(cell: Cell, back: bool, people: u32) -> u32
+    ensures { people ≤ room_over cell back → result ≡ flow_with cell back people }
+{
+    if back {
+        cell.flow.saturating_sub(people)
+    } else {
+        cell.flow.saturating_add(people)
+    }
 }
 
 /// Sends people over a step.
 pub fn send(cells: &mut [Cell], step: Step, people: u32)
     requires { step.cell < length cells.old }
+    ensures { people ≤ room_of cells.old step → cells.new ≡ with_sent cells.old step people }
 {
     let here = &mut cells[step.cell as usize];
-    here.flow = if step.back {
-        here.flow.saturating_sub(people)
-    } else {
-        here.flow.saturating_add(people)
-    };
+    here.flow = flow_with(*here, step.back, people);
 }
 
 /// How many people who come into a node at a moment aren't sent yet.
 pub fn unsent(cells: &[Cell], sizes: Sizes, node: u32, moment: u32) -> u32
     requires cells { length cells.now ≡ sizes.cells }
-    requires node { node < sizes.nodes }
-    requires moment { moment < sizes.moments }
+    requires pair { IsPair sizes node moment }
+    ensures { (site : Site) → AreSizesOf site sizes → result ≡ room_over (slice_index_or cells.now (cell_of site (Supply node moment)) no_cell) false }
 {
     let supply = sizes.supply(sizes.pair(node, moment));
     room_in(cells[supply as usize])
@@ -62,7 +83,8 @@ pub fn unsent(cells: &[Cell], sizes: Sizes, node: u32, moment: u32) -> u32
 pub fn supplies_of(cells: &[Cell], sizes: Sizes, node: u32) -> &[Cell]
     requires cells { length cells.now ≡ sizes.cells }
     requires node { node < sizes.nodes }
-    ensures { length result.now ≡ sizes.moments }
+    ensures length { length result.now ≡ sizes.moments }
+    ensures supplies { (site : Site) → AreSizesOf site sizes → result.now ≡ take sizes.moments (drop (cell_of site (Supply node 0)) cells.now) }
 {
     let first = sizes.supply(sizes.first_pair(node)) as usize;
     &cells[first..first + sizes.moments as usize]
@@ -71,6 +93,7 @@ pub fn supplies_of(cells: &[Cell], sizes: Sizes, node: u32) -> &[Cell]
 // The cells of the people who come in.
 fn supplies(cells: &[Cell], sizes: Sizes) -> &[Cell]
     requires { length cells.now ≡ sizes.cells }
+    ensures { result.now ≡ drop (sizes.cells - sizes.pairs) cells.now }
 {
     &cells[sizes.supply(0) as usize..]
 }
@@ -87,6 +110,7 @@ pub fn count_sent(cells: &[Cell], sizes: Sizes) -> u32
 /// Whether people come in and all of them are sent.
 pub fn is_all_sent(cells: &[Cell], sizes: Sizes) -> bool
     requires { length cells.now ≡ sizes.cells }
+    ensures { IsTrue result ↔ AreAllSent (drop (sizes.cells - sizes.pairs) cells.now) }
 {
     let supplies = supplies(cells, sizes);
     supplies.iter().any(|cell| cell.limit > 0)

@@ -4,9 +4,10 @@
 //! node, forwards or backwards; at a moment it is a step. `Sizes` says where pairs and cells stand, `Ways` has the ways into each node
 //! in the order in which they are to be tried, and `Residual` has them beside the cells of a net.
 //!
-//! The contracts say where pairs stand, and that the cell of each place is the one that it has in a net of the same sizes. **Of ways and
-//! steps they are on sizes alone**: each is one of the building, so that nothing is read or written but where it stands. Which ways there
-//! are and in which order is said by none. `guided_search` needs no more: it looks for paths over the ways, and what it finds is a hint.
+//! The contracts say where pairs and cells stand, that the cell of each place is the one that it has in a net of the same sizes, which
+//! step a way is at a moment, and how many people have room over it. **Which ways there are and in which order they come is said by
+//! none**, but that each is within the building, so that nothing is read or written but where it stands. `guided_search` needs no more:
+//! it looks for paths over the ways, and what it finds is a hint.
 #![tactic(auto)]
 
 mod cells;

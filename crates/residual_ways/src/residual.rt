@@ -1,8 +1,8 @@
 //! The residual network: what a search goes over.
-ghost use Rattle.std.specs.Prelude.{◌≡◌, ◌<◌, ◌≤◌, IfSome, length};
+ghost use Rattle.std.specs.Prelude.{◌≡◌, ◌<◌, IfSome, length};
 ghost use Rattle.std.specs.List.{All};
-ghost use Rattle.residual_ways.specs.Steps.{IsStepWithin};
-ghost use Rattle.residual_ways.specs.Ways.{IsWayWithin};
+ghost use Rattle.residual_ways.specs.Steps.{IsPair, IsStepWithin};
+ghost use Rattle.residual_ways.specs.Ways.{IsStepInto, IsWayWithin};
 
 use crate::sizes::Sizes;
 use crate::step::Step;
@@ -46,8 +46,7 @@ impl<'a> Residual<'a> {
 
     /// The ways into a pair.
     pub fn incoming(&self, node: u32, moment: u32) -> Incoming<'a>
-        requires node { node < self.now.ways.now.sizes.nodes }
-        requires moment { moment < self.now.ways.now.sizes.moments }
+        requires { IsPair self.now.ways.now.sizes node moment }
         ensures sizes { result.sizes ≡ self.now.ways.now.sizes }
         ensures moment { result.moment ≡ moment }
     {
@@ -73,7 +72,8 @@ impl Incoming<'_> {
     /// The step that a way is, where it begins within the horizon.
     pub fn step(&self, way: Way) -> Option<Step>
         requires { IsWayWithin self.now.sizes way }
-        ensures { IfSome result (IsStepWithin self.now.sizes) }
+        ensures step { IsStepInto self.now.sizes way self.now.moment result }
+        ensures within { IfSome result (IsStepWithin self.now.sizes) }
     {
         way.step(self.sizes, self.moment)
     }

@@ -26,6 +26,7 @@ pub struct Sizes {
 
 impl Sizes {
     ghost use Rattle.residual_ways.specs.Layout.{AreSizesOf};
+    ghost use Rattle.residual_ways.specs.Steps.{IsPair};
 
     // The sizes of so many nodes and arcs at so many moments.
     fn new(nodes: u32, arcs: u32, moments: u32) -> Sizes
@@ -34,6 +35,7 @@ impl Sizes {
         requires small { arcs * moments + 2 * (nodes * moments) < 2 ^ 32 }
         ensures nodes { result.nodes ≡ nodes }
         ensures arcs { result.arcs ≡ arcs }
+        ensures moments { result.moments ≡ moments }
     {
         let pairs = nodes * moments;
         Sizes {
@@ -47,8 +49,10 @@ impl Sizes {
 
     /// The sizes of a building. One with too many cells for their numbers counts as empty.
     pub fn of(model: &Building) -> Sizes
+        ensures all { (length model.now.arcs + 2 * length model.now.nodes) * (model.now.horizon + 1) < 2 ^ 32 → (result.nodes ≡ length model.now.nodes) × (result.arcs ≡ length model.now.arcs) }
         ensures nodes { result.nodes ≤ length model.now.nodes }
         ensures arcs { result.arcs ≤ length model.now.arcs }
+        ensures moments { result.moments ≡ model.now.horizon + 1 }
     {
         let moments = model.horizon as u32 + 1;
         let most = (u32::MAX / moments) as usize;
@@ -71,8 +75,7 @@ impl Sizes {
 
     /// The pair of a node at a moment.
     pub(crate) fn pair(&self, node: u32, moment: u32) -> u32
-        requires node { node < self.now.nodes }
-        requires moment { moment < self.now.moments }
+        requires { IsPair self.now node moment }
         ensures pair { result ≡ node * self.now.moments + moment }
         ensures within { result < self.now.pairs }
     {
@@ -83,8 +86,7 @@ impl Sizes {
     pub fn parts(&self, pair: u32) -> (u32, u32)
         requires { pair < self.now.pairs }
         ensures pair { result.0 * self.now.moments + result.1 ≡ pair }
-        ensures node { result.0 < self.now.nodes }
-        ensures moment { result.1 < self.now.moments }
+        ensures within { IsPair self.now result.0 result.1 }
     {
         (pair / self.moments, pair % self.moments)
     }

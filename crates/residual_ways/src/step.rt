@@ -1,8 +1,9 @@
 //! Residual steps, and stays in a node before them.
-ghost use Rattle.std.specs.Prelude.{◌≡◌, ◌+◌, ◌<◌, ◌≤◌, IsFalse, IsTrue};
+ghost use Rattle.std.specs.Prelude.{◌≡◌, ◌+◌, ◌*◌, ◌<◌, ◌≤◌, ◌↔◌, false, IsFalse, IsTrue};
 ghost use Rattle.residual_net.specs.Site.{Site, cell_of};
+ghost use Rattle.residual_net.specs.declared.place.Place.TheVariants.{Supply};
 ghost use Rattle.residual_ways.specs.Layout.{AreSizesOf};
-ghost use Rattle.residual_ways.specs.Steps.{IsStayWithin, IsStepWithin};
+ghost use Rattle.residual_ways.specs.Steps.{IsPair, IsStayWithin, IsStepWithin};
 
 use crate::sizes::Sizes;
 use residual_net::{Leg, PathStep};
@@ -25,9 +26,10 @@ pub struct Step {
 impl Step {
     /// The step by which people come into a node at a moment.
     pub fn supply(sizes: Sizes, node: u32, moment: u32) -> Step
-        requires node { node < sizes.nodes }
-        requires moment { moment < sizes.moments }
-        ensures { IsStepWithin sizes result }
+        requires { IsPair sizes node moment }
+        ensures pair { result ≡ record { node = node; moment = moment; pair = node * sizes.moments + moment; cell = result.cell; back = false } }
+        ensures cell { (site : Site) → AreSizesOf site sizes → cell_of site (Supply node moment) ≡ result.cell }
+        ensures within { IsStepWithin sizes result }
     {
         let pair = sizes.pair(node, moment);
         Step {
@@ -42,7 +44,7 @@ impl Step {
     /// Whether it is a wait forwards.
     pub fn waits(&self, sizes: Sizes) -> bool
         requires { IsStepWithin sizes self.now }
-        ensures { IsTrue result → IsFalse self.now.back }
+        ensures { IsTrue result ↔ (IsFalse self.now.back × (self.now.cell + 2 * sizes.pairs ≡ sizes.cells + self.now.pair)) }
     {
         !self.back && self.cell == sizes.wait(self.pair)
     }
@@ -61,6 +63,9 @@ impl Step {
     pub fn leg_since(&self, sizes: Sizes, since: u32) -> Leg
         requires since { since < sizes.moments }
         requires step { IsStepWithin sizes self.now }
+        ensures waits { result ≡ record { node = self.now.node; from = since; to = self.now.moment; step = result.step } }
+        ensures cell { (site : Site) → AreSizesOf site sizes → cell_of site result.step.place ≡ self.now.cell }
+        ensures back { result.step.back ≡ self.now.back }
     {
         Leg {
             node: self.node,
@@ -112,7 +117,7 @@ impl Stay {
     pub fn waits(&self, sizes: Sizes) -> (usize, usize)
         requires { IsStayWithin sizes self.now }
         ensures count { result.0 + self.now.step.moment ≡ result.1 + self.now.since }
-        ensures within { result.1 ≤ sizes.cells }
+        ensures end { result.1 + 2 * sizes.pairs ≡ sizes.cells + self.now.step.pair }
     {
         let first = sizes.wait(self.pair());
         (first as usize, (first + self.count()) as usize)

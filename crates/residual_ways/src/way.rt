@@ -1,7 +1,7 @@
 //! The ways into the pairs of a node.
-ghost use Rattle.std.specs.Prelude.{◌≡◌, ◌+◌, ◌<◌, ◌≤◌, ◌^◌, ◌≤ℤ◌, pos, IfSome, IsTrue, max};
+ghost use Rattle.std.specs.Prelude.{◌≡◌, ◌+◌, ◌<◌, ◌≤◌, ◌^◌, ◌≤ℤ◌, pos, unsigned_abs, if◌then◌else◌, IfSome, IsTrue, max};
 ghost use Rattle.residual_ways.specs.Steps.{IsStepWithin};
-ghost use Rattle.residual_ways.specs.Ways.{IsWayWithin};
+ghost use Rattle.residual_ways.specs.Ways.{IsBegun, IsStepInto, IsWayWithin, step_between};
 
 use crate::sizes::Sizes;
 use crate::step::Step;
@@ -72,7 +72,7 @@ impl Way {
 
     /// What it weighs: 1 backwards, where it takes people off, and 0 forwards.
     pub fn weight(&self) -> u32
-        ensures { result ≤ 1 }
+        ensures { result ≡ (if self.now.back then 1 else 0) }
     {
         self.back as u32
     }
@@ -86,13 +86,15 @@ impl Way {
 
     /// How many periods lie between its ends.
     pub fn travel(&self) -> u32
-        ensures { result ≤ 2 ^ 31 }
+        ensures travel { result ≡ unsigned_abs self.now.shift }
+        ensures within { result ≤ 2 ^ 31 }
     {
         self.shift.unsigned_abs()
     }
 
     /// The moment at which it begins where it ends at a moment, if that is within the horizon.
     pub fn begun(&self, sizes: Sizes, moment: u32) -> Option<u32>
+        ensures begun { IsBegun sizes self.now moment result }
         ensures within { IfSome result (λ begun. begun < sizes.moments) }
         ensures forwards { IfSome result (λ begun. self.now.shift ≤ℤ pos 0 → begun ≤ moment) }
     {
@@ -107,11 +109,7 @@ impl Way {
     pub fn step_between(&self, begun: u32, moment: u32) -> Step
         requires pair { self.now.first_pair + begun < 2 ^ 32 }
         requires cell { self.now.first_cell + max begun moment < 2 ^ 32 }
-        ensures node { result.node ≡ self.now.node }
-        ensures moment { result.moment ≡ begun }
-        ensures pair { result.pair ≡ self.now.first_pair + begun }
-        ensures cell { result.cell ≤ self.now.first_cell + max begun moment }
-        ensures back { result.back ≡ self.now.back }
+        ensures { result ≡ step_between self.now begun moment }
     {
         let entered = if self.back { moment } else { begun };
         Step {
@@ -127,7 +125,8 @@ impl Way {
     pub fn step(&self, sizes: Sizes, moment: u32) -> Option<Step>
         requires way { IsWayWithin sizes self.now }
         requires moment { moment < sizes.moments }
-        ensures { IfSome result (IsStepWithin sizes) }
+        ensures step { IsStepInto sizes self.now moment result }
+        ensures within { IfSome result (IsStepWithin sizes) }
     {
         let begun = self.begun(sizes, moment)?;
         Some(self.step_between(begun, moment))
