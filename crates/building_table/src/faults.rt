@@ -3,56 +3,57 @@ ghost use Rattle.std.specs.Prelude.{◌≡◌};
 ghost use Rattle.building_table.specs.Built.{build_code, end_code, name_code};
 
 use evac_law::Code;
+use thiserror::Error;
 
 /// Why a part is refused among those before it.
-#[derive(Clone, Copy, PartialEq, Eq, Debug)]
+#[derive(Clone, Copy, PartialEq, Eq, Debug, Error)]
 pub enum BuildFault {
-    /// It was given before.
+    #[error("it was given before")]
     RepeatedSetting,
-    /// The floor is unknown.
+    #[error("the floor is unknown")]
     UnknownFloor,
-    /// The node was named before.
+    #[error("the node was named before")]
     RepeatedNode,
-    /// The start is above the capacity.
+    #[error("more people start in the node than it has room for")]
     OverFull,
-    /// A node is unknown.
+    #[error("a node is unknown")]
     UnknownNode,
-    /// Both ends are the same.
+    #[error("both ends of the arc are the same")]
     SelfArc,
-    /// The arc leaves an exit.
+    #[error("the arc leaves an exit")]
     FromExit,
-    /// The arc was given before.
+    #[error("the arc was given before")]
     RepeatedArc,
-    /// There are too many.
+    #[error("there are too many")]
     TooMany,
-    /// There is no such arc.
+    #[error("there is no such arc")]
     NoArc,
-    /// The window doesn't begin before it ends.
+    #[error("the window doesn't begin before it ends")]
     BadWindow,
-    /// The arc has a window at one of these moments.
+    #[error("the arc has a window at one of these moments")]
     WindowOverlap,
-    /// The arc has too many windows.
+    #[error("the arc has as many windows as it may have")]
     TooManyWindows,
-    /// The node is an exit.
+    #[error("the node is an exit")]
     ExitNamed,
-    /// People come into the node at this moment already.
+    #[error("people come into the node at this moment already")]
     RepeatedEntrant,
-    /// There is no memory.
+    #[error("there is no memory")]
     Memory,
 }
 
 /// Why a model can't end.
-#[derive(Clone, Copy, PartialEq, Eq, Debug)]
+#[derive(Clone, Copy, PartialEq, Eq, Debug, Error)]
 pub enum EndFault {
-    /// The period or the horizon is missing.
+    #[error("the period or the horizon is missing")]
     MissingSetting,
-    /// There is no exit.
+    #[error("there is no exit")]
     NoExit,
-    /// There are too many cells.
+    #[error("the building is too large for its horizon")]
     TooLarge,
-    /// People come in after the horizon.
+    #[error("people come in after the horizon")]
     EntrantLate,
-    /// There is no memory.
+    #[error("there is no memory")]
     Memory,
 }
 
@@ -68,11 +69,11 @@ pub enum ModelFault {
 }
 
 /// Why a command gives no edit.
-#[derive(Clone, Copy, PartialEq, Eq, Debug)]
+#[derive(Clone, Copy, PartialEq, Eq, Debug, Error)]
 pub enum NameFault {
-    /// A node is unknown.
+    #[error("a node is unknown")]
     UnknownNode,
-    /// There is no such arc.
+    #[error("there is no such arc")]
     NoArc,
 }
 

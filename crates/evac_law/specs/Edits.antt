@@ -1,5 +1,5 @@
 -- What an edit does to a model, when it is refused, and which edit undoes it.
-use Rattle.std.specs.Prelude.{ℕ, ◌+◌, ◌-◌, ◌<◌, Bool, true, false, not, ◌||◌, if◌then◌else◌, ◌==◌, nat_le, nat_lt, List, [], ◌∷◌, length, slice_set, Result, Ok, Err}
+use Rattle.std.specs.Prelude.{◌≡◌, ℕ, ◌+◌, ◌-◌, ◌<◌, Bool, true, false, not, ◌||◌, if◌then◌else◌, ◌==◌, nat_le, nat_lt, List, [], ◌∷◌, length, slice_set, Result, Ok, Err, IfOk, IfErr, OnErr}
 use Rattle.std.specs.List.{list_any}
 use Rattle.evac_law.specs.declared.code.Code.{Code}
 use Rattle.evac_law.specs.declared.code.Code.TheVariants as codes
@@ -116,6 +116,12 @@ inverse_of m (Unwindow a p q) = Window a p q
 -- the edited model and the edit that undoes the edit, or the first fault
 abbrev pub applied : Model → Edit → Result (Model × Edit) EditFault
 applied m e = unless (checks m e) (edited m e, inverse_of m e)
+
+-- what the answer of an edit says: the edited model is there, and the edit that undoes it; or the first fault, and the model is as it was
+pub record Applies (m : Model) (e : Edit) (r : Result Edit EditFault) (m' : Model) : Type 0 where
+  pub ok : IfOk r (λ inverse. applied m e ≡ Ok (m', inverse))
+  pub fault : IfErr r (λ fault. applied m e ≡ Err fault)
+  pub unchanged : OnErr r (m' ≡ m)
 
 -- the code by which a refusal names a fault
 abbrev pub fault_code : EditFault → Code

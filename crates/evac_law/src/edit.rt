@@ -1,13 +1,14 @@
 //! Edits of a model.
 ghost use Rattle.std.specs.Prelude.{◌≡◌, ◌<◌, length, IfOk, IfErr, OnErr, OnOk};
 ghost use Rattle.evac_law.specs.Building.{IsValid};
-ghost use Rattle.evac_law.specs.Edits.{IsEditOf, applied, fault_code};
+ghost use Rattle.evac_law.specs.Edits.{Applies, IsEditOf, applied, fault_code};
 ghost use Rattle.evac_law.specs.Shapes.{HasSameShape};
 
 use crate::code::Code;
 use crate::limits::{CAPACITY_LIMIT, HORIZON_LIMIT, PEOPLE_LIMIT, RATE_LIMIT};
 use crate::model::Model;
 use crate::window::{Window, place_of};
+use thiserror::Error;
 
 /// A change of a model.
 #[derive(Clone, Copy, PartialEq, Eq, Debug)]
@@ -26,33 +27,33 @@ pub enum Edit {
 }
 
 /// Why an edit is refused.
-#[derive(Clone, Copy, PartialEq, Eq, Debug)]
+#[derive(Clone, Copy, PartialEq, Eq, Debug, Error)]
 pub enum EditFault {
-    /// A number is outside its range.
+    #[error("a number is out of range")]
     OutOfRange,
-    /// The start would pass the capacity.
+    #[error("more people would start in the node than it has room for")]
     OverFull,
-    /// Both nodes are the same.
+    #[error("both nodes are the same")]
     SameNode,
-    /// There would be too many people.
+    #[error("the building would have too many people")]
     TooMany,
-    /// It is shut already.
+    #[error("it is shut already")]
     AlreadyShut,
-    /// It is not shut.
+    #[error("it is open already")]
     AlreadyOpen,
-    /// The node is no exit.
+    #[error("the node is not an exit")]
     NotExit,
-    /// The node is an exit.
+    #[error("the node is an exit")]
     ExitNamed,
-    /// Too few people start there.
+    #[error("fewer people start in the node")]
     TooFew,
-    /// The window ends before it begins.
+    #[error("the window doesn't begin before it ends")]
     BadWindow,
-    /// A window is there already.
+    #[error("the arc has a window at one of these moments")]
     WindowOverlap,
-    /// The arc has as many windows as may be.
+    #[error("the arc has as many windows as it may have")]
     TooManyWindows,
-    /// There is no such window.
+    #[error("the arc has no such window")]
     NoWindow,
 }
 
@@ -82,9 +83,7 @@ impl EditFault {
 fn shut(model: &mut Model, arc: u32) -> Result<Edit, EditFault>
     requires valid { IsValid model.old }
     requires in_range { arc < length model.old.arcs }
-    ensures ok { IfOk result (λ inverse. applied model.old (Edit.Shut arc) ≡ Ok (model.new, inverse)) }
-    ensures fault { IfErr result (λ fault. applied model.old (Edit.Shut arc) ≡ Err fault) }
-    ensures unchanged { OnErr result (model.new ≡ model.old) }
+    ensures answer { Applies model.old (Edit.Shut arc) result model.new }
 {
     if model.arc(arc).shut {
         return Err(EditFault::AlreadyShut);
@@ -96,9 +95,7 @@ fn shut(model: &mut Model, arc: u32) -> Result<Edit, EditFault>
 fn reopen(model: &mut Model, arc: u32) -> Result<Edit, EditFault>
     requires valid { IsValid model.old }
     requires in_range { arc < length model.old.arcs }
-    ensures ok { IfOk result (λ inverse. applied model.old (Edit.Reopen arc) ≡ Ok (model.new, inverse)) }
-    ensures fault { IfErr result (λ fault. applied model.old (Edit.Reopen arc) ≡ Err fault) }
-    ensures unchanged { OnErr result (model.new ≡ model.old) }
+    ensures answer { Applies model.old (Edit.Reopen arc) result model.new }
 {
     if !model.arc(arc).shut {
         return Err(EditFault::AlreadyOpen);
@@ -110,9 +107,7 @@ fn reopen(model: &mut Model, arc: u32) -> Result<Edit, EditFault>
 fn shut_exit(model: &mut Model, node: u32) -> Result<Edit, EditFault>
     requires valid { IsValid model.old }
     requires in_range { node < length model.old.nodes }
-    ensures ok { IfOk result (λ inverse. applied model.old (Edit.ShutExit node) ≡ Ok (model.new, inverse)) }
-    ensures fault { IfErr result (λ fault. applied model.old (Edit.ShutExit node) ≡ Err fault) }
-    ensures unchanged { OnErr result (model.new ≡ model.old) }
+    ensures answer { Applies model.old (Edit.ShutExit node) result model.new }
 {
     let row = model.node(node);
     if !row.name.kind.is_exit() {
@@ -128,9 +123,7 @@ fn shut_exit(model: &mut Model, node: u32) -> Result<Edit, EditFault>
 fn reopen_exit(model: &mut Model, node: u32) -> Result<Edit, EditFault>
     requires valid { IsValid model.old }
     requires in_range { node < length model.old.nodes }
-    ensures ok { IfOk result (λ inverse. applied model.old (Edit.ReopenExit node) ≡ Ok (model.new, inverse)) }
-    ensures fault { IfErr result (λ fault. applied model.old (Edit.ReopenExit node) ≡ Err fault) }
-    ensures unchanged { OnErr result (model.new ≡ model.old) }
+    ensures answer { Applies model.old (Edit.ReopenExit node) result model.new }
 {
     let row = model.node(node);
     if !row.name.kind.is_exit() {
@@ -147,9 +140,7 @@ fn reopen_exit(model: &mut Model, node: u32) -> Result<Edit, EditFault>
 fn set_rate(model: &mut Model, arc: u32, rate: u32) -> Result<Edit, EditFault>
     requires valid { IsValid model.old }
     requires in_range { arc < length model.old.arcs }
-    ensures ok { IfOk result (λ inverse. applied model.old (Edit.Rate arc rate) ≡ Ok (model.new, inverse)) }
-    ensures fault { IfErr result (λ fault. applied model.old (Edit.Rate arc rate) ≡ Err fault) }
-    ensures unchanged { OnErr result (model.new ≡ model.old) }
+    ensures answer { Applies model.old (Edit.Rate arc rate) result model.new }
 {
     if rate > RATE_LIMIT {
         return Err(EditFault::OutOfRange);
@@ -163,9 +154,7 @@ fn set_rate(model: &mut Model, arc: u32, rate: u32) -> Result<Edit, EditFault>
 fn set_room(model: &mut Model, node: u32, capacity: u32) -> Result<Edit, EditFault>
     requires valid { IsValid model.old }
     requires in_range { node < length model.old.nodes }
-    ensures ok { IfOk result (λ inverse. applied model.old (Edit.Room node capacity) ≡ Ok (model.new, inverse)) }
-    ensures fault { IfErr result (λ fault. applied model.old (Edit.Room node capacity) ≡ Err fault) }
-    ensures unchanged { OnErr result (model.new ≡ model.old) }
+    ensures answer { Applies model.old (Edit.Room node capacity) result model.new }
 {
     let row = model.node(node);
     if row.name.kind.is_exit() {
@@ -188,9 +177,7 @@ fn set_room(model: &mut Model, node: u32, capacity: u32) -> Result<Edit, EditFau
 fn shift(model: &mut Model, from: u32, to: u32, people: u32) -> Result<Edit, EditFault>
     requires valid { IsValid model.old }
     requires in_range { (from < length model.old.nodes) × (to < length model.old.nodes) }
-    ensures ok { IfOk result (λ inverse. applied model.old (Edit.Shift from to people) ≡ Ok (model.new, inverse)) }
-    ensures fault { IfErr result (λ fault. applied model.old (Edit.Shift from to people) ≡ Err fault) }
-    ensures unchanged { OnErr result (model.new ≡ model.old) }
+    ensures answer { Applies model.old (Edit.Shift from to people) result model.new }
 {
     if from == to {
         return Err(EditFault::SameNode);
@@ -222,9 +209,7 @@ fn shift(model: &mut Model, from: u32, to: u32, people: u32) -> Result<Edit, Edi
 fn enter(model: &mut Model, node: u32, people: u32) -> Result<Edit, EditFault>
     requires valid { IsValid model.old }
     requires in_range { node < length model.old.nodes }
-    ensures ok { IfOk result (λ inverse. applied model.old (Edit.Enter node people) ≡ Ok (model.new, inverse)) }
-    ensures fault { IfErr result (λ fault. applied model.old (Edit.Enter node people) ≡ Err fault) }
-    ensures unchanged { OnErr result (model.new ≡ model.old) }
+    ensures answer { Applies model.old (Edit.Enter node people) result model.new }
 {
     let row = model.node(node);
     if row.name.kind.is_exit() {
@@ -247,9 +232,7 @@ fn enter(model: &mut Model, node: u32, people: u32) -> Result<Edit, EditFault>
 fn leave(model: &mut Model, node: u32, people: u32) -> Result<Edit, EditFault>
     requires valid { IsValid model.old }
     requires in_range { node < length model.old.nodes }
-    ensures ok { IfOk result (λ inverse. applied model.old (Edit.Leave node people) ≡ Ok (model.new, inverse)) }
-    ensures fault { IfErr result (λ fault. applied model.old (Edit.Leave node people) ≡ Err fault) }
-    ensures unchanged { OnErr result (model.new ≡ model.old) }
+    ensures answer { Applies model.old (Edit.Leave node people) result model.new }
 {
     let row = model.node(node);
     if row.name.kind.is_exit() {
@@ -269,9 +252,7 @@ fn leave(model: &mut Model, node: u32, people: u32) -> Result<Edit, EditFault>
 fn add_window(model: &mut Model, arc: u32, from: u32, until: u32) -> Result<Edit, EditFault>
     requires valid { IsValid model.old }
     requires in_range { arc < length model.old.arcs }
-    ensures ok { IfOk result (λ inverse. applied model.old (Edit.Window arc from until) ≡ Ok (model.new, inverse)) }
-    ensures fault { IfErr result (λ fault. applied model.old (Edit.Window arc from until) ≡ Err fault) }
-    ensures unchanged { OnErr result (model.new ≡ model.old) }
+    ensures answer { Applies model.old (Edit.Window arc from until) result model.new }
 {
     let last = u32::from(HORIZON_LIMIT);
     if from > last || until == 0 || until > last + 1 {
@@ -298,9 +279,7 @@ fn add_window(model: &mut Model, arc: u32, from: u32, until: u32) -> Result<Edit
 fn remove_window(model: &mut Model, arc: u32, from: u32, until: u32) -> Result<Edit, EditFault>
     requires valid { IsValid model.old }
     requires in_range { arc < length model.old.arcs }
-    ensures ok { IfOk result (λ inverse. applied model.old (Edit.Unwindow arc from until) ≡ Ok (model.new, inverse)) }
-    ensures fault { IfErr result (λ fault. applied model.old (Edit.Unwindow arc from until) ≡ Err fault) }
-    ensures unchanged { OnErr result (model.new ≡ model.old) }
+    ensures answer { Applies model.old (Edit.Unwindow arc from until) result model.new }
 {
     match place_of(model.arc(arc).windows.as_slice(), from, until) {
         None => Err(EditFault::NoWindow),
@@ -314,9 +293,7 @@ fn remove_window(model: &mut Model, arc: u32, from: u32, until: u32) -> Result<E
 fn dispatch(model: &mut Model, edit: Edit) -> Result<Edit, EditFault>
     requires valid { IsValid model.old }
     requires in_range { IsEditOf model.old edit }
-    ensures ok { IfOk result (λ inverse. applied model.old edit ≡ Ok (model.new, inverse)) }
-    ensures fault { IfErr result (λ fault. applied model.old edit ≡ Err fault) }
-    ensures unchanged { OnErr result (model.new ≡ model.old) }
+    ensures answer { Applies model.old edit result model.new }
 {
     match edit {
         Edit::Shut { arc } => shut(model, arc),

@@ -3,21 +3,22 @@ ghost use Rattle.std.specs.Prelude.{◌≡◌};
 ghost use Rattle.model_text.specs.Codes.{text_fault_code};
 
 use evac_law::Code;
+use thiserror::Error;
 
 /// Why a line by itself is refused.
-#[derive(Clone, Copy, PartialEq, Eq, Debug)]
+#[derive(Clone, Copy, PartialEq, Eq, Debug, Error)]
 pub enum TextFault {
-    /// The first word is unknown.
+    #[error("the first word is unknown")]
     UnknownWord,
-    /// The number of fields is wrong, or a text is missing.
+    #[error("the number of fields is wrong, or a text is missing")]
     FieldCount,
-    /// A field is no number.
+    #[error("a field is not a number")]
     BadNumber,
-    /// A number is outside its range.
+    #[error("a number is out of range")]
     OutOfRange,
-    /// A field is no name.
+    #[error("a field is not a node's name")]
     BadName,
-    /// The command is unknown.
+    #[error("the command is unknown")]
     UnknownCommand,
 }
 

@@ -12,6 +12,8 @@ mod deals;
 #[cfg(test)]
 mod edits;
 #[cfg(test)]
+mod faults;
+#[cfg(test)]
 mod late;
 #[cfg(test)]
 mod refused;
