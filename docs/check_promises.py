@@ -5,13 +5,15 @@
   a clause of the function named before it.
 - In DEFINITIONS.md each name must be defined in a file that its paragraph links.
 - In the tables of PROVED.md each name in the right column must be a definition, a function, a clause or a field of a crate of its section.
+- EDITS.md must have just the edits of each crate's must-fail/, and each name there must be in that crate, or be a definition.
 - In every document each link must lead to a file, and to a heading of it.
 - The tables of codes and of statuses in FORMATS.md, and that of statuses in the README, must have just the numbers of `Code` and of `Status`, and
   these have each number once.
 
-    python3 docs/check_promises.py
+    python3 docs/check_promises.py [--edits]
 
-It prints what is missing, and its status is 1 where something is.
+It prints what is missing, and its status is 1 where something is. With --edits it prints for each promise of PROVED.md where it stands, and the
+edits that are refused by that; a law has no body that an edit could turn.
 """
 import pathlib
 import re
@@ -37,7 +39,7 @@ def member_of(text, owner, member):
     block = re.search(rf"(?ms)^(?:pub )?record {owner}\b.*?(?=\n\S|\Z)", text)
     if block and re.search(rf"(?m)^\s+pub {member}\s*:", block[0]):
         return True
-    return bool(re.search(rf"\bimpl\b[^\n]*\b{owner}\b", text) and re.search(rf"(?m)^\s*(?:pub )?fn {member}\b", text))
+    return bool(re.search(rf"\bimpl\b[^\n]*\b{owner}\b", text) and re.search(rf"(?m)^\s*(?:pub(?:\(crate\))? )?fn {member}\b", text))
 
 
 def is_defined(text, name):
@@ -110,6 +112,57 @@ def missing_rows(document):
                     yield f"{document.name}: no {name} in the row {row[:60]}"
 
 
+def edits_of(document):
+    """For each crate of EDITS.md its edits, each with the names of what refuses it."""
+    sections = [section.split("\n") for section in re.split(r"(?m)^## ", document.read_text())[1:]]
+    rows = {lines[0]: [line.strip("| ").split(" | ") for line in lines if line.startswith("| ")][1:] for lines in sections}
+    return {crate: {edit: NAME.findall(refused) for edit, refused in edits} for crate, edits in rows.items()}
+
+
+def wrong_edits(document):
+    """Edits of crates that EDITS.md doesn't have, those that no crate has, and names that aren't there."""
+    listed = edits_of(document)
+    everywhere = [text for path in (TOP / "crates").iterdir() for text in code_of(path.name)]
+    for crate in sorted({path.parent.parent.name for path in TOP.glob("crates/*/must-fail/*.edit")} | set(listed)):
+        edits, texts = listed.get(crate, {}), code_of(crate)
+        there = {path.stem for path in (TOP / "crates" / crate).glob("must-fail/*.edit")}
+        yield from (f"{document.name}: no edit {edit} of {crate}" for edit in sorted(there - set(edits)))
+        yield from (f"{document.name}: {crate} has no edit {edit}" for edit in sorted(set(edits) - there))
+        for edit, names in edits.items():
+            for place, name in enumerate(names):
+                if not is_named(texts, name, names[:place]) and not (name[0].isupper() and is_named(everywhere, name, [])):
+                    yield f"{document.name}: no {name} for the edit {edit} of {crate}"
+
+
+def is_law(crates, name):
+    """Whether a name is that of a function with an empty body."""
+    law = rf"(?ms)^pub fn {re.escape(name)}\(\)\n[^}}]*\{{[^}}]*\}}\n\{{\n?\}}"
+    return any(re.search(law, text) for crate in crates for text in code_of(crate))
+
+
+def promises_with_edits(proved, edits):
+    """Each promise of a table of PROVED.md, with the names where it stands, and the edits that are refused by them.
+
+    An edit of the section's crates is, where all its names stand in the row; one of another crate, where they are definitions there.
+    """
+    all_edits = [(crate, edit, names) for crate, rows in edits_of(edits).items() for edit, names in rows.items()]
+    crates = [path.name for path in (TOP / "crates").iterdir() if (path / "src").is_dir()]
+    for section in re.split(r"(?m)^### ", proved.read_text())[1:]:
+        spoken_of = re.findall(r"\w+", section.split("\n")[0].split(":")[0])
+        for row in re.findall(r"(?m)^\|.*\|$", section.partition("| Promise |")[2])[1:]:
+            promise, names = row.strip("| ").split(" | ")[0], NAME.findall(row.rpartition(" | ")[2])
+            lasts = {re.split(r"::|\.", name)[-1] for name in names}
+            shown = [
+                f"{crate}/{edit}"
+                for crate, edit, refused in all_edits
+                if (crate in spoken_of or all(name[0].isupper() and "::" not in name for name in refused))
+                and all(name in names or re.split(r"::|\.", name)[-1] in lasts for name in refused)
+            ]
+            calls = [name for name in names if name[0].islower()]
+            laws = calls and all(is_law([crate for crate in spoken_of if crate in crates], name) for name in calls)
+            yield promise, names, shown or (["a law"] if laws else ["no edit"])
+
+
 def headings(path):
     """The anchors of a document's headings."""
     return {re.sub(r"[^\w\- ]", "", line.lower()).replace(" ", "-") for line in re.findall(r"(?m)^#+ (.*)$", path.read_text())}
@@ -145,11 +198,16 @@ def wrong_numbers(title, specification, function, documents):
 
 
 def main():
+    if sys.argv[1:] == ["--edits"]:
+        for promise, names, shown in promises_with_edits(TOP / "docs/PROVED.md", TOP / "docs/EDITS.md"):
+            print(f"{promise}\n    {', '.join(names)}\n    {', '.join(shown)}")
+        return 0
     documents = [TOP / "README.md", *sorted((TOP / "docs").glob("*.md"))]
     missing = [fault for document in documents for fault in missing_links(document)]
     missing += missing_promises(TOP / "docs/PROMISES.md")
     missing += missing_definitions(TOP / "docs/DEFINITIONS.md")
     missing += missing_rows(TOP / "docs/PROVED.md")
+    missing += wrong_edits(TOP / "docs/EDITS.md")
     formats, readme = TOP / "docs/FORMATS.md", TOP / "README.md"
     missing += wrong_numbers("Code", "evac_law/specs/Codes.antt", "code_number", [formats])
     missing += wrong_numbers("Status", "talk/specs/Statuses.antt", "status_number", [formats, readme])
