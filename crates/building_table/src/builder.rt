@@ -19,7 +19,7 @@ use crate::names::Names;
 use evac_law::limits::{
     ARC_LIMIT, CELL_LIMIT, FLOOR_LIMIT, NODE_LIMIT, PEOPLE_LIMIT, WINDOW_LIMIT,
 };
-use evac_law::{ArcRow, NodeName, NodeRow, Rows, Window};
+use evac_law::{ArcRow, Entrant, NodeName, NodeRow, Rows, Window};
 use model_text::Part;
 use std::alloc::{AllocError, Global};
 use std::marker::Model;
@@ -479,16 +479,30 @@ impl Builder {
         }
     }
 
-    /// The building of the parts that were taken.
-    pub fn finish(self, alloc: Global) -> Result<Building, EndFault>
-        ensures building { IfOk result (λ b. (taken : List SaidPart) → AreTaken taken → self ≡ built_of taken → (end_fault taken ≡ None) × IsBuilding b (description_of taken)) }
-        ensures valid { IfOk result (λ b. (taken : List SaidPart) → AreTaken taken → self ≡ built_of taken → IsValid b.model) }
-        ensures fault { IfErr result (λ fault. (taken : List SaidPart) → self ≡ built_of taken → end_fault taken ≡ end_code fault) }
+    // The settings and the entrants of a building that may end.
+    fn ended(&self, alloc: Global) -> Result<(u16, u16, Rows<Entrant>), EndFault>
+        ensures seconds { IfOk result (λ s. self.now.seconds ≡ Some s.0) }
+        ensures horizon { IfOk result (λ s. self.now.horizon ≡ Some s.1) }
+        ensures entrants { IfOk result (λ s. s.2 ≡ self.now.entrants) }
+        ensures right { OnOk result (first_code (end_checks self.now) ≡ None) }
+        ensures fault { IfErr result (λ fault. first_code (end_checks self.now) ≡ end_code fault) }
     {
         let (seconds, horizon) = self.settings()?;
-        let Ok(entrants) = self.entrants.rows(alloc) else {
-            return Err(EndFault::Memory);
-        };
+        match self.entrants.rows(alloc) {
+            Ok(entrants) => Ok((seconds, horizon, entrants)),
+            Err(_) => Err(EndFault::Memory),
+        }
+    }
+
+    // The building with its settings and entrants.
+    fn assembled(self, seconds: u16, horizon: u16, entrants: Rows<Entrant>) -> Building
+        requires seconds { self.seconds ≡ Some seconds }
+        requires horizon { self.horizon ≡ Some horizon }
+        requires entrants { entrants ≡ self.entrants }
+        requires right { first_code (end_checks self) ≡ None }
+        ensures building { (taken : List SaidPart) → AreTaken taken → self ≡ built_of taken → (end_fault taken ≡ None) × IsBuilding result (description_of taken) }
+        ensures valid { (taken : List SaidPart) → AreTaken taken → self ≡ built_of taken → IsValid result.model }
+    {
         let Builder {
             title,
             floors,
@@ -506,6 +520,18 @@ impl Builder {
             arcs: Rows::new(arcs),
             entrants,
         };
-        Ok(Building { model, names })
+        Building { model, names }
+    }
+
+    /// The building of the parts that were taken.
+    pub fn finish(self, alloc: Global) -> Result<Building, EndFault>
+        ensures building { IfOk result (λ b. (taken : List SaidPart) → AreTaken taken → self ≡ built_of taken → (end_fault taken ≡ None) × IsBuilding b (description_of taken)) }
+        ensures valid { IfOk result (λ b. (taken : List SaidPart) → AreTaken taken → self ≡ built_of taken → IsValid b.model) }
+        ensures fault { IfErr result (λ fault. (taken : List SaidPart) → self ≡ built_of taken → end_fault taken ≡ end_code fault) }
+    {
+        match self.ended(alloc) {
+            Ok((seconds, horizon, entrants)) => Ok(self.assembled(seconds, horizon, entrants)),
+            Err(fault) => Err(fault),
+        }
     }
 }

@@ -1,5 +1,5 @@
 //! The building that lines describe.
-ghost use Rattle.std.specs.Prelude.{◌≡◌, ◌≤◌, Err, IfOk, false};
+ghost use Rattle.std.specs.Prelude.{◌≡◌, ◌≤◌, Err, IfOk, IfSome, None, Some, false};
 ghost use Rattle.evac_law.specs.Building.{IsValid};
 ghost use Rattle.line_io.specs.Calls.{Asks};
 ghost use Rattle.line_io.specs.Causes.{Rose};
@@ -49,8 +49,33 @@ impl Listener for ModelReader {
     }
 }
 
-// The answer where so many lines went by.
+// Why there is no building, where the lines ended otherwise than by the model's end.
 #[tactic(auto, unfolding(line_io::specs::Line::input_limit))]
+fn fault_of(ending: Ending<Refusal>, number: u32) -> Option<ModelFault>
+    requires { number ≤ input_limit }
+    ensures none { result ≡ None → ending ≡ Ending.Finished }
+    ensures some { IfSome result (λ fault. (reader : ModelReader) → ConcludesModel ending reader number (Err fault)) }
+    ensures caused { result ≡ Some ModelFault.ReadFault → ending ≡ Ending.Fault LineFault.ReadFault }
+    ensures quiet { ending ≡ Ending.Fault LineFault.ReadFault → result ≡ Some ModelFault.ReadFault }
+{
+    let code = match ending {
+        Ending::Finished => return None,
+        Ending::Failed(Refusal::Code(code)) => {
+            return Some(ModelFault::Named { code, line: number });
+        }
+        Ending::Failed(Refusal::Memory) => return Some(ModelFault::Memory),
+        Ending::InputEnded => Code::MissingEnd,
+        Ending::Fault(LineFault::LineTooLong) => Code::LineTooLong,
+        Ending::Fault(LineFault::InputTooLong) => Code::InputTooLong,
+        Ending::Fault(LineFault::ReadFault) => return Some(ModelFault::ReadFault),
+    };
+    Some(ModelFault::Named {
+        code,
+        line: number + 1,
+    })
+}
+
+// The answer where so many lines went by.
 fn conclude(
     reader: ModelReader,
     ending: Ending<Refusal>,
@@ -61,21 +86,10 @@ fn conclude(
     ensures caused { result ≡ Err ModelFault.ReadFault → ending ≡ Ending.Fault LineFault.ReadFault }
     ensures quiet { ending ≡ Ending.Fault LineFault.ReadFault → result ≡ Err ModelFault.ReadFault }
 {
-    let code = match ending {
-        Ending::Finished => return finish(reader.alloc, reader.builder, number),
-        Ending::Failed(Refusal::Code(code)) => {
-            return Err(ModelFault::Named { code, line: number });
-        }
-        Ending::Failed(Refusal::Memory) => return Err(ModelFault::Memory),
-        Ending::InputEnded => Code::MissingEnd,
-        Ending::Fault(LineFault::LineTooLong) => Code::LineTooLong,
-        Ending::Fault(LineFault::InputTooLong) => Code::InputTooLong,
-        Ending::Fault(LineFault::ReadFault) => return Err(ModelFault::ReadFault),
-    };
-    Err(ModelFault::Named {
-        code,
-        line: number + 1,
-    })
+    match fault_of(ending, number) {
+        Some(fault) => Err(fault),
+        None => finish(reader.alloc, reader.builder, number),
+    }
 }
 
 /// Reads a model from lines, up to its end, or answers the first fault of the lines.
