@@ -1,0 +1,17 @@
+mod Counts
+mod Plain
+mod WaitingCut
+mod Gaps
+mod Tables
+mod Steps
+mod Growing
+mod Duality
+mod Delays
+mod Values
+mod Rooms
+mod Looser
+mod Exits
+mod Ways
+mod Pace
+mod Leaving
+mod People

@@ -1,0 +1,43 @@
+-- What it costs at most that arcs can't be entered for some moments.
+use Rattle.std.specs.Prelude.{◌≡◌, ◌≢◌, ℕ, ◌+◌, ◌-◌, ◌<◌, ◌≤◌, if◌then◌else◌, ◌==◌, List, length, Ok}
+use Rattle.std.specs.List.{sum_by}
+use Rattle.evac_law.specs.declared.edit.Edit.{Edit}
+use Rattle.evac_law.specs.declared.edit.Edit.TheVariants.{Window}
+use Rattle.evac_law.specs.declared.model.Model.{Model}
+use Rattle.evac_law.specs.declared.plan.Move.{Move}
+use Rattle.evac_law.specs.Building.{IsValid, arc_at, head, people, rate, tail}
+use Rattle.evac_law.specs.Certificates.{IsClearable}
+use Rattle.evac_law.specs.Edits.{applied}
+use Rattle.evac_law.specs.Plans.{IsFeasible, out_by}
+use Rattle.evac_law.specs.Sums.{moments_to}
+use Rattle.building_laws.specs.Duality.{IsBestAt}
+use Rattle.building_laws.specs.Rooms.{HasRoom, HasSteadyRates}
+
+-- a second model is the same, but that the rate of one arc is another at no more than w moments up to the horizon
+pub record IsDisturbed (m m' : Model) (a w : ℕ) : Type 0 where
+  pub horizon : m.horizon ≡ m'.horizon
+  pub nodes : m.nodes ≡ m'.nodes
+  pub entrants : m.entrants ≡ m'.entrants
+  pub arcs : length m.arcs ≡ length m'.arcs
+  pub tails : (b : ℕ) → tail m b ≡ tail m' b
+  pub heads : (b : ℕ) → head m b ≡ head m' b
+  pub travels : (b : ℕ) → (arc_at m b).travel ≡ (arc_at m' b).travel
+  pub others : (b t : ℕ) → b < length m.arcs → b ≢ a → t ≤ m.horizon → rate m b t ≡ rate m' b t
+  pub seldom : sum_by (λ t. if rate m' a t == rate m a t then 0 else 1) (moments_to m.horizon) ≤ w
+
+-- w moments later a best plan of the second model has as many out as any plan of the first; and where a plan of the first has everybody out
+-- w moments before the horizon, the second can be cleared
+pub record DelaysBy (m m' : Model) (w : ℕ) : Type 0 where
+  pub later : (p q : List Move) (k : ℕ) → k + w ≤ m.horizon → IsFeasible m p k → IsBestAt m' q (k + w) → out_by m p k ≤ out_by m' q (k + w)
+  pub clears : (p : List Move) (k : ℕ) → k + w ≤ m.horizon → IsFeasible m p k → out_by m p k ≡ people m → IsClearable m'
+
+-- where rates are steady and there is room, one arc that is disturbed at no more than w moments delays nobody by more than w
+abbrev pub OneArcDelaysLittle : Type 0
+OneArcDelaysLittle =
+    (m m' : Model) (a w : ℕ) → IsValid m → IsValid m' → IsDisturbed m m' a w → HasSteadyRates m → HasRoom m → DelaysBy m m' w
+
+-- so one window of an arc delays nobody by more than its length
+abbrev pub WindowDelaysByItsLength : Type 0
+WindowDelaysByItsLength =
+    (m m' : Model) (a from until : ℕ) (e : Edit) → IsValid m → a < length m.arcs → applied m (Window a from until) ≡ Ok (m', e)
+    → HasSteadyRates m → HasRoom m → DelaysBy m m' (until - from)

@@ -1,0 +1,14 @@
+pub use Rattle.evac_law.specs.Building
+pub use Rattle.evac_law.specs.Certificates
+pub use Rattle.evac_law.specs.Cuts
+pub use Rattle.evac_law.specs.Edits
+pub use Rattle.evac_law.specs.Plans
+pub use Rattle.evac_law.specs.Sums
+pub mod Duality
+pub mod Rooms
+pub mod Looser
+pub mod People
+pub mod Exits
+pub mod Delays
+pub mod Ways
+pub mod Pace

@@ -1,0 +1,92 @@
+//! The laws, each the contract of a function with nothing to do.
+ghost use Rattle.building_laws.specs.Delays.{OneArcDelaysLittle, WindowDelaysByItsLength};
+ghost use Rattle.building_laws.specs.Duality.{BestAtEveryMoment, MostIsReached};
+ghost use Rattle.building_laws.specs.Exits.{TwoExitsCostMost};
+ghost use Rattle.building_laws.specs.Looser.{LooserKeepsPlans, LooseningKeepsPlans};
+ghost use Rattle.building_laws.specs.Pace.{PaceNeverFalls};
+ghost use Rattle.building_laws.specs.People.{FewerAreNoLater, MoreAreNoSooner, ShiftedChangeLittle};
+ghost use Rattle.building_laws.specs.Rooms.{NoWindowsAreSteady, NobodyLaterHasRoom, RoomEditsKeepMost, RoomsKeepMost};
+ghost use Rattle.building_laws.specs.Ways.{WaysKeepPace};
+
+/// Where some plan is feasible up to a moment, one plan is best by every moment up to then at once, and cuts show it.
+pub fn best_at_every_moment()
+    ensures { BestAtEveryMoment }
+{}
+
+/// Where some plan is feasible up to the horizon, as many people can get out by then as the least cut is worth.
+pub fn most_is_reached()
+    ensures { MostIsReached }
+{}
+
+/// Rates are steady where no door, corridor or stair is closed for a time.
+pub fn no_windows_are_steady()
+    ensures { NoWindowsAreSteady }
+{}
+
+/// Each node has room for all who come into it from nowhere, where everybody is inside at the start.
+pub fn nobody_later_has_room()
+    ensures { NobodyLaterHasRoom }
+{}
+
+/// Where rates are steady and there is room, the capacity of a room, hall or stair changes neither how many can be out by a moment nor
+/// whether everybody can get out. The plan, and when a room is empty, may change.
+pub fn rooms_keep_most()
+    ensures { RoomsKeepMost }
+{}
+
+/// So it is after an edit of a capacity, where there is room before and after it.
+pub fn room_edits_keep_most()
+    ensures { RoomEditsKeepMost }
+{}
+
+/// A wider door, a larger room, or a door or an exit that is opened never harms: each plan stays feasible, with as many out.
+pub fn looser_keeps_plans()
+    ensures { LooserKeepsPlans }
+{}
+
+/// So it is after an edit that reopens, takes a window away, or sets a rate or a capacity that is no smaller.
+pub fn loosening_keeps_plans()
+    ensures { LooseningKeepsPlans }
+{}
+
+/// Where w people leave a room before it begins, by each moment never more are out and at most w fewer, and what could be cleared can be.
+pub fn fewer_are_no_later()
+    ensures { FewerAreNoLater }
+{}
+
+/// Where w people more start in a room, by each moment never fewer are out and at most w more.
+pub fn more_are_no_sooner()
+    ensures { MoreAreNoSooner }
+{}
+
+/// Where w people start in one room rather than in another, by each moment at most w more or fewer are out.
+pub fn shifted_change_little()
+    ensures { ShiftedChangeLittle }
+{}
+
+/// Two exits lost together keep inside, by each moment, at least as many people as each of them lost alone, added up.
+pub fn two_exits_cost_most()
+    ensures { TwoExitsCostMost }
+{}
+
+/// Where rates are steady and there is room, one door, corridor or stair that is disturbed at no more than w moments delays nobody by more
+/// than w.
+pub fn one_arc_delays_little()
+    ensures { OneArcDelaysLittle }
+{}
+
+/// So it is with one closure of w moments.
+pub fn window_delays_by_its_length()
+    ensures { WindowDelaysByItsLength }
+{}
+
+/// Where from each room with people a way for r at once is no longer than u, from moment u on r more are out at each moment until all are; so
+/// all are out by u + (people - 1) / r, and a horizon that leaves time for that is enough.
+pub fn ways_keep_pace()
+    ensures { WaysKeepPace }
+{}
+
+/// While fewer are out than start in any room with people, no fewer come out at a moment than at the one before.
+pub fn pace_never_falls()
+    ensures { PaceNeverFalls }
+{}

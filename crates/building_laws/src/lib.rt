@@ -1,0 +1,14 @@
+//! Laws that hold of every building: what capacities, closures, lost exits, wider doors and other numbers of people can and can't change.
+//!
+//! They are statements on definitions alone, and know of no solver. Each is the contract of a function with nothing to do.
+//! They speak of plans that are best at a moment within the horizon, whether or not everybody can get out.
+#![tactic(auto)]
+
+mod laws;
+
+pub use laws::{
+    best_at_every_moment, fewer_are_no_later, loosening_keeps_plans, looser_keeps_plans,
+    more_are_no_sooner, most_is_reached, no_windows_are_steady, nobody_later_has_room,
+    one_arc_delays_little, pace_never_falls, room_edits_keep_most, rooms_keep_most,
+    shifted_change_little, two_exits_cost_most, ways_keep_pace, window_delays_by_its_length,
+};
