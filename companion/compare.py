@@ -1,0 +1,78 @@
+"""Buildings, or a building and its edits, side by side."""
+from __future__ import annotations
+
+from dataclasses import dataclass
+from typing import List, Optional
+
+from companion.building import Building
+from companion.codes import cleared_by, refusal
+from companion.ending import Status, Stop
+from companion.printed import table
+from companion.program import Reply, Talk
+
+
+@dataclass(frozen=True)
+class Column:
+    """One building of a comparison: its name, and its numbers or how many can be out of it. Moments are in periods of `period` seconds."""
+
+    name: str
+    period: int
+    people: int
+    most: int
+    cleared: Optional[int] = None
+    uncongested: int = 0
+    personperiods: int = 0
+    curve: tuple = ()
+
+    def seconds_by(self, share: float) -> str:
+        """The seconds by which a share of the people is out."""
+        moment = next((k for k, out in enumerate(self.curve) if out >= share * self.people), None)
+        return "" if moment is None else f"{moment * self.period} s"
+
+
+def column_of(name: str, building: Building, block: Reply, report: Optional[Reply]) -> Column:
+    """The numbers of a block and of its summary."""
+    people = block.number("people")
+    if report is None:
+        return Column(name, building.period, people, block.number("most"))
+    curve = tuple(int(line[2]) for line in block.lines if line[0] == "out")
+    walk, total = report.number("uncongested"), report.number("personperiods")
+    return Column(name, building.period, people, people, block.number("cleared"), walk, total, curve)
+
+
+def edited_column(talk: Talk, building: Building, name: str, edits: str) -> Column:
+    """The building of a session after some edits with `;` between them, made one after the other."""
+    reply, wanted = talk.opening, [edit.strip() for edit in edits.split(";") if edit.strip()]
+    for at, edit in enumerate(wanted):
+        cleared_by(reply, wanted[at - 1] if at else name)
+        reply = talk.ask(edit)
+        if reply.code and not reply.is_short:
+            raise Stop(f"{edit}: {refusal(reply, is_command=True)}", Status.REFUSED)
+        if reply.word not in ("answer", "refused"):
+            raise Stop(f"{edit}: that is no edit, and changes nothing", Status.WORDS)
+    return column_of(edits or name, building, reply, None if reply.is_short else talk.ask("summary"))
+
+
+def compare_lines(columns: List[Column]) -> List[str]:
+    """The table, a line for each building. Later and sooner is against the first."""
+    first = columns[0]
+    rows = [["cleared", "seconds", "change", "half out", "95 of 100", "mean", "people", "building"]]
+    for it in columns:
+        if it.cleared is None:
+            rows.append([f"short {it.most}", "", "", "", "", "", f"{it.people}", it.name])
+            continue
+        mean = f"{it.personperiods * it.period / it.people:.0f} s" if it.people else ""
+        numbers = [f"{it.cleared}", f"{it.cleared * it.period} s", change(it, first), it.seconds_by(0.5), it.seconds_by(0.95), mean]
+        rows.append([*numbers, f"{it.people}", it.name])
+    lines = table(rows, "rrrrrrrl")
+    if any(it.cleared is None for it in columns):
+        lines.append("`short` is how many can be out by the horizon at most, where not all can.")
+    return lines
+
+
+def change(it: Column, first: Column) -> str:
+    """The seconds by which it is later than the first, with a sign."""
+    if it is first or first.cleared is None or it.cleared is None:
+        return ""
+    later = it.cleared * it.period - first.cleared * first.period
+    return f"{later:+} s" if later else "same"

@@ -1,0 +1,78 @@
+"""The short answer: how many people, when they are out, what congestion costs, and what decides."""
+from __future__ import annotations
+
+from typing import List
+
+from companion.building import Building
+from companion.printed import OWN, some, table
+from companion.program import Reply, Talk
+from companion.walks import walking_bound
+from companion.why import cut_at, cut_lines, head_line
+
+
+def summary(talk: Talk, building: Building) -> List[str]:
+    """The lines of `evacask summary` for a building from which everybody gets out, from a session on it."""
+    report = talk.ask("summary")
+    people, cleared = report.number("people"), report.number("cleared")
+    lines = [building.title] if building.title else []
+    lines += table(figures(building, report), "ll")
+    if people and cleared:
+        cut = cut_at(talk, None)
+        lines += [head_line(building, cut, people), *cut_lines(building, cut)]
+    lines += bound_lines(building)
+    return lines
+
+
+def figures(building: Building, report: Reply) -> List[List[str]]:
+    """The rows of figures, each with its name."""
+    people, cleared = report.number("people"), report.number("cleared")
+    walk, sum_of_moments = report.number("uncongested"), report.number("personperiods")
+    rows = [["people", f"{people}"], ["cleared", f"{at(building, cleared)}: no plan has them all out sooner"]]
+    rows.append(["uncongested", f"{at(building, walk)}: the longest walk of those inside at first, with nobody in the way"])
+    rows.append(["congestion", price(building, cleared, walk)])
+    if people:
+        mean = sum_of_moments / people
+        rows.append(["mean", f"{mean:.1f}, {mean * building.period:.0f} s: when a person is out, on average"])
+    return rows
+
+
+def at(building: Building, moment: int) -> str:
+    return f"{moment}, {building.seconds(moment)} s"
+
+
+def price(building: Building, cleared: int, walk: int) -> str:
+    """What congestion costs: the time between the longest walk and the last one out."""
+    costs = f"costs {some(cleared - walk, 'period')}, {building.seconds(cleared - walk)} s"
+    if walk and cleared:
+        costs += f": cleared is {cleared / walk:.1f} times the longest walk"
+    if building.is_steady:
+        return costs
+    return costs + "; windows and people who come later are in it too"
+
+
+def bound_lines(building: Building) -> List[str]:
+    """The walking bound, where its premises hold."""
+    bound = walking_bound(building)
+    if bound is None:
+        return []
+    walk = f"From each room {some(bound.rate, 'person', 'people')} at once can walk out within {some(bound.periods, 'period')}"
+    return [f"{OWN}: a best plan is over by {at(building, bound.moment)}, at the latest.", f"{walk} (law: walking bound)."]
+
+
+def shortfall(building: Building, reply: Reply) -> List[str]:
+    """What is said of a building from which not everybody can be out by the horizon."""
+    most, people = reply.number("most"), reply.number("people")
+    horizon = f"the horizon, {at(building, building.horizon)}"
+    lines = [f"Not everybody can be out by {horizon}: at most {most} of {people} can."]
+    runs = [line[1:] for line in reply.lines if line[0] == "in"]
+    caught = [name for name, first, last in runs if (int(first), int(last)) == (0, building.horizon)]
+    lines.append("The people who are too many are in these nodes, at these moments:")
+    rows = [[name, f"{first} to {last}", building.named(name)] for name, first, last in runs]
+    return lines + table(rows, "lll") + remedies(caught)
+
+
+def remedies(caught: List[str]) -> List[str]:
+    """What to look for in a building that can't be cleared."""
+    if not caught:
+        return ["Raise the horizon, or widen what leads out of them."]
+    return [f"Look first whether a way leads out from {', '.join(caught)}. Else raise the horizon, or widen what leads out."]

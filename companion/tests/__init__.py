@@ -1,0 +1,1 @@
+"""Tests of evacask against the built program: companion/tests/run."""

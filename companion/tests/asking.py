@@ -1,0 +1,70 @@
+"""What the tests share: evacask run as a command, and the buildings that it is asked about."""
+import io
+import os
+import pathlib
+import subprocess
+import sys
+from dataclasses import dataclass
+from typing import Union
+
+from companion.main import main
+
+TOP = pathlib.Path(__file__).resolve().parent.parent.parent
+EXAMPLES = sorted((TOP / "examples").glob("*.evac"))
+DATA = TOP / "companion/tests/data"
+MODELS = sorted(DATA.glob("*.evac"))
+OFFICE, SCHOOL = TOP / "examples/office.evac", TOP / "examples/school.evac"
+METRO, TOWER = DATA / "metro.evac", DATA / "tower.evac"
+
+
+@dataclass
+class Ended:
+    """How a run ended, and what it printed on each stream."""
+
+    status: int
+    out: str
+    err: str
+
+    @property
+    def lines(self) -> list:
+        return self.out.splitlines()
+
+
+def ask(*words: object, text: Union[str, bytes] = "") -> Ended:
+    """What evacask answers to some words and a text, asked in this process."""
+    given, streams = text.encode() if isinstance(text, str) else text, (sys.stdin, sys.stdout, sys.stderr)
+    source, out, err = (io.TextIOWrapper(io.BytesIO(it), "utf-8", "surrogateescape", newline="") for it in (given, b"", b""))
+    try:
+        sys.stdin, sys.stdout, sys.stderr = source, out, err
+        status = main([str(word) for word in words])
+    finally:
+        sys.stdin, sys.stdout, sys.stderr = streams
+    printed = []
+    for stream in (out, err):
+        stream.flush()
+        printed.append(stream.buffer.getvalue().decode("utf-8", "surrogateescape"))
+    return Ended(status, *printed)
+
+
+def run(*words: object, text: bytes = b"", **settings: str) -> Ended:
+    """Runs evacask as a command, with settings of the environment beside those that are there."""
+    command = [sys.executable, "-B", str(TOP / "evacask"), *(str(word) for word in words)]
+    ran = subprocess.run(command, input=text, capture_output=True, env={**os.environ, **settings}, timeout=120)
+    return Ended(ran.returncode, ran.stdout.decode("utf-8", "surrogateescape"), ran.stderr.decode("utf-8", "surrogateescape"))
+
+
+def program() -> str:
+    """The program that evacask asks."""
+    return os.environ.get("EVACPLAN", str(TOP / "crates/evacplan/out/evacplan"))
+
+
+def solved(text: bytes, *words: str) -> str:
+    """What the program itself prints."""
+    return subprocess.run([program(), *words], input=text, capture_output=True, timeout=120).stdout.decode("utf-8", "surrogateescape")
+
+
+def edited(path: pathlib.Path, old: str, new: str) -> str:
+    """The text of a building with something changed once."""
+    text = path.read_text()
+    assert old in text, old
+    return text.replace(old, new, 1)

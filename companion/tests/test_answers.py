@@ -1,0 +1,186 @@
+"""The short answer, what each way costs, the cut, the least width and comparisons."""
+import csv
+import io
+import re
+import unittest
+
+from companion.tests.asking import EXAMPLES, METRO, MODELS, OFFICE, SCHOOL, TOWER, TOP, ask, edited, solved
+
+
+def number(text: str, word: str) -> int:
+    return int(re.search(rf"^{word} (\d+)", text, re.M)[1])
+
+
+class Summary(unittest.TestCase):
+    def test_its_numbers_are_the_program_s(self):
+        for path in EXAMPLES + MODELS:
+            with self.subTest(path.name):
+                said, report = ask("summary", path), solved(path.read_bytes(), "solve", "--reports")
+                self.assertEqual((said.status, said.err), (0, ""))
+                people, cleared = number(report, "people"), number(report, "cleared")
+                shown = "\n".join(said.lines[:10])
+                self.assertRegex(shown, rf"people +{people}\n")
+                self.assertRegex(shown, rf"cleared +{cleared}, {number(report, 'seconds')} s")
+                self.assertRegex(shown, rf"uncongested +{number(report, 'uncongested')}, ")
+                out = int(re.search(rf"^out {cleared - 1} (\d+)", report, re.M)[1])
+                self.assertIn(f"At most {out} of {people} can be out by moment {cleared - 1} ", shown)
+
+    def test_the_walking_bound_is_printed_where_its_premises_hold(self):
+        for path in EXAMPLES + MODELS:
+            with self.subTest(path.name):
+                said = ask("summary", path).out
+                found = re.search(r"not proved: a best plan is over by (\d+), ", said)
+                self.assertEqual(bool(found), not re.search(r"^(window|entrant) ", path.read_text(), re.M))
+                if found:
+                    cleared = int(re.search(r"cleared +(\d+),", said)[1])
+                    self.assertLessEqual(cleared, int(found[1]))
+                    self.assertIn("law: walking bound", said)
+
+    def test_a_building_that_can_t_be_cleared(self):
+        said = ask("summary", "-", text=edited(OFFICE, "arc WP1.3 HA1.3 1 6\n", ""))
+        self.assertEqual((said.status, said.err), (1, ""))
+        self.assertIn("at most 195 of 240 can", said.lines[0])
+        self.assertIn("Look first whether a way leads out from WP1.3.", said.out)
+
+    def test_nobody_inside(self):
+        said = ask("summary", "-", text=edited(TOP / "examples/one_room.evac", "10 3", "10 0"))
+        self.assertEqual((said.status, said.err), (0, ""))
+        self.assertRegex(said.out, r"people +0\n")
+
+
+class Ways(unittest.TestCase):
+    def test_each_arc_and_exit_is_the_program_s_word(self):
+        said = ask("ways", SCHOOL, "--csv")
+        rows = list(csv.DictReader(io.StringIO(said.out)))
+        self.assertEqual(len(rows), 20 + 2)
+        text = SCHOOL.read_bytes()
+        for row in rows:
+            edit = f"shut {row['from']} {row['to']}" if row["from"] else f"shutexit {row['to']}"
+            blocks = solved(text + f"{edit}\n".encode(), "session").split("end\n")[1:]
+            wanted = re.search(r"^(cleared|most) (\d+)", blocks[0], re.M)
+            self.assertEqual(row["without"] if wanted[1] == "cleared" else row["without_out"], wanted[2], row)
+            self.assertEqual(row["as_it_is"], "22")
+            if row["from"]:
+                blocks = solved(text + f"rate {row['from']} {row['to']} 10000\n".encode(), "session").split("end\n")[1:]
+                self.assertEqual(row["widened"], str(number(blocks[0], "cleared")), row)
+
+    def test_the_first_lines_say_which_way_decides(self):
+        said = ask("ways", SCHOOL).lines
+        self.assertIn("More rate helps most at LO2.1 DS2.1: 85 s.", said[0])
+        self.assertIn("LO1.1 DS1.1 costs most: without it 275 s.", said[0])
+        self.assertTrue(any(re.match(r" +145 s +110 s +85 s  LO2.1 DS2.1  Foot of stair 2 to Door at stair 2", line) for line in said[:10]))
+
+    def test_another_rate(self):
+        said = ask("ways", SCHOOL, "--rate", 5).lines
+        self.assertIn("rate 5", said[1])
+        self.assertTrue(any(re.match(r" +145 s +110 s +100 s  LO2.1 DS2.1", line) for line in said), said)
+
+    def test_what_costs_most_comes_first(self):
+        for path in EXAMPLES + [METRO]:
+            with self.subTest(path.name):
+                said = ask("ways", path)
+                self.assertEqual((said.status, said.err), (0, ""))
+                costs = [re.match(r" *(short )?(\d+)( s)? ", line) for line in said.lines[2:]]
+                costs = [(not it[1], int(it[2]) * (1 if it[1] else -1)) for it in costs if it]
+                self.assertEqual(costs, sorted(costs))
+
+    def test_a_tower(self):
+        said = ask("ways", TOWER)
+        self.assertEqual((said.status, said.err), (0, ""))
+        self.assertRegex(said.lines[0], "Everybody is out after 850 s.")
+
+    def test_a_building_that_can_t_be_cleared(self):
+        said = ask("ways", "-", text=edited(OFFICE, "horizon 120", "horizon 20"))
+        self.assertEqual((said.status, said.out), (1, ""))
+        self.assertRegex(said.err, r"^evacask: -: at most \d+ of 240 can be out by the horizon; [^\n]*\n$")
+
+
+class Why(unittest.TestCase):
+    def test_the_items_of_each_period_add_up(self):
+        for path in EXAMPLES + MODELS:
+            report = solved(path.read_bytes(), "solve")
+            cleared = number(report, "cleared")
+            for period in {0, 1, cleared // 2, cleared - 1}:
+                with self.subTest(path.name, period=period):
+                    said = ask("why", path, period)
+                    self.assertEqual((said.status, said.err), (0, ""))
+                    out = int(re.search(rf"^out {period} (\d+)", report, re.M)[1])
+                    self.assertRegex(said.lines[0], rf"^At most {out} of \d+ can be out by moment {period} ")
+                    self.assertEqual(sum(int(line.split()[0]) for line in said.lines[2:-1]), out)
+
+    def test_without_a_period_it_is_the_one_below_cleared(self):
+        said = ask("why", OFFICE).lines
+        self.assertEqual(said[0], "At most 236 of 240 can be out by moment 27 (135 s). Each of them counts here:")
+        self.assertEqual(said[2].split(None, 1), ["60", "beyond it from the first: WP1.1"])
+        self.assertEqual(said[3].split(), "88 SW1.2 LO1.1 2 to 23 10 to 115".split())
+
+    def test_a_closed_way_is_said(self):
+        self.assertIn("closed at 12 to 29", ask("why", TOP / "examples/stair_repair.evac").out)
+
+    def test_periods_beyond(self):
+        self.assertIn("All 240 are out by moment 28", ask("why", OFFICE, 28).out)
+        said = ask("why", OFFICE, 121)
+        self.assertEqual((said.status, said.out, said.err.count("\n")), (1, "", 1))
+
+
+class Wide(unittest.TestCase):
+    def test_the_least_rate_is_the_study_s(self):
+        said = ask("wide", SCHOOL, "LO1.1", "DS1.1", 104)
+        wanted = re.search(r"^least LO1.1 DS1.1 20 (\d+)", solved(SCHOOL.read_bytes() + b"least LO1.1 DS1.1 20\n", "study"), re.M)[1]
+        self.assertIn(f"needs a rate of {wanted} for everybody to be out by moment 20, 100 s; it has 9 now.", said.lines[0])
+        self.assertIn("With 10 at most 198 of 200", said.lines[1])
+
+    def test_a_width_lets_through_its_rate_and_a_centimetre_less_does_not(self):
+        from companion.passages import GREATEST_FLOWS, SIDES
+        from companion.wide import centimetres
+
+        for kind in GREATEST_FLOWS:
+            for rate in range(1, 40):
+                width = float(centimetres(rate, 5, kind, SIDES[kind]).split()[0])
+                lets = [GREATEST_FLOWS[kind] * (it - SIDES[kind]) * 5 for it in (width, width - 0.01)]
+                self.assertTrue(lets[0] >= rate - 1e-9 and lets[1] < rate, (kind, rate))
+
+    def test_never_and_not_at_all(self):
+        self.assertIn("No rate of LO1.1 DS1.1 is enough: with 10,000 at most 180 of 240", ask("wide", OFFICE, "LO1.1", "DS1.1", 100).out)
+        self.assertIn("HA1.3 SW1.3 isn't needed at all", ask("wide", OFFICE, "HA1.3", "SW1.3", 400).out)
+
+    def test_names_that_are_not_there(self):
+        for words, wanted in (
+            (("LO1.2", "DS1.1", 100), "no node LO1.2 in the building; near it: LO1.1"),
+            (("DS1.1", "LO1.1", 100), "no arc from DS1.1 to LO1.1; there is one from LO1.1 to DS1.1"),
+            (("HA1.3", "DS1.1", 100), "no arc from HA1.3 to DS1.1; from HA1.3 there are arcs to SW1.3, SW2.3"),
+            (("LO1.1", "DS1.1", 700), "600 s ahead"),
+        ):
+            said = ask("wide", OFFICE, *words)
+            self.assertEqual((said.status, said.out, said.err.count("\n")), (1, "", 1))
+            self.assertIn(wanted, said.err)
+
+
+class Compare(unittest.TestCase):
+    def test_edits_side_by_side(self):
+        said = ask("compare", OFFICE, "--edit", "shutexit DS2.1", "--edit", "shut HA1.3 SW1.3; rate LO1.1 DS1.1 9", "--edit", "shutexit DS1.1")
+        self.assertEqual((said.status, said.err), (0, ""))
+        self.assertEqual(said.lines[1].split(), f"28 140 s 65 s 130 s 70 s 240 {OFFICE}".split())
+        self.assertEqual(said.lines[2].split(), "50 250 s +110 s 100 s 235 s 113 s 240 shutexit DS2.1".split())
+        self.assertRegex(said.lines[3], r"^ +31 +155 s +\+15 s .* shut HA1.3 SW1.3; rate LO1.1 DS1.1 9$")
+        self.assertRegex(said.lines[4], r"^short 180 +240  shutexit DS1.1$")
+
+    def test_two_buildings(self):
+        said = ask("compare", OFFICE, SCHOOL)
+        self.assertRegex(said.lines[2], r"^ +22 +110 s +-30 s +70 s +105 s +69 s +200 ")
+
+    def test_edits_that_are_refused(self):
+        for edit, wanted in (
+            ("shut DS2.1", "refused 5"),
+            ("shut LO1.1 SW1.2", "refused 32"),
+            ("shutexit DS1.1; shut HA1.3 SW1.3", "can be out by the horizon"),
+            ("summary", "no edit"),
+        ):
+            said = ask("compare", OFFICE, "--edit", edit)
+            self.assertEqual((said.out, said.err.count("\n")), ("", 1), said.err)
+            self.assertIn(wanted, said.err)
+            self.assertIn(said.status, (1, 2))
+
+
+if __name__ == "__main__":
+    unittest.main()
