@@ -105,10 +105,82 @@ def run_compare(given: argparse.Namespace) -> int:
     return Status.ANSWERED
 
 
+def run_talk(given: argparse.Namespace) -> int:
+    from companion.terminal import converse
+
+    if given.building == "-":
+        raise Stop("talk reads what you type, so the building must be a file", Status.WORDS)
+    it = Asked(given)
+    return converse(it.program, it.building, it.text, given.mode)
+
+
+def run_doubts(given: argparse.Namespace) -> int:
+    from companion.doubts import doubts, doubts_lines
+
+    it = Asked(given)
+    with it.talk() as talk:
+        if talk.opening.is_short:
+            found = doubts(it.building, None, 0)
+        else:
+            found = doubts(it.building, talk.opening.number("cleared"), talk.ask("summary").number("uncongested"))
+    show(doubts_lines(it.building, found))
+    return Status.REFUSED if found else Status.ANSWERED
+
+
+def run_explain(given: argparse.Namespace) -> int:
+    from companion.explain import MODES, code_lines, explained
+
+    if given.what.isdigit():
+        if given.more is not None and not given.more.isdigit():
+            raise Stop(f"after a code comes the number of a line, and not {given.more}", Status.WORDS)
+        show(code_lines(int(given.what), None if given.more is None else int(given.more)))
+        return Status.ANSWERED
+    mode = given.more or "solve"
+    if mode not in MODES:
+        raise Stop(f"there is no mode {mode}: the modes are {', '.join(MODES)}", Status.WORDS)
+    said = explained(find_program(given.program), text_of(given.what), mode)
+    show(said or [f"{mode} refuses nothing"])
+    return Status.REFUSED if said else Status.ANSWERED
+
+
+def run_tables(given: argparse.Namespace) -> int:
+    from companion.codes import cleared_by
+    from companion.tables import write_table, write_walks
+
+    it = Asked(given)
+    if given.kind == "walks":
+        write_walks(it.building)
+        return Status.ANSWERED
+    with it.talk() as talk:
+        write_table(it.building, cleared_by(talk.opening, it.name), given.kind)
+    return Status.ANSWERED
+
+
+def run_metres(given: argparse.Namespace) -> int:
+    from companion.metres import both_lines, building_text, marked
+
+    text = text_of(given.plan)
+    if given.rounding == "both":
+        show(both_lines(find_program(given.program), text, given.plan, given.period))
+    elif len(given.period) > 1:
+        raise Stop("several periods go with --both alone", Status.WORDS)
+    else:
+        is_up = given.rounding == "up"
+        sys.stdout.write(marked(building_text(text, given.plan, given.period[0] if given.period else None, is_up), is_up))
+    return Status.ANSWERED
+
+
 def number(text: str) -> int:
     """A number of the command line, without a sign."""
     if not text.isdigit():
         raise argparse.ArgumentTypeError(f"{text} is no whole number")
+    return int(text)
+
+
+def period(text: str) -> int:
+    """A period of the command line, in seconds."""
+    if not text.isdigit() or not 1 <= int(text) <= 600:
+        raise argparse.ArgumentTypeError(f"{text} is no period: 1 to 600 seconds")
     return int(text)
 
 
@@ -168,6 +240,58 @@ def parser() -> Words:
     it.add_argument("building", metavar="BUILDING", help=of_building)
     it.add_argument("others", metavar="OTHER", nargs="*", help="another building")
     it.add_argument("--edit", action="append", default=[], metavar="EDITS", help="the building after these edits")
+
+    it = command(
+        commands,
+        "talk",
+        run_talk,
+        "A session at a terminal, with a prompt, history, completion of names, and a line for each block",
+        "It answers the commands of a session, a study or a replan (docs/FORMATS.md), and whole, help and quit. Lines may come from a pipe too.",
+    )
+    it.add_argument("building", metavar="BUILDING", help="a file with a building")
+    modes = it.add_mutually_exclusive_group()
+    modes.add_argument("--study", dest="mode", action="store_const", const="study", default="session", help="a study of exits and rates")
+    modes.add_argument("--replan", dest="mode", action="store_const", const="replan", help="a session whose plan is carried out")
+
+    it = command(
+        commands,
+        "doubts",
+        run_doubts,
+        "What the language allows and is often a mistake",
+        "A doubt is evacask's own and is no fault: whoever made the building knows better. Without a doubt nothing is printed, and the status is 0.",
+    )
+    it.add_argument("building", metavar="BUILDING", help=of_building)
+
+    it = command(
+        commands,
+        "explain",
+        run_explain,
+        "A refusal, as its line of the building, its meaning and its remedy",
+        "With a building it is run, and each refusal explained; where commands or a block come after the building, name the mode.",
+    )
+    it.add_argument("what", metavar="BUILDING|CODE", help=f"{of_building}; or a code, as in `refused 13 33`")
+    it.add_argument("more", metavar="MODE|LINE", nargs="?", help="the mode that refuses (solve); or after a code the number of the line")
+
+    it = command(
+        commands,
+        "tables",
+        run_tables,
+        "Tables over time for a spreadsheet, as CSV",
+        "exits: how many are out by each exit at each moment; nodes: how many are in each node and stay there; arcs: how many enter each arc;",
+        "walks: the quickest way out of each node with nobody in the way. The first three are of the printed plan: other best plans may differ.",
+    )
+    it.add_argument("kind", metavar="exits|nodes|arcs|walks", choices=("exits", "nodes", "arcs", "walks"))
+    it.add_argument("building", metavar="BUILDING", help=of_building)
+
+    from companion.metres import PARTS
+
+    it = command(commands, "metres", run_metres, "Ways in metres become arcs, by the figures of docs/FIGURES.md", PARTS)
+    it.add_argument("plan", metavar="PLAN", help="a file with a plan, or - for standard input")
+    it.add_argument("--period", type=period, action="append", default=[], metavar="N", help="a period of N seconds, and not that of the plan")
+    sides = it.add_mutually_exclusive_group()
+    sides.add_argument("--down", dest="rounding", action="store_const", const="down", default="down", help="rates down, travels up (so it is without a word)")
+    sides.add_argument("--up", dest="rounding", action="store_const", const="up", help="rates up, travels down, at free speeds")
+    sides.add_argument("--both", dest="rounding", action="store_const", const="both", help="the answers of both, for each --period, in a table")
     return top
 
 

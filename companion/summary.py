@@ -6,7 +6,7 @@ from typing import List
 from companion.building import Building
 from companion.printed import OWN, some, table
 from companion.program import Reply, Talk
-from companion.walks import walking_bound
+from companion.walks import walking_bound, walks
 from companion.why import cut_at, cut_lines, head_line
 
 
@@ -62,17 +62,21 @@ def bound_lines(building: Building) -> List[str]:
 def shortfall(building: Building, reply: Reply) -> List[str]:
     """What is said of a building from which not everybody can be out by the horizon."""
     most, people = reply.number("most"), reply.number("people")
-    horizon = f"the horizon, {at(building, building.horizon)}"
-    lines = [f"Not everybody can be out by {horizon}: at most {most} of {people} can."]
-    runs = [line[1:] for line in reply.lines if line[0] == "in"]
-    caught = [name for name, first, last in runs if (int(first), int(last)) == (0, building.horizon)]
-    lines.append("The people who are too many are in these nodes, at these moments:")
-    rows = [[name, f"{first} to {last}", building.named(name)] for name, first, last in runs]
-    return lines + table(rows, "lll") + remedies(caught)
+    lines = [f"Not everybody can be out by the horizon, moment {at(building, building.horizon)}: at most {most} of {people} can."]
+    lines += remedies(building)
+    lines.append("The cut that shows it has these nodes, at these moments:")
+    rows = [[line[1], f"{line[2]} to {line[3]}", building.named(line[1])] for line in reply.lines if line[0] == "in"]
+    return lines + table(rows, "lll")
 
 
-def remedies(caught: List[str]) -> List[str]:
-    """What to look for in a building that can't be cleared."""
-    if not caught:
-        return ["Raise the horizon, or widen what leads out of them."]
-    return [f"Look first whether a way leads out from {', '.join(caught)}. Else raise the horizon, or widen what leads out."]
+def remedies(building: Building) -> List[str]:
+    """What to do, as far as evacask can tell: a way that is missing, or a horizon that is enough."""
+    out = walks(building)
+    caught = [node for node in building.rooms if node.name not in out and node.start]
+    if caught:
+        said = ", ".join(f"{node.name} ({some(node.start or 0, 'person', 'people')})" for node in caught)
+        return [f"{OWN}: no way leads out from {said}. Add the arc that is missing, or turn one round."]
+    bound = walking_bound(building)
+    if bound:
+        return [f"{OWN}: a horizon of {bound.moment} is enough (law: walking bound)."]
+    return ["Raise the horizon. If that doesn't help, see windows, and whether nodes can hold those who come in later."]

@@ -54,7 +54,7 @@ def cut_of(reply: Reply) -> Cut:
 
 def cut_lines(building: Building, cut: Cut) -> List[str]:
     """The items of a cut as a table."""
-    rows = [["people", "place", "moments", "seconds", ""]]
+    rows = [["people", "place", "moments", "seconds", ""]] if cut.items else []
     for item in cut.items:
         moments, seconds = runs_text(item.moments), runs_text(item.moments, building.period)
         named = building.named(*item.names)
@@ -69,8 +69,12 @@ def listed(names: Sequence[str]) -> str:
     return ", ".join(names) if len(names) <= 4 else f"{', '.join(names[:3])} and {len(names) - 3} more"
 
 
-def head_line(building: Building, cut: Cut, people: int) -> str:
-    return f"At most {cut.people} of {people} can be out by moment {cut.period} ({building.seconds(cut.period)} s). Each of them counts here:"
+def head_line(building: Building, cut: Cut, people: Optional[int] = None) -> str:
+    """What the cut says, with the number of all people where it is known."""
+    if not cut.people:
+        return f"Nobody can be out by moment {cut.period} ({building.seconds(cut.period)} s): no walk is so short, or the ways are closed."
+    most = f"{cut.people} of {people}" if people is not None else f"{cut.people}"
+    return f"At most {most} can be out by moment {cut.period} ({building.seconds(cut.period)} s). Each of them counts here:"
 
 
 def cut_at(talk: Talk, period: Optional[int]) -> Cut:

@@ -1,0 +1,190 @@
+"""Ways in metres become arcs, by the figures of docs/FIGURES.md. This is evacask's own arithmetic, which nobody has proved."""
+from __future__ import annotations
+
+import math
+from dataclasses import dataclass
+from typing import Iterator, List, Optional, Tuple
+
+from companion.building import fields_of, lines_of
+from companion.codes import accepted
+from companion.ending import Status, Stop
+from companion.passages import DOOR, GREATEST_FLOWS, LEAF, LEVEL, SIDES, free_speed, speed
+from companion.printed import OWN, table
+from companion.program import Program
+
+PARTS = """A plan is a building in which lines `way FROM TO PART ..` are in place of arcs. The parts of a way, in their order:
+
+    free 11                  metres that one walks alone, as in a room to its door
+    level 18 2.40            a corridor: its length, and its width from wall to wall
+    stair 5.96 1.50 178/279  a stair: its length along the slope, its width between the walls, and its riser/tread
+    door 0.90                a door that is held open: its clear width
+    leaves 1                 a door that isn't held open: its leaves, for 50 people a minute each
+    people 1.56              held to so many people a second, and walked at the speed of that flow
+    comes 0.78               no more than so many a second come: walked at the speed of that flow, with the rate of the width
+
+Lengths and widths are metres. The rate of a way is that of its narrowest part, and each part is walked at the speed for so many people.
+Rates are rounded down and travels up, which errs towards a later clearing time where no arc has a window and nobody comes later.
+With --up rates are rounded up and travels down, for a walk with nobody in the way: it leaves out `people` and `comes`."""
+
+
+@dataclass(frozen=True)
+class Part:
+    """A part of a way: its kind, its length, its effective width, and the people a second that it lets through or to which it is held.
+
+    `held` bounds the rate and the speed where rates are rounded down, and `comes` the speed alone.
+    """
+
+    kind: str
+    length: float = 0.0
+    width: Optional[float] = None
+    most: float = math.inf
+    held: float = math.inf
+    comes: float = math.inf
+
+
+class Fault(Exception):
+    """What is wrong about a line of a plan."""
+
+
+def parts_of(words: List[str]) -> Iterator[Part]:
+    """The parts that the words of a way name."""
+    rest = iter(words)
+
+    def length() -> float:
+        word = next(rest, None)
+        if word is None:
+            raise Fault("a number is missing at its end")
+        try:
+            value = float(word)
+        except ValueError:
+            raise Fault(f"{word} is no number") from None
+        if not 0 < value < 10_000:
+            raise Fault(f"{word} is out of its range")
+        return value
+
+    for word in rest:
+        if word == "free":
+            yield Part(LEVEL, length())
+        elif word == "level":
+            yield passage(LEVEL, length(), length())
+        elif word == "stair":
+            metres, width, kind = length(), length(), next(rest, "")
+            if kind not in GREATEST_FLOWS or kind == LEVEL:
+                raise Fault(f"a stair needs its riser/tread, one of {', '.join(it for it in GREATEST_FLOWS if it != LEVEL)}")
+            yield passage(kind, metres, width)
+        elif word == "door":
+            yield Part(LEVEL, most=GREATEST_FLOWS[LEVEL] * wide_enough(length() - DOOR))
+        elif word == "leaves":
+            yield Part(LEVEL, most=LEAF * length())
+        elif word == "people":
+            yield Part(LEVEL, held=length())
+        elif word == "comes":
+            yield Part(LEVEL, comes=length())
+        else:
+            raise Fault(f"{word} is no part of a way: they are free, level, stair, door, leaves, people and comes")
+
+
+def passage(kind: str, length: float, clear: float) -> Part:
+    """A corridor or a stair of a length and a clear width."""
+    width = wide_enough(clear - SIDES[kind])
+    return Part(kind, length, width, GREATEST_FLOWS[kind] * width)
+
+
+def wide_enough(effective: float) -> float:
+    if effective <= 0:
+        raise Fault("a width is no wider than its boundary layers")
+    return effective
+
+
+def arc_of(parts: List[Part], period: int, is_up: bool) -> Tuple[int, int]:
+    """Travel and rate of a way for periods of so many seconds, rounded."""
+    most = min((part.most for part in parts), default=math.inf)
+    if math.isinf(most):
+        raise Fault("nothing says how many it lets through: a door, a width or leaves")
+    if is_up:
+        seconds = sum(part.length / free_speed(part.kind) for part in parts)
+        return max(1, math.floor(round(seconds / period, 9))), math.ceil(round(most * period, 9))
+    flow = min(most, *(part.held for part in parts))
+    walked = min(flow, *(part.comes for part in parts))
+    speeds = [free_speed(part.kind) if part.width is None else speed(part.kind, walked / part.width) for part in parts]
+    seconds = sum(part.length / pace for part, pace in zip(parts, speeds))
+    return max(1, math.ceil(round(seconds / period, 9))), math.floor(round(flow * period, 9))
+
+
+class Scale:
+    """How the numbers of a plan go over to another period."""
+
+    def __init__(self, given: int, wanted: Optional[int]):
+        self.given, self.wanted = given, wanted or given
+
+    def moment(self, word: str) -> str:
+        """A moment of the plan as one of the other period, which must be a whole one."""
+        if not word.isdigit():
+            raise Fault(f"{word} is no number")
+        seconds = int(word) * self.given
+        if seconds % self.wanted:
+            raise Fault(f"moment {word} is {seconds} s, which is no whole number of periods of {self.wanted} s")
+        return f"{seconds // self.wanted}"
+
+    def line(self, fields: List[str]) -> str:
+        """A line of the building, other than a way."""
+        word = fields[0]
+        if word == "period":
+            return f"period {self.wanted}"
+        if self.given == self.wanted:
+            return ""
+        if word == "horizon" and fields[1:2] and fields[1].isdigit():
+            return f"horizon {math.ceil(int(fields[1]) * self.given / self.wanted)}"
+        if word == "arc":
+            raise Fault("an arc has no metres, so it can't go over to another period: write it as a way")
+        if word in ("window", "entrant"):
+            names = 3 if word == "window" else 2
+            moments = [self.moment(it) for it in fields[names : 5 if word == "window" else 3]]
+            return " ".join([*fields[:names], *moments, *fields[names + len(moments) :]])
+        return ""
+
+
+def period_of(lines: List[str]) -> int:
+    """The period that a plan gives."""
+    given = next((fields for fields in map(fields_of, lines) if fields[:1] == ["period"]), [])
+    if len(given) != 2 or not given[1].isdigit() or not 1 <= int(given[1]) <= 600:
+        raise Stop("the plan has no line `period SECONDS` with 1 to 600", Status.REFUSED)
+    return int(given[1])
+
+
+def building_text(text: bytes, name: str, period: Optional[int], is_up: bool) -> str:
+    """The building of a plan, in the form of docs/FORMATS.md: each way is an arc, and each other line is kept."""
+    lines = lines_of(text)
+    scale, made = Scale(period_of(lines), period), []
+    for number, line in enumerate(lines, 1):
+        fields = fields_of(line)
+        try:
+            if fields[:1] == ["way"]:
+                if len(fields) < 3:
+                    raise Fault("a way needs the node from which it leads, and the one to which it leads")
+                made.append("arc {} {} {} {}".format(*fields[1:3], *arc_of(list(parts_of(fields[3:])), scale.wanted, is_up)))
+            else:
+                made.append((fields and scale.line(fields)) or line)
+        except Fault as fault:
+            raise Stop(f"{name}, line {number}: {fault}", Status.REFUSED) from None
+    return "\n".join(made) + "\n"
+
+
+def marked(text: str, is_up: bool) -> str:
+    """The building with a last line that says whose arithmetic it is. After `end` it moves no line."""
+    rounded = "rates up, travels down" if is_up else "rates down, travels up"
+    return f"{text}# {OWN}: ways in metres became arcs by docs/FIGURES.md, {rounded}.\n"
+
+
+def both_lines(program: Program, text: bytes, name: str, periods: List[int]) -> List[str]:
+    """When all are out by both roundings, for each period."""
+    rows = [["period", "rates down", "rates up"]]
+    for period in periods or [period_of(lines_of(text))]:
+        row = [f"{period} s"]
+        for is_up in (False, True):
+            made = building_text(text, name, period, is_up).encode("utf-8", "surrogateescape")
+            building = accepted(program, made, name)
+            block = program.run(["solve"], made)
+            row.append(f"short {block.number('most')}" if block.is_short else f"{building.seconds(block.number('cleared'))} s")
+        rows.append(row)
+    return [*table(rows, "rrr"), f"When all are out. The rates and travels are {OWN}, by docs/FIGURES.md."]

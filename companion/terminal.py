@@ -1,0 +1,132 @@
+"""A talk at a terminal: a prompt, history and completion of names, and a line for each block."""
+from __future__ import annotations
+
+import sys
+from typing import Dict, Iterator, List
+
+from companion.briefly import Briefly
+from companion.building import Building, fields_of
+from companion.ending import Status, Stop
+from companion.printed import show
+from companion.program import Program, Reply, Talk
+
+LINE_LIMIT = 200
+# The commands of a session with what follows them: nodes A and B, an exit D, numbers in small letters.
+SESSION = {
+    "shut": "A B",
+    "reopen": "A B",
+    "shutexit": "D",
+    "openexit": "D",
+    "rate": "A B n",
+    "room": "A n",
+    "shift": "A B n",
+    "enter": "A n",
+    "leave": "A n",
+    "window": "A B p q",
+    "unwindow": "A B p q",
+    "undo": "",
+    "cut": "k",
+    "routes": "",
+    "clearing": "",
+    "bottlenecks": "",
+    "summary": "",
+    "work": "",
+}
+COMMANDS: Dict[str, Dict[str, str]] = {
+    "session": SESSION,
+    "study": {"exits": "", "least": "A B k"},
+    "replan": {**SESSION, "advance": "p"},
+}
+OWN_WORDS = {"whole": "prints the last reply whole", "help": "prints these lines", "quit": "ends, as Ctrl-D does"}
+OF_ARCS = ("shut", "reopen", "rate", "window", "unwindow", "least")
+
+
+def candidates(building: Building, mode: str, before: List[str]) -> List[str]:
+    """The words that may follow those before on a line."""
+    if not before:
+        return [*COMMANDS[mode], *OWN_WORDS]
+    wanted = COMMANDS[mode].get(before[0], "").split()
+    place = wanted[len(before) - 1] if len(before) <= len(wanted) else ""
+    if place == "D":
+        return [node.name for node in building.exits]
+    if place == "B" and before[0] in OF_ARCS:
+        return [head for tail, head in building.arcs if tail == before[1]]
+    if place == "A" and before[0] in OF_ARCS:
+        return list(dict.fromkeys(tail for tail, _ in building.arcs))
+    return [node.name for node in building.rooms] if place in ("A", "B") else []
+
+
+def help_lines(mode: str) -> List[str]:
+    forms = ", ".join(f"{word} {more}".strip() for word, more in COMMANDS[mode].items())
+    return [f"{forms}: docs/FORMATS.md says what each does", *(f"{word} {what}" for word, what in OWN_WORDS.items())]
+
+
+def complete_names(building: Building, mode: str) -> None:
+    """Lets the Tab key complete commands and names, where Python has readline."""
+    try:
+        import readline
+    except ImportError:
+        return
+
+    def complete(start: str, number: int) -> "str | None":
+        before = fields_of(readline.get_line_buffer()[: readline.get_begidx()])
+        found = [word + " " for word in candidates(building, mode, before) if word.startswith(start)]
+        return found[number] if number < len(found) else None
+
+    readline.set_completer_delims(" \t")
+    readline.set_completer(complete)
+    readline.parse_and_bind("tab: complete")
+
+
+def typed(prompt: str) -> Iterator[str]:
+    """The lines that somebody types at a prompt, or that come from elsewhere."""
+    if not sys.stdin.isatty():
+        for line in sys.stdin:
+            yield line.rstrip("\n")
+        return
+    while True:
+        try:
+            yield input(prompt)
+        except EOFError:
+            print()
+            return
+        except KeyboardInterrupt:
+            print()  # (the line is dropped, and the talk goes on)
+
+
+def converse(program: Program, building: Building, text: bytes, mode: str) -> int:
+    """Talks until `quit` or the end of the input."""
+    if sys.stdin.isatty():
+        complete_names(building, mode)
+    with program.talk("session" if mode == "study" else mode, text) as talk:
+        opening = talk.opening
+        brief = Briefly(building)
+        if opening.is_short:
+            raise Stop("not everybody can be out by the horizon; evacask summary says more", Status.REFUSED)
+        show(brief.lines(opening))
+        if mode != "study":
+            return answer_lines(talk, building, brief)
+    with program.talk(mode, text) as talk:
+        return answer_lines(talk, building, brief)
+
+
+def answer_lines(talk: Talk, building: Building, brief: Briefly) -> int:
+    """Answers each typed line."""
+    last = talk.opening
+    for line in typed(f"{talk.mode}> "):
+        words = fields_of(line)
+        if not words or words[0].startswith("#"):
+            continue
+        if words == ["quit"]:
+            break
+        if words == ["whole"]:
+            sys.stdout.write(last.text)
+        elif words == ["help"]:
+            show(help_lines(talk.mode))
+        elif len(line.encode("utf-8", "surrogateescape")) > LINE_LIMIT:
+            print(f"a line may have {LINE_LIMIT} bytes: this one was left out")
+        else:
+            last = talk.ask(line)
+            show(brief.lines(last))
+        sys.stdout.flush()
+    return Status.ANSWERED
