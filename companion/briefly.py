@@ -38,9 +38,6 @@ class Briefly:
             return [self.least(reply)]
         return self.report(reply)
 
-    def time(self, moment: int) -> str:
-        return f"{moment} ({self.building.seconds(moment)} s)"
-
     def block(self, reply: Reply) -> str:
         """A block in one line: its number, its people, and when all are out."""
         cleared, before = reply.number("cleared"), self.cleared
@@ -49,13 +46,13 @@ class Briefly:
         if before is not None:
             seconds = self.building.seconds(abs(cleared - before))
             change = ", as before" if not seconds else f", {seconds} s {'later' if cleared > before else 'sooner'} than before"
-        return f"answer {reply.number('answer')}: {reply.number('people')} people, cleared {self.time(cleared)}{change}"
+        return f"answer {reply.number('answer')}: {reply.number('people')} people, cleared {self.building.time(cleared)}{change}"
 
     def gone(self, reply: Reply) -> str:
         """What an advance says of those who are gone, in one line. Afterwards the clearing moment is of those who are left."""
         self.cleared = None
         last = [line for line in reply.part("advance").lines if line[0] == "gone"][-1]
-        return f"advance {reply.number('advance')}: {last[2]} people are out by moment {self.time(int(last[1]))} by the moves made"
+        return f"advance {reply.number('advance')}: {last[2]} people are out by moment {self.building.time(int(last[1]))} by the moves made"
 
     def cut(self, reply: Reply) -> List[str]:
         """The cut, added up."""
@@ -71,13 +68,13 @@ class Briefly:
             if line[0] == "exit" and line[2] == "short":
                 said.append(f"without {line[1]}: at most {line[3]} of {self.building.people} can be out by the horizon")
             elif line[0] == "exit":
-                said.append(f"without {line[1]}: cleared {self.time(int(line[2]))}")
+                said.append(f"without {line[1]}: cleared {self.building.time(int(line[2]))}")
         return said
 
     def least(self, reply: Reply) -> str:
         """The least rate in one line."""
         _, tail, head, moment, rate = reply.lines[0]
-        by = f"by moment {self.time(int(moment))}"
+        by = f"by moment {self.building.time(int(moment))}"
         worth = next((line[2] for line in reply.lines if line[0] == "cut"), "")
         if rate == "never":
             return f"least {tail} {head}: no rate is enough {by}; with 10,000 at most {worth} are out"

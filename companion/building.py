@@ -103,6 +103,10 @@ class Building:
     def seconds(self, moment: int) -> int:
         return moment * self.period
 
+    def time(self, moment: int) -> str:
+        """A moment with its seconds: 28 (140 s)."""
+        return f"{moment} ({self.seconds(moment)} s)"
+
     def node(self, name: str) -> Node:
         """The node of a name, or the end of evacask with a name that is near it."""
         if name not in self.nodes:

@@ -7,7 +7,7 @@ from typing import Dict, List, Optional
 
 from companion.building import Building, building_of, lines_of
 from companion.ending import Status, Stop
-from companion.program import TOP, Program, Reply
+from companion.program import TOP, Program, Reply, broken
 
 PAGE = TOP / "docs/FORMATS.md"
 OF_A_BUILDING = "The codes of a building"
@@ -80,6 +80,8 @@ def accepted(program: Program, text: bytes, name: str) -> Building:
     ran = program.run(["upgrade"], text)
     if ran.word == "refused":
         raise Stop(refusal(ran, name), Status.REFUSED)
+    if ran.word != "evacplan":
+        raise broken(ran.status)
     return building_of(text)
 
 

@@ -54,16 +54,17 @@ def node_doubt(node: Node, has_people: bool, is_safe: bool, is_met: bool, is_hea
     """The doubts about one node."""
     if node.is_exit:
         if not is_head:
-            yield node.line, f"no arc leads into the exit {node.name}"
+            yield node.line, f"no arc leads into the exit {node.name}: is one missing?"
         return
     if not is_safe:
-        yield node.line, f"no way leads out from {node.name}" + (", and people are in it" if has_people else "")
+        people = ", and people are in it" if has_people else ""
+        yield node.line, f"no way leads out from {node.name}{people}: is an arc missing, or turned round?"
     elif not is_met:
-        yield node.line, f"nobody is in {node.name} or ever comes there"
+        yield node.line, f"nobody is in {node.name} or ever comes there: is an arc into it missing?"
     if node.kind == "SW" and node.start:
-        yield node.line, f"{some(node.start, 'person starts', 'people start')} on the stair {node.name}"
+        yield node.line, f"{some(node.start, 'person starts', 'people start')} on the stair {node.name}: do they, at moment 0?"
     if node.kind == "WP" and not has_people:
-        yield node.line, f"nobody is in the work place {node.name}"
+        yield node.line, f"nobody is in the work place {node.name}: is its start forgotten?"
 
 
 def arc_doubts(building: Building) -> Iterator[Doubt]:
@@ -72,13 +73,13 @@ def arc_doubts(building: Building) -> Iterator[Doubt]:
     for arc in building.arcs.values():
         yield from number_doubts(building, arc)
         if arc.tail[:2] == arc.head[:2] == "HA" and (arc.head, arc.tail) not in building.arcs:
-            yield arc.line, f"no arc leads back from {arc.head} to {arc.tail}"
+            yield arc.line, f"no arc leads back from {arc.head} to {arc.tail}: nobody can go that way, then"
         apart = abs(building.nodes[arc.tail].floor - building.nodes[arc.head].floor)
         if apart > 1:
-            yield arc.line, f"this arc joins floors {building.nodes[arc.tail].floor} and {building.nodes[arc.head].floor}"
+            yield arc.line, f"this arc joins floors {building.nodes[arc.tail].floor} and {building.nodes[arc.head].floor}: is a name wrong?"
         kind = arc.tail[:2]
         if arc.travel != arc.rate and twins[kind, arc.travel, arc.rate] == 1 and twins[kind, arc.rate, arc.travel] > 1:
-            yield arc.line, f"travel {arc.travel} and rate {arc.rate}: like arcs have them the other way round"
+            yield arc.line, f"travel {arc.travel} and rate {arc.rate}: like arcs have them the other way round, as {arc.rate} {arc.travel}"
 
 
 def number_doubts(building: Building, arc: Arc) -> Iterator[Doubt]:

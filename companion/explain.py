@@ -1,12 +1,14 @@
 """Refusals explained: the line of the building, and what docs/FORMATS.md says of the code."""
 from __future__ import annotations
 
+import unicodedata
 from typing import List, Optional
 
-from companion.building import fields_of, lines_of
+from companion.building import building_of, fields_of, lines_of
 from companion.codes import meaning_of, meanings
 from companion.ending import Status, Stop
-from companion.program import Program, Reply
+from companion.program import Program
+from companion.summary import remedies
 
 MODES = ("solve", "cards", "upgrade", "check", "session", "study", "replan")
 
@@ -32,6 +34,8 @@ def explained(program: Program, text: bytes, mode: str) -> List[str]:
     for reply in program.run([mode], text).lines:
         if reply[0] == "refused":
             said += refusal_lines(int(reply[1]), int(reply[2]), lines, end)
+            if reply[1] == "22" and int(reply[2]) <= end:
+                said += [f"    {line}" for line in remedies(building_of(text))]
         elif reply[0] == "no":
             said += ["no " + " ".join(reply[1:]), *meaning_lines(int(reply[1]), True)]
     return said
@@ -40,8 +44,31 @@ def explained(program: Program, text: bytes, mode: str) -> List[str]:
 def refusal_lines(code: int, line: int, lines: List[str], end: int) -> List[str]:
     """A refusal with its line of the input."""
     said = [f"refused {code} {line}"]
-    said.append(f"    line {line}: {lines[line - 1]}" if 0 < line <= len(lines) else f"    line {line}: the input has ended before it")
+    if 0 < line <= len(lines):
+        said.append(f"    line {line}: {visible(lines[line - 1])}")
+        odd = [character_name(it) for it in dict.fromkeys(lines[line - 1]) if is_odd(it)]
+        said += [f"    in this line there is {', '.join(odd[:4])}"] if odd else []
+    else:
+        said.append(f"    line {line}: the input has ended before it")
     return said + meaning_lines(code, line > end)
+
+
+def is_odd(letter: str) -> bool:
+    """Whether a letter can't be seen, or looks like another: it is none of those that a statement is written in."""
+    return not (" " <= letter <= "~" or letter == "\t")
+
+
+def visible(line: str) -> str:
+    """A line with its odd letters as numbers, and not longer than a line of a terminal."""
+    shown = "".join(f"<{ord(it):02X}>" if is_odd(it) and not it.isalpha() else it for it in line[:101])
+    return shown if len(line) <= 100 else shown[:100] + " .."
+
+
+def character_name(letter: str) -> str:
+    """What an odd letter is: its number and its name, or its byte where it is no letter."""
+    if "\udc80" <= letter <= "\udcff":
+        return f"the byte {ord(letter) - 0xDC00:02X}"
+    return f"U+{ord(letter):04X} {unicodedata.name(letter, 'a control character')}"
 
 
 def meaning_lines(code: int, is_command: bool) -> List[str]:

@@ -17,6 +17,7 @@ PARTS = """A plan is a building in which lines `way FROM TO PART ..` are in plac
     free 11                  metres that one walks alone, as in a room to its door
     level 18 2.40            a corridor: its length, and its width from wall to wall
     stair 5.96 1.50 178/279  a stair: its length along the slope, its width between the walls, and its riser/tread
+    escalator 10.7 0.5 1     an escalator that runs: its length, its metres a second, and the people a second who get on
     door 0.90                a door that is held open: its clear width
     leaves 1                 a door that isn't held open: its leaves, for 50 people a minute each
     people 1.56              held to so many people a second, and walked at the speed of that flow
@@ -31,7 +32,7 @@ With --up rates are rounded up and travels down, for a walk with nobody in the w
 class Part:
     """A part of a way: its kind, its length, its effective width, and the people a second that it lets through or to which it is held.
 
-    `held` bounds the rate and the speed where rates are rounded down, and `comes` the speed alone.
+    `held` bounds the rate and the speed where rates are rounded down, and `comes` the speed alone. `pace` is a speed of its own.
     """
 
     kind: str
@@ -40,6 +41,13 @@ class Part:
     most: float = math.inf
     held: float = math.inf
     comes: float = math.inf
+    pace: Optional[float] = None
+
+    def speed(self, flow: float) -> float:
+        """The speed at which so many people a second walk; that of a walk with nobody in the way where they are none."""
+        if self.pace is not None:
+            return self.pace
+        return speed(self.kind, flow / self.width) if self.width else free_speed(self.kind)
 
 
 class Fault(Exception):
@@ -72,6 +80,8 @@ def parts_of(words: List[str]) -> Iterator[Part]:
             if kind not in GREATEST_FLOWS or kind == LEVEL:
                 raise Fault(f"a stair needs its riser/tread, one of {', '.join(it for it in GREATEST_FLOWS if it != LEVEL)}")
             yield passage(kind, metres, width)
+        elif word == "escalator":
+            yield Part(LEVEL, length(), pace=length(), most=length())
         elif word == "door":
             yield Part(LEVEL, most=GREATEST_FLOWS[LEVEL] * wide_enough(length() - DOOR))
         elif word == "leaves":
@@ -81,7 +91,7 @@ def parts_of(words: List[str]) -> Iterator[Part]:
         elif word == "comes":
             yield Part(LEVEL, comes=length())
         else:
-            raise Fault(f"{word} is no part of a way: they are free, level, stair, door, leaves, people and comes")
+            raise Fault(f"{word} is no part of a way: they are free, level, stair, escalator, door, leaves, people, comes")
 
 
 def passage(kind: str, length: float, clear: float) -> Part:
@@ -102,12 +112,11 @@ def arc_of(parts: List[Part], period: int, is_up: bool) -> Tuple[int, int]:
     if math.isinf(most):
         raise Fault("nothing says how many it lets through: a door, a width or leaves")
     if is_up:
-        seconds = sum(part.length / free_speed(part.kind) for part in parts)
+        seconds = sum(part.length / part.speed(0) for part in parts)
         return max(1, math.floor(round(seconds / period, 9))), math.ceil(round(most * period, 9))
     flow = min(most, *(part.held for part in parts))
     walked = min(flow, *(part.comes for part in parts))
-    speeds = [free_speed(part.kind) if part.width is None else speed(part.kind, walked / part.width) for part in parts]
-    seconds = sum(part.length / pace for part, pace in zip(parts, speeds))
+    seconds = sum(part.length / part.speed(walked) for part in parts)
     return max(1, math.ceil(round(seconds / period, 9))), math.floor(round(flow * period, 9))
 
 

@@ -1,12 +1,13 @@
 """The proved program, over pipes: found, run once, or talked to line by line."""
 from __future__ import annotations
 
+import contextlib
 import os
 import pathlib
 import signal
 import subprocess
 from dataclasses import dataclass
-from typing import List, Optional
+from typing import Iterator, List, Optional
 
 from companion.building import lines_of
 from companion.ending import Status, Stop
@@ -90,32 +91,26 @@ class Program:
             raise broken(run.returncode)
         return Ran([line + b"\n" for line in printed.split(b"\n")[:-1]], run.returncode)
 
-    def talk(self, mode: str, text: bytes) -> "Talk":
-        """Begins a session, a study or a replan on a building that was accepted."""
-        return Talk(self, mode, text)
+    @contextlib.contextmanager
+    def talk(self, mode: str, text: bytes) -> Iterator["Talk"]:
+        """A session, a study or a replan on a building that was accepted. However it ends, the program has ended then."""
+        run = self.start([mode])
+        try:
+            yield Talk(run, mode, text)
+        finally:
+            run.kill()
+            run.wait()
+            with contextlib.suppress(OSError):
+                run.communicate()
 
 
 class Talk:
-    """A session, a study or a replan, to be used in a `with`. `opening` is its first block; a study has none, and the reply is empty."""
+    """A session, a study or a replan. `opening` is its first block; a study has none, and there the reply is empty."""
 
-    def __init__(self, program: Program, mode: str, text: bytes):
-        self.mode = mode
-        self.run = program.start([mode])
+    def __init__(self, run: "subprocess.Popen[bytes]", mode: str, text: bytes):
+        self.mode, self.run = mode, run
         self.send(model_of(text))
         self.opening = Reply([]) if mode == "study" else self.reply()
-
-    def __enter__(self) -> "Talk":
-        return self
-
-    def __exit__(self, *_: object) -> None:
-        self.run.kill()
-        self.run.wait()
-        for pipe in (self.run.stdin, self.run.stdout):
-            try:
-                if pipe:
-                    pipe.close()
-            except OSError:
-                pass
 
     def send(self, text: bytes) -> None:
         assert self.run.stdin

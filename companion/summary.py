@@ -27,22 +27,18 @@ def figures(building: Building, report: Reply) -> List[List[str]]:
     """The rows of figures, each with its name."""
     people, cleared = report.number("people"), report.number("cleared")
     walk, sum_of_moments = report.number("uncongested"), report.number("personperiods")
-    rows = [["people", f"{people}"], ["cleared", f"{at(building, cleared)}: no plan has them all out sooner"]]
-    rows.append(["uncongested", f"{at(building, walk)}: the longest walk of those inside at first, with nobody in the way"])
+    rows = [["people", f"{people}"], ["cleared", f"{building.time(cleared)}: no plan has them all out sooner"]]
+    rows.append(["uncongested", f"{building.time(walk)}: the longest walk of those inside at first, with nobody in the way"])
     rows.append(["congestion", price(building, cleared, walk)])
     if people:
         mean = sum_of_moments / people
-        rows.append(["mean", f"{mean:.1f}, {mean * building.period:.0f} s: when a person is out, on average"])
+        rows.append(["mean", f"{mean:.1f} ({mean * building.period:.0f} s): when a person is out, on average"])
     return rows
-
-
-def at(building: Building, moment: int) -> str:
-    return f"{moment}, {building.seconds(moment)} s"
 
 
 def price(building: Building, cleared: int, walk: int) -> str:
     """What congestion costs: the time between the longest walk and the last one out."""
-    costs = f"costs {some(cleared - walk, 'period')}, {building.seconds(cleared - walk)} s"
+    costs = f"costs {some(cleared - walk, 'period')} ({building.seconds(cleared - walk)} s)"
     if walk and cleared:
         costs += f": cleared is {cleared / walk:.1f} times the longest walk"
     if building.is_steady:
@@ -56,13 +52,13 @@ def bound_lines(building: Building) -> List[str]:
     if bound is None:
         return []
     walk = f"From each room {some(bound.rate, 'person', 'people')} at once can walk out within {some(bound.periods, 'period')}"
-    return [f"{OWN}: a best plan is over by {at(building, bound.moment)}, at the latest.", f"{walk} (law: walking bound)."]
+    return [f"{OWN}: a best plan is over by {building.time(bound.moment)} at the latest.", f"{walk} (law: walking bound)."]
 
 
 def shortfall(building: Building, reply: Reply) -> List[str]:
     """What is said of a building from which not everybody can be out by the horizon."""
     most, people = reply.number("most"), reply.number("people")
-    lines = [f"Not everybody can be out by the horizon, moment {at(building, building.horizon)}: at most {most} of {people} can."]
+    lines = [f"Not everybody can be out by the horizon, {building.time(building.horizon)}: at most {most} of {people} can."]
     lines += remedies(building)
     lines.append("The cut that shows it has these nodes, at these moments:")
     rows = [[line[1], f"{line[2]} to {line[3]}", building.named(line[1])] for line in reply.lines if line[0] == "in"]

@@ -54,14 +54,26 @@ def write_table(building: Building, block: Reply, kind: str) -> None:
     else:
         heads = [node.name for node in (building.exits if kind == "exits" else building.rooms)]
         rows = plan.held(heads)
+    if kind == "exits":
+        heads, rows = ["out", *heads], ([sum(row), *row] for row in rows)
     out.writerow(["moment", "seconds", *heads])
     for moment, row in enumerate(rows):
         out.writerow([moment, building.seconds(moment), *row])
 
 
+def write_totals(building: Building, block: Reply) -> None:
+    """Of each arc: its rate, how many enter it in all, the most at a moment, and the first and last moment."""
+    plan, out = Plan(building, block), csv.writer(sys.stdout, lineterminator="\n")
+    out.writerow(["from", "to", "names", "rate", "people", "most", "first", "last"])
+    for arc in building.arcs.values():
+        entered = plan.entered[arc.way]
+        when = [sum(entered.values()), max(entered.values()), min(entered), max(entered)] if entered else [0, 0, "", ""]
+        out.writerow([*arc.way, building.named(*arc.way), arc.rate, *when])
+
+
 def write_walks(building: Building) -> None:
     """The quickest way out of each node with nobody in the way: evacask's own arithmetic, which each row says."""
-    found, out = walks(building), csv.writer(sys.stdout, lineterminator="\n")
+    out, found = csv.writer(sys.stdout, lineterminator="\n"), walks(building)
     out.writerow(["node", "name", "start", "periods", "seconds", "next", "source"])
     for node in building.rooms:
         walk = found.get(node.name)

@@ -114,6 +114,7 @@ def answer_lines(talk: Talk, building: Building, brief: Briefly) -> int:
     """Answers each typed line."""
     last = talk.opening
     for line in typed(f"{talk.mode}> "):
+        line = line[:-1] if line.endswith("\r") else line
         words = fields_of(line)
         if not words or words[0].startswith("#"):
             continue

@@ -72,9 +72,9 @@ def listed(names: Sequence[str]) -> str:
 def head_line(building: Building, cut: Cut, people: Optional[int] = None) -> str:
     """What the cut says, with the number of all people where it is known."""
     if not cut.people:
-        return f"Nobody can be out by moment {cut.period} ({building.seconds(cut.period)} s): no walk is so short, or the ways are closed."
+        return f"Nobody can be out by moment {building.time(cut.period)}: no walk is so short, or the ways are closed."
     most = f"{cut.people} of {people}" if people is not None else f"{cut.people}"
-    return f"At most {most} can be out by moment {cut.period} ({building.seconds(cut.period)} s). Each of them counts here:"
+    return f"At most {most} can be out by moment {building.time(cut.period)}. Each of them counts here:"
 
 
 def cut_at(talk: Talk, period: Optional[int]) -> Cut:
@@ -90,7 +90,7 @@ def why(talk: Talk, building: Building, period: Optional[int]) -> List[str]:
     people, cleared = talk.opening.number("people"), talk.opening.number("cleared")
     cut = cut_at(talk, period)
     if cut.period >= cleared:
-        return [f"All {people} are out by moment {cleared} ({building.seconds(cleared)} s), so nothing holds them up at {cut.period}."]
+        return [f"All {people} are out by moment {building.time(cleared)}, so nothing holds them up at {cut.period}."]
     lines = [head_line(building, cut, people), *cut_lines(building, cut)]
-    lines.append(f"A best plan has as many out by then, and all {people} by moment {cleared} ({building.seconds(cleared)} s).")
+    lines.append(f"A best plan has as many out by then, and all {people} by moment {building.time(cleared)}.")
     return lines

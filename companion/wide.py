@@ -24,7 +24,7 @@ def wide(reply: Reply, building: Building, arc: Arc, moment: int) -> List[str]:
     tail, head = arc.way
     named = building.named(tail, head)
     way = f"{tail} {head}" + (f" ({named})" if named else "")
-    by = f"by moment {moment}, {building.seconds(moment)} s"
+    by = f"by moment {building.time(moment)}"
     rate = reply.lines[0][4]
     if rate == "never":
         most = f"with 10,000 at most {short_of(reply)} of {building.people} are out {by}"
@@ -48,7 +48,8 @@ def widths(rate: int, period: int) -> List[str]:
     rows += [[f"stair {kind}", centimetres(rate, period, kind, SIDES[kind])] for kind in GREATEST_FLOWS if kind != LEVEL]
     leaves = math.ceil(rate / period / LEAF)
     rows.append(["door not held open", f"{some(leaves, 'leaf', 'leaves')}, each at least {centimetres(rate / leaves, period, LEVEL, DOOR)}"])
-    return [f"{OWN}, by docs/FIGURES.md: {some(rate, 'person', 'people')} in {period} s need, clear,", *("  " + line for line in table(rows, "ll"))]
+    need = f"{some(rate, 'person needs', 'people need')} a clear width, in {period} s, of:"
+    return [f"{OWN}, by docs/FIGURES.md. {need}", *("  " + line for line in table(rows, "ll"))]
 
 
 def centimetres(rate: float, period: int, kind: str, sides: float) -> str:

@@ -63,8 +63,12 @@ def solved(text: bytes, *words: str) -> str:
     return subprocess.run([program(), *words], input=text, capture_output=True, timeout=120).stdout.decode("utf-8", "surrogateescape")
 
 
-def edited(path: pathlib.Path, old: str, new: str) -> str:
-    """The text of a building with something changed once."""
-    text = path.read_text()
+def changed(old: str, new: str, text: str) -> str:
+    """A text with something changed once."""
     assert old in text, old
     return text.replace(old, new, 1)
+
+
+def edited(path: pathlib.Path, old: str, new: str) -> str:
+    """The text of a building with something changed once."""
+    return changed(old, new, path.read_text())

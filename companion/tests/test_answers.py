@@ -20,8 +20,8 @@ class Summary(unittest.TestCase):
                 people, cleared = number(report, "people"), number(report, "cleared")
                 shown = "\n".join(said.lines[:10])
                 self.assertRegex(shown, rf"people +{people}\n")
-                self.assertRegex(shown, rf"cleared +{cleared}, {number(report, 'seconds')} s")
-                self.assertRegex(shown, rf"uncongested +{number(report, 'uncongested')}, ")
+                self.assertRegex(shown, rf"cleared +{cleared} \({number(report, 'seconds')} s\): ")
+                self.assertRegex(shown, rf"uncongested +{number(report, 'uncongested')} ")
                 out = int(re.search(rf"^out {cleared - 1} (\d+)", report, re.M)[1])
                 self.assertIn(f"At most {out} of {people} can be out by moment {cleared - 1} ", shown)
 
@@ -29,10 +29,10 @@ class Summary(unittest.TestCase):
         for path in EXAMPLES + MODELS:
             with self.subTest(path.name):
                 said = ask("summary", path).out
-                found = re.search(r"not proved: a best plan is over by (\d+), ", said)
+                found = re.search(r"not proved: a best plan is over by (\d+) ", said)
                 self.assertEqual(bool(found), not re.search(r"^(window|entrant) ", path.read_text(), re.M))
                 if found:
-                    cleared = int(re.search(r"cleared +(\d+),", said)[1])
+                    cleared = int(re.search(r"cleared +(\d+) ", said)[1])
                     self.assertLessEqual(cleared, int(found[1]))
                     self.assertIn("law: walking bound", said)
 
@@ -40,7 +40,12 @@ class Summary(unittest.TestCase):
         said = ask("summary", "-", text=edited(OFFICE, "arc WP1.3 HA1.3 1 6\n", ""))
         self.assertEqual((said.status, said.err), (1, ""))
         self.assertIn("at most 195 of 240 can", said.lines[0])
-        self.assertIn("Look first whether a way leads out from WP1.3.", said.out)
+        self.assertIn("not proved: no way leads out from WP1.3 (45 people). Add the arc that is missing", said.lines[1])
+
+    def test_a_horizon_that_is_too_short(self):
+        said = ask("summary", "-", text=edited(OFFICE, "horizon 120", "horizon 20"))
+        bound = re.search(r"a horizon of (\d+) is enough \(law: walking bound\)", said.lines[1])[1]
+        self.assertEqual(ask("summary", "-", text=edited(OFFICE, "horizon 120", f"horizon {bound}")).status, 0)
 
     def test_nobody_inside(self):
         said = ask("summary", "-", text=edited(TOP / "examples/one_room.evac", "10 3", "10 0"))
@@ -105,7 +110,8 @@ class Why(unittest.TestCase):
                     said = ask("why", path, period)
                     self.assertEqual((said.status, said.err), (0, ""))
                     out = int(re.search(rf"^out {period} (\d+)", report, re.M)[1])
-                    self.assertRegex(said.lines[0], rf"^At most {out} of \d+ can be out by moment {period} ")
+                    wanted = rf"At most {out} of \d+ can" if out else "Nobody can"
+                    self.assertRegex(said.lines[0], rf"^{wanted} be out by moment {period} ")
                     self.assertEqual(sum(int(line.split()[0]) for line in said.lines[2:-1]), out)
 
     def test_without_a_period_it_is_the_one_below_cleared(self):
@@ -127,7 +133,7 @@ class Wide(unittest.TestCase):
     def test_the_least_rate_is_the_study_s(self):
         said = ask("wide", SCHOOL, "LO1.1", "DS1.1", 104)
         wanted = re.search(r"^least LO1.1 DS1.1 20 (\d+)", solved(SCHOOL.read_bytes() + b"least LO1.1 DS1.1 20\n", "study"), re.M)[1]
-        self.assertIn(f"needs a rate of {wanted} for everybody to be out by moment 20, 100 s; it has 9 now.", said.lines[0])
+        self.assertIn(f"needs a rate of {wanted} for everybody to be out by moment 20 (100 s); it has 9 now.", said.lines[0])
         self.assertIn("With 10 at most 198 of 200", said.lines[1])
 
     def test_a_width_lets_through_its_rate_and_a_centimetre_less_does_not(self):

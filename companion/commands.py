@@ -1,0 +1,152 @@
+"""The commands of evacask: each takes the given words, prints its answer, and gives a status."""
+from __future__ import annotations
+
+import sys
+from argparse import Namespace
+from typing import ContextManager, Optional
+
+from companion.building import near
+from companion.codes import accepted, cleared_by
+from companion.compare import compare_lines, edited_column
+from companion.doubts import doubts, doubts_lines
+from companion.ending import Status, Stop
+from companion.explain import MODES, code_lines, explained
+from companion.metres import both_lines, building_text, marked
+from companion.printed import show
+from companion.program import Talk, find_program
+from companion.summary import shortfall, summary
+from companion.tables import write_table, write_totals, write_walks
+from companion.terminal import converse
+from companion.ways import ANY_RATE, all_tried, ways_lines, write_csv
+from companion.wide import asked_moment, wide
+from companion.why import why
+
+
+def text_of(name: str) -> bytes:
+    """The bytes of a file, or of standard input where its name is `-`."""
+    try:
+        if name == "-":
+            return sys.stdin.buffer.read()
+        with open(name, "rb") as file:
+            return file.read()
+    except OSError as fault:
+        raise Stop(f"{name} can't be read: {fault.strerror}", Status.INPUT) from None
+
+
+class Asked:
+    """A building that a command is about: its name, its text, and the program to ask."""
+
+    def __init__(self, given: Namespace, name: Optional[str] = None):
+        self.name = name or given.building
+        self.program = find_program(given.program)
+        self.text = text_of(self.name)
+        self.building = accepted(self.program, self.text, self.name)
+
+    def talk(self, mode: str = "session") -> ContextManager[Talk]:
+        return self.program.talk(mode, self.text)
+
+
+def run_summary(given: Namespace) -> int:
+    it = Asked(given)
+    with it.talk() as talk:
+        if talk.opening.is_short:
+            show(shortfall(it.building, talk.opening))
+            return Status.REFUSED
+        show(summary(talk, it.building))
+    return Status.ANSWERED
+
+
+def run_ways(given: Namespace) -> int:
+    it = Asked(given)
+    with it.talk() as talk:
+        cleared_by(talk.opening, it.name)
+        cleared, found = all_tried(talk, it.building, ANY_RATE if given.rate is None else given.rate)
+    if given.csv:
+        write_csv(it.building, cleared, found)
+    else:
+        show(ways_lines(it.building, cleared, found, given.rate))
+    return Status.ANSWERED
+
+
+def run_why(given: Namespace) -> int:
+    it = Asked(given)
+    with it.talk() as talk:
+        cleared_by(talk.opening, it.name)
+        show(why(talk, it.building, given.period))
+    return Status.ANSWERED
+
+
+def run_wide(given: Namespace) -> int:
+    it = Asked(given)
+    arc, moment = it.building.arc(given.tail, given.head), asked_moment(it.building, given.seconds)
+    with it.talk("study") as study:
+        reply = cleared_by(study.ask(f"least {arc.tail} {arc.head} {moment}"), it.name)
+    show(wide(reply, it.building, arc, moment))
+    return Status.ANSWERED
+
+
+def run_compare(given: Namespace) -> int:
+    it, columns = Asked(given), []
+    for other, edits in [(it, ""), *((Asked(given, name), "") for name in given.others), *((it, edits) for edits in given.edit)]:
+        with other.talk() as talk:
+            columns.append(edited_column(talk, other.building, other.name, edits))
+    show(compare_lines(columns))
+    return Status.ANSWERED
+
+
+def run_talk(given: Namespace) -> int:
+    if given.building == "-":
+        raise Stop("talk reads what you type, so the building must be a file", Status.WORDS)
+    it = Asked(given)
+    return converse(it.program, it.building, it.text, given.mode)
+
+
+def run_doubts(given: Namespace) -> int:
+    it = Asked(given)
+    with it.talk() as talk:
+        if talk.opening.is_short:
+            found = doubts(it.building, None, 0)
+        else:
+            found = doubts(it.building, talk.opening.number("cleared"), talk.ask("summary").number("uncongested"))
+    show(doubts_lines(it.building, found))
+    return Status.REFUSED if found else Status.ANSWERED
+
+
+def run_explain(given: Namespace) -> int:
+    if given.what.isdigit():
+        if given.more is not None and not given.more.isdigit():
+            raise Stop(f"after a code comes the number of a line, and not {given.more}", Status.WORDS)
+        show(code_lines(int(given.what), None if given.more is None else int(given.more)))
+        return Status.ANSWERED
+    mode = given.more or "solve"
+    if mode not in MODES:
+        raise Stop(f"there is no mode {mode}{near(mode, list(MODES))}: the modes are {', '.join(MODES)}", Status.WORDS)
+    said = explained(find_program(given.program), text_of(given.what), mode)
+    show(said or [f"{mode} refuses nothing"])
+    return Status.REFUSED if said else Status.ANSWERED
+
+
+def run_tables(given: Namespace) -> int:
+    it = Asked(given)
+    if given.kind == "walks":
+        write_walks(it.building)
+        return Status.ANSWERED
+    with it.talk() as talk:
+        block = cleared_by(talk.opening, it.name)
+        if given.kind == "totals":
+            write_totals(it.building, block)
+        else:
+            write_table(it.building, block, given.kind)
+    return Status.ANSWERED
+
+
+def run_metres(given: Namespace) -> int:
+    text = text_of(given.plan)
+    if given.rounding == "both":
+        show(both_lines(find_program(given.program), text, given.plan, given.period))
+    elif len(given.period) > 1:
+        raise Stop("several periods go with --both alone", Status.WORDS)
+    else:
+        is_up = given.rounding == "up"
+        sys.stdout.write(marked(building_text(text, given.plan, given.period[0] if given.period else None, is_up), is_up))
+    return Status.ANSWERED
