@@ -7,8 +7,7 @@
 - In the tables of PROVED.md each name in the right column must be a definition, a function, a clause or a field of a crate of its section.
 - EDITS.md must have just the edits of each crate's must-fail/, and each name there must be in that crate, or be a definition.
 - In every document each link must lead to a file, and to a heading of it.
-- The tables of codes and of statuses in FORMATS.md, and that of statuses in the README, must have just the numbers of `Code` and of `Status`, and
-  these have each number once.
+- The tables of codes and of statuses in FORMATS.md must have just the numbers of `Code` and of `Status`, and these have each number once.
 
     python3 docs/check_promises.py [--edits]
 
@@ -170,7 +169,7 @@ def headings(path):
 
 def missing_links(document):
     """Links of a document that lead nowhere."""
-    for target in LINK.findall(document.read_text()):
+    for target in LINK.findall(re.sub(r"(?ms)^```.*?^```|`[^`\n]*`", "", document.read_text())):
         if "://" in target:
             continue
         name, _, anchor = target.partition("#")
@@ -185,16 +184,15 @@ def rows_of(document, title):
     return [int(number) for table in tables for number in re.findall(r"(?m)^\| (\d+) \|", table)]
 
 
-def wrong_numbers(title, specification, function, documents):
-    """What differs between the numbers that a definition gives by cases and those of the documents' tables with this heading."""
+def wrong_numbers(title, specification, function, document):
+    """What differs between the numbers that a definition gives by cases and those of a document's tables with this heading."""
     cases = [int(number) for number in re.findall(rf"(?m)^{function} \w+ = (\d+)$", (TOP / "crates" / specification).read_text())]
     if not cases:
         yield f"{specification}: no number of {function}"
     yield from (f"{specification}: {number} stands twice in {function}" for number in sorted(set(cases)) if cases.count(number) > 1)
-    for document in documents:
-        rows = rows_of(document, title)
-        yield from (f"{document.name}: no row {number} in a table headed {title}" for number in sorted(set(cases) - set(rows)))
-        yield from (f"{document.name}: {function} has no {number}, which a table headed {title} has" for number in sorted(set(rows) - set(cases)))
+    rows = rows_of(document, title)
+    yield from (f"{document.name}: no row {number} in a table headed {title}" for number in sorted(set(cases) - set(rows)))
+    yield from (f"{document.name}: {function} has no {number}, which a table headed {title} has" for number in sorted(set(rows) - set(cases)))
 
 
 def main():
@@ -208,9 +206,8 @@ def main():
     missing += missing_definitions(TOP / "docs/DEFINITIONS.md")
     missing += missing_rows(TOP / "docs/PROVED.md")
     missing += wrong_edits(TOP / "docs/EDITS.md")
-    formats, readme = TOP / "docs/FORMATS.md", TOP / "README.md"
-    missing += wrong_numbers("Code", "evac_law/specs/Codes.antt", "code_number", [formats])
-    missing += wrong_numbers("Status", "talk/specs/Statuses.antt", "status_number", [formats, readme])
+    missing += wrong_numbers("Code", "evac_law/specs/Codes.antt", "code_number", TOP / "docs/FORMATS.md")
+    missing += wrong_numbers("Status", "talk/specs/Statuses.antt", "status_number", TOP / "docs/FORMATS.md")
     print("\n".join(missing) if missing else "all that is named is there")
     return 1 if missing else 0
 

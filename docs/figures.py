@@ -196,6 +196,9 @@ class Passage:
     # The part of it that is level, on a stair; and the people a second that a door at its end lets through.
     landing: Fraction = Fraction(0)
     door: Fraction | None = None
+    # The speed, where it is given and follows from no flow; and the density that is shown where there is no flow for each metre.
+    pace: float | None = None
+    density: str = ""
 
     @property
     def flow(self):
@@ -209,7 +212,7 @@ class Passage:
 
     @property
     def speed(self):
-        return speed_of(self.flow, self.way)
+        return self.pace or speed_of(self.flow, self.way)
 
     @property
     def seconds(self):
@@ -217,7 +220,7 @@ class Passage:
 
     def free_seconds(self):
         """The time of a walk with nobody in the way."""
-        return float(self.length / free_speed(self.way) + self.landing / free_speed(LEVEL))
+        return float(self.length) / (self.pace or free_speed(self.way)) + float(self.landing / free_speed(LEVEL))
 
     def numbers(self, period=5, is_safe=True):
         """Travel and rate for periods of so many seconds, rounded to the safe side or to the other."""
@@ -255,11 +258,12 @@ class Example:
     horizon: int
     places: list
     arcs: list
+    floors: tuple = ("1 Ground", "2 Upper")
 
     def lines(self, period=5, is_safe=True):
         """The lines of the building for periods of so many seconds."""
         found = ["evacplan 1", f"title {self.title}", f"period {period}", f"horizon {self.horizon * 5 // period}"]
-        found += ["floor 1 Ground", "floor 2 Upper"]
+        found += [f"floor {it}" for it in self.floors]
         found += [f"node {it.name}" if it.capacity is None else f"node {it.name} {it.capacity} {it.start}" for it in self.places]
         found += ["arc {} {} {} {}".format(tail, head, *it.numbers(period, is_safe)) for tail, head, it in self.arcs]
         return [*found, "end"]
@@ -287,7 +291,7 @@ def corridor():
         Place("LO1.1", 38, area="20", what="lobby"),
         Place("DS1.1"),
     ]
-    room = Passage("room, to its door", frac("10"), frac("11"), ROOM_DOOR, door=ROOM_DOOR)
+    room = Passage("room, to its door", frac("10"), frac("11"), ROOM_DOOR, door=ROOM_DOOR, density=f"{60 / 150:.2f}")
     hall = Passage("corridor", frac("1.60"), frac("18"), ROOM_DOOR, widths="2.00 - 0.40")
     stair = Passage("stair", frac("0.90"), 18 * RISER, ROOM_DOOR, STAIR, widths="1.20 - 0.30", lengths="18 × 0.331")
     lobby = Passage("lobby, to the door outside", frac("3.60"), frac("3"), ROOM_DOOR, widths="4.00 - 0.40", door=door_of("0.70"))
@@ -300,7 +304,7 @@ def school(is_held=True):
     two = 2 * ROOM_DOOR
     hall = dict(width=frac("2.00"), comes=two if is_held else frac("2.60"), widths="2.40 - 0.40", is_held=is_held)
     stair_flow = WAYS[STAIR][1] * frac("1.20")
-    room = Passage("classroom, to its door", frac("7"), frac("10"), ROOM_DOOR, door=ROOM_DOOR)
+    room = Passage("classroom, to its door", frac("7"), frac("10"), ROOM_DOOR, door=ROOM_DOOR, density=f"{25 / 56:.2f}")
     across = Passage("corridor, to the other half", length=frac("16"), lengths="20 - 4", **hall)
     along = Passage("corridor, to its end", length=frac("12"), **hall)
     stair = Passage("stair, with its landing", frac("1.20"), 18 * RISER, two, STAIR, "1.50 - 0.30", "18 × 0.331", landing=frac("2.4"))
@@ -323,6 +327,63 @@ def school(is_held=True):
             places += [Place(f"SW{side}.2", 11, area="6", what="head of a stair") for side in (1, 2)]
             arcs += [(f"SW{side}.2", f"LO{side}.1", stair) for side in (1, 2)]
     return Example("school.evac", "School of two storeys", 120, places, arcs)
+
+
+# The speed on an escalator that runs, and the people a second whom it takes: a planner's own choice.
+ESCALATOR_PACE, ESCALATOR_FLOW = 0.50, Fraction(1)
+# The flow for each metre on the level up to which everybody walks freely, as the table of the greatest flows has it.
+FREE_FLOW = frac("0.64")
+# The people a second whom six gates let through, with the choice for a leaf.
+GATES = 6 * LEAF
+
+
+def metro():
+    """A metro station: an island platform between two full trains, three ways up, gates, and two passages to the street."""
+    stair_flow, still_flow = WAYS[STAIR][1] * frac("1.50"), WAYS["stair 191/254"][1] * frac("0.70")
+    up, trains = ESCALATOR_FLOW + stair_flow + still_flow, 2 * door_of("4.00")
+    in_train = float(WAYS[LEVEL][0] * (1 - A * Fraction(170, 104)))
+    train = Passage("train, to its doors", frac("4.00"), frac("7"), trains, door=door_of("4.00"), pace=in_train, density=f"{170 / 104:.2f}")
+    half = dict(width=frac("3.54"), comes=FREE_FLOW * frac("3.54"), widths="(8.00 - 0.92) / 2", is_held=True)
+    along = Passage("platform, to the next part", length=frac("40"), **half)
+    running = Passage("escalator that runs", frac("1"), frac("10.7"), ESCALATOR_FLOW, door=ESCALATOR_FLOW, pace=ESCALATOR_PACE)
+    stair = Passage("stair, with its landing", frac("1.50"), 30 * RISER, trains, STAIR, "1.80 - 0.30", "30 × 0.331", landing=frac("1.5"))
+    still = Passage("escalator out of service", frac("0.70"), frac("10.7"), trains, "stair 191/254", "1.00 - 0.30")
+    gates = Passage("mezzanine, to the gates", frac("5.60"), frac("11"), up, widths="6.00 - 0.40", door=GATES)
+    out = [Passage(f"passage to exit {it}", frac("2.60"), frac(metres), up, widths="3.00 - 0.40") for it, metres in (("A", "25"), ("B", "38"))]
+    thirds = range(1, 4)
+    places = [Place(f"WP{3 * side + it}.0", 200, 160 if it == 2 else 170) for side in (0, 1) for it in thirds]
+    places += [Place(f"HA{it}.0", 532, 30, area="280", what="third of the platform") for it in thirds]
+    places += [Place(f"LO{it}.1", 342, area="180", what="half of the mezzanine") for it in (1, 2)]
+    places += [Place("DS1.2"), Place("DS2.2")]
+    arcs = [(f"WP{3 * side + it}.0", f"HA{it}.0", train) for side in (0, 1) for it in thirds]
+    arcs += [(f"HA{one}.0", f"HA{other}.0", along) for one, other in ((1, 2), (2, 1), (2, 3), (3, 2))]
+    arcs += [(f"HA{it}.0", "LO1.1", way) for it, way in zip(thirds, (running, stair, still))]
+    arcs += [("LO1.1", "LO2.1", gates), *(("LO2.1", f"DS{it}.2", way) for it, way in enumerate(out, 1))]
+    return Example("metro.evac", "Metro station with two trains", 200, places, arcs, ("0 Platform", "1 Mezzanine", "2 Street"))
+
+
+STOREYS = 20
+
+
+def tower():
+    """An office tower of 20 storeys for 1,600 people, with two stairs."""
+    stair_flow = WAYS[STAIR][1] * frac("1.00")
+    office = Passage("office, to its door", frac("10"), frac("20"), ROOM_DOOR, door=ROOM_DOOR, density=f"{40 / 200:.2f}")
+    hall = Passage("corridor, to a stair", frac("1.10"), frac("10"), LEAF, widths="1.50 - 0.40", is_held=True, door=LEAF)
+    stair = Passage("stair, with its landing", frac("1.00"), 20 * RISER, stair_flow + LEAF, STAIR, "1.30 - 0.30", "20 × 0.331", landing=frac("2.4"))
+    lobby = Passage("lobby, to the main door", frac("3.60"), frac("8"), stair_flow, widths="4.00 - 0.40", door=door_of("1.50"))
+    places = [Place("LO1.0", 114, area="60", what="lobby"), Place("DS1.0"), Place("DS2.0")]
+    arcs = [("LO1.0", "DS1.0", lobby)]
+    for floor in range(1, STOREYS + 1):
+        places += [Place(f"WP{it}.{floor}", 60, 40) for it in (1, 2)]
+        places += [Place(f"HA1.{floor}", 38, area="20", what="corridor")]
+        places += [Place(f"SW{it}.{floor}", 9, area="5", what="landing of a stair") for it in (1, 2)]
+        arcs += [(f"WP{it}.{floor}", f"HA1.{floor}", office) for it in (1, 2)]
+        arcs += [(f"HA1.{floor}", f"SW{it}.{floor}", hall) for it in (1, 2)]
+        below = [f"SW{it}.{floor - 1}" for it in (1, 2)] if floor > 1 else ["LO1.0", "DS2.0"]
+        arcs += [(f"SW{it}.{floor}", below[it - 1], stair) for it in (1, 2)]
+    floors = ("0 Ground", *(f"{it} Storey {it}" for it in range(1, STOREYS + 1)))
+    return Example("tower.evac", f"Office tower of {STOREYS} storeys", 400, places, arcs, floors)
 
 
 def rates(doors):
@@ -349,30 +410,30 @@ def corridor_rates():
     )
 
 
-def crowd_of(passage, own_density):
+def crowd_of(passage):
     """How many come to a passage for each metre, the flow and the density there."""
     if not passage.widths:
-        return ["", "", f"{own_density:.2f}"]
-    comes = f"{float(passage.comes):.4g}" if passage.comes > 2 else f"{float(passage.comes):.2f}"
+        return ["", "", passage.density]
+    comes = f"{float(passage.comes):.4g}" if passage.comes > 2 else f"{float(passage.comes):.3f}".removesuffix("0")
     is_queue = passage.comes / passage.width > passage.flow
     shown = f"{comes} / {float(passage.width):.2f} = {half_up(passage.comes / passage.width, 2)}" + ", a queue" * is_queue
     return [shown, half_up(passage.flow, 2), f"{float(density_of(passage.flow, passage.way)):.2f}"]
 
 
-def travel_rows(example, own_density):
+def travel_rows(example):
     """How crowded each kind of passage is, and how long people walk on it."""
     rows = []
     for it in example.passages().values():
         length = f"{it.lengths} = {float(it.length):.2f} m" if it.lengths else f"{float(it.length):g} m"
         length += f", and {float(it.landing)} m" if it.landing else ""
         times = [f"{it.speed:.2f} m/s", f"{it.seconds:.1f} s", f"{it.seconds / 5:.2f}", f"{it.travel}"]
-        rows.append([it.name, length, *crowd_of(it, own_density), *times])
+        rows.append([it.name, length, *crowd_of(it), *times])
     head = ["Passage", "Length", "Comes / width", "Flow per metre", "Density", "Speed", "Time", "Periods", "Travel"]
     return table(head, rows, "lrrrrrrrr")
 
 
 def corridor_travels():
-    return travel_rows(corridor(), 60 / 150)
+    return travel_rows(corridor())
 
 
 def capacities(example):
@@ -389,7 +450,7 @@ def corridor_capacities():
 
 
 def corridor_lines():
-    return [f"    {line}" for line in corridor().lines()]
+    return ["```evac examples/corridor.evac", *corridor().lines(), "```"]
 
 
 def school_rates():
@@ -406,8 +467,48 @@ def school_rates():
     return [*found[:3], held, *found[3:], leaf]
 
 
+def metro_rates():
+    level, stair, still = WAYS[LEVEL][1], WAYS[STAIR][1], WAYS["stair 191/254"][1]
+    found = rates(
+        [
+            ("four doors of a train, held open", "4 × (1.30 - 0.30)", frac("4.00"), level),
+            ("stair", "1.80 - 0.30", frac("1.50"), stair),
+            ("escalator out of service", "1.00 - 0.30", frac("0.70"), still),
+            ("passage to an exit", "3.00 - 0.40", frac("2.60"), level),
+        ],
+    )
+    half = FREE_FLOW * frac("3.54") * 5
+    along = f"| platform, each way one half of it | (8.00 - 2 × 0.46) / 2 = 3.54 m | 0.64 × 3.54 × 5 = {float(half):.2f} | {math.floor(half)} |"
+    running = f"| escalator that runs | | 1 × 5 = 5 | {rate_of(ESCALATOR_FLOW, 5)} |"
+    gates = f"| six gates | | 6 × 50 / 60 × 5 = {float(GATES * 5):.2f} | {rate_of(GATES, 5)} |"
+    return [*found[:3], along, running, *found[3:5], gates, found[5]]
+
+
+def metro_travels():
+    return travel_rows(metro())
+
+
+def metro_capacities():
+    return capacities(metro())
+
+
+def tower_rates():
+    found = rates([("door of an office", "0.90 - 0.30", frac("0.60"), WAYS[LEVEL][1]), ("stair", "1.30 - 0.30", frac("1.00"), WAYS[STAIR][1])])
+    found += rates([("main door, two leaves held open", "1.80 - 0.30", frac("1.50"), WAYS[LEVEL][1])])[2:]
+    hall = f"| corridor, held to the stair's door, which isn't held open | | 50 / 60 × 5 = {float(LEAF * 5):.2f} | {rate_of(LEAF, 5)} |"
+    return [*found[:3], hall, *found[3:]]
+
+
+def tower_travels():
+    return travel_rows(tower())
+
+
+def tower_capacities():
+    return capacities(tower())
+
+
 def school_travels():
-    return travel_rows(school(), 25 / 56)
+    return travel_rows(school())
 
 
 def school_capacities():
@@ -519,14 +620,109 @@ def school_by_hand():
     return table(["", "By hand", "In periods"], rows, "lrr")
 
 
+def metro_ways():
+    """The passages that a reckoning of the metro looks at: the three ways up, that to the gates, and the shorter one to the street."""
+    by_name = metro().passages()
+    names = ("stair, with its landing", "escalator that runs", "escalator out of service", "mezzanine, to the gates", "passage to exit A")
+    return [by_name[it] for it in names]
+
+
+def metro_hand():
+    """The seconds until the three ways up have let all through, from moment 0 on."""
+    *ups, gates, passage = metro_ways()
+    let = [float(it.most) for it in ups]
+    return (1090 + sum(flow * (it.seconds + gates.seconds + passage.seconds) for flow, it in zip(let, ups))) / sum(let)
+
+
+def metro_by_hand():
+    stair, running, still, gates, passage = metro_ways()
+    on = gates.travel + passage.travel
+    by_stair, by_escalator = stair.travel + on, running.travel + on
+    both = running.rate + still.rate
+
+    def out(period):
+        """The people out by a period, where all three ways are busy from moment 0 on."""
+        return stair.rate * (period - by_stair + 1) + both * (period - by_escalator + 1)
+
+    periods = next(k for k in range(1, 201) if out(k) >= 1090)
+    last = periods - 1
+
+    def walk(way):
+        parts = [way.seconds, gates.seconds, passage.seconds]
+        return f"{' + '.join(f'{it:.1f}' for it in parts)} = {sum(float(f'{it:.1f}') for it in parts):.1f} s"
+
+    flows = [float(it.most) for it in (running, still)]
+    rows = [
+        ["from the foot of the stair to the street", walk(stair), f"{stair.travel} + {gates.travel} + {passage.travel} = {by_stair}"],
+        ["from the foot of an escalator", walk(running), f"{running.travel} + {gates.travel} + {passage.travel} = {by_escalator}"],
+        ["the stair lets up", f"{float(stair.most):.3f} a second", f"{stair.rate} a period"],
+        ["both escalators let up", f"{flows[0]:.2f} + {flows[1]:.3f} = {sum(flows):.3f} a second", f"{running.rate} + {still.rate} = {both} a period"],
+        [f"out by period {last}", "", f"{stair.rate} × {last - by_stair + 1} + {both} × {last - by_escalator + 1} = {out(last)}"],
+        ["all 1,090 are out", f"{metro_hand():.0f} s", f"{periods} periods, {5 * periods} s"],
+        answer_row(metro().lines(), periods, f"out {last} {out(last)}"),
+    ]
+    return table(["", "By hand", "In periods"], rows, "lrr")
+
+
+def tower_ways():
+    by_name = tower().passages()
+    return [by_name[it] for it in ("office, to its door", "corridor, to a stair", "stair, with its landing", "lobby, to the main door")]
+
+
+def tower_hand():
+    """The seconds until both stairs have let all through. Until those of storey 2 come down, two offices alone use them."""
+    office, hall, stair, lobby = tower_ways()
+    above = office.seconds + hall.seconds + stair.seconds
+    early, flow = float(2 * ROOM_DOOR) * stair.seconds, float(stair.most)
+    return ((1600 - early) / flow + (above + stair.seconds) + (above + stair.seconds + lobby.seconds)) / 2
+
+
+def tower_by_hand():
+    office, hall, stair, lobby = tower_ways()
+    come = office.travel + hall.travel
+    above, early = come + stair.travel, 2 * office.rate * stair.travel
+    short, long = stair.travel, stair.travel + lobby.travel
+
+    def out(period):
+        """The people out by a period, where both stairs are always busy."""
+        return early + stair.rate * (period - short - above + 1) + stair.rate * (period - long - above + 1)
+
+    periods = next(k for k in range(1, 401) if out(k) >= 1600)
+    last, two, flow = periods - 1, float(2 * ROOM_DOOR), float(stair.most)
+    by_last = f"{early} + {stair.rate} × {last - short - above + 1} + {stair.rate} × {last - long - above + 1} = {out(last)}"
+    first = [float(f"{it.seconds:.1f}") for it in (office, hall)]
+    rows = [
+        ["the first come to the landing of storey 1", f"{first[0]} + {first[1]} = {sum(first):.1f} s", f"{office.travel} + {hall.travel} = {come}"],
+        ["those of storey 2 come to it", f"{stair.seconds:.1f} s later", f"{come} + {stair.travel} = {above}"],
+        ["so many come in between, from two offices", f"{two:.2f} × {stair.seconds:.2f} = {two * stair.seconds:.1f}", f"2 × {office.rate} × {stair.travel} = {early}"],
+        ["from then on both stairs let through", f"2 × {flow:.2f} = {2 * flow:.2f} a second", f"2 × {stair.rate} = {2 * stair.rate} a period"],
+        ["from the landing to outside, by stair 2", f"{stair.seconds:.1f} s", f"{short}"],
+        ["by stair 1, with the lobby", f"{stair.seconds:.1f} + {lobby.seconds:.1f} = {stair.seconds + lobby.seconds:.1f} s", f"{stair.travel} + {lobby.travel} = {long}"],
+        [f"out by period {last}", "", by_last],
+        ["all 1,600 are out", f"{tower_hand():.0f} s", f"{periods} periods, {5 * periods} s"],
+        answer_row(tower().lines(), periods, f"out {last} {out(last)}"),
+    ]
+    return table(["", "By hand", "In periods"], rows, "lrr")
+
+
 def roundings():
     rows = []
-    for name, example, by_hand in (("One room", corridor(), corridor_hand()), ("School", school(), school_hand())):
+    buildings = (("One room", corridor(), corridor_hand()), ("School", school(), school_hand()))
+    buildings += (("Metro", metro(), metro_hand()), ("Tower", tower(), tower_hand()))
+    for name, example, by_hand in buildings:
         for period in (2, 5, 10):
-            safe, other = example.lines(period), example.lines(period, is_safe=False)
-            seconds = [f"{ANSWERS.number(safe, 'seconds')} s", f"{by_hand:.0f} s", f"{ANSWERS.number(other, 'seconds')} s"]
-            rows.append([name, f"{period} s", *seconds, ", ".join(f"`{line}`" for line in ANSWERS.bottlenecks(safe))])
-    return table(["Building", "Period", "Safe side", "By hand", "Other side", "Bottlenecks of the safe side"], rows, "lrrrrl")
+            seconds = [f"{ANSWERS.number(example.lines(period, is_safe), 'seconds')} s" for is_safe in (True, False)]
+            rows.append([name, f"{period} s", seconds[0], f"{by_hand:.0f} s", seconds[1]])
+    return table(["Building", "Period", "Safe side", "By hand", "Other side"], rows, "lrrrr")
+
+
+def room_periods():
+    """What rounding makes of the two doors of the one room, and the bottleneck that the program then names."""
+    rows, (room, *_, lobby) = [], corridor().passages().values()
+    for period in (2, 5, 10):
+        rates = [f"{float(it.door):.2f} × {period} = {float(it.door) * period:.2f}: {it.numbers(period)[1]}" for it in (room, lobby)]
+        rows.append([f"{period} s", *rates, ", ".join(f"`{line}`" for line in ANSWERS.bottlenecks(corridor().lines(period)))])
+    return table(["Period", "Rate of the room's door", "Rate of the door outside", "Bottleneck"], rows, "rrrl")
 
 
 def school_choices():
@@ -545,7 +741,10 @@ NAMED = {
     for it in (
         *(ways, densities, greatest, crowding, merging, doors, corridors, stairs, travels),
         *(corridor_rates, corridor_travels, corridor_capacities, corridor_lines, corridor_by_hand),
-        *(school_rates, school_travels, school_capacities, school_by_hand, school_choices, roundings),
+        *(school_rates, school_travels, school_capacities, school_by_hand, school_choices),
+        *(metro_rates, metro_travels, metro_capacities, metro_by_hand),
+        *(tower_rates, tower_travels, tower_capacities, tower_by_hand),
+        *(roundings, room_periods),
     )
 }
 
@@ -589,7 +788,7 @@ def wrong_sums(page):
 
 def wrong_files():
     """Yields what differs between an example's lines and its file."""
-    for example in (corridor(), school()):
+    for example in (corridor(), school(), metro(), tower()):
         path = TOP / "examples" / example.file
         wanted = example.lines()
         said = [line for line in path.read_text().split("\n") if line and not line.startswith("#")] if path.exists() else []

@@ -1,32 +1,29 @@
 #!/usr/bin/env python3
-"""Runs each command that README, FORMATS and FIGURES show, on the built program, and compares what they print beside it.
+"""Runs each command that the documents for users show, on the built program, and compares what it prints with what is shown below it.
 
     python3 docs/replay.py [--program PATH] [DOCUMENT ..]
 
-A code block is told by its lines:
+The first word of a fence says what its block is, and a block without one of these words is a fault:
 
-- one that begins with `$ ` is a transcript: each command is run, and below it stands what it prints;
-- one whose lines are commands (`./evacplan ..`, `cat ..`) is run. So is `./evacplan ..` in a sentence, and a mode that `answers`; where they name
-  no file they get the building that the text named last;
-- one that has lines `> ..` is a session on that building: these lines are its commands, and the others what is printed;
-- one that begins with `evacplan 1` or `evacplan 2` is a building. Where the text before it links a file, it has the lines of the file. It must be
-  planned;
-- one that begins with another statement has lines of the building that the text named last;
-- one line with ` = ` in it is a formula, and is left alone;
-- any other is what the command before it prints, from one of its lines on; or `./evacplan solve`, where the sentence before it names a file and no
-  command.
+- `console`: a transcript. A line `$ COMMAND` is run, `\\` at its end goes on in the next line. Lines `> ..` below it are typed into the command, and
+  all others are what it prints. The last command ends with status 0, or with N where the fence says `console status=N`; all others with 0.
+- `evac NAME`: lines of a building. Where NAME is an example, they are lines of that file. Else they are written into a file of this name, which the
+  commands below may read.
+- `python NAME`, `rust NAME`: lines of that file.
+- `sh`: commands that prove, build or measure. They are not run here.
+- `text`: anything else. It isn't compared with anything.
 
-A line `..` stands for lines that are left out. What stands in the left column of a table of lines or commands, right below a block, must stand in
-the block. Two comments help where the text says it in other words: `<!-- run: COMMAND -->` runs a command,
-and `<!-- not run -->` leaves the next block out.
+A line `..` stands for lines that are left out; between two of them all lines must be there, in order and side by side. The left column of a table
+that is headed `Line` or `Command`, right below a block, has lines of that block. In a table that is headed `Question | Command | Answer` each command
+is run, ends with status 0 or 1, and what is in code in the last column must be in the first ten lines that it prints.
 
-The tables and answers of FIGURES are computed by figures.py, which is called here. It prints each difference with its document and line, and its
+The tables and answers of FIGURES are computed by figures.py, which is called here. Each difference is printed with its document and line, and the
 status is 1 where there is one.
 """
 import argparse
+import os
 import pathlib
 import re
-import shlex
 import subprocess
 import sys
 import tempfile
@@ -36,261 +33,186 @@ sys.dont_write_bytecode = True
 import figures
 
 TOP = pathlib.Path(__file__).resolve().parent.parent
-DOCUMENTS = ("README.md", "docs/FORMATS.md", "docs/FIGURES.md")
-# Commands that prove, build or measure: they are shown and not run here.
-ELSEWHERE = ("rt ", "./build", "python3 ", "tests/", "git ")
-COMMANDS = ("./evacplan", "cat ", "(cat ", "grep ", "sed ", "awk ", "diff ", *ELSEWHERE)
-STATEMENTS = ("title", "period", "horizon", "floor", "node", "arc", "window", "entrant")
-MODES = r"(?:solve|cards|upgrade|check)(?: --routes| --reports)*"
+DOCUMENTS = ("README.md", "docs/GUIDE.md", "docs/RECIPES.md", "docs/CALLING.md", "docs/FORMATS.md", "docs/FIGURES.md")
+# What the commands find in their folder, besides the program.
+LINKED = ("examples", "docs", "evacask", "companion")
+KINDS = ("console", "evac", "python", "rust", "sh", "text")
 GAP = ".."
 
 
 @dataclass
 class Item:
-    """A piece of a document: a paragraph, a table, a code block or a comment, with the number of its first line."""
+    """A code block with the words of its fence, a table, or another line of text; and the number of its first line."""
 
     kind: str
     line: int
+    words: list = field(default_factory=list)
     lines: list = field(default_factory=list)
-
-    def text(self):
-        return " ".join(it.strip() for it in self.lines)
 
 
 def items_of(text):
-    """The pieces of a document, in order."""
+    """The code blocks and tables of a document, in order, and a text item for what stands between them."""
     found, is_fenced = [], False
     for number, line in enumerate(text.split("\n"), 1):
-        last = found[-1] if found else None
         if line.startswith("```"):
             is_fenced = not is_fenced
-            found.append(Item("block" if is_fenced else "blank", number + is_fenced))
+            if is_fenced:
+                found.append(Item("block", number + 1, line[3:].split()))
         elif is_fenced:
-            last.lines.append(line)
-        elif re.fullmatch(r"<!--.*-->", line):
-            found.append(Item("comment", number, [line[4:-3].strip()]))
-        elif not line.strip():
-            if last and last.kind == "block":
-                last.lines.append("")
-            else:
-                found.append(Item("blank", number))
+            found[-1].lines.append(line)
+        elif line.startswith("    ") and (not found or found[-1].kind != "text"):
+            found.append(Item("block", number, [], [line]))
+        elif line.startswith("|"):
+            if not found or found[-1].kind != "table":
+                found.append(Item("table", number))
+            found[-1].lines.append(line)
+        elif line.strip():
+            found.append(Item("text", number, [], [line]))
+        elif found and found[-1].kind == "text":
+            found.append(Item("blank", number))
+    return [it for it in found if it.kind != "blank"]
+
+
+def runs_of(shown):
+    """The longest runs of lines between gaps, each with the number of its first line, from 0."""
+    runs = [(0, [])]
+    for number, line in enumerate(shown):
+        if line == GAP:
+            runs.append((number + 1, []))
         else:
-            is_list = last and last.kind == "text" and re.match(r"\s*(-|\d+\.) ", last.lines[0])
-            kind = "block" if line.startswith("    ") and not is_list else "table" if line.startswith("|") else "text"
-            if not last or last.kind != kind:
-                found.append(Item(kind, number))
-            found[-1].lines.append(line[4:] if kind == "block" else line)
-    for it in found:
-        while it.lines and not it.lines[-1]:
-            it.lines.pop()
-    return [it for it in found if it.kind != "blank" and it.lines]
+            runs[-1][1].append(line)
+    return runs
 
 
-class Shell:
-    """A folder with the program and the examples, in which commands are run."""
-
-    def __init__(self, program, folder):
-        self.folder = pathlib.Path(folder)
-        (self.folder / "evacplan").symlink_to(program)
-        (self.folder / "examples").symlink_to(TOP / "examples")
-        self.kept = {}
-
-    def run(self, command, given=""):
-        """The lines that a command prints, its status, and what it says on standard error."""
-        if ">" in command:
-            # (it writes a file, which others may read)
-            self.kept.clear()
-        if (command, given) not in self.kept:
-            ran = subprocess.run(["bash", "-c", command], cwd=self.folder, input=given.encode(), capture_output=True, timeout=120)
-            self.kept[command, given] = ran.stdout.decode(errors="replace").rstrip("\n").split("\n"), ran.returncode, ran.stderr.decode()
-        return self.kept[command, given]
-
-
-def place_of(piece, lines, start):
-    """Where the lines hold a piece whole, from a place on."""
-    return next((at for at in range(start, len(lines) - len(piece) + 1) if lines[at : at + len(piece)] == piece), None)
-
-
-def first_missing(shown, printed):
-    """Which of the lines that are shown isn't printed where it should be, from 0, or None."""
-    start = number = 0
-    while number < len(shown):
-        if shown[number] == GAP:
-            number += 1
-            continue
-        end = next((at for at in range(number, len(shown)) if shown[at] == GAP), len(shown))
-        at = place_of(shown[number:end], printed, start)
-        if at is None:
-            fits = [k for k in range(1, end - number + 1) if place_of(shown[number : number + k], printed, start) is not None]
-            return number + (fits[-1] if fits else 0)
-        start, number = at + end - number, end
+def first_missing(shown, there):
+    """Which of the lines that are shown isn't there where it should be, from 0, or None."""
+    runs, start = runs_of(shown), 0
+    for number, (first, run) in enumerate(runs):
+        is_last = number == len(runs) - 1
+        places = range(start, len(there) - len(run) + 1)
+        if number == 0:
+            places = places[:1]
+        if is_last and run:
+            places = [it for it in places if it == len(there) - len(run)]
+        at = next((it for it in places if there[it : it + len(run)] == run), None)
+        if at is None or is_last and number == 0 and len(run) != len(there):
+            fits = (next((k for k, (one, other) in enumerate(zip(run, there[it:])) if one != other), len(run)) for it in places)
+            return min(first + max(fits, default=0), len(shown) - 1)
+        start = at + len(run)
     return None
 
 
-class Reader:
-    """Goes through a document, and keeps the command and the building that were named last."""
+def numbered(item):
+    """The lines of a block, each with its number in the document."""
+    return list(enumerate(item.lines, item.line))
 
-    def __init__(self, shell, name):
-        self.shell, self.name, self.faults = shell, name, []
-        self.building = self.command = None
-        self.printed, self.said = [], ""
-        self.is_left_out, self.below = False, None
-        # The file that the last sentence named, where it named no command.
-        self.only_file = None
+
+def is_statement(line):
+    """Whether a line of a building is neither blank nor a comment."""
+    return bool(line.strip()) and not line.startswith("#")
+
+
+def cells_of(row):
+    """The cells of a row of a table."""
+    return [it.strip().replace("\\|", "|") for it in re.split(r"(?<!\\)\|", row.strip().strip("|"))]
+
+
+class Reader:
+    """Goes through a document in a folder that has the program and the examples."""
+
+    def __init__(self, program, folder, name):
+        self.folder, self.name, self.faults, self.above = pathlib.Path(folder), name, [], None
+        (self.folder / "evacplan").symlink_to(program)
+        for it in LINKED:
+            if (TOP / it).exists():
+                (self.folder / it).symlink_to(TOP / it)
+        self.environment = {**os.environ, "EVACPLAN": str(program), "PYTHONDONTWRITEBYTECODE": "1"}
 
     def fault(self, line, why):
         self.faults.append(f"{self.name}:{line}: {why}")
 
-    def run(self, line, command, given=""):
-        """Runs a command and keeps what it prints. Its status must be the one that its first line stands for."""
-        self.command, self.only_file = command, None
-        self.printed, status, wrong = self.shell.run(command, given)
-        first = self.printed[0]
-        wanted = 2 if first.startswith("refused 40") else 1 if first.startswith(("refused ", "no ")) else 0
-        if command.startswith("diff "):
-            wanted = int(bool(first))
-        if status != wanted or wrong:
-            self.fault(line, f"{command}: status {status} and not {wanted} {wrong.strip()}".rstrip())
+    def run(self, line, command, typed="", statuses=(0,)):
+        """The lines that a command prints. Its status must be one of those given."""
+        ran = subprocess.run(
+            ["bash", "-c", command], cwd=self.folder, env=self.environment, input=typed.encode(), timeout=120,
+            stdout=subprocess.PIPE, stderr=subprocess.STDOUT,
+        )
+        if ran.returncode not in statuses:
+            self.fault(line, f"{command}: status {ran.returncode} and not {statuses[0]}")
+        return ran.stdout.decode(errors="replace").split("\n")[:-1]
 
-    def shown_command(self, line, command):
-        """Runs a command of the text, on the building named last where it names no input."""
-        words = shlex.split(re.sub(r"[()|<>;]", " ", command))
-        if command.startswith(ELSEWHERE):
-            return
-        if "<" in command or "|" in command or "drill" in words or not words[0].startswith("./evacplan"):
-            self.run(line, command)
-        elif words[1:2] not in ([], ["session"]) and self.building:
-            self.run(line, f"{command} < {self.building}")
-
-    def named_files(self, text):
-        """Takes the example that a text names last as the building."""
-        for name in re.findall(r"examples/\w+\.evac", text):
-            self.building = name
-
-    def text(self, item):
-        said = item.text()
-        self.said, is_run = said, False
-        for found in re.finditer(r"`([^`]*)`( answers| prints)?", said):
-            code = found[1]
-            self.named_files(said[: found.end()])
-            if code.startswith("./evacplan "):
-                self.shown_command(item.line, code)
-                is_run = True
-            elif found[2] and re.fullmatch(MODES, code) and self.building:
-                self.run(item.line, f"./evacplan {code} < {self.building}")
-                is_run = True
-            elif self.command and re.fullmatch(r"(cleared|seconds|uncongested|personperiods|most|people) \d+|out \d+ \d+", code):
-                after = said[: found.start()].rfind("`./evacplan ")
-                if after >= 0 and code not in self.printed:
-                    self.fault(item.line, f"{self.command} doesn't print {code}")
-        self.named_files(said)
-        if not is_run and re.search(r"examples/\w+\.evac", said):
-            self.only_file = self.building
-        count = re.search(r"prints ([\d,]+) lines", said)
-        if count and int(count[1].replace(",", "")) != len(self.printed):
-            self.fault(item.line, f"{self.command} prints {len(self.printed)} lines")
+    def compare(self, shown, there, what):
+        """Looks for lines, each with its number, among those that are there."""
+        wrong = first_missing([text for _, text in shown], there)
+        if wrong is not None:
+            self.fault(shown[wrong][0], f"{shown[wrong][1]!r} isn't there in what {what} has: {' / '.join(there[:3])}")
 
     def block(self, item):
-        lines = item.lines
-        statements = [it for it in lines if it and not it.startswith("#")]
-        first = statements[0].split()[0] if statements else ""
-        if self.is_left_out or len(lines) == 1 and " = " in lines[0]:
-            self.is_left_out = False
-        elif lines[0].startswith("$ "):
+        kind = item.words[0] if item.words else "none"
+        if kind not in KINDS:
+            self.fault(item.line, f"the fence says {kind}, which is none of {', '.join(KINDS)}")
+        elif kind == "console":
             self.transcript(item)
-        elif any(it.startswith("> ") for it in lines):
-            self.session(item)
-        elif all(it.startswith((*COMMANDS, "  ")) for it in lines if it):
-            for command in "\n".join(lines).replace("\\\n", "").split("\n"):
-                self.shown_command(item.line, command)
-        elif first == "evacplan" and not self.printed[:1] == statements[:1]:
-            self.a_building(item, statements)
-        elif first in STATEMENTS:
-            self.compare(item, statements, self.file_lines(self.building), self.building)
+        elif kind == "evac":
+            self.building(item)
+        elif kind in ("python", "rust"):
+            self.compare(numbered(item), (TOP / item.words[1]).read_text().split("\n")[:-1], item.words[1])
+        self.above = item
+
+    def building(self, item):
+        """Compares lines with those of an example, or writes them into a file."""
+        name = item.words[1]
+        if name.startswith("examples/"):
+            shown = [(number, it) for number, it in numbered(item) if is_statement(it)]
+            self.compare(shown, [it for it in (TOP / name).read_text().split("\n") if is_statement(it)], name)
         else:
-            if self.only_file:
-                self.run(item.line, f"./evacplan solve < {self.only_file}")
-            self.compare(item, lines, self.printed, self.command)
-        self.below = item
-
-    def compare(self, item, shown, there, what):
-        """Finds the lines that are shown among those that are there."""
-        wrong = first_missing(shown, there or [])
-        if wrong is not None:
-            at = wrong if shown is item.lines else item.lines.index(shown[wrong])
-            self.fault(item.line + at, f"{shown[wrong]!r} isn't there in what {what or 'no command'} has")
-
-    def file_lines(self, name):
-        """The statements of a building."""
-        path = self.shell.folder / name if name else None
-        return [it for it in path.read_text().split("\n") if it.strip() and not it.startswith("#")] if path else []
-
-    def a_building(self, item, statements):
-        named = re.findall(r"examples/\w+\.evac", self.said)
-        if named:
-            self.compare(item, statements, self.file_lines(named[-1]), named[-1])
-            self.building = named[-1]
-        if GAP not in statements:
-            text = "\n".join(item.lines) + "\n"
-            printed, status, _ = self.shell.run("./evacplan solve", text)
-            if status:
-                self.fault(item.line, f"the building is {printed[0]}")
-            if not named:
-                self.building = f"of_{self.name.split('/')[-1]}_{item.line}"
-                (self.shell.folder / self.building).write_text(text)
-        self.printed = statements
+            (self.folder / name).write_text("\n".join(item.lines) + "\n")
 
     def transcript(self, item):
-        """Runs the commands behind `$ `, each with what is typed behind `> `, and compares what they print."""
-        starts = [at for at, it in enumerate(item.lines) if it.startswith("$ ")]
-        for start, end in zip(starts, [*starts[1:], len(item.lines)]):
-            first = start
-            command = item.lines[start][2:]
+        """Runs each command of a transcript, with what is typed below it, and compares what it prints."""
+        lines, last = numbered(item), int(item.words[1].partition("=")[2]) if len(item.words) > 1 else 0
+        if not item.lines[:1] or not item.lines[0].startswith("$ "):
+            self.fault(item.line, "a transcript begins with a command")
+        while lines:
+            number, command = lines.pop(0)
+            command = command.removeprefix("$ ")
             while command.endswith("\\"):
-                first += 1
-                command = command[:-1] + item.lines[first].strip()
-            below = item.lines[first + 1 : end]
-            typed = "".join(it[2:] + "\n" for it in below if it.startswith("> "))
-            if command.startswith(ELSEWHERE):
-                continue
-            self.run(item.line + start, command, typed)
-            shown = [it for it in below if it and not it.startswith("> ")]
-            wrong = first_missing(shown, self.printed)
-            if wrong is not None:
-                self.fault(item.line + first + 1 + below.index(shown[wrong]), f"{shown[wrong]!r} isn't there in what {command} prints")
-
-    def session(self, item):
-        typed = [it[2:] for it in item.lines if it.startswith("> ")]
-        self.run(item.line, f"cat {self.building} - | ./evacplan session", "\n".join(typed) + "\n")
-        self.compare(item, [it for it in item.lines if not it.startswith("> ")], self.printed, self.command)
+                command = command[:-1] + lines.pop(0)[1].strip()
+            end = next((at for at, (_, it) in enumerate(lines) if it.startswith("$ ")), len(lines))
+            below, lines = lines[:end], lines[end:]
+            typed = "".join(it[2:] + "\n" for _, it in below if it.startswith("> "))
+            printed = self.run(number, command, typed, (0 if lines else last,))
+            shown = [it for it in below if not it[1].startswith("> ")]
+            if shown or printed:
+                self.compare(shown or [(number, "nothing")], printed, command)
 
     def table(self, item):
-        """Looks for the lines or commands in the left column of a table right below a block: they stand in the block too."""
-        head = item.lines[0].strip("|").split("|")[0].strip()
-        if head not in ("Line", "Command") or not self.below or self.is_above(item):
-            return
-        there = [it.removeprefix("> ") for it in self.below.lines]
-        for at, row in enumerate(item.lines[2:], 2):
-            for code in re.findall(r"`([^`]*)`", row.strip("|").split("|")[0]):
-                if code not in there:
-                    self.fault(item.line + at, f"{code!r} isn't there in the block above")
+        head = cells_of(item.lines[0])
+        if head == ["Question", "Command", "Answer"]:
+            self.questions(item)
+        elif head[0] in ("Line", "Command") and self.above:
+            there = [re.sub(r"^[$>] ", "", it) for it in self.above.lines]
+            for at, row in enumerate(item.lines[2:], 2):
+                for code in re.findall(r"`([^`]*)`", cells_of(row)[0]):
+                    if code not in there:
+                        self.fault(item.line + at, f"{code!r} isn't there in the block above")
+        self.above = None
 
-    def is_above(self, item):
-        """Whether something else stands between the block before and this table."""
-        return self.below.line + len(self.below.lines) + 1 < item.line
+    def questions(self, item):
+        """Runs the command of each row, and looks for the answer in the first lines that it prints."""
+        for at, row in enumerate(item.lines[2:], item.line + 2):
+            _, command, answer = cells_of(row)
+            printed = self.run(at, command.strip("`"), statuses=(0, 1))[:10]
+            for code in re.findall(r"`([^`]*)`", answer):
+                if not any(code in it for it in printed):
+                    self.fault(at, f"{code!r} isn't there in the first ten lines of {command}: {' / '.join(printed)}")
 
-    def comment(self, item):
-        found = re.fullmatch(r"run: (.*)", item.lines[0])
-        if found:
-            self.run(item.line, found[1])
-        self.is_left_out = self.is_left_out or item.lines[0] == "not run" or item.lines[0].startswith("figures: ")
+    def text(self, item):
+        self.above = None
 
     def read(self, text):
         """Goes through the whole document, and returns what differs."""
         for item in items_of(text):
-            if item.kind == "table" and self.is_left_out:
-                self.is_left_out = False
-                continue
             getattr(self, item.kind)(item)
         return self.faults
 
@@ -306,7 +228,7 @@ def main():
     found = []
     for path in given.documents:
         with tempfile.TemporaryDirectory(prefix="evacplan-replay-") as folder:
-            found += Reader(Shell(program, folder), path.name).read(path.read_text())
+            found += Reader(program, folder, path.name).read(path.read_text())
     figures.ANSWERS.program = program
     found += figures.differences(figures.PAGE.read_text())
     print("\n".join(found) if found else "what the documents show is what is printed")
