@@ -46,10 +46,19 @@ def widths(rate: int, period: int) -> List[str]:
     """The clear widths that let so many people through in a period, by the figures of docs/FIGURES.md."""
     rows = [["door held open", centimetres(rate, period, LEVEL, DOOR)], ["corridor or ramp", centimetres(rate, period, LEVEL, SIDES[LEVEL])]]
     rows += [[f"stair {kind}", centimetres(rate, period, kind, SIDES[kind])] for kind in GREATEST_FLOWS if kind != LEVEL]
-    leaves = math.ceil(rate / period / LEAF)
-    rows.append(["door not held open", f"{some(leaves, 'leaf', 'leaves')}, each at least {centimetres(rate / leaves, period, LEVEL, DOOR)}"])
+    rows.append(["door not held open", leaves_text(rate, period)])
     need = f"{some(rate, 'person needs', 'people need')} a clear width, in {period} s, of:"
     return [f"{OWN}, by docs/FIGURES.md. {need}", *("  " + line for line in table(rows, "ll"))]
+
+
+def leaves_text(rate: int, period: int) -> str:
+    """The leaves that let so many people through, where each must be pushed open: two leaves to a door, and all their clear widths together."""
+    leaves = math.ceil(rate / period / LEAF - 1e-9)
+    doors = math.ceil(leaves / 2)
+    width = centimetres(rate, period, LEVEL, doors * DOOR)
+    if leaves == 1:
+        return f"1 leaf, {width}"
+    return f"{leaves} leaves" + (f" in {doors} doors" if doors > 1 else "") + f", {width} together"
 
 
 def centimetres(rate: float, period: int, kind: str, sides: float) -> str:

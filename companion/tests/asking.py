@@ -11,10 +11,7 @@ from companion.main import main
 
 TOP = pathlib.Path(__file__).resolve().parent.parent.parent
 EXAMPLES = sorted((TOP / "examples").glob("*.evac"))
-DATA = TOP / "companion/tests/data"
-MODELS = sorted(DATA.glob("*.evac"))
-OFFICE, SCHOOL = TOP / "examples/office.evac", TOP / "examples/school.evac"
-METRO, TOWER = DATA / "metro.evac", DATA / "tower.evac"
+OFFICE, SCHOOL, METRO, TOWER = (TOP / f"examples/{name}.evac" for name in ("office", "school", "metro", "tower"))
 
 
 @dataclass

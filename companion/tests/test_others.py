@@ -11,7 +11,7 @@ import unittest
 from companion.building import building_of
 from companion.metres import building_text
 from companion.terminal import candidates
-from companion.tests.asking import DATA, EXAMPLES, METRO, MODELS, OFFICE, SCHOOL, TOP, ask, changed, program, solved
+from companion.tests.asking import EXAMPLES, OFFICE, SCHOOL, TOP, ask, changed, program, solved
 
 
 def table(*words: object) -> list:
@@ -27,7 +27,7 @@ def block_of(path: pathlib.Path) -> list:
 
 class Tables(unittest.TestCase):
     def test_exits_add_up_to_the_curve(self):
-        for path in EXAMPLES + MODELS:
+        for path in EXAMPLES:
             with self.subTest(path.name):
                 rows, curve = table("exits", path), [line[2] for line in block_of(path) if line[0] == "out"]
                 self.assertEqual([row["out"] for row in rows], curve)
@@ -35,7 +35,7 @@ class Tables(unittest.TestCase):
                 self.assertTrue(all(sum(int(row[name]) for name in exits) == int(row["out"]) for row in rows))
 
     def test_nobody_is_lost_or_too_many(self):
-        for path in EXAMPLES + MODELS:
+        for path in EXAMPLES:
             with self.subTest(path.name):
                 building = building_of(path.read_bytes())
                 nodes, arcs = table("nodes", path), table("arcs", path)
@@ -56,7 +56,7 @@ class Tables(unittest.TestCase):
         self.assertEqual(rows[0]["names"], "Classroom 1 to West half of the corridor")
 
     def test_walks(self):
-        for path in EXAMPLES + MODELS:
+        for path in EXAMPLES:
             rows = table("walks", path)
             report = solved(path.read_bytes(), "solve", "--reports")
             farthest = max((int(row["periods"]) for row in rows if int(row["start"])), default=0)
