@@ -15,7 +15,7 @@ from companion.metres import both_lines, building_text, marked
 from companion.printed import show
 from companion.program import Talk, find_program
 from companion.summary import shortfall, summary
-from companion.tables import write_table, write_totals, write_walks
+from companion.tables import write_table, write_walks
 from companion.terminal import converse
 from companion.ways import ANY_RATE, all_tried, ways_lines, write_csv
 from companion.wide import asked_moment, wide
@@ -24,6 +24,8 @@ from companion.why import why
 
 def text_of(name: str) -> bytes:
     """The bytes of a file, or of standard input where its name is `-`."""
+    if name == "-" and sys.stdin is None:
+        raise Stop("standard input can't be read: it is closed", Status.INPUT)
     try:
         if name == "-":
             return sys.stdin.buffer.read()
@@ -133,10 +135,7 @@ def run_tables(given: Namespace) -> int:
         return Status.ANSWERED
     with it.talk() as talk:
         block = cleared_by(talk.opening, it.name)
-        if given.kind == "totals":
-            write_totals(it.building, block)
-        else:
-            write_table(it.building, block, given.kind)
+        write_table(it.building, block, given.kind)
     return Status.ANSWERED
 
 

@@ -12,7 +12,12 @@ from companion.words import parser
 def main(words: Optional[Sequence[str]] = None) -> int:
     """Runs a command, and answers with its status."""
     for stream in (sys.stdin, sys.stdout, sys.stderr):
-        stream.reconfigure(encoding="utf-8", errors="surrogateescape")  # type: ignore[union-attr]
+        if stream is not None:
+            stream.reconfigure(encoding="utf-8", errors="surrogateescape")  # type: ignore[union-attr]
+    if sys.stdout is None or sys.stderr is None:
+        if sys.stderr:
+            print("evacask: the output can't be written: it is closed", file=sys.stderr)
+        return Status.OUTPUT
     try:
         status = answer(sys.argv[1:] if words is None else list(words))
         sys.stdout.flush()

@@ -11,6 +11,7 @@ from typing import Iterator, List, Optional
 
 from companion.building import lines_of
 from companion.ending import Status, Stop
+from companion.progress import Patience
 
 TOP = pathlib.Path(__file__).resolve().parent.parent
 BUILT = TOP / "crates/evacplan/out/evacplan"
@@ -84,7 +85,8 @@ class Program:
         """Runs the program once on a text."""
         run = self.start(words)
         try:
-            printed = run.communicate(text)[0]
+            with Patience():
+                printed = run.communicate(text)[0]
         finally:
             run.kill()
         if run.returncode not in (Status.ANSWERED, Status.REFUSED, Status.WORDS) or not printed:
@@ -128,16 +130,20 @@ class Talk:
 
     def reply(self) -> Reply:
         """A reply is one line, or goes up to its line `end`."""
-        assert self.run.stdout
-        lines: List[bytes] = []
-        while not lines or lines[-1] != b"end\n":
-            line = self.run.stdout.readline()
-            if not line:
-                raise broken(self.run.wait())
-            lines.append(line)
-            if len(lines) == 1 and (line.startswith(b"work ") or line.startswith(b"refused ") and not line.startswith(b"refused 22 ")):
-                break
+        with Patience():
+            lines = [self.line()]
+            is_one_line = lines[0].startswith((b"work ", b"refused ")) and not lines[0].startswith(b"refused 22 ")
+            while not is_one_line and lines[-1] != b"end\n":
+                lines.append(self.line())
         return Reply(lines)
+
+    def line(self) -> bytes:
+        """The next line that the program prints."""
+        assert self.run.stdout
+        line = self.run.stdout.readline()
+        if not line:
+            raise broken(self.run.wait())
+        return line
 
 
 def broken(status: int) -> Stop:

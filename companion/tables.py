@@ -1,17 +1,17 @@
-"""Tables over time for a spreadsheet: people out by each exit, in each node, into each arc. They add up the moves of the printed plan."""
+"""Tables for a spreadsheet: people by exit, node and arc. They add up the moves of the printed plan."""
 from __future__ import annotations
 
 import csv
 import sys
-from typing import Dict, Iterator, List, Sequence, Tuple
+from typing import Any, Dict, Iterable, Iterator, List, Sequence, Tuple
 
 from companion.building import Building, Way
 from companion.printed import OWN
 from companion.program import Reply
 from companion.walks import walks
 
-# People by place and moment.
-Counts = Dict[Tuple[str, int], int]
+# The heads of a table, and its rows.
+Table = Tuple[List[str], Iterable[List[Any]]]
 
 
 class Plan:
@@ -20,7 +20,7 @@ class Plan:
     def __init__(self, building: Building, block: Reply):
         self.building, self.cleared = building, block.number("cleared")
         self.entered: Dict[Way, Dict[int, int]] = {way: {} for way in building.arcs}
-        self.change: Counts = {}
+        self.change: Dict[Tuple[str, int], int] = {}
         for node in building.rooms:
             self.add(node.name, 0, node.start or 0)
         for it in building.entrants:
@@ -46,29 +46,56 @@ class Plan:
 
 
 def write_table(building: Building, block: Reply, kind: str) -> None:
-    """One table: a row for each moment, a column for each exit, node or arc."""
-    plan, out = Plan(building, block), csv.writer(sys.stdout, lineterminator="\n")
-    if kind == "arcs":
-        heads = [f"{tail} {head}" for tail, head in building.arcs]
-        rows: Iterator[List[int]] = ([plan.entered[way].get(t, 0) for way in building.arcs] for t in range(plan.cleared + 1))
-    else:
-        heads = [node.name for node in (building.exits if kind == "exits" else building.rooms)]
-        rows = plan.held(heads)
-    if kind == "exits":
-        heads, rows = ["out", *heads], ([sum(row), *row] for row in rows)
-    out.writerow(["moment", "seconds", *heads])
-    for moment, row in enumerate(rows):
-        out.writerow([moment, building.seconds(moment), *row])
+    """One table of a plan."""
+    plan = Plan(building, block)
+    heads, rows = {"exits": exits, "nodes": nodes, "arcs": arcs, "totals": totals, "fullest": fullest}[kind](plan)
+    out = csv.writer(sys.stdout, lineterminator="\n")
+    out.writerow(heads)
+    out.writerows(rows)
 
 
-def write_totals(building: Building, block: Reply) -> None:
+def over_time(plan: Plan, heads: Sequence[str], rows: Iterable[Sequence[int]]) -> Table:
+    """A row for each moment up to that when all are out."""
+    return ["moment", "seconds", *heads], ([moment, plan.building.seconds(moment), *row] for moment, row in enumerate(rows))
+
+
+def exits(plan: Plan) -> Table:
+    """How many are out at each moment, in all and by each exit."""
+    names = [node.name for node in plan.building.exits]
+    return over_time(plan, ["out", *names], ([sum(row), *row] for row in plan.held(names)))
+
+
+def nodes(plan: Plan) -> Table:
+    """How many are in each node at each moment, and stay there."""
+    names = [node.name for node in plan.building.rooms]
+    return over_time(plan, names, plan.held(names))
+
+
+def arcs(plan: Plan) -> Table:
+    """How many enter each arc at each moment."""
+    rows = ([entered.get(moment, 0) for entered in plan.entered.values()] for moment in range(plan.cleared + 1))
+    return over_time(plan, [f"{tail} {head}" for tail, head in plan.entered], rows)
+
+
+def totals(plan: Plan) -> Table:
     """Of each arc: its rate, how many enter it in all, the most at a moment, and the first and last moment."""
-    plan, out = Plan(building, block), csv.writer(sys.stdout, lineterminator="\n")
-    out.writerow(["from", "to", "names", "rate", "people", "most", "first", "last"])
-    for arc in building.arcs.values():
-        entered = plan.entered[arc.way]
+    rows = []
+    for way, entered in plan.entered.items():
         when = [sum(entered.values()), max(entered.values()), min(entered), max(entered)] if entered else [0, 0, "", ""]
-        out.writerow([*arc.way, building.named(*arc.way), arc.rate, *when])
+        rows.append([*way, plan.building.named(*way), plan.building.arcs[way].rate, *when])
+    return ["from", "to", "names", "rate", "people", "most", "first", "last"], rows
+
+
+def fullest(plan: Plan) -> Table:
+    """Of each node: its capacity, the most people who stay in it at a moment, and the first such moment."""
+    rooms = plan.building.rooms
+    counts = list(plan.held([node.name for node in rooms]))
+    rows = []
+    for place, node in enumerate(rooms):
+        most = max(row[place] for row in counts)
+        moment = next(moment for moment, row in enumerate(counts) if row[place] == most)
+        rows.append([node.name, node.own_name, node.capacity, most, moment if most else "", plan.building.seconds(moment) if most else ""])
+    return ["node", "name", "capacity", "most", "moment", "seconds"], rows
 
 
 def write_walks(building: Building) -> None:

@@ -7,8 +7,9 @@ from dataclasses import dataclass
 from typing import List, Optional, Sequence, Tuple
 
 from companion.building import Building
-from companion.printed import Progress, some, table
+from companion.printed import some, table
 from companion.program import Reply, Talk
+from companion.progress import Count
 
 ANY_RATE = 10_000
 
@@ -65,15 +66,15 @@ def tried(talk: Talk, edits: Sequence[str]) -> Outcome:
 def all_tried(talk: Talk, building: Building, rate: int) -> Tuple[int, List[Tried]]:
     """The clearing moment as it is, and each arc and exit tried in a session on the building."""
     cleared, found = talk.opening.number("cleared"), []
-    with Progress("ways", len(building.arcs) + len(building.exits)) as progress:
+    with Count("ways", len(building.arcs) + len(building.exits)) as count:
         for tail, head in building.arcs:
             found.append(Tried((tail, head), tried(talk, [f"shut {tail} {head}"]), tried(talk, [f"rate {tail} {head} {rate}"])))
-            progress.step()
+            count.step()
         for name in [node.name for node in building.exits]:
             into = [f"rate {tail} {head} {rate}" for tail, head in building.arcs if head == name]
             wide = tried(talk, into) if into else Outcome(cleared, building.people)
             found.append(Tried((name,), tried(talk, [f"shutexit {name}"]), wide))
-            progress.step()
+            count.step()
     return cleared, sorted(found, key=lambda it: it.worth(cleared))
 
 

@@ -13,7 +13,7 @@ from companion.ending import STATUSES, Status, Stop
 from companion.metres import PARTS
 
 WIDTH = 118
-TABLES = ("exits", "nodes", "arcs", "totals", "walks")
+TABLES = ("exits", "nodes", "arcs", "totals", "fullest", "walks")
 
 
 class Words(argparse.ArgumentParser):
@@ -155,13 +155,14 @@ COMMANDS = (
     Command(
         "tables",
         commands.run_tables,
-        "tables over time for a spreadsheet, as CSV",
-        "exits   at each moment: how many are out, and by which exit\n"
-        "nodes   at each moment: how many are in each node and stay there\n"
-        "arcs    at each moment: how many enter each arc\n"
-        "totals  of each arc: how many enter it in all, and when\n"
-        "walks   of each node: the quickest way out with nobody in the way\n"
-        "The first four are of the printed plan: but for `out`, other best plans may differ.",
+        "tables for a spreadsheet: people by exit, node and arc over time",
+        "exits    at each moment: how many are out, and by which exit\n"
+        "nodes    at each moment: how many are in each node and stay there\n"
+        "arcs     at each moment: how many enter each arc\n"
+        "totals   of each arc: how many enter it in all, and when\n"
+        "fullest  of each node: the most who stay in it, and when first\n"
+        "walks    of each node: the quickest way out with nobody in the way\n"
+        "Those before walks are of the printed plan: but for `out`, other best plans may differ.",
         (argument("kind", metavar="KIND", choices=TABLES, help=", ".join(TABLES)), BUILDING),
     ),
     Command(

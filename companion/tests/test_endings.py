@@ -1,5 +1,7 @@
 """How evacask ends, as a command: words, files, streams, signals, and a program that isn't there or breaks off."""
 import ast
+import contextlib
+import io
 import os
 import pathlib
 import re
@@ -11,6 +13,7 @@ import time
 import unittest
 
 from companion.ending import Status
+from companion.progress import Count, Patience
 from companion.tests.asking import OFFICE, TOP, TOWER, ask, program, run
 from companion.words import COMMANDS
 
@@ -145,8 +148,35 @@ class Endings(unittest.TestCase):
             time.sleep(0.02)
         self.fail("the program still runs")
 
-    def test_progress_is_for_a_terminal_alone(self):
+    def test_closed_streams(self):
+        for closed, wanted in (("<&-", Status.INPUT), (">&-", Status.OUTPUT), ("2>&-", Status.OUTPUT)):
+            with self.subTest(closed):
+                ran = subprocess.run(["sh", "-c", f'exec "$@" {closed}', "sh", *EVACASK, "summary", "-"], capture_output=True, stdin=subprocess.DEVNULL)
+                self.assertEqual(ran.returncode, wanted)
+                self.assertEqual(ran.stderr.count(b"can't be "), 0 if closed == "2>&-" else 1)
+
+
+class Terminal(io.StringIO):
+    def isatty(self) -> bool:
+        return True
+
+
+class Progress(unittest.TestCase):
+    def test_it_is_for_a_terminal_alone(self):
         self.assertEqual(ask("ways", TOWER).err, "")
+
+    def test_a_count(self):
+        with contextlib.redirect_stderr(Terminal()) as said, Count("ways", 3) as count:
+            count.step()
+            self.assertEqual(said.getvalue(), "")
+            count.began -= 2
+            count.step()
+        self.assertEqual(said.getvalue(), "\revacask: 2 of 3 ways\r\033[K")
+
+    def test_waiting_for_the_program(self):
+        with contextlib.redirect_stderr(Terminal()) as said, Patience():
+            time.sleep(1.2)
+        self.assertEqual(said.getvalue(), "\revacask: the program has been at work for 1 s\r\033[K")
 
 
 class Sources(unittest.TestCase):

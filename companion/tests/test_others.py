@@ -55,6 +55,14 @@ class Tables(unittest.TestCase):
             self.assertEqual((row["first"], row["last"]), (mine[0][1], mine[-1][1]) if mine else ("", ""))
         self.assertEqual(rows[0]["names"], "Classroom 1 to West half of the corridor")
 
+    def test_fullest(self):
+        for path in EXAMPLES:
+            rows = table("nodes", path)
+            for it in table("fullest", path):
+                counts = [int(row[it["node"]]) for row in rows]
+                self.assertEqual(int(it["most"]), max(counts))
+                self.assertEqual(it["moment"], str(counts.index(max(counts))) if max(counts) else "")
+
     def test_walks(self):
         for path in EXAMPLES:
             rows = table("walks", path)
