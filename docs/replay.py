@@ -6,7 +6,8 @@
 The first word of a fence says what its block is, and a block without one of these words is a fault:
 
 - `console`: a transcript. A line `$ COMMAND` is run, `\\` at its end goes on in the next line. Lines `> ..` below it are typed into the command, and
-  all others are what it prints. The last command ends with status 0, or with N where the fence says `console status=N`; all others with 0.
+  all others are what it prints. The last command ends with status 0, or with N where the fence says `console status=N`; all others with 0. The
+  status of a pipe is that of the last part of it that isn't 0.
 - `evac NAME`: lines of a building. Where NAME is an example, they are lines of that file. Else they are written into a file of this name, which the
   commands below may read.
 - `python NAME`, `rust NAME`: lines of that file.
@@ -134,12 +135,13 @@ class Reader:
     def run(self, line, command, typed="", statuses=(0,)):
         """The lines that a command prints. Its status must be one of those given."""
         ran = subprocess.run(
-            ["bash", "-c", command], cwd=self.folder, env=self.environment, input=typed.encode(), timeout=120,
+            ["bash", "-o", "pipefail", "-c", command], cwd=self.folder, env=self.environment, input=typed.encode(), timeout=120,
             stdout=subprocess.PIPE, stderr=subprocess.STDOUT,
         )
         if ran.returncode not in statuses:
             self.fault(line, f"{command}: status {ran.returncode} and not {statuses[0]}")
-        return ran.stdout.decode(errors="replace").split("\n")[:-1]
+        lines = ran.stdout.decode(errors="replace").split("\n")
+        return lines if lines[-1] else lines[:-1]
 
     def compare(self, shown, there, what):
         """Looks for lines, each with its number, among those that are there."""
