@@ -19,7 +19,7 @@ enum Phase {
     Unknown,
     // Everybody was sent at the moment, and no search was worth it there.
     Waiting,
-    // It follows shortest paths. At so many moments people were sent by others.
+    // It follows shortest paths. Along so many paths of others people were sent.
     ShortestPaths { missed: u32 },
     // It follows a target flow.
     TargetFlow,
@@ -109,7 +109,7 @@ impl PathFinder {
         sent
     }
 
-    /// Begins with an arrival moment. Shortest paths go on, unless others sent people too often.
+    /// Begins with an arrival moment. What it follows goes on, if it began with the moment before.
     pub fn begin(&mut self, net: &Net, labels: &Labels, k: u16)
         ensures { self.new.sizes ≡ self.old.sizes }
     {
@@ -124,10 +124,7 @@ impl PathFinder {
         let goes_on = self.is_next(k);
         self.moment = k;
         match self.phase {
-            Phase::ShortestPaths { missed } if goes_on && missed < MISS_LIMIT => {
-                self.shortest_paths.begin(k as u32)
-            }
-            Phase::ShortestPaths { .. } if goes_on => self.seek(cells),
+            Phase::ShortestPaths { .. } if goes_on => self.shortest_paths.begin(k as u32),
             Phase::TargetFlow if goes_on => self.target_flow.begin(k as u32),
             _ => self.start(cells, labels, k),
         }
@@ -162,18 +159,24 @@ impl PathFinder {
         self.phase = Phase::TargetFlow;
     }
 
-    /// People were sent otherwise at the moment, along so many paths.
-    pub fn miss(&mut self, net: &Net, pushes: u32)
+    /// People were sent along a path that it didn't find. Where everybody was sent already, they arrive sooner so, and a target flow leads
+    /// others there at once.
+    pub fn miss(&mut self, net: &Net)
         ensures { self.new.sizes ≡ self.old.sizes }
     {
-        if pushes == 0 {
+        let cells = net.cells();
+        if !fits(cells, self.sizes) {
             return;
         }
-        if let Phase::ShortestPaths { missed } = &mut self.phase {
-            *missed = missed.saturating_add(1);
-        }
-        if fits(net.cells(), self.sizes) {
-            self.shortest_paths.count(net.cells());
+        if let Phase::ShortestPaths { missed } = self.phase {
+            if self.shortest_paths.unsent == 0 || missed >= MISS_LIMIT {
+                self.seek(cells);
+                return;
+            }
+            self.phase = Phase::ShortestPaths {
+                missed: missed.saturating_add(1),
+            };
+            self.shortest_paths.count(cells);
         }
     }
 

@@ -25,8 +25,8 @@ pub const GLOBAL_LIMIT: usize = 4;
 /// are at once: exits run dry while people are still to come, and part by part the same pairs would come again and again.
 pub const BEHIND_SHARE: usize = 16;
 
-/// At how many moments people may be sent by others before a target flow is sought. After an exit is opened again, rounds without
-/// hints cost many times a fresh plan on the buildings that were measured, and a target flow about one on most.
+/// Along how many paths of others people may be sent in a net before a target flow is sought. After an exit is opened again, one path
+/// after another cost many times a fresh plan on the buildings that were measured, and a target flow about one on most.
 pub const MISS_LIMIT: u32 = 4;
 
 /// One of how many pairs may be relabelled globally in a net from which some people were taken, before a target flow is sought. On

@@ -1,7 +1,7 @@
 -- A guessed path, from its end to its beginning.
 use Rattle.std.proofs.Common.{◌≡◌, ℕ, zero, suc, ◌+◌, ◌-◌, ◌*◌, ◌<◌, ◌≤◌, Bool, true, false, cond, ◌&&◌, eqb, List, [], ◌∷◌, ◌++◌, length, get_or, drop, map, ap, sym, subst, ◌∙◌, ◌⊎◌, refl, arith, inl, inr}
 use Rattle.std.specs.List.{All, between}
-use Rattle.std.proofs.lemmas.List.{append_assoc, get_or_default, length-set, length-take}
+use Rattle.std.proofs.lemmas.List.{append_assoc, get_or_default, length-take}
 use Rattle.std.proofs.lemmas.List.Edits.{get_or-between, length-between}
 use Rattle.std.proofs.lemmas.Bool.{cases_Bool, cases_lt, or_cases}
 use Rattle.time_expansion.specs.Expansion.{Expansion, hold_cell, to_at}
@@ -19,18 +19,16 @@ use Rattle.residual_net.specs.declared.end.End.TheVariants.{Source, Pair, Door}
 use Rattle.residual_net.specs.Site.{Site, IsOpenPair, IsPlace, IsSite, arrival_at, cell_of, exit_at, head_of, start_of, tail_of}
 use Rattle.residual_net.proofs.Places.{cell_below}
 use Rattle.terminal_augment.specs.declared.guess.Look.{Look}
-use Rattle.terminal_augment.specs.declared.spot.Frame.{Frame}
+use Rattle.terminal_augment.specs.declared.spot.Met.{Met}
 use Rattle.terminal_augment.specs.declared.spot.Spot.{Spot}
-use Rattle.terminal_augment.specs.Frames.{IsChain, IsFound, IsFrame, spots, steps_of, top_end}
-use Rattle.terminal_augment.specs.declared.work.Work.{Work}
+use Rattle.terminal_augment.specs.Chains.{IsChain, IsLink, spots, steps_of, top_end}
 use Rattle.terminal_augment.specs.Guesses.{CarriesPeople, IsLookedBack, IsMarkedOn, IsMarkedOver, IsStep}
-use Rattle.terminal_augment.specs.Marking.{MarkTable, IsMarks, is_marked, mark_place, with_stamp}
-use Rattle.terminal_augment.specs.Searching.{IsWork}
+use Rattle.terminal_augment.specs.Marking.{MarkTable, IsMarks, is_marked, with_stamp}
 use Rattle.terminal_augment.specs.Settled.{IsPushedOn}
 use Rattle.terminal_augment.specs.Spots.{has}
 use Rattle.terminal_augment.proofs.MarkLemmas.{IsIn, marked_grows, marked_here}
-use Rattle.terminal_augment.proofs.SearchLemmas.{all_cons, at_spot, differs}
-use Rattle.terminal_augment.proofs.SendLemmas.{augments, pushed_on}
+use Rattle.terminal_augment.proofs.SpotLemmas.{all_cons, at_spot, differs}
+use Rattle.terminal_augment.proofs.SendLemmas.{IsBegun, augments, pushed_on}
 
 -- the pair of an end, where it is one
 abbrev pub spot_of : End → Spot
@@ -38,20 +36,20 @@ spot_of Source = record { node = 0; moment = 0 }
 spot_of (Pair n t) = record { node = n; moment = t }
 spot_of (Door j) = record { node = 0; moment = 0 }
 
--- the frames whose steps are those of a path
-abbrev pub frame_of : Site → PathStep → Frame
-frame_of s y = record { spot = spot_of (start_of s y); step = y; next = 0 }
+-- the steps of a path, each with the pair at which it begins
+abbrev pub met_by : Site → PathStep → Met
+met_by s y = record { spot = spot_of (start_of s y); step = y }
 
-abbrev pub frames_of : Site → List PathStep → List Frame
-frames_of s = map (frame_of s)
+abbrev pub all_by : Site → List PathStep → List Met
+all_by s = map (met_by s)
 
 -- the steps lead from an end to an arrival at moment k over some pairs, and each has room for some people
 pub record IsTail (w : Network) (k : ℕ) (s : ℕ → ℕ → Type 0) (e : End) (people : ℕ) (path : List PathStep) : Type 0 where
-  pub chain : IsChain w.site k (frames_of w.site path)
-  pub top : e ≡ top_end k (frames_of w.site path)
+  pub chain : IsChain w.site k (all_by w.site path)
+  pub top : e ≡ top_end k (all_by w.site path)
   pub some : 1 ≤ people
   pub room : All (λ y. people ≤ residual_room w y) path
-  pub over : (n t : ℕ) → has (spots (frames_of w.site path)) n t ≡ true → s n t
+  pub over : (n t : ℕ) → has (spots (all_by w.site path)) n t ≡ true → s n t
 
 pub tail_none : (w : Network) (k : ℕ) (s : ℕ → ℕ → Type 0) (people : ℕ) → 1 ≤ people → IsTail w k s (Door k) people []
 tail_none w k s people one = record {
@@ -73,67 +71,62 @@ tail_wider w k s r e people next path tail wider one few = record {
   over = λ n t h. wider n t (tail.over n t h);
 }
 
-abbrev with_spot : PathStep → Spot → Frame
-with_spot y p = record { spot = p; step = y; next = 0 }
+abbrev with_spot : PathStep → Spot → Met
+with_spot y p = record { spot = p; step = y }
 
-frame_at : (s : Site) (y : PathStep) (p : Spot) → start_of s y ≡ Pair p.node p.moment → frame_of s y ≡ with_spot y p
-frame_at s y p e = ap (λ (z : End). with_spot y (spot_of z)) e
+met_at : (s : Site) (y : PathStep) (p : Spot) → start_of s y ≡ Pair p.node p.moment → met_by s y ≡ with_spot y p
+met_at s y p e = ap (λ (z : End). with_spot y (spot_of z)) e
 
 -- one more step, from a pair that isn't among those come over
 pub tail_more : (w : Network) (k : ℕ) (s r : ℕ → ℕ → Type 0) (e : End) (p : Spot) (people next : ℕ) (y : PathStep) (path : List PathStep)
     → IsTail w k s e people path → IsStep w y (Pair p.node p.moment) e → (s p.node p.moment → ⊥) → ((n t : ℕ) → s n t → r n t) → r p.node p.moment
     → 1 ≤ next → next ≤ people → next ≤ residual_room w y → IsTail w k r (Pair p.node p.moment) next (y ∷ path)
 tail_more w k s r e p people next y path tail step off wider with_it one few room = record {
-  chain = subst (λ (f : Frame). IsChain w.site k (f ∷ frames_of w.site path)) (sym here) (frame, tail.chain);
-  top = ap (λ (f : Frame). top_end k (f ∷ frames_of w.site path)) (sym here);
+  chain = subst (λ (m : Met). IsChain w.site k (m ∷ all_by w.site path)) (sym here) (link, tail.chain);
+  top = ap (λ (m : Met). top_end k (m ∷ all_by w.site path)) (sym here);
   some = one;
   room = all_cons (λ (z : PathStep). next ≤ residual_room w z) y path room (λ j d l. omega (arith, few, tail.room j d l));
-  over = subst (λ (f : Frame). (n t : ℕ) → has (spots (f ∷ frames_of w.site path)) n t ≡ true → r n t) (sym here)
-      (λ n t q. by n t (or_cases (eqb p.node n && eqb p.moment t) (has (spots (frames_of w.site path)) n t) q));
+  over = subst (λ (m : Met). (n t : ℕ) → has (spots (m ∷ all_by w.site path)) n t ≡ true → r n t) (sym here)
+      (λ n t q. by n t (or_cases (eqb p.node n && eqb p.moment t) (has (spots (all_by w.site path)) n t) q));
 }
   where
-    here : frame_of w.site y ≡ with_spot y p
-    here = frame_at w.site y p step.start
+    here : met_by w.site y ≡ with_spot y p
+    here = met_at w.site y p step.start
 
-    fresh : (has (spots (frames_of w.site path)) p.node p.moment ≡ true) ⊎ (has (spots (frames_of w.site path)) p.node p.moment ≡ false)
-        → has (spots (frames_of w.site path)) p.node p.moment ≡ false
+    fresh : (has (spots (all_by w.site path)) p.node p.moment ≡ true) ⊎ (has (spots (all_by w.site path)) p.node p.moment ≡ false)
+        → has (spots (all_by w.site path)) p.node p.moment ≡ false
     fresh (inl q) = absurd (off (tail.over p.node p.moment q))
     fresh (inr q) = q
 
-    frame : IsFrame w.site k (with_spot y p) (frames_of w.site path)
-    frame = record {
+    link : IsLink w.site k (with_spot y p) (all_by w.site path)
+    link = record {
       inside = step.inside;
       place = step.place;
       start = step.start;
       stop = step.stop ∙ tail.top;
-      fresh = fresh (cases_Bool (has (spots (frames_of w.site path)) p.node p.moment));
+      fresh = fresh (cases_Bool (has (spots (all_by w.site path)) p.node p.moment));
     }
 
-    by : (n t : ℕ) → ((eqb p.node n && eqb p.moment t) ≡ true) ⊎ (has (spots (frames_of w.site path)) n t ≡ true) → r n t
+    by : (n t : ℕ) → ((eqb p.node n && eqb p.moment t) ≡ true) ⊎ (has (spots (all_by w.site path)) n t ≡ true) → r n t
     by n t (inl q) = at_spot p.node p.moment n t r q with_it
     by n t (inr q) = wider n t (tail.over n t q)
 
-steps_of_frames : (s : Site) (xs : List PathStep) → steps_of (frames_of s xs) ≡ xs
-steps_of_frames s [] = refl
-steps_of_frames s (x ∷ xs) = ap (λ (z : List PathStep). x ∷ z) (steps_of_frames s xs)
+steps_of_all : (s : Site) (xs : List PathStep) → steps_of (all_by s xs) ≡ xs
+steps_of_all s [] = refl
+steps_of_all s (x ∷ xs) = ap (λ (z : List PathStep). x ∷ z) (steps_of_all s xs)
 
 pub all_carried : (w : Network) (k : ℕ) (s : ℕ → ℕ → Type 0) (e r : End) (people next : ℕ) (y : PathStep) (path whole : List PathStep) → IsTail w k s e people path
     → IsStep w y r e → IsOrigin k r → next ≤ people → next ≤ residual_room w y → whole ≡ y ∷ path → CarriesPeople w k whole next
 all_carried w k s e r people next y path whole tail step origin few room same = (start_of w.site y, subst (λ (z : List PathStep). IsAugmentingPath w z next (start_of w.site y) k) (sym same) here)
   where
-    found : IsFound w k (frames_of w.site path) y
-    found = record {
-      some = step.room;
-      place = step.place;
-      stop = step.stop ∙ tail.top;
-      origin = subst (λ (z : End). IsOrigin k z) (sym step.start) origin;
-    }
+    begun : IsBegun w k (all_by w.site path) y
+    begun = record { place = step.place; stop = step.stop ∙ tail.top; origin = subst (λ (z : End). IsOrigin k z) (sym step.start) origin }
 
     rooms : All (λ (z : PathStep). next ≤ residual_room w z) (y ∷ path)
     rooms = all_cons (λ (z : PathStep). next ≤ residual_room w z) y path room (λ j d l. omega (arith, few, tail.room j d l))
 
     here : IsAugmentingPath w (y ∷ path) next (start_of w.site y) k
-    here = augments w k (frames_of w.site path) y next (y ∷ path) found tail.chain (ap (λ (z : List PathStep). y ∷ z) (sym (steps_of_frames w.site path))) rooms
+    here = augments w k (all_by w.site path) y next (y ∷ path) begun tail.chain (ap (λ (z : List PathStep). y ∷ z) (sym (steps_of_all w.site path))) rooms
 
 -- a leg past the last one
 abbrev pub blank : Leg
@@ -342,7 +335,6 @@ pub marked_on : (m v u : MarkTable) (n t : ℕ) → IsMarkedOn m v → u ≡ wit
 marked_on m v u n t on same marks = record {
   nodes = ap (λ (z : MarkTable). z.nodes) same ∙ on.nodes;
   horizon = ap (λ (z : MarkTable). z.horizon) same ∙ on.horizon;
-  size = ap (λ (z : MarkTable). length z.list) same ∙ length-set v.list (mark_place v n t) v.stamp ∙ on.size;
   marks = λ _. marks;
 }
 
@@ -350,7 +342,6 @@ pub marked_on_then : (m v u : MarkTable) → IsMarkedOn m v → IsMarkedOn v u �
 marked_on_then m v u a b = record {
   nodes = b.nodes ∙ a.nodes;
   horizon = b.horizon ∙ a.horizon;
-  size = b.size ∙ a.size;
   marks = λ h. b.marks (a.marks h);
 }
 
@@ -358,15 +349,3 @@ marked_on_then m v u a b = record {
 pub carried_pushed : (w v : Network) (k people : ℕ) (path : List PathStep) → IsNet v → IsWithinLimits v → 1 ≤ people → CarriesPeople w k path people
     → IsPushed w v path people → IsPushedOn w v k 1
 carried_pushed w v k people path net within one carried pushed = pushed_on w v path people carried.0 k net within one carried.1 pushed
-
--- the scratch after a path was looked at
-pub guessed_work : (n h : ℕ) (x : Work) (m v : MarkTable) → IsWork n h x → IsMarks m → m.nodes ≡ x.marks.nodes → m.horizon ≡ x.marks.horizon
-    → length m.list ≡ length x.marks.list → IsMarkedOn m v → IsWork n h (record { marks = v; frames = x.frames; seen = x.seen; path = x.path })
-guessed_work n h x m v work marks nodes horizon size on = record {
-  marks = on.marks marks;
-  nodes = on.nodes ∙ nodes ∙ work.nodes;
-  horizon = on.horizon ∙ horizon ∙ work.horizon;
-  frames = omega (arith, on.size, size, work.frames);
-  seen = omega (arith, on.size, size, work.seen);
-  path = work.path;
-}

@@ -1,12 +1,12 @@
--- A label that is set, and the labels of a list's pairs.
-use Rattle.std.proofs.Common.{◌≡◌, ◌≢◌, ℕ, zero, suc, ◌+◌, ◌*◌, ◌<◌, ◌≤◌, Bool, true, false, cond, ◌&&◌, ◌||◌, eqb, List, [], ◌∷◌, length, get_or, set, take, ap, sym, ◌∙◌, ◌⊎◌, refl, arith, inl, inr}
+-- A label that is set.
+use Rattle.std.proofs.Common.{◌≡◌, ◌≢◌, ℕ, ◌+◌, ◌*◌, ◌<◌, ◌≤◌, Bool, true, false, cond, not, ◌&&◌, eqb, length, get_or, set, ap, sym, ◌∙◌, ◌⊎◌, refl, arith, inl, inr}
 use Rattle.std.proofs.lemmas.Bool.{cases_eq, eq-eqb, ne_eqb, and_left, and_right}
 use Rattle.std.proofs.lemmas.List.{get_or-set_same, get_or-set_other}
+use Rattle.std.proofs.lemmas.List.Sums.{count_by-le-length, sum_by-set}
 use Rattle.std.proofs.lemmas.Nat.{same_from_place}
 use Rattle.evac_law.proofs.LabelLemmas.{label_within}
 use Rattle.evac_law.specs.LabelTable.{LabelTable, label_at, label_place, with_label}
-use Rattle.terminal_augment.specs.declared.spot.Spot.{Spot}
-use Rattle.terminal_augment.specs.Spots.{has}
+use Rattle.terminal_augment.specs.Floods.{open_count}
 
 pub label_set : (l : LabelTable) (n t u v k : ℕ) → length l.list ≡ l.nodes * (l.horizon + 1) → n < l.nodes → t ≤ l.horizon → u < l.nodes → v ≤ l.horizon
     → label_at (with_label l n t k) u v ≡ cond (eqb n u && eqb t v) k (label_at l u v)
@@ -36,28 +36,20 @@ label_set l n t u v k full a b c d = by (cases_eq n u) (cases_eq t v)
     by (inl p) (inr q) = other (eqb n u && eqb t v) (and_right _ _ (ne_eqb t v q)) (differ (λ _ z. q z))
     by (inr p) q = other (eqb n u && eqb t v) (and_left _ _ (ne_eqb n u p)) (differ (λ z _. p z))
 
-pub has_more : (ps : List Spot) (i : ℕ) (d : Spot) (n t : ℕ) → i < length ps
-    → has (take (i + 1) ps) n t ≡ (has (take i ps) n t || (eqb (get_or ps i d).node n && eqb (get_or ps i d).moment t))
-has_more [] i d n t l = absurd (omega (arith, l))
-has_more (p ∷ ps) zero d n t l = last (eqb p.node n && eqb p.moment t)
-  where
-    last : (b : Bool) → (b || false) ≡ (false || b)
-    last true = refl
-    last false = refl
-has_more (p ∷ ps) (suc i) d n t l =
-    let more = has_more ps i d n t (omega (arith, l)) in
-    let step : take (suc i + 1) (p ∷ ps) ≡ p ∷ take (i + 1) ps = ap (λ z. take z (p ∷ ps)) (let e : suc i + 1 ≡ suc (i + 1) = omega arith in e) in
-    ap (λ z. has z n t) step ∙ assoc (eqb p.node n && eqb p.moment t) (has (take i ps) n t) _ _ more
-  where
-    assoc : (a b c e : Bool) → e ≡ (b || c) → (a || e) ≡ ((a || b) || c)
-    assoc true b c e q = refl
-    assoc false b c e q = q
+-- ---- how many aren't labelled k
 
-pub label_more : (b c x : Bool) (k now before old : ℕ) → x ≡ (b || c) → now ≡ cond c k before → before ≡ cond b k old → now ≡ cond x k old
-label_more true true true k now before old e f g = f
-label_more true false true k now before old e f g = f ∙ g
-label_more false true true k now before old e f g = f
-label_more false false false k now before old e f g = f ∙ g
-label_more true c false k now before old e f g = absurd (cc)
-label_more false true false k now before old e f g = absurd (cc)
-label_more false false true k now before old e f g = absurd (cc)
+abbrev one_if : Bool → ℕ
+one_if b = cond b 1 0
+
+pub open_labelled : (l : LabelTable) (n t k : ℕ) → length l.list ≡ l.nodes * (l.horizon + 1) → n < l.nodes → t ≤ l.horizon → (label_at l n t ≢ k)
+    → open_count (with_label l n t k) k + 1 ≡ open_count l k
+unfolding open_count
+open_labelled l n t k full node moment other =
+    let set_it = sum_by-set (λ x. cond (not (eqb x k)) 1 0) l.list (label_place l n t) k 0 (label_within l n t full node moment) in
+    let was : not (eqb (label_at l n t) k) ≡ true = rw (ne_eqb _ _ other) in
+    let now : not (eqb k k) ≡ false = rw (eq-eqb k k refl) in
+    omega (arith, set_it, ap one_if was, ap one_if now)
+
+pub open_few : (l : LabelTable) (k : ℕ) → open_count l k ≤ length l.list
+unfolding open_count
+open_few l k = count_by-le-length (λ x. not (eqb x k)) l.list

@@ -1,10 +1,11 @@
+pub mod SpotLemmas
 pub mod WayLemmas
 pub mod MarkLemmas
-pub mod SearchLemmas
-pub mod AdvanceLemmas
+pub mod ChainLemmas
 pub mod SendLemmas
 pub mod LabelLemmas
 pub mod ClosedLemmas
 pub mod GuessLemmas
 pub mod FloodLemmas
 pub mod KeptLemmas
+pub mod WorkLemmas

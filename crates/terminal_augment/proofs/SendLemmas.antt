@@ -4,7 +4,9 @@ use Rattle.std.specs.List.{All, AllPairs}
 use Rattle.std.proofs.lemmas.Bool.{cases_Bool, cases_lt, le-leb, lt-leb, and_from, eq-eqb}
 use Rattle.std.proofs.lemmas.List.Kept.{AllPairs-cons}
 use Rattle.residual_net.specs.declared.place.PathStep.{PathStep}
+use Rattle.evac_law.specs.LabelTable.{LabelTable}
 use Rattle.residual_net.specs.Closed.{reached}
+use Rattle.residual_net.specs.NetLaws.{labelled}
 use Rattle.residual_net.specs.Network.{Network, IsNet, IsWithinLimits, arrived_by, residual_room}
 use Rattle.residual_net.specs.Route.{IsAugmentingPath, IsOrigin, IsPushed, Leads}
 use Rattle.residual_net.specs.declared.end.End.{End}
@@ -15,38 +17,38 @@ use Rattle.residual_net.specs.Limits.{supply_limit}
 use Rattle.residual_net.proofs.Arrivals.{arrived_all, arrivals_fit}
 use Rattle.residual_net.proofs.Effects.{push_moves}
 use Rattle.residual_net.proofs.Survive.{closed_survives}
-use Rattle.terminal_augment.specs.declared.spot.Frame.{Frame}
-use Rattle.terminal_augment.specs.Frames.{IsChain, IsFound, spots, steps_of, top_end}
-use Rattle.terminal_augment.specs.Settled.{IsCountedOn, IsPushedOn}
+use Rattle.terminal_augment.specs.declared.spot.Met.{Met}
+use Rattle.terminal_augment.specs.Chains.{AreMet, IsChain, IsFound, spots, steps_of, top_end, way_on}
+use Rattle.terminal_augment.specs.Settled.{IsCountedOn, IsLabelsOf, IsPushedOn, IsSettledBelow}
 use Rattle.terminal_augment.specs.Spots.{has}
-use Rattle.terminal_augment.proofs.AdvanceLemmas.{or_none}
+use Rattle.terminal_augment.proofs.ChainLemmas.{leads_on}
 use Rattle.terminal_augment.proofs.KeptLemmas.{limits_stay, limits_then}
-use Rattle.terminal_augment.proofs.SearchLemmas.{all_cons, all_rest, differs}
+use Rattle.terminal_augment.proofs.SpotLemmas.{all_cons, all_rest, differs, or_none}
 
 -- ---- the path
 
-pub chain_places : (s : Site) (k : ℕ) (fs : List Frame) → IsChain s k fs → All (λ (f : Frame). IsPlace s f.step.place) fs
+pub chain_places : (s : Site) (k : ℕ) (ms : List Met) → IsChain s k ms → All (λ (m : Met). IsPlace s m.step.place) ms
 chain_places s k [] c j d l = absurd (omega (arith, l))
-chain_places s k (f ∷ fs) c zero d l = c.0.place
-chain_places s k (f ∷ fs) c (suc j) d l = chain_places s k fs c.1 j d (omega (arith, l))
+chain_places s k (m ∷ ms) c zero d l = c.0.place
+chain_places s k (m ∷ ms) c (suc j) d l = chain_places s k ms c.1 j d (omega (arith, l))
 
-chain_leads : (s : Site) (k : ℕ) (fs : List Frame) → IsChain s k fs → Leads s (top_end k fs) (steps_of fs) (Door k)
+chain_leads : (s : Site) (k : ℕ) (ms : List Met) → IsChain s k ms → Leads s (top_end k ms) (steps_of ms) (Door k)
 chain_leads s k [] c = refl
-chain_leads s k (f ∷ fs) c = (c.0.start, subst (λ (e : End). Leads s e (steps_of fs) (Door k)) (sym c.0.stop) (chain_leads s k fs c.1))
+chain_leads s k (m ∷ ms) c = (c.0.start, subst (λ (e : End). Leads s e (steps_of ms) (Door k)) (sym c.0.stop) (chain_leads s k ms c.1))
 
-over_steps : (P : PathStep → Type 0) (fs : List Frame) → All (λ (f : Frame). P f.step) fs → All P (steps_of fs)
+over_steps : (P : PathStep → Type 0) (ms : List Met) → All (λ (m : Met). P m.step) ms → All P (steps_of ms)
 over_steps P [] h j d l = absurd (omega (arith, l))
-over_steps P (f ∷ fs) h zero d l = h 0 f (omega arith)
-over_steps P (f ∷ fs) h (suc j) d l = over_steps P fs (all_rest (λ (g : Frame). P g.step) f fs h) j d (omega (arith, l))
+over_steps P (m ∷ ms) h zero d l = h 0 m (omega arith)
+over_steps P (m ∷ ms) h (suc j) d l = over_steps P ms (all_rest (λ (r : Met). P r.step) m ms h) j d (omega (arith, l))
 
 -- an end that is none of the pairs of the frames, nor the arrival
-abbrev IsOff : ℕ → List Frame → End → Type 0
+abbrev IsOff : ℕ → List Met → End → Type 0
 IsOff k [] e = e ≢ Door k
-IsOff k (f ∷ fs) e = (e ≢ Pair f.spot.node f.spot.moment) × IsOff k fs e
+IsOff k (m ∷ ms) e = (e ≢ Pair m.spot.node m.spot.moment) × IsOff k ms e
 
-off_top : (k : ℕ) (fs : List Frame) (e : End) → IsOff k fs e → e ≢ top_end k fs
+off_top : (k : ℕ) (ms : List Met) (e : End) → IsOff k ms e → e ≢ top_end k ms
 off_top k [] e o = o
-off_top k (f ∷ fs) e o = o.0
+off_top k (m ∷ ms) e o = o.0
 
 same_ends : (s : Site) (y z : PathStep) → y.place ≡ z.place → (start_of s y ≡ start_of s z) ⊎ (start_of s y ≡ stop_of s z)
 same_ends s y z e = by (cases_Bool y.back) (cases_Bool z.back)
@@ -57,55 +59,69 @@ same_ends s y z e = by (cases_Bool y.back) (cases_Bool z.back)
     by (inr a) (inl b) = inr (rw (a, b) (ap (tail_of s) e))
     by (inr a) (inr b) = inl (rw (a, b) (ap (tail_of s) e))
 
-off_places : (s : Site) (k : ℕ) (fs : List Frame) (y : PathStep) → IsChain s k fs → IsOff k fs (start_of s y) → All (λ (z : PathStep). y.place ≢ z.place) (steps_of fs)
+off_places : (s : Site) (k : ℕ) (ms : List Met) (y : PathStep) → IsChain s k ms → IsOff k ms (start_of s y) → All (λ (z : PathStep). y.place ≢ z.place) (steps_of ms)
 off_places s k [] y c o j d l e = absurd (omega (arith, l))
-off_places s k (f ∷ fs) y c o zero d l e = elim (same_ends s y f.step e) [
+off_places s k (m ∷ ms) y c o zero d l e = elim (same_ends s y m.step e) [
   | inl a ↦ o.0 (a ∙ c.0.start)
-  | inr a ↦ off_top k fs (start_of s y) o.1 (a ∙ c.0.stop)
+  | inr a ↦ off_top k ms (start_of s y) o.1 (a ∙ c.0.stop)
 ]
-off_places s k (f ∷ fs) y c o (suc j) d l e = off_places s k fs y c.1 o.1 j d (omega (arith, l)) e
+off_places s k (m ∷ ms) y c o (suc j) d l e = off_places s k ms y c.1 o.1 j d (omega (arith, l)) e
 
-pair_off : (k : ℕ) (fs : List Frame) (n t : ℕ) → has (spots fs) n t ≡ false → IsOff k fs (Pair n t)
+pair_off : (k : ℕ) (ms : List Met) (n t : ℕ) → has (spots ms) n t ≡ false → IsOff k ms (Pair n t)
 pair_off k [] n t h = λ e. cc
-pair_off k (f ∷ fs) n t h =
-    let both = or_none (eqb f.spot.node n && eqb f.spot.moment t) (has (spots fs) n t) h in (
-      (λ q. let node : f.spot.node ≡ n = cc in
-          let moment : f.spot.moment ≡ t = cc in
-          differs (eqb f.spot.node n && eqb f.spot.moment t) (and_from _ _ (eq-eqb _ _ node) (eq-eqb _ _ moment)) both.0),
-      pair_off k fs n t both.1,
+pair_off k (m ∷ ms) n t h =
+    let both = or_none (eqb m.spot.node n && eqb m.spot.moment t) (has (spots ms) n t) h in (
+      (λ q. let node : m.spot.node ≡ n = cc in
+          let moment : m.spot.moment ≡ t = cc in
+          differs (eqb m.spot.node n && eqb m.spot.moment t) (and_from _ _ (eq-eqb _ _ node) (eq-eqb _ _ moment)) both.0),
+      pair_off k ms n t both.1,
     )
 
-chain_apart : (s : Site) (k : ℕ) (fs : List Frame) → IsChain s k fs → AllPairs (λ (y z : PathStep). y.place ≢ z.place) (steps_of fs)
+chain_apart : (s : Site) (k : ℕ) (ms : List Met) → IsChain s k ms → AllPairs (λ (y z : PathStep). y.place ≢ z.place) (steps_of ms)
 chain_apart s k [] c = λ i j d l q. absurd (omega (arith, q))
-chain_apart s k (f ∷ fs) c =
-    let off : IsOff k fs (start_of s f.step) = subst (λ (e : End). IsOff k fs e) (sym c.0.start) (pair_off k fs f.spot.node f.spot.moment c.0.fresh) in
-    AllPairs-cons (λ (y z : PathStep). y.place ≢ z.place) f.step (steps_of fs) (off_places s k fs f.step c.1 off) (chain_apart s k fs c.1)
+chain_apart s k (m ∷ ms) c =
+    let off : IsOff k ms (start_of s m.step) = subst (λ (e : End). IsOff k ms e) (sym c.0.start) (pair_off k ms m.spot.node m.spot.moment c.0.fresh) in
+    AllPairs-cons (λ (y z : PathStep). y.place ≢ z.place) m.step (steps_of ms) (off_places s k ms m.step c.1 off) (chain_apart s k ms c.1)
 
-origin_off : (k : ℕ) (fs : List Frame) (e : End) → IsOrigin k e → IsOff k fs e
+origin_off : (k : ℕ) (ms : List Met) (e : End) → IsOrigin k e → IsOff k ms e
 origin_off k [] Source o = λ q. cc
 origin_off k [] (Pair n t) o = absurd o
 origin_off k [] (Door j) o = λ q. let same : j ≡ k = cc in omega (arith, o, same)
-origin_off k (f ∷ fs) Source o = ((λ q. cc), origin_off k fs Source o)
-origin_off k (f ∷ fs) (Pair n t) o = absurd o
-origin_off k (f ∷ fs) (Door j) o = ((λ q. cc), origin_off k fs (Door j) o)
+origin_off k (m ∷ ms) Source o = ((λ q. cc), origin_off k ms Source o)
+origin_off k (m ∷ ms) (Pair n t) o = absurd o
+origin_off k (m ∷ ms) (Door j) o = ((λ q. cc), origin_off k ms (Door j) o)
 
-found_augments : (w : Network) (k : ℕ) (fs : List Frame) (y : PathStep) (people : ℕ) → IsFound w k fs y → IsChain w.site k fs
-    → All (λ (z : PathStep). people ≤ residual_room w z) (y ∷ steps_of fs) → IsAugmentingPath w (y ∷ steps_of fs) people (start_of w.site y) k
-found_augments w k fs y people found chain room = record {
-  origin = found.origin;
-  leads = (refl, subst (λ (e : End). Leads w.site e (steps_of fs) (Door k)) (sym found.stop) (chain_leads w.site k fs chain));
-  places = all_cons (λ (z : PathStep). IsPlace w.site z.place) y (steps_of fs) found.place
-      (over_steps (λ (z : PathStep). IsPlace w.site z.place) fs (chain_places w.site k fs chain));
+-- a step that leads from the source or from a later arrival to a chain
+pub record IsBegun (w : Network) (k : ℕ) (ms : List Met) (y : PathStep) : Type 0 where
+  pub place : IsPlace w.site y.place
+  pub stop : stop_of w.site y ≡ top_end k ms
+  pub origin : IsOrigin k (start_of w.site y)
+
+chain_augments : (w : Network) (k : ℕ) (ms : List Met) (y : PathStep) (people : ℕ) → IsBegun w k ms y → IsChain w.site k ms
+    → All (λ (z : PathStep). people ≤ residual_room w z) (y ∷ steps_of ms) → IsAugmentingPath w (y ∷ steps_of ms) people (start_of w.site y) k
+chain_augments w k ms y people begun chain room = record {
+  origin = begun.origin;
+  leads = (refl, subst (λ (e : End). Leads w.site e (steps_of ms) (Door k)) (sym begun.stop) (chain_leads w.site k ms chain));
+  places = all_cons (λ (z : PathStep). IsPlace w.site z.place) y (steps_of ms) begun.place
+      (over_steps (λ (z : PathStep). IsPlace w.site z.place) ms (chain_places w.site k ms chain));
   room = room;
-  apart = AllPairs-cons (λ (a b : PathStep). a.place ≢ b.place) y (steps_of fs)
-      (off_places w.site k fs y chain (origin_off k fs (start_of w.site y) found.origin)) (chain_apart w.site k fs chain);
+  apart = AllPairs-cons (λ (a b : PathStep). a.place ≢ b.place) y (steps_of ms)
+      (off_places w.site k ms y chain (origin_off k ms (start_of w.site y) begun.origin)) (chain_apart w.site k ms chain);
 }
 
-pub augments : (w : Network) (k : ℕ) (fs : List Frame) (y : PathStep) (people : ℕ) (path : List PathStep) → IsFound w k fs y → IsChain w.site k fs
-    → path ≡ y ∷ steps_of fs → All (λ (z : PathStep). people ≤ residual_room w z) path → IsAugmentingPath w path people (start_of w.site y) k
-augments w k fs y people path found chain same room =
-    let here = found_augments w k fs y people found chain (subst (λ (p : List PathStep). All (λ (z : PathStep). people ≤ residual_room w z) p) same room) in
+pub augments : (w : Network) (k : ℕ) (ms : List Met) (y : PathStep) (people : ℕ) (path : List PathStep) → IsBegun w k ms y → IsChain w.site k ms
+    → path ≡ y ∷ steps_of ms → All (λ (z : PathStep). people ≤ residual_room w z) path → IsAugmentingPath w path people (start_of w.site y) k
+augments w k ms y people path begun chain same room =
+    let here = chain_augments w k ms y people begun chain (subst (λ (p : List PathStep). All (λ (z : PathStep). people ≤ residual_room w z) p) same room) in
     subst (λ (p : List PathStep). IsAugmentingPath w p people (start_of w.site y) k) (sym same) here
+
+-- the path by which a flood came to somebody
+pub found_augments : (w : Network) (k : ℕ) (ms : List Met) (y : PathStep) (people : ℕ) (path : List PathStep) → AreMet w k ms → IsFound w k ms y
+    → path ≡ y ∷ steps_of (way_on w.site (stop_of w.site y) ms) → All (λ (z : PathStep). people ≤ residual_room w z) path
+    → IsAugmentingPath w path people (start_of w.site y) k
+found_augments w k ms y people path met found same room =
+    let way = leads_on w k (stop_of w.site y) ms met found.stop in
+    augments w k (way_on w.site (stop_of w.site y) ms) y people path (record { place = found.place; stop = sym way.top; origin = found.origin }) way.chain same room
 
 -- ---- what a push brings
 
@@ -193,3 +209,13 @@ few_by w k n = omega (arith, arrived_all w k, arrivals_fit w (k + 1) n)
 -- how late a net's last moment may be
 pub horizon_small : (w : Network) → IsNet w → w.site.shape.horizon ≤ 1200
 horizon_small w n = (sizes w.site.shape n.site.shape).horizon
+
+-- what is settled stays so by pushes to the moment after
+pub settled_pushed : (w v : Network) (l : LabelTable) (k pushes : ℕ) → IsPushedOn w v k pushes → IsSettledBelow w l k → IsSettledBelow v l k
+settled_pushed w v l k pushes p old = record {
+  within = p.within;
+  labels = subst (λ (s : Site). IsLabelsOf s l) (sym p.limits.site) old.labels;
+  moment = subst (λ (s : Site). k ≤ s.shape.horizon) (sym p.limits.site) old.moment;
+  closed = λ i q. p.closed (labelled l i) i q (old.closed i q);
+  unset = old.unset;
+}

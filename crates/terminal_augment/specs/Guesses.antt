@@ -1,5 +1,5 @@
 -- A guessed path, looked at from its end.
-use Rattle.std.specs.Prelude.{◌≡◌, ℕ, ◌-◌, ◌<◌, ◌≤◌, List, length, Option, Some, None, IsFalse, IsTrue}
+use Rattle.std.specs.Prelude.{◌≡◌, ℕ, ◌-◌, ◌<◌, ◌≤◌, List, Option, Some, None, IsFalse, IsTrue}
 use Rattle.residual_net.specs.declared.legs.Leg.{Leg}
 use Rattle.residual_net.specs.declared.place.PathStep.{PathStep}
 use Rattle.residual_net.specs.Legs.{wait_at, waits_at}
@@ -46,7 +46,6 @@ pub record IsMarksOf (s : Site) (m : MarkTable) : Type 0 where
 pub record IsMarkedOn (m v : MarkTable) : Type 0 where
   pub nodes : v.nodes ≡ m.nodes
   pub horizon : v.horizon ≡ m.horizon
-  pub size : length v.list ≡ length m.list
   pub marks : IsMarks m → IsMarks v
 
 -- a node was marked at no moment from one up to another, is marked at each of them now, and no mark is taken off

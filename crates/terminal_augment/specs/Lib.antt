@@ -8,8 +8,8 @@ pub mod Spots
 pub mod Piles
 pub mod Marking
 pub mod Ways
-pub mod Frames
-pub mod Searching
+pub mod Chains
 pub mod Settled
-pub mod Guesses
 pub mod Floods
+pub mod Guesses
+pub mod Searches

@@ -1,5 +1,5 @@
 -- Marks on nodes at moments, all taken off at once by a new stamp.
-use Rattle.std.specs.Prelude.{◌≡◌, ℕ, ◌+◌, ◌*◌, ◌<◌, ◌≤◌, ◌^◌, Bool, not, ◌==◌, List, length, count_by, slice_index, slice_set}
+use Rattle.std.specs.Prelude.{◌≡◌, ℕ, ◌+◌, ◌*◌, ◌<◌, ◌≤◌, ◌^◌, Bool, ◌==◌, List, length, slice_index, slice_set}
 use Rattle.std.specs.List.{All}
 
 -- marks as contracts see them: the number of nodes, the horizon, the stamp of a mark that stands, and a stamp for each node and moment
@@ -27,7 +27,3 @@ is_marked m n t = slice_index m.list (mark_place m n t) == m.stamp
 -- the marks with another stamp for a node and moment
 abbrev pub with_stamp : MarkTable → ℕ → ℕ → ℕ → MarkTable
 with_stamp m n t stamp = record m { list = slice_set m.list (mark_place m n t) stamp }
-
--- how many nodes and moments aren't marked
-unfoldable pub open_count : MarkTable → ℕ
-open_count m = count_by (λ x. not (x == m.stamp)) m.list

@@ -1,49 +1,52 @@
-//! The last search to a moment: through all pairs that reach an arrival then, in the order in which they are met.
-ghost use Rattle.std.specs.Prelude.{◌≡◌, ℕ, ◌+◌, ◌<◌, ◌≤◌, IsTrue, length, slice_index, false, true};
+//! A search through all pairs that reach an arrival at a moment, in the order in which they are met.
+ghost use Rattle.std.specs.Prelude.{◌≡◌, ℕ, ◌+◌, ◌*◌, ◌<◌, ◌≤◌, IsTrue, MatchOption, length, slice_index, false, true};
 ghost use Rattle.time_expansion.specs.Expansion.{arcs_from, arcs_to};
 ghost use Rattle.residual_net.specs.declared.place.Place.TheVariants.{Arc, Hold};
 ghost use Rattle.residual_net.specs.declared.end.End.TheVariants.{Pair};
-ghost use Rattle.residual_net.specs.Site.{IsOpenPair, IsPlace, arc_count, start_of};
-ghost use Rattle.terminal_augment.specs.Floods.{IsFlooding, IsGrown, IsWayDone};
-ghost use Rattle.terminal_augment.specs.Frames.{IsExpanded};
-ghost use Rattle.terminal_augment.specs.Searching.{AreDoorsDone, IsExplored, IsResting, IsWork};
-ghost use Rattle.terminal_augment.specs.Ways.{IsArcAt, IsDone, IsSearchable, in_count, out_count, way_before, way_in};
+ghost use Rattle.residual_net.specs.Site.{IsOpenPair, IsPlace, arc_count, start_of, stop_of, tail_of};
+ghost use Rattle.terminal_augment.specs.Chains.{IsAmong, IsFound, spots};
+ghost use Rattle.terminal_augment.specs.Floods.{AreDoorsDone, AreExpanded, IsDone, IsExpanded, IsFlooded, IsFlooding, IsGrown, IsWayDone};
+ghost use Rattle.terminal_augment.specs.Settled.{IsSettledBelow};
+ghost use Rattle.terminal_augment.specs.Spots.{has};
+ghost use Rattle.terminal_augment.specs.Ways.{IsArcAt, in_count, out_count, way_before, way_in};
 
-use crate::spot::Spot;
-use crate::ways::{back, forth, is_fresh};
-use crate::work::Work;
+use crate::pile::Pile;
+use crate::spot::{Met, Spot};
+use crate::steps::{back, forth};
 use evac_law::Labels;
 use residual_net::{End, Net, PathStep, Place};
 
-// Marks the pair at which a step starts, if the step may be taken. Whether it is.
-fn meet(net: &Net, labels: &Labels, work: &mut Work, step: PathStep, spot: Spot, k: u16) -> bool
-    requires searchable { IsSearchable net.now labels.now }
+// Meets the pair at which a step starts, if the step may be taken. Whether it is.
+fn meet(net: &Net, labels: &mut Labels, met: &mut Pile<Met>, spot: Spot, step: PathStep, k: u16) -> bool
     requires place { IsPlace net.now.site step.place }
     requires start { start_of net.now.site step ≡ Pair spot.node spot.moment }
     requires inside { IsOpenPair net.now.site spot.node spot.moment }
-    requires flooding { IsFlooding net.now.site labels.now k work.old }
-    ensures flooding { IsFlooding net.now.site labels.now k work.new }
-    ensures grown { IsGrown work.old work.new }
-    ensures done { IsDone net.now labels.now work.new.marks k step }
+    requires stop { IsAmong k (spots met.old.list) (stop_of net.now.site step) }
+    requires flooding { IsFlooding net.now labels.old k met.old }
+    ensures flooding { IsFlooding net.now labels.new k met.new }
+    ensures grown { IsGrown k labels.old labels.new met.old met.new }
+    ensures done { IsDone net.now labels.new k step }
+    ensures met { IsTrue result → IsTrue (has (spots met.new.list) spot.node spot.moment) }
 {
-    if !is_fresh(labels, &work.marks, spot, k) {
+    if labels.get(spot.node, spot.moment) <= k {
         return false;
     }
     if net.room(step) == 0 {
         return false;
     }
-    work.note(spot);
+    labels.set(spot.node, spot.moment, k);
+    met.push(Met { spot, step });
     true
 }
 
-// Marks where an arc begins by which people come to its end at a moment.
-fn meet_in(net: &Net, labels: &Labels, work: &mut Work, arc: u32, moment: u16, k: u16)
-    requires searchable { IsSearchable net.now labels.now }
+// Meets the pair at which an arc begins by which people come to its end at a moment.
+fn meet_in(net: &Net, labels: &mut Labels, met: &mut Pile<Met>, arc: u32, moment: u16, k: u16)
     requires arc { IsArcAt net.now.site arc moment }
-    requires flooding { IsFlooding net.now.site labels.now k work.old }
-    ensures flooding { IsFlooding net.now.site labels.now k work.new }
-    ensures grown { IsGrown work.old work.new }
-    ensures done { IsWayDone net.now labels.now work.new.marks k (way_in net.now.site arc moment) }
+    requires stop { MatchOption (way_in net.now.site arc moment) (Unit {0}) (λ y. IsAmong k (spots met.old.list) (stop_of net.now.site y)) }
+    requires flooding { IsFlooding net.now labels.old k met.old }
+    ensures flooding { IsFlooding net.now labels.new k met.new }
+    ensures grown { IsGrown k labels.old labels.new met.old met.new }
+    ensures done { IsWayDone net.now labels.new k (way_in net.now.site arc moment) }
 {
     let travel = net.travel(arc);
     if travel > moment {
@@ -51,96 +54,56 @@ fn meet_in(net: &Net, labels: &Labels, work: &mut Work, arc: u32, moment: u16, k
     }
     let moment = moment - travel;
     let node = net.shape().ends()[arc as usize].from;
+    let spot = Spot { node, moment };
     let step = forth(Place::Arc { arc, moment });
-    meet(net, labels, work, step, Spot { node, moment }, k);
+    meet(net, labels, met, spot, step, k);
 }
 
-// Marks where the arcs begin by which people come to a pair.
-fn expand_in(net: &Net, labels: &Labels, work: &mut Work, spot: Spot, k: u16)
-    requires searchable { IsSearchable net.now labels.now }
+// Meets the pairs at which the arcs begin by which people come to a pair.
+fn expand_in(net: &Net, labels: &mut Labels, met: &mut Pile<Met>, spot: Spot, k: u16)
     requires inside { IsOpenPair net.now.site spot.node spot.moment }
-    requires flooding { IsFlooding net.now.site labels.now k work.old }
-    ensures flooding { IsFlooding net.now.site labels.now k work.new }
-    ensures grown { IsGrown work.old work.new }
-    ensures done { (i : ℕ) → i < in_count net.now.site spot.node → IsWayDone net.now labels.now work.new.marks k (way_in net.now.site (slice_index (arcs_to net.now.site.shape spot.node) i) spot.moment) }
+    requires met { IsTrue (has (spots met.old.list) spot.node spot.moment) }
+    requires flooding { IsFlooding net.now labels.old k met.old }
+    ensures flooding { IsFlooding net.now labels.new k met.new }
+    ensures grown { IsGrown k labels.old labels.new met.old met.new }
+    ensures done { (i : ℕ) → i < in_count net.now.site spot.node → IsWayDone net.now labels.new k (way_in net.now.site (slice_index (arcs_to net.now.site.shape spot.node) i) spot.moment) }
 {
     let entering = net.shape().entering(spot.node);
     for i in 0..entering.len() {
-        meet_in(net, labels, work, entering[i], spot.moment, k);
+        meet_in(net, labels, met, entering[i], spot.moment, k);
     }
 }
 
-// Marks where the waits before a pair begin, one after another, as far as they may be taken. Pairs that lie together are looked at
-// together so.
-fn meet_before(net: &Net, labels: &Labels, work: &mut Work, spot: Spot, k: u16)
-    requires searchable { IsSearchable net.now labels.now }
+// Meets the pairs at which the waits before a pair begin, one after another, as far as they may be taken. Pairs that lie together are
+// looked at together so.
+fn meet_before(net: &Net, labels: &mut Labels, met: &mut Pile<Met>, spot: Spot, k: u16)
     requires inside { IsOpenPair net.now.site spot.node spot.moment }
-    requires flooding { IsFlooding net.now.site labels.now k work.old }
-    ensures flooding { IsFlooding net.now.site labels.now k work.new }
-    ensures grown { IsGrown work.old work.new }
-    ensures done { IsWayDone net.now labels.now work.new.marks k (way_before spot.node spot.moment) }
+    requires met { IsTrue (has (spots met.old.list) spot.node spot.moment) }
+    requires flooding { IsFlooding net.now labels.old k met.old }
+    ensures flooding { IsFlooding net.now labels.new k met.new }
+    ensures grown { IsGrown k labels.old labels.new met.old met.new }
+    ensures done { IsWayDone net.now labels.new k (way_before spot.node spot.moment) }
 {
     let node = spot.node;
     let mut moment = spot.moment;
     while moment > 0 {
         moment -= 1;
+        let spot = Spot { node, moment };
         let step = forth(Place::Hold { node, moment });
-        if !meet(net, labels, work, step, Spot { node, moment }, k) {
+        if !meet(net, labels, met, spot, step, k) {
             return;
         }
     }
 }
 
-// Marks where an arc leads by which people leave a node at a moment. Whether nobody can be sent from there.
-fn meet_out(net: &Net, labels: &Labels, work: &mut Work, arc: u32, moment: u16, k: u16) -> bool
-    requires searchable { IsSearchable net.now labels.now }
-    requires arc { IsArcAt net.now.site arc moment }
-    requires flooding { IsFlooding net.now.site labels.now k work.old }
-    ensures flooding { IsFlooding net.now.site labels.now k work.new }
-    ensures grown { IsGrown work.old work.new }
-    ensures done { IsTrue result → IsDone net.now labels.now work.new.marks k (record { place = Arc arc moment; back = true }) }
-{
-    if net.moved(arc, moment) == 0 {
-        return true;
-    }
-    let step = back(Place::Arc { arc, moment });
-    match net.start(step) {
-        End::Pair { node, moment } => {
-            meet(net, labels, work, step, Spot { node, moment }, k);
-            true
-        }
-        End::Door(moment) => moment <= k,
-        End::Source => false,
-    }
-}
-
-// Marks where the arcs lead by which people leave a pair. Whether nobody can be sent from there.
-fn expand_out(net: &Net, labels: &Labels, work: &mut Work, spot: Spot, k: u16) -> bool
-    requires searchable { IsSearchable net.now labels.now }
+// Meets the pair to which a wait after a pair leads.
+fn meet_after(net: &Net, labels: &mut Labels, met: &mut Pile<Met>, spot: Spot, k: u16)
     requires inside { IsOpenPair net.now.site spot.node spot.moment }
-    requires flooding { IsFlooding net.now.site labels.now k work.old }
-    ensures flooding { IsFlooding net.now.site labels.now k work.new }
-    ensures grown { IsGrown work.old work.new }
-    ensures done { IsTrue result → (i : ℕ) → i < out_count net.now.site spot.node → IsDone net.now labels.now work.new.marks k (record { place = Arc (slice_index (arcs_from net.now.site.shape spot.node) i) spot.moment; back = true }) }
-{
-    let leaving = net.shape().leaving(spot.node);
-    let moment = spot.moment;
-    for i in 0..leaving.len() {
-        if !meet_out(net, labels, work, leaving[i], moment, k) {
-            return false;
-        }
-    }
-    true
-}
-
-// Marks where the wait after a pair leads.
-fn meet_after(net: &Net, labels: &Labels, work: &mut Work, spot: Spot, k: u16)
-    requires searchable { IsSearchable net.now labels.now }
-    requires inside { IsOpenPair net.now.site spot.node spot.moment }
-    requires flooding { IsFlooding net.now.site labels.now k work.old }
-    ensures flooding { IsFlooding net.now.site labels.now k work.new }
-    ensures grown { IsGrown work.old work.new }
-    ensures done { IsDone net.now labels.now work.new.marks k (record { place = Hold spot.node spot.moment; back = true }) }
+    requires met { IsTrue (has (spots met.old.list) spot.node spot.moment) }
+    requires flooding { IsFlooding net.now labels.old k met.old }
+    ensures flooding { IsFlooding net.now labels.new k met.new }
+    ensures grown { IsGrown k labels.old labels.new met.old met.new }
+    ensures done { IsDone net.now labels.new k (record { place = Hold spot.node spot.moment; back = true }) }
 {
     // The net's sizes bound the moments.
     let _ = net.shape();
@@ -151,73 +114,141 @@ fn meet_after(net: &Net, labels: &Labels, work: &mut Work, spot: Spot, k: u16)
     }
     let step = back(Place::Hold { node, moment });
     let moment = moment + 1;
-    meet(net, labels, work, step, Spot { node, moment }, k);
+    let spot = Spot { node, moment };
+    meet(net, labels, met, spot, step, k);
 }
 
-// Marks all pairs from which steps lead to a pair. Whether nobody can be sent from there.
-fn expand(net: &Net, labels: &Labels, work: &mut Work, spot: Spot, k: u16) -> bool
-    requires searchable { IsSearchable net.now labels.now }
-    requires inside { IsOpenPair net.now.site spot.node spot.moment }
-    requires flooding { IsFlooding net.now.site labels.now k work.old }
-    ensures flooding { IsFlooding net.now.site labels.now k work.new }
-    ensures grown { IsGrown work.old work.new }
-    ensures expanded { IsTrue result → IsExpanded net.now labels.now work.new.marks k spot.node spot.moment }
+// Meets the pair to which an arc leads by which people leave a pair. A step by which somebody may be sent to that pair, if there is
+// one.
+fn meet_out(net: &Net, labels: &mut Labels, met: &mut Pile<Met>, arc: u32, moment: u16, k: u16) -> Option<PathStep>
+    requires arc { IsArcAt net.now.site arc moment }
+    requires stop { IsAmong k (spots met.old.list) (tail_of net.now.site (Arc arc moment)) }
+    requires flooding { IsFlooding net.now labels.old k met.old }
+    ensures flooding { IsFlooding net.now labels.new k met.new }
+    ensures grown { IsGrown k labels.old labels.new met.old met.new }
+    ensures found { MatchOption result (IsDone net.now labels.new k (record { place = Arc arc moment; back = true })) (λ y. IsFound net.now k met.new.list y) }
 {
-    if net.unsent(spot.node, spot.moment) > 0 {
-        return false;
+    if net.moved(arc, moment) == 0 {
+        return None;
     }
-    expand_in(net, labels, work, spot, k);
-    meet_before(net, labels, work, spot, k);
-    meet_after(net, labels, work, spot, k);
-    expand_out(net, labels, work, spot, k)
+    let step = back(Place::Arc { arc, moment });
+    match net.start(step) {
+        End::Pair { node, moment } => {
+            let spot = Spot { node, moment };
+            meet(net, labels, met, spot, step, k);
+            None
+        }
+        End::Door(arrival) => (k < arrival).then_some(step),
+        End::Source => Some(step),
+    }
 }
 
-// Marks where an arc begins by which people arrive at a moment.
-fn open(net: &Net, labels: &Labels, work: &mut Work, arc: u32, k: u16)
-    requires searchable { IsSearchable net.now labels.now }
+// Meets the pairs to which the arcs lead by which people leave a pair. A step by which somebody may be sent to that pair, if there is
+// one.
+fn expand_out(net: &Net, labels: &mut Labels, met: &mut Pile<Met>, spot: Spot, k: u16) -> Option<PathStep>
+    requires inside { IsOpenPair net.now.site spot.node spot.moment }
+    requires met { IsTrue (has (spots met.old.list) spot.node spot.moment) }
+    requires flooding { IsFlooding net.now labels.old k met.old }
+    ensures flooding { IsFlooding net.now labels.new k met.new }
+    ensures grown { IsGrown k labels.old labels.new met.old met.new }
+    ensures found { MatchOption result
+        ((i : ℕ) → i < out_count net.now.site spot.node → IsDone net.now labels.new k (record { place = Arc (slice_index (arcs_from net.now.site.shape spot.node) i) spot.moment; back = true }))
+        (λ y. IsFound net.now k met.new.list y) }
+{
+    let leaving = net.shape().leaving(spot.node);
+    let moment = spot.moment;
+    for i in 0..leaving.len() {
+        if let Some(found) = meet_out(net, labels, met, leaving[i], moment, k) {
+            return Some(found);
+        }
+    }
+    None
+}
+
+// Meets all pairs from which steps lead to a pair. A step by which somebody may be sent to it, if there is one.
+fn expand(net: &Net, labels: &mut Labels, met: &mut Pile<Met>, spot: Spot, k: u16) -> Option<PathStep>
+    requires inside { IsOpenPair net.now.site spot.node spot.moment }
+    requires met { IsTrue (has (spots met.old.list) spot.node spot.moment) }
+    requires flooding { IsFlooding net.now labels.old k met.old }
+    ensures flooding { IsFlooding net.now labels.new k met.new }
+    ensures grown { IsGrown k labels.old labels.new met.old met.new }
+    ensures found { MatchOption result (IsExpanded net.now labels.new k spot.node spot.moment) (λ y. IsFound net.now k met.new.list y) }
+{
+    let node = spot.node;
+    let moment = spot.moment;
+    if net.unsent(node, moment) > 0 {
+        return Some(forth(Place::Supply { node, moment }));
+    }
+    expand_in(net, labels, met, spot, k);
+    meet_before(net, labels, met, spot, k);
+    meet_after(net, labels, met, spot, k);
+    expand_out(net, labels, met, spot, k)
+}
+
+// Meets the pair at which an arc begins by which people arrive at a moment.
+fn open(net: &Net, labels: &mut Labels, met: &mut Pile<Met>, arc: u32, k: u16)
     requires arc { IsArcAt net.now.site arc k }
-    requires flooding { IsFlooding net.now.site labels.now k work.old }
-    ensures flooding { IsFlooding net.now.site labels.now k work.new }
-    ensures doors { AreDoorsDone net.now labels.now work.old.marks k arc → AreDoorsDone net.now labels.now work.new.marks k (arc + 1) }
+    requires flooding { IsFlooding net.now labels.old k met.old }
+    ensures flooding { IsFlooding net.now labels.new k met.new }
+    ensures grown { IsGrown k labels.old labels.new met.old met.new }
+    ensures doors { AreDoorsDone net.now labels.old k arc → AreDoorsDone net.now labels.new k (arc + 1) }
 {
     let node = net.shape().ends()[arc as usize].to;
     if net.is_exit(node) {
-        meet_in(net, labels, work, arc, k, k);
+        meet_in(net, labels, met, arc, k, k);
     }
 }
 
-// Marks where the arcs begin by which people arrive at a moment.
-fn open_all(net: &Net, labels: &Labels, work: &mut Work, k: u16)
-    requires searchable { IsSearchable net.now labels.now }
-    requires moment { k ≤ net.now.site.shape.horizon }
-    requires flooding { IsFlooding net.now.site labels.now k work.old }
-    ensures flooding { IsFlooding net.now.site labels.now k work.new }
-    ensures doors { AreDoorsDone net.now labels.now work.new.marks k (arc_count net.now.site) }
+// Meets the pairs at which the arcs begin by which people arrive at a moment.
+fn open_all(net: &Net, labels: &mut Labels, met: &mut Pile<Met>, k: u16)
+    requires flooding { IsFlooding net.now labels.old k met.old }
+    ensures flooding { IsFlooding net.now labels.new k met.new }
+    ensures grown { IsGrown k labels.old labels.new met.old met.new }
+    ensures doors { AreDoorsDone net.now labels.new k (arc_count net.now.site) }
 {
     let arcs = net.shape().ends().len() as u32;
     for arc in 0..arcs {
-        open(net, labels, work, arc, k);
+        open(net, labels, met, arc, k);
     }
 }
 
-/// Marks all pairs that reach an arrival at a moment. Whether nobody can be sent from any of them.
-pub fn flood(net: &Net, labels: &Labels, work: &mut Work, k: u16) -> bool
-    requires searchable { IsSearchable net.now labels.now }
-    requires moment { k ≤ net.now.site.shape.horizon }
-    requires work { IsWork net.now.site.shape.nodes net.now.site.shape.horizon work.old }
-    ensures resting { IsResting net.now.site labels.now k work.new }
-    ensures explored { IsTrue result → IsExplored net.now labels.now k (arc_count net.now.site) work.new }
+// Meets all pairs from which steps lead to those that were met, until it comes to somebody who can be sent. The step by which it does.
+fn expand_all(net: &Net, labels: &mut Labels, met: &mut Pile<Met>, k: u16) -> Option<PathStep>
+    requires flooding { IsFlooding net.now labels.old k met.old }
+    ensures flooding { IsFlooding net.now labels.new k met.new }
+    ensures grown { IsGrown k labels.old labels.new met.old met.new }
+    ensures found { MatchOption result (AreExpanded net.now labels.new k (length met.new.list) met.new.list) (λ y. IsFound net.now k met.new.list y) }
 {
-    work.clear();
-    open_all(net, labels, work, k);
     let mut done = 0;
-    while done < work.seen.len() {
-        let place = work.seen.len() - done - 1;
-        let spot = work.seen.get(place);
-        if !expand(net, labels, work, spot, k) {
-            return false;
+    while done < met.len() {
+        let place = met.len() - done - 1;
+        let spot = met.get(place).spot;
+        if let Some(found) = expand(net, labels, met, spot, k) {
+            return Some(found);
         }
         done += 1;
     }
-    true
+    None
+}
+
+/// Meets all pairs that reach an arrival at a moment, each by a step, and gives them the moment as their label. Where it comes to
+/// somebody who can be sent there, it answers with the step by which it does, and no pair keeps that label.
+pub fn flood(net: &Net, labels: &mut Labels, met: &mut Pile<Met>, k: u16) -> Option<PathStep>
+    requires settled { IsSettledBelow net.now labels.old k }
+    requires room { net.now.site.shape.nodes * (net.now.site.shape.horizon + 1) ≤ met.old.room }
+    ensures flooded { IsFlooded net.now labels.old labels.new k met.new.list result }
+    ensures room { met.new.room ≡ met.old.room }
+    ensures few { length met.new.list ≤ met.new.room }
+{
+    let _ = net.shape();
+    let _ = labels.nodes();
+    met.clear();
+    open_all(net, labels, met, k);
+    match expand_all(net, labels, met, k) {
+        None => None,
+        Some(found) => {
+            labels.unset_from(k);
+            Some(found)
+        }
+    }
 }

@@ -2,23 +2,18 @@
 ghost use Rattle.std.specs.Prelude.{◌≡◌, ℕ, ◌+◌, ◌-◌, ◌<◌, ◌≤◌, IsFalse, IsTrue, MatchOption};
 ghost use Rattle.std.specs.List.{All};
 ghost use Rattle.residual_net.specs.Legs.{steps_of_legs, wait_at};
-ghost use Rattle.residual_net.specs.Network.{IsNet, IsWithinLimits, residual_room};
+ghost use Rattle.residual_net.specs.Network.{IsWithinLimits, residual_room};
 ghost use Rattle.residual_net.specs.Site.{IsOpenPair};
 ghost use Rattle.terminal_augment.specs.Guesses.{CarriesPeople, IsLookedOver, IsMarkedOn, IsMarkedOver, IsMarksOf, IsStep};
 ghost use Rattle.terminal_augment.specs.Marking.{IsMarks};
-ghost use Rattle.terminal_augment.specs.Searching.{IsWork};
 ghost use Rattle.terminal_augment.specs.Settled.{IsCountedOn};
 
 use crate::marks::Marks;
 use crate::spot::Spot;
-use crate::work::Work;
-use evac_law::{Labels, Steps};
+use evac_law::Steps;
 use guided_search::PathFinder;
 use residual_net::{Cell, End, Leg, Net, PathStep, Transit};
 use std::sync::ledger::Ledger;
-
-// The most guesses at one arrival moment.
-const FUEL: u64 = 1_000_000_000_000;
 
 // The least room of some cells for more people, or the most people where that is less.
 fn least_room(cells: &[Cell], most: u32) -> u32
@@ -84,13 +79,12 @@ fn mark_all(marks: &mut Marks, node: u32, from: u16, past: u16) -> bool
     ensures over { IsTrue result → IsMarkedOver marks.old marks.new node from past }
     ensures marks { IsMarkedOn marks.old marks.new }
 {
-    let first = marks.first(node);
     for moment in from..past {
         let spot = Spot { node, moment };
-        if marks.is_marked_at(first, spot) {
+        if marks.is_marked(spot) {
             return false;
         }
-        marks.mark_at(first, spot);
+        marks.mark(spot);
     }
     true
 }
@@ -204,29 +198,24 @@ fn carried(net: &Net, marks: &mut Marks, legs: &[Leg], most: u32, k: u16) -> u32
 /// Sends people to a moment along guessed paths, until a guess is wrong or there is none.
 pub fn send_guessed<L: Ledger>(
     net: &mut Net,
-    labels: &Labels,
-    work: &mut Work,
+    marks: &mut Marks,
     finder: &mut PathFinder,
     k: u16,
     steps: &mut Steps<L>,
 ) -> u32
     requires within { IsWithinLimits net.old }
-    requires net { IsNet net.old }
     requires moment { k ≤ net.old.site.shape.horizon }
-    requires work { IsWork net.old.site.shape.nodes net.old.site.shape.horizon work.old }
-    ensures work { IsWork net.new.site.shape.nodes net.new.site.shape.horizon work.new }
+    requires marks { IsMarksOf net.old.site marks.old }
+    ensures marks { IsMarkedOn marks.old marks.new }
     ensures counted { IsCountedOn net.old net.new k result steps.old steps.new }
 {
-    finder.begin(net, labels, k);
+    let _ = net.shape();
     let mut pushes = 0;
-    for _ in 0..FUEL {
-        if !finder.find(net) {
-            return pushes;
-        }
+    while finder.find(net) {
         let most = finder.most();
         let legs = finder.lay();
-        work.marks.clear();
-        let people = carried(net, &mut work.marks, legs, most, k);
+        marks.clear();
+        let people = carried(net, marks, legs, most, k);
         if people == 0 {
             return pushes;
         }

@@ -1,18 +1,20 @@
 //! Settles one arrival moment of a net: as many people as can arrive by it, without taking any from earlier moments.
 //!
-//! `settle` searches back from the arrivals at a moment, through pairs of a node and a moment that no earlier search has labelled,
-//! and sends people from whatever unsent supply or later arrival it reaches. Where it reaches no more, the pairs that it reached
-//! get the moment as their label: with those labelled before they are closed, so that no plan has more people out by then.
+//! `settle` first sends people along paths that `guided_search` hints at, each looked at step by step. Then a flood goes back from the
+//! arrivals at the moment, through all pairs of a node and a moment from which people could still arrive then, and labels each pair that it
+//! meets. Where it comes to nobody who can be sent, the labels stay: with those of earlier moments these pairs are closed, so that no plan
+//! has more people out by then. Where it comes to somebody, unsent or to arrive later, the labels are taken back. The steps by which it met
+//! the pairs lead on to the arrival: people are sent along them, hints are asked for again, and so on.
 #![tactic(auto)]
 
 mod flood;
 mod guess;
 mod marks;
 mod moment;
+mod path;
 mod pile;
 mod spot;
-mod walk;
-mod ways;
+mod steps;
 mod work;
 
 pub use moment::{Search, settle};

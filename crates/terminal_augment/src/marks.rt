@@ -72,61 +72,6 @@ impl Marks {
         let _ = &self.stamps;
     }
 
-    /// Where the places of a node begin.
-    pub fn first(&self, node: u32) -> usize
-        requires { node < self.now.nodes }
-        ensures { result ≡ node * (self.now.horizon + 1) }
-    {
-        node as usize * (self.horizon as usize + 1)
-    }
-
-    // The place of a node at a moment, by where its places begin.
-    fn place_from(&self, first: usize, spot: Spot) -> usize
-        requires node { spot.node < self.now.nodes }
-        requires moment { spot.moment ≤ self.now.horizon }
-        requires first { first ≡ spot.node * (self.now.horizon + 1) }
-        ensures place { result ≡ spot.node * (self.now.horizon + 1) + spot.moment }
-        ensures within { result < length self.now.list }
-    {
-        let _ = &self.stamps;
-        first + spot.moment as usize
-    }
-
-    /// Whether a node is marked at a moment, by where its places begin.
-    pub fn is_marked_at(&self, first: usize, spot: Spot) -> bool
-        requires node { spot.node < self.now.nodes }
-        requires moment { spot.moment ≤ self.now.horizon }
-        requires first { first ≡ spot.node * (self.now.horizon + 1) }
-        ensures { result ≡ is_marked self.now spot.node spot.moment }
-    {
-        self.stamps[self.place_from(first, spot)] == self.stamp
-    }
-
-    /// Marks a node at a moment, by where its places begin.
-    pub fn mark_at(&mut self, first: usize, spot: Spot)
-        requires node { spot.node < self.old.nodes }
-        requires moment { spot.moment ≤ self.old.horizon }
-        requires first { first ≡ spot.node * (self.old.horizon + 1) }
-        ensures marked { self.new ≡ with_stamp self.old spot.node spot.moment self.old.stamp }
-        ensures marks { IsMarks self.new }
-    {
-        let place = self.place_from(first, spot);
-        self.stamps[place] = self.stamp;
-        let _ = &self.stamps;
-    }
-
-    /// Takes the mark of a node at a moment off.
-    pub fn unmark(&mut self, spot: Spot)
-        requires node { spot.node < self.old.nodes }
-        requires moment { spot.moment ≤ self.old.horizon }
-        ensures marked { self.new ≡ with_stamp self.old spot.node spot.moment 0 }
-        ensures marks { IsMarks self.new }
-    {
-        let place = self.place(spot);
-        self.stamps[place] = 0;
-        let _ = &self.stamps;
-    }
-
     /// Takes all marks off.
     pub fn clear(&mut self)
         ensures nodes { self.new.nodes ≡ self.old.nodes }

@@ -1,6 +1,5 @@
 //! A pile in memory that is reserved once.
-ghost use Rattle.std.specs.Prelude.{◌≡◌, ◌<◌, [], ◌∷◌, IfOk, drop, length, slice_index_or};
-ghost use Rattle.terminal_augment.specs.Piles.{top_of};
+ghost use Rattle.std.specs.Prelude.{◌≡◌, ◌<◌, [], ◌∷◌, IfOk, length, slice_index_or};
 
 use std::alloc::{AllocError, Global};
 use std::marker::Model;
@@ -45,22 +44,6 @@ impl<T: Copy + Drop> Pile<T> {
         ensures { self.new ≡ record { list = item ∷ self.old.list; room = self.old.room } }
     {
         self.items.push_reserved(item);
-    }
-
-    /// Takes the top off.
-    pub fn pop(&mut self)
-        requires { 0 < length self.old.list }
-        ensures { self.new ≡ record { list = drop 1 self.old.list; room = self.old.room } }
-    {
-        // What lay on top is let go.
-        let _ = self.items.pop();
-    }
-
-    /// What lies on top.
-    pub fn top(&self) -> Option<T>
-        ensures { result ≡ top_of self.now.list }
-    {
-        self.items.last().copied()
     }
 
     /// How many things there are.

@@ -1,4 +1,4 @@
-//! What a search remembers of its way.
+//! What a flood meets.
 
 use residual_net::PathStep;
 
@@ -9,18 +9,9 @@ pub struct Spot {
     pub moment: u16,
 }
 
-/// A node at a moment on the way back from an arrival: the step that leads on from there, and the number of the way into it that
-/// is to be tried next.
+/// A node at a moment that a flood met, and the step from there by which it did.
 #[derive(Clone, Copy)]
-pub struct Frame {
+pub struct Met {
     pub spot: Spot,
-    pub step: PathStep,
-    pub next: u32,
-}
-
-/// A step into a node at a moment, with its number among the ways there.
-#[derive(Clone, Copy)]
-pub struct Way {
-    pub number: u32,
     pub step: PathStep,
 }

@@ -1,23 +1,73 @@
-use Rattle.std.proofs.Common.{true, arith}
-use Rattle.terminal_augment.proofs.FloodLemmas.{done_later, expanded_by, grown_then, way_later}
+use Rattle.std.proofs.Common.{None, Option, Some, MatchOption, arith, true}
+use Rattle.residual_net.specs.declared.place.PathStep.{PathStep}
 use Rattle.residual_net.specs.declared.place.Place.TheVariants.{Hold}
+use Rattle.terminal_augment.proofs.FloodLemmas.{done_later, grown_then, has_later, way_later}
+use Rattle.terminal_augment.proofs.WayLemmas.{expanded_by}
 use Rattle.terminal_augment.proofs.flood.expand.Goals as goal
 
-pub returns-clause-expanded : goal.returns-clause-expanded
-returns-clause-expanded c q =
-    let w = c.args.net.now in
-    let l = c.args.labels.now in
+none_weaker : (o : Option PathStep) (P Q : Type 0) (R : PathStep → Type 0) → (P → Q) → MatchOption o P R → MatchOption o Q R
+none_weaker None P Q R f h = f h
+none_weaker (Some y) P Q R f h = h
+
+pub meet_before-requires-clause-met : goal.meet_before-requires-clause-met
+meet_before-requires-clause-met c =
+    has_later c.args.k c.args.labels.now c.expand_in.new.labels c.args.met.now c.expand_in.new.met c.args.spot.node c.args.spot.moment c.expand_in.ensures.grown c.requires.met
+
+pub meet_after-requires-clause-met : goal.meet_after-requires-clause-met
+meet_after-requires-clause-met c =
     let k = c.args.k in
-    let b = c.expand_in.new.work in
-    let d = c.meet_before.new.work in
-    let e = c.meet_after.new.work in
-    let z = c.expand_out.new.work in
+    let l = c.args.labels.now in
+    let b = c.expand_in.new.labels in
+    let d = c.meet_before.new.labels in
+    let both = grown_then k l b d c.args.met.now c.expand_in.new.met c.meet_before.new.met c.expand_in.ensures.grown c.meet_before.ensures.grown in
+    has_later k l d c.args.met.now c.meet_before.new.met c.args.spot.node c.args.spot.moment both c.requires.met
+
+pub expand_out-requires-clause-met : goal.expand_out-requires-clause-met
+expand_out-requires-clause-met c =
+    let k = c.args.k in
+    let l = c.args.labels.now in
+    let b = c.expand_in.new.labels in
+    let d = c.meet_before.new.labels in
+    let e = c.meet_after.new.labels in
+    let x = c.args.met.now in
+    let both = grown_then k l b d x c.expand_in.new.met c.meet_before.new.met c.expand_in.ensures.grown c.meet_before.ensures.grown in
+    let three = grown_then k l d e x c.meet_before.new.met c.meet_after.new.met both c.meet_after.ensures.grown in
+    has_later k l e x c.meet_after.new.met c.args.spot.node c.args.spot.moment three c.requires.met
+
+pub returns-clause-grown : goal.returns-clause-grown
+returns-clause-grown c =
+    let k = c.args.k in
+    let l = c.args.labels.now in
+    let b = c.expand_in.new.labels in
+    let d = c.meet_before.new.labels in
+    let e = c.meet_after.new.labels in
+    let z = c.expand_out.new.labels in
+    let x = c.args.met.now in
+    let both = grown_then k l b d x c.expand_in.new.met c.meet_before.new.met c.expand_in.ensures.grown c.meet_before.ensures.grown in
+    let three = grown_then k l d e x c.meet_before.new.met c.meet_after.new.met both c.meet_after.ensures.grown in
+    grown_then k l e z x c.meet_after.new.met c.expand_out.new.met three c.expand_out.ensures.grown
+
+pub returns-clause-found : goal.returns-clause-found
+returns-clause-found c =
+    let w = c.args.net.now in
+    let k = c.args.k in
+    let b = c.expand_in.new.labels in
+    let d = c.meet_before.new.labels in
+    let e = c.meet_after.new.labels in
+    let z = c.expand_out.new.labels in
+    let ps = c.expand_in.new.met in
+    let qs = c.meet_before.new.met in
+    let rs = c.meet_after.new.met in
+    let zs = c.expand_out.new.met in
     let from_e = c.expand_out.ensures.grown in
-    let from_d = grown_then d e z c.meet_after.ensures.grown from_e in
-    let from_b = grown_then b d z c.meet_before.ensures.grown from_d in
-    expanded_by w l z.marks k c.args.spot.node c.args.spot.moment c.requires.inside
-    (λ room. absurd (omega (arith, room, c.unsent.ensures, c.if-unsent-gt0.false)))
-    (λ i h. way_later w l k b z _ from_b (c.expand_in.ensures.done i h))
-    (way_later w l k d z _ from_d c.meet_before.ensures.done)
-    (c.expand_out.ensures.done q)
-    (done_later w l k e z (record { place = Hold c.args.spot.node c.args.spot.moment; back = true }) from_e c.meet_after.ensures.done)
+    let from_d = grown_then k d e z qs rs zs c.meet_after.ensures.grown from_e in
+    let from_b = grown_then k b d z ps qs zs c.meet_before.ensures.grown from_d in
+    none_weaker c.expand_out.result _ _ _
+    (λ leaving.
+        expanded_by w z k c.args.spot.node c.args.spot.moment c.requires.inside
+        (λ room. absurd (omega (arith, room, c.unsent.ensures, c.if-unsent-gt0.false)))
+        (λ i h. way_later w k b z ps zs _ from_b (c.expand_in.ensures.done i h))
+        (way_later w k d z qs zs _ from_d c.meet_before.ensures.done)
+        leaving
+        (done_later w k e z rs zs (record { place = Hold c.args.spot.node c.args.spot.moment; back = true }) from_e c.meet_after.ensures.done))
+    c.expand_out.ensures.found

@@ -1,6 +1,15 @@
-use Rattle.std.proofs.Common.{length, ap, arith, ◌∙◌}
+use Rattle.std.proofs.Common.{◌≡◌, ℕ, List, Option, MatchOption, cond, get_or, length, ap, sym, subst, arith, inl, inr, ◌∙◌}
+use Rattle.std.proofs.lemmas.Bool.{cases_lt}
 use Rattle.time_expansion.specs.Expansion.{Expansion, arcs_to}
 use Rattle.time_expansion.proofs.Lists as lists
+use Rattle.residual_net.specs.declared.end.End.TheVariants.{Door, Pair}
+use Rattle.residual_net.specs.Site.{exit_at, stop_of}
+use Rattle.residual_net.specs.declared.place.PathStep.{PathStep}
+use Rattle.terminal_augment.specs.Chains.{IsAmong, spots}
+use Rattle.terminal_augment.specs.Floods.{IsWayDone}
+use Rattle.terminal_augment.specs.Ways.{way_in}
+use Rattle.terminal_augment.proofs.FloodLemmas.{grown_then, has_later, way_later}
+use Rattle.terminal_augment.proofs.WayLemmas.{arc_end, in_stops}
 use Rattle.terminal_augment.proofs.flood.expand_in.Goals as goal
 
 pub meet_in-requires-clause-arc : goal.meet_in-requires-clause-arc
@@ -8,3 +17,41 @@ meet_in-requires-clause-arc c =
     let same = c.entering-entering.ensures ∙ ap (λ (x : Expansion). arcs_to x c.args.spot.node) c.shape.ensures.shape in
     let here = lists.arc_into c.args.net.now.site.shape c.args.spot.node c.loop-i.i 0 (omega (arith, c.loop-i-test.true, ap length same)) in
     record { arc = rw same here.0; moment = c.requires.inside.moment }
+
+pub meet_in-requires-clause-stop : goal.meet_in-requires-clause-stop
+meet_in-requires-clause-stop c =
+    let w = c.args.net.now in
+    let k = c.args.k in
+    let n = c.args.spot.node in
+    let t = c.args.spot.moment in
+    let ps = spots c.loop-i.met.list in
+    let same = c.entering-entering.ensures ∙ ap (λ (x : Expansion). arcs_to x n) c.shape.ensures.shape in
+    let here = lists.arc_into w.site.shape n c.loop-i.i 0 (omega (arith, c.loop-i-test.true, ap length same)) in
+    let met = has_later k c.args.labels.now c.loop-i.labels c.args.met.now c.loop-i.met n t c.loop-i.invariant.grown c.requires.met in
+    let at_node : IsAmong k ps (cond (exit_at w.site n) (Door t) (Pair n t)) = rw c.requires.inside.no_exit met in
+    let a = get_or (arcs_to w.site.shape n) c.loop-i.i 0 in
+    let there : IsAmong k ps (arc_end w.site a t) = subst (λ z. IsAmong k ps (cond (exit_at w.site z) (Door t) (Pair z t))) (sym here.1) at_node in
+    subst (λ (arcs : List ℕ). MatchOption (way_in w.site (get_or arcs c.loop-i.i 0) t) (Unit {0}) (λ y. IsAmong k ps (stop_of w.site y))) (sym same)
+    (in_stops w.site a t (IsAmong k ps) there)
+
+pub loop-i-preserved : goal.loop-i-preserved
+loop-i-preserved c =
+    let w = c.args.net.now in
+    let k = c.args.k in
+    let l = c.loop-i.labels in
+    let m = c.meet_in.new.labels in
+    let x = c.loop-i.met in
+    let y = c.meet_in.new.met in
+    let old = c.loop-i.invariant in
+    let same = c.entering-entering.ensures ∙ ap (λ (v : Expansion). arcs_to v c.args.spot.node) c.shape.ensures.shape in
+    let way : (i : ℕ) → Option PathStep = λ i. way_in w.site (get_or (arcs_to w.site.shape c.args.spot.node) i 0) c.args.spot.moment in
+    let mine : IsWayDone w m k (way c.loop-i.i) =
+    subst (λ (arcs : List ℕ). IsWayDone w m k (way_in w.site (get_or arcs c.loop-i.i 0) c.args.spot.moment)) same c.meet_in.ensures.done in
+    record {
+      flooding = c.meet_in.ensures.flooding;
+      grown = grown_then k c.args.labels.now l m c.args.met.now x y old.grown c.meet_in.ensures.grown;
+      done = λ j q. elim (cases_lt j c.loop-i.i) [
+        | inl before ↦ way_later w k l m x y (way j) c.meet_in.ensures.grown (old.done j before)
+        | inr after ↦ (let last : c.loop-i.i ≡ j = omega (arith, q, after) in subst (λ (i : ℕ). IsWayDone w m k (way i)) last mine)
+      ];
+    }

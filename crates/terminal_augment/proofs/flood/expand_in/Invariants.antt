@@ -6,7 +6,7 @@ use Rattle.terminal_augment.proofs.flood.expand_in.Given as goal
 
 abbrev pub invariant-loop-i : goal.invariant-loop-i
 invariant-loop-i l = record {
-  flooding : IsFlooding l.net.site l.labels l.k l.work;
-  grown : IsGrown l.fn.work l.work;
-  done : (j : ℕ) → j < l.i → IsWayDone l.net l.labels l.work.marks l.k (way_in l.net.site (get_or (arcs_to l.net.site.shape l.fn.spot.node) j 0) l.fn.spot.moment);
+  flooding : IsFlooding l.net l.labels l.k l.met;
+  grown : IsGrown l.k l.fn.labels l.labels l.fn.met l.met;
+  done : (j : ℕ) → j < l.i → IsWayDone l.net l.labels l.k (way_in l.net.site (get_or (arcs_to l.net.site.shape l.fn.spot.node) j 0) l.fn.spot.moment);
 }

@@ -1,45 +1,39 @@
-use Rattle.std.proofs.Common.{◌≡◌, ℕ, ◌-◌, ◌<◌, length, get_or, ap, subst, ◌∙◌, refl, arith}
 use Rattle.residual_net.specs.Site.{arc_count}
-use Rattle.terminal_augment.specs.declared.spot.Spot.{Spot}
-use Rattle.terminal_augment.specs.Frames.{IsExpanded}
-use Rattle.terminal_augment.proofs.FloodLemmas.{doors_later, expanded_more, flooding_begins, flooding_explored, flooding_rests}
+use Rattle.terminal_augment.proofs.ClosedLemmas.{alike_after, over_after}
+use Rattle.terminal_augment.proofs.FloodLemmas.{doors_later, flooding_begins, grown_then}
 use Rattle.terminal_augment.proofs.flood.flood.Goals as goal
 
-pub open_all-requires-clause-flooding : goal.open_all-requires-clause-flooding
-open_all-requires-clause-flooding c =
-    flooding_begins c.args.net.now.site c.args.labels.now c.args.k c.args.work.now c.clear.new.self c.requires.work c.clear.ensures
+pub open_all-requires : goal.open_all-requires
+open_all-requires c = record {
+  flooding = flooding_begins c.args.net.now c.args.labels.now c.args.k c.args.met.now c.clear.new.self c.shape.ensures.net c.requires.settled c.nodes.ensures.table.full
+      c.requires.room c.clear.ensures;
+}
 
-pub returns-then-not-expand-clause-resting : goal.returns-then-not-expand-clause-resting
-returns-then-not-expand-clause-resting c =
-    flooding_rests c.args.net.now.site c.args.labels.now c.args.k c.expand.new.work c.expand.ensures.flooding
-
-pub loop-done-preserved : goal.loop-done-preserved
-loop-done-preserved c =
+pub returns-in-None-clause-flooded : goal.returns-in-None-clause-flooded
+returns-in-None-clause-flooded c =
     let w = c.args.net.now in
+    let k = c.args.k in
     let l = c.args.labels.now in
-    let x = c.loop-done.work in
-    let y = c.expand.new.work in
-    let old = c.loop-done.invariant in
-    let grown = c.expand.ensures.grown in
-    let spot = c.get-spot.result in
-    let is : spot ≡ get_or x.seen.list (length x.seen.list - c.loop-done.done - 1) spot =
-    c.get-spot.ensures ∙ ap (λ (n : ℕ). get_or x.seen.list (n - c.loop-done.done - 1) spot) c.len-in-loop-done.ensures in
-    let some : c.loop-done.done < length x.seen.list = omega (arith, c.loop-done-test.true, c.len.ensures) in
+    let m = c.open_all.new.labels in
+    let v = c.expand_all.new.labels in
+    let x = c.clear.new.self in
+    let y = c.open_all.new.met in
+    let z = c.expand_all.new.met in
+    over_after w l v k x z c.shape.ensures.net c.requires.settled (grown_then k l m v x y z c.open_all.ensures.grown c.expand_all.ensures.grown) c.expand_all.ensures.flooding
+    c.in-None.ensures.found (doors_later w k (arc_count w.site) m v y z c.expand_all.ensures.grown c.open_all.ensures.doors)
+
+pub returns-in-Some-clause-flooded : goal.returns-in-Some-clause-flooded
+returns-in-Some-clause-flooded c =
+    let k = c.args.k in
+    let l = c.args.labels.now in
+    let m = c.open_all.new.labels in
+    let v = c.expand_all.new.labels in
+    let x = c.clear.new.self in
+    let y = c.open_all.new.met in
+    let z = c.expand_all.new.met in
     record {
-      flooding = c.expand.ensures.flooding;
-      doors = doors_later w l c.args.k (arc_count w.site) x y grown old.doors;
-      fits = omega (arith, grown.more, some);
-      expanded = expanded_more w l c.args.k c.loop-done.done x y c.get-spot.result grown some old.expanded
-          (subst (λ (z : Spot). IsExpanded w l y.marks c.args.k z.node z.moment) is (c.if-not-expand.ensures.expanded refl));
+      alike = alike_after k l v c.unset_from.new.self x z (grown_then k l m v x y z c.open_all.ensures.grown c.expand_all.ensures.grown) c.requires.settled.unset
+          c.expand_all.ensures.flooding.full c.unset_from.ensures.unset;
+      met = c.expand_all.ensures.flooding.met;
+      found = c.in-Some.ensures.found;
     }
-
-pub returns-clause-resting : goal.returns-clause-resting
-returns-clause-resting c =
-    flooding_rests c.args.net.now.site c.args.labels.now c.args.k c.loop-done.work c.loop-done.invariant.flooding
-
-pub returns-clause-explored : goal.returns-clause-explored
-returns-clause-explored c q =
-    let x = c.loop-done.work in
-    let old = c.loop-done.invariant in
-    flooding_explored c.args.net.now c.args.labels.now c.args.k (arc_count c.args.net.now.site) c.loop-done.done x old.flooding old.doors old.expanded
-    (omega (arith, c.loop-done-test.false, c.len.ensures))

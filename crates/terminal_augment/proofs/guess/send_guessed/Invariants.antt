@@ -1,9 +1,15 @@
-use Rattle.terminal_augment.specs.Searching.{IsWork}
+use Rattle.std.proofs.Common.{◌-◌}
+use Rattle.residual_net.specs.Limits.{supply_limit}
+use Rattle.residual_net.specs.Network.{arrived_by}
+use Rattle.terminal_augment.specs.Guesses.{IsMarkedOn}
 use Rattle.terminal_augment.specs.Settled.{IsCountedOn}
 use Rattle.terminal_augment.proofs.guess.send_guessed.Given as goal
 
-abbrev pub invariant-loop : goal.invariant-loop
-invariant-loop g l = record {
-  work : IsWork l.net.site.shape.nodes l.net.site.shape.horizon l.work;
+abbrev pub invariant-loop-finder : goal.invariant-loop-finder
+invariant-loop-finder g l = record {
+  marks : IsMarkedOn l.fn.marks l.marks;
   counted : IsCountedOn l.fn.net l.net l.k l.pushes l.fn.steps l.steps;
 }
+
+abbrev pub decreases-loop-finder : goal.decreases-loop-finder
+decreases-loop-finder g l = supply_limit - arrived_by l.net l.k
