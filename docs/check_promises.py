@@ -8,12 +8,19 @@
 - EDITS.md must have just the edits of each crate's must-fail/, and each name there must be in that crate, or be a definition.
 - In every document each link must lead to a file, and to a heading of it.
 - The tables of codes and of statuses in FORMATS.md must have just the numbers of `Code` and of `Status`, and these have each number once.
+- The tables of names in DECISIONS.md must have just the names that two modules of definitions define, and the types of two crates.
+
+And it checks house rules that can be told from the text alone:
+
+- A crate of `crates.txt` must use each crate that its line lists.
+- A source file must have at most 400 lines, and a function's body at most 50, but for those that stand here as too long.
 
     python3 docs/check_promises.py [--edits]
 
 It prints what is missing, and its status is 1 where something is. With --edits it prints for each promise of PROVED.md where it stands, and the
 edits that are refused by that; a law has no body that an edit could turn.
 """
+import collections
 import pathlib
 import re
 import sys
@@ -21,6 +28,9 @@ import sys
 TOP = pathlib.Path(__file__).resolve().parent.parent
 LINK = re.compile(r"\[[^\[\]]*\]\(([^)\s]+)\)")
 NAME = re.compile(r"`([A-Za-z_][\w:.]*)`")
+FILE_LIMIT, BODY_LIMIT = 400, 50
+LONG_FILES = {"building_table/src/builder.rt", "residual_net/src/net.rt", "worked_runs/src/sessions.rt"}
+LONG_BODIES = {"building_table/src/commands.rt: edit_of"}
 DEFINITION = r"(?m)^\s*(?:(?:abbrev|unfoldable|record|data|pub(?:\(crate\))?|struct|enum|trait|const|fn|type|ghost)\s+)+{}\b"
 
 
@@ -195,6 +205,82 @@ def wrong_numbers(title, specification, function, document):
     yield from (f"{document.name}: {function} has no {number}, which a table headed {title} has" for number in sorted(set(rows) - set(cases)))
 
 
+def sources(part):
+    """The files of a part of all crates, as their crate, their name below `crates/` and their text."""
+    for path in sorted((TOP / "crates").glob(f"*/{part}")):
+        name = path.relative_to(TOP / "crates")
+        yield name.parts[0], name.as_posix(), path.read_text()
+
+
+def names_of_two():
+    """The names that two modules of definitions define, and the types of two crates without those of tests, each with its crates."""
+    modules, types = collections.defaultdict(set), collections.defaultdict(set)
+    for crate, file, text in sources("specs/*.antt"):
+        for name in re.findall(r"(?m)^(?:(?:abbrev|unfoldable) )?pub (?:(?:record|data) )?(?!use |mod )(\S+)", text):
+            modules[name].add((crate, file))
+    for crate, _, text in sources("src/*.rt"):
+        if not crate.startswith("worked_"):
+            for name in re.findall(r"(?m)^(?:pub(?:\(crate\))? )?(?:struct|enum|trait|type) (\w+)", text):
+                types[name].add((crate, crate))
+    return {
+        name: {crate for crate, _ in places}
+        for names in (types, modules)
+        for name, places in names.items()
+        if len(places) > 1
+    }
+
+
+def wrong_names(document):
+    """What differs between these names and the tables of a document that are headed by names and crates."""
+    listed = {}
+    for rows in re.findall(r"(?m)^\| Name \| Crates \|.*\n\|[-| :]+\|\n((?:\|.*\n)*)", document.read_text()):
+        for row in rows.splitlines():
+            names, crates = row.split("|")[1:3]
+            listed.update((name, set(crates.replace(",", " ").split())) for name in re.findall(r"`([^`]+)`", names))
+    found = names_of_two()
+    for name in sorted(set(found) | set(listed)):
+        if found.get(name) != listed.get(name):
+            stands = f"stands in {', '.join(sorted(found[name]))}" if name in found else "has one module"
+            yield f"{document.name}: {name} {stands}, and the table of names says otherwise"
+
+
+def unused_crates():
+    """Crates that a line of `crates.txt` lists and no file of its crate names."""
+    for line in (TOP / "crates.txt").read_text().splitlines():
+        crate, _, below = line.split("#")[0].partition(":")
+        folder = TOP / "crates" / crate.strip()
+        texts = [path.read_text() for path in folder.rglob("*") if path.suffix in (".rt", ".antt") and "out" not in path.parts] if below else []
+        for used in below.split():
+            if not any(re.search(rf"\bRattle\.{used}\.|\b{used}::|\buse {used}\b", text) for text in texts):
+                yield f"crates.txt: {crate.strip()} doesn't use {used}"
+
+
+def bodies(text):
+    """The functions of a source file that have a body, each with the number of its lines."""
+    lines = text.split("\n")
+    heads = {place: head for place, line in enumerate(lines) if (head := re.match(r"( *)(?:pub(?:\(crate\))? )?(?:const )?fn (\w+)", line))}
+    for start, head in heads.items():
+        for place in range(start, len(lines)):
+            line = lines[place]
+            if line == head[1] + "{" or line.endswith(" {") and (place == start or line.startswith(head[1] + ")")):
+                yield head[2], lines.index(head[1] + "}", place) - place - 1
+                break
+            if place > start and place in heads:
+                break
+
+
+def too_long():
+    """Source files and bodies that are longer than the house allows, and what stands as too long and isn't."""
+    found = set()
+    for _, file, text in sources("src/*.rt"):
+        if len(text.splitlines()) > FILE_LIMIT:
+            found.add(file)
+        found.update(f"{file}: {name}" for name, length in bodies(text) if length > BODY_LIMIT)
+    allowed = LONG_FILES | LONG_BODIES
+    yield from (f"crates/{name} is too long" for name in sorted(found - allowed))
+    yield from (f"crates/{name} isn't too long any more: take it off the list" for name in sorted(allowed - found))
+
+
 def main():
     if sys.argv[1:] == ["--edits"]:
         for promise, names, shown in promises_with_edits(TOP / "docs/PROVED.md", TOP / "docs/EDITS.md"):
@@ -208,6 +294,9 @@ def main():
     missing += wrong_edits(TOP / "docs/EDITS.md")
     missing += wrong_numbers("Code", "evac_law/specs/Codes.antt", "code_number", TOP / "docs/FORMATS.md")
     missing += wrong_numbers("Status", "talk/specs/Statuses.antt", "status_number", TOP / "docs/FORMATS.md")
+    missing += wrong_names(TOP / "docs/DECISIONS.md")
+    missing += unused_crates()
+    missing += too_long()
     print("\n".join(missing) if missing else "all that is named is there")
     return 1 if missing else 0
 

@@ -25,7 +25,7 @@ use Rattle.evac_law.proofs.Thinned.{all_out_is_clearable}
 use Rattle.evac_law.proofs.WeakDuality.{out_le_value}
 use Rattle.building_laws.specs.Delays.{DelaysBy, IsDisturbed}
 use Rattle.building_laws.specs.Duality.{IsBestAt}
-use Rattle.building_laws.specs.Rooms.{HasRoom, HasSteadyRates}
+use Rattle.building_laws.specs.Rooms.{HasRoomForEntries, HasSteadyRates}
 use Rattle.building_laws.proofs.Counts.{added, alike, count, hits_and_misses, run_count, termwise}
 use Rattle.building_laws.proofs.Duality.{best_of, cut_of, staying}
 use Rattle.building_laws.proofs.Gaps.{arc_shrinks, arc_worth, few_fewer, gap, gap_closes, gap_is, node_shrinks, without_moments}
@@ -57,7 +57,7 @@ module _ (m m' : Model) (a w : ℕ) (d : IsDisturbed m m' a w) where
   unfolding people
   disturbed_people = ap₂ (λ ns es. sum_by (λ n. n.start) ns + sum_by (λ e. e.people) es) d.nodes d.entrants
 
-  pub disturbed_room : HasRoom m → HasRoom m'
+  pub disturbed_room : HasRoomForEntries m → HasRoomForEntries m'
   disturbed_room room n i =
       omega (
         arith,
@@ -67,7 +67,7 @@ module _ (m m' : Model) (a w : ℕ) (d : IsDisturbed m m' a w) where
         capacity_same n,
       )
 
-  module _ (steady : HasSteadyRates m) (room : HasRoom m) (x : Cut) (k : ℕ) (l : k + w ≤ m.horizon) where
+  module _ (steady : HasSteadyRates m) (room : HasRoomForEntries m) (x : Cut) (k : ℕ) (l : k + w ≤ m.horizon) where
     abbrev f : ℕ → ℕ
     f = moments_outside x (k + w)
 
@@ -167,7 +167,7 @@ module _ (m m' : Model) (a w : ℕ) (d : IsDisturbed m m' a w) where
 -- ---- plans
 
 -- where each plan of the first model is bounded by each cut of the second w moments later
-pub delayed : (m m' : Model) (w : ℕ) → IsValid m' → m.horizon ≡ m'.horizon → people m ≡ people m' → HasRoom m'
+pub delayed : (m m' : Model) (w : ℕ) → IsValid m' → m.horizon ≡ m'.horizon → people m ≡ people m' → HasRoomForEntries m'
     → ((p : List Move) (x : Cut) (k : ℕ) → k + w ≤ m.horizon → IsFeasible m p k → out_by m p k ≤ cut_value m' x (k + w)) → DelaysBy m m' w
 delayed m m' w valid' horizon alike room' bound = record {
   later = later;
@@ -183,7 +183,7 @@ delayed m m' w valid' horizon alike room' bound = record {
         let x = cut_of m' q (k + w) valid' (omega (arith, l, horizon)) best in
         omega (arith, bound p x.0 k l feasible, x.1)
 
-pub one_arc_delays_little : (m m' : Model) (a w : ℕ) → IsValid m → IsValid m' → IsDisturbed m m' a w → HasSteadyRates m → HasRoom m → DelaysBy m m' w
+pub one_arc_delays_little : (m m' : Model) (a w : ℕ) → IsValid m → IsValid m' → IsDisturbed m m' a w → HasSteadyRates m → HasRoomForEntries m → DelaysBy m m' w
 one_arc_delays_little m m' a w valid valid' d steady room =
     delayed m m' w valid' d.horizon (disturbed_people m m' a w d) (disturbed_room m m' a w d room)
     (λ p x k l feasible. omega (
@@ -248,7 +248,7 @@ module _ (m : Model) (a from until : ℕ) (i : a < length m.arcs) where
   }
 
 pub window_delays_by_its_length : (m m' : Model) (a from until : ℕ) (e : Edit) → IsValid m → a < length m.arcs → applied m (Window a from until) ≡ Ok (m', e)
-    → HasSteadyRates m → HasRoom m → DelaysBy m m' (until - from)
+    → HasSteadyRates m → HasRoomForEntries m → DelaysBy m m' (until - from)
 window_delays_by_its_length m m' a from until e valid i h steady room =
     let both = unless-Ok (checks m (Window a from until)) (edited m (Window a from until), inverse_of m (Window a from until)) (m', e) h in
     let same : edited m (Window a from until) ≡ m' = ap (λ t. t.0) both.1 in

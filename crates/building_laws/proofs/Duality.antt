@@ -14,8 +14,8 @@ use Rattle.evac_law.proofs.SumLemmas.{sum_moments-le}
 use Rattle.evac_law.proofs.Tight.{tight_is_equal}
 use Rattle.evac_law.proofs.ValidLemmas.{arc_is, head_in}
 use Rattle.evac_law.proofs.WeakDuality.{out_le_value, within}
-use Rattle.building_laws.specs.Duality.{IsBestAt, IsShown}
-use Rattle.building_laws.specs.Rooms.{HasRoom}
+use Rattle.building_laws.specs.Duality.{IsBestAt, HasEqualCut}
+use Rattle.building_laws.specs.Rooms.{HasRoomForEntries}
 use Rattle.building_laws.proofs.Growing.{Closed, Grown, grow_up}
 use Rattle.building_laws.proofs.Tables.{IsFlow, before, comes, comes_least, flow_of_plan, goes_none, gone_moved, out_is, plan, plan_is_feasible, stays}
 
@@ -189,7 +189,7 @@ module _ (m : Model) (q : List Move) (z k : ℕ) (by_z : k ≤ z) (valid : IsVal
       arcs_empty = none;
     }
 
-    shown : k ≤ m.horizon → IsShown m q k
+    shown : k ≤ m.horizon → HasEqualCut m q k
     shown l = (
       cut,
       record { no_exits = λ n t e. (grown.inside n t (inside n t e).0).1; in_horizon = λ n t e. omega (arith, l, (inside n t e).1) },
@@ -200,11 +200,11 @@ module _ (m : Model) (q : List Move) (z k : ℕ) (by_z : k ≤ z) (valid : IsVal
 
 -- a plan that is feasible up to z, and that cuts show to be best at each moment below k
 abbrev Best : Model → ℕ → ℕ → List Move → Type 0
-Best m z k p = IsFeasible m p z × ((i : ℕ) → i < k → IsShown m p i)
+Best m z k p = IsFeasible m p z × ((i : ℕ) → i < k → HasEqualCut m p i)
 
 module _ (m : Model) (z k : ℕ) (by_z : k ≤ z) (valid : IsValid m) (l : z ≤ m.horizon) where
   -- where another plan has as many out, it is shown to be best too
-  shown_too : (p q : List Move) (i : ℕ) → i ≤ k → IsFeasible m q z → out_by m p i ≤ out_by m q i → IsShown m p i → IsShown m q i
+  shown_too : (p q : List Move) (i : ℕ) → i ≤ k → IsFeasible m q z → out_by m p i ≤ out_by m q i → HasEqualCut m p i → HasEqualCut m q i
   shown_too p q i s feasible more is =
       (is.0, is.1, omega (arith, more, is.2, out_le_value m is.0 q i valid (lawful_down m q i z (omega (arith, s, by_z)) feasible)))
 
@@ -216,7 +216,7 @@ module _ (m : Model) (z k : ℕ) (by_z : k ≤ z) (valid : IsValid m) (l : z ≤
         best.0,
         λ i s. elim (cases_lt i k) [
           | inl less ↦ best.1 i less
-          | inr last ↦ let same : k ≡ i = omega (arith, s, last) in subst (IsShown m q) same (shown m q z k by_z valid best.0 done.0 done.1 done.2 (omega (arith, by_z, l)))
+          | inr last ↦ let same : k ≡ i = omega (arith, s, last) in subst (HasEqualCut m q) same (shown m q z k by_z valid best.0 done.0 done.1 done.2 (omega (arith, by_z, l)))
         ],
       ),
     )
@@ -239,7 +239,7 @@ module _ (m : Model) (z k : ℕ) (by_z : k ≤ z) (valid : IsValid m) (l : z ≤
         best.0,
         λ i s. elim (cases_lt i k) [
           | inl less ↦ best.1 i less
-          | inr last ↦ let same : k ≡ i = omega (arith, s, last) in subst (IsShown m q) same (shown m q z k by_z valid best.0 done.0 done.1 done.2 (omega (arith, by_z, l)))
+          | inr last ↦ let same : k ≡ i = omega (arith, s, last) in subst (HasEqualCut m q) same (shown m q z k by_z valid best.0 done.0 done.1 done.2 (omega (arith, by_z, l)))
         ],
       ),
     )
@@ -263,7 +263,7 @@ module _ (m : Model) (z : ℕ) (valid : IsValid m) (l : z ≤ m.horizon) (q : Li
       raise m z k (omega (arith, s)) valid l (people m) is.0 is.1 (omega arith)
 
 pub best_at_every_moment : (m : Model) (q : List Move) (z : ℕ) → IsValid m → z ≤ m.horizon → IsFeasible m q z
-    → (p : List Move) × IsFeasible m p z × ((k : ℕ) → k ≤ z → IsShown m p k)
+    → (p : List Move) × IsFeasible m p z × ((k : ℕ) → k ≤ z → HasEqualCut m p k)
 best_at_every_moment m q z valid l feasible =
     let is = up_to m z valid l q feasible (z + 1) (omega arith) in
     (is.0, is.1.0, λ k s. is.1.1 k (omega (arith, s)))
@@ -300,7 +300,7 @@ most_is_reached m q x valid feasible cut least =
 
 -- ---- nobody moves
 
-pub staying : (m : Model) (k : ℕ) → HasRoom m → k ≤ m.horizon → IsFeasible m [] k
+pub staying : (m : Model) (k : ℕ) → HasRoomForEntries m → k ≤ m.horizon → IsFeasible m [] k
 unfolding moved held came left
 staying m k room l = record {
   arcs = All-nil (λ v. v.arc < length m.arcs);
@@ -312,7 +312,7 @@ staying m k room l = record {
 }
 
 -- where staying is feasible, everybody can get out or a cut is worth fewer
-pub cleared_or_short : (m : Model) → IsValid m → HasRoom m → IsClearable m ⊎ ((x : Cut) × (cut_value m x m.horizon < people m))
+pub cleared_or_short : (m : Model) → IsValid m → HasRoomForEntries m → IsClearable m ⊎ ((x : Cut) × (cut_value m x m.horizon < people m))
 cleared_or_short m valid room =
     let is = best_at_every_moment m [] m.horizon valid (omega arith) (staying m m.horizon room (omega arith)) in
     let cut = is.2 m.horizon (omega arith) in

@@ -10,7 +10,7 @@ use Rattle.evac_law.specs.Windows.{is_closed_at}
 use Rattle.evac_law.proofs.Entries.{once}
 use Rattle.evac_law.proofs.SumLemmas.{sum_by-same}
 use Rattle.evac_law.proofs.ValidLemmas.{node_is}
-use Rattle.building_laws.specs.Rooms.{HasRoom, HasSteadyRates}
+use Rattle.building_laws.specs.Rooms.{HasRoomForEntries, HasSteadyRates}
 
 none_entering : (es : List Entrant) (n t : ℕ) → es ≡ [] → entering es n t ≡ 0
 unfolding entering
@@ -19,7 +19,7 @@ none_entering es n t e = ap (λ l. entering l n t) e
 pub start_alone : (m : Model) (n t : ℕ) → m.entrants ≡ [] → entry m n t ≡ cond (eqb t 0) (start m n) 0
 start_alone m n t e = ap (λ w. cond (eqb t 0) (start m n) w) (none_entering m.entrants n t e)
 
-pub nobody_later_has_room : (m : Model) → IsValid m → m.entrants ≡ [] → HasRoom m
+pub nobody_later_has_room : (m : Model) → IsValid m → m.entrants ≡ [] → HasRoomForEntries m
 nobody_later_has_room m valid e n l =
     omega (
       arith,

@@ -21,7 +21,7 @@ use Rattle.evac_law.specs.Windows.{is_closed_at}
 use Rattle.evac_law.proofs.EditLemmas.{at-set, unless-Ok, valid_edited}
 use Rattle.evac_law.proofs.SumLemmas.{sum_by-same, sum_places}
 use Rattle.evac_law.proofs.WeakDuality.{out_le_value}
-use Rattle.building_laws.specs.Rooms.{AreAlike, DifferInRoom, HasRoom, HasSteadyRates}
+use Rattle.building_laws.specs.Rooms.{HaveSameCurve, DifferInRoom, HasRoomForEntries, HasSteadyRates}
 use Rattle.building_laws.proofs.Duality.{cleared_or_short, cut_of}
 use Rattle.building_laws.proofs.Values.{value_le}
 use Rattle.building_laws.proofs.WaitingCut.{from_moments, moments_outside, waiting_cut}
@@ -96,13 +96,13 @@ other_way m m' d = record {
 }
 
 -- no plan has more out with other capacities than a cut is worth
-bound : (m m' : Model) → IsValid m' → DifferInRoom m m' → HasSteadyRates m → HasRoom m → (q : List Move) (x : Cut) (k : ℕ) → k ≤ m.horizon
+bound : (m m' : Model) → IsValid m' → DifferInRoom m m' → HasSteadyRates m → HasRoomForEntries m → (q : List Move) (x : Cut) (k : ℕ) → k ≤ m.horizon
     → IsFeasible m' q k → out_by m' q k ≤ cut_value m x k
 bound m m' valid' d steady room q x k l feasible =
     let f = moments_outside x k in
     omega (arith, out_le_value m' (from_moments f) q k valid' feasible, waiting_same m m' d f k, waiting_cut m x k l steady room)
 
-clears : (m m' : Model) → IsValid m → IsValid m' → DifferInRoom m' m → HasSteadyRates m' → HasRoom m' → IsClearable m → IsClearable m'
+clears : (m m' : Model) → IsValid m → IsValid m' → DifferInRoom m' m → HasSteadyRates m' → HasRoomForEntries m' → IsClearable m → IsClearable m'
 clears m m' valid valid' d steady' room' plan = elim (cleared_or_short m' valid' room') [
   | inl cleared ↦ cleared
   | inr short ↦
@@ -116,7 +116,7 @@ clears m m' valid valid' d steady' room' plan = elim (cleared_or_short m' valid'
       ))
 ]
 
-pub rooms_keep_most : (m m' : Model) → IsValid m → IsValid m' → DifferInRoom m m' → HasSteadyRates m → HasRoom m → HasRoom m' → AreAlike m m'
+pub rooms_keep_most : (m m' : Model) → IsValid m → IsValid m' → DifferInRoom m m' → HasSteadyRates m → HasRoomForEntries m → HasRoomForEntries m' → HaveSameCurve m m'
 rooms_keep_most m m' valid valid' d steady room room' =
     let back = other_way m m' d in
     let steady' = steady_too m m' d steady in record {
@@ -147,7 +147,7 @@ room_differs m n c = record {
 }
 
 pub room_edits_keep_most : (m m' : Model) (n c : ℕ) (e : Edit) → IsValid m → n < length m.nodes → applied m (Room n c) ≡ Ok (m', e)
-    → HasSteadyRates m → HasRoom m → HasRoom m' → AreAlike m m'
+    → HasSteadyRates m → HasRoomForEntries m → HasRoomForEntries m' → HaveSameCurve m m'
 room_edits_keep_most m m' n c e valid i h steady room room' =
     let both = unless-Ok (checks m (Room n c)) (edited m (Room n c), inverse_of m (Room n c)) (m', e) h in
     let same : edited m (Room n c) ≡ m' = ap (λ t. t.0) both.1 in

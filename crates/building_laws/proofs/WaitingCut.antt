@@ -10,7 +10,7 @@ use Rattle.evac_law.specs.Cuts.{Cut, cut_value, leaves_cut}
 use Rattle.evac_law.specs.Sums.{below, moments_to, places}
 use Rattle.evac_law.proofs.SumLemmas.{sum_below-more, sum_below-suc, sum_by-add, sum_by-exchange, sum_by-nothing, sum_by-same, sum_by-times, sum_moments-le}
 use Rattle.evac_law.proofs.WeakDuality.{value_is}
-use Rattle.building_laws.specs.Rooms.{HasRoom, HasSteadyRates}
+use Rattle.building_laws.specs.Rooms.{HasRoomForEntries, HasSteadyRates}
 use Rattle.building_laws.proofs.Counts.{added, alike, arrivals_count, count, hits_and_misses, in_time_count, misses, run_count, termwise}
 
 -- the number of moments up to k at which a node isn't in a cut
@@ -190,7 +190,7 @@ module _ (m : Model) (k : ℕ) where
         sum_by-exchange (λ t a. cond (leaves_cut m y k t a) (rate m a t) 0) (moments_to k) (places m.arcs),
       )
 
-module _ (m : Model) (x : Cut) (k : ℕ) (l : k ≤ m.horizon) (steady : HasSteadyRates m) (room : HasRoom m) where
+module _ (m : Model) (x : Cut) (k : ℕ) (l : k ≤ m.horizon) (steady : HasSteadyRates m) (room : HasRoomForEntries m) where
   abbrev late : Cut
   late = from_moments (moments_outside x k)
 

@@ -15,7 +15,7 @@ use Rattle.evac_law.proofs.SumLemmas.{sum_by-nothing}
 use Rattle.evac_law.proofs.ValidLemmas.{arc_is, node_is}
 use Rattle.evac_law.proofs.WeakDuality.{out_le_value}
 use Rattle.building_laws.specs.Duality.{IsBestAt}
-use Rattle.building_laws.specs.Rooms.{HasRoom}
+use Rattle.building_laws.specs.Rooms.{HasRoomForEntries}
 use Rattle.building_laws.specs.Ways.{HasWays, KeepsPace, Way, way_time}
 use Rattle.building_laws.proofs.Counts.{alike, found, hits_and_misses, one_more, termwise}
 use Rattle.building_laws.proofs.Duality.{best_of, cut_of, staying}
@@ -47,7 +47,7 @@ module _ (m : Model) (valid : IsValid m) (k : ℕ) (f : ℕ → ℕ) (r : ℕ) w
 -- ---- every cut
 
 module _ (m : Model) (r u : ℕ) (valid : IsValid m) (is : HasWays m r u) where
-  room : HasRoom m
+  room : HasRoomForEntries m
   room = nobody_later_has_room m valid is.nobody_later
 
   no_exit : (n : ℕ) → n < length m.nodes → 0 < start m n → IsFalse (is_exit_at m n)

@@ -11,7 +11,7 @@ use Rattle.evac_law.specs.Edits.{applied}
 use Rattle.evac_law.specs.Plans.{IsFeasible, out_by}
 use Rattle.evac_law.specs.Sums.{moments_to}
 use Rattle.building_laws.specs.Duality.{IsBestAt}
-use Rattle.building_laws.specs.Rooms.{HasRoom, HasSteadyRates}
+use Rattle.building_laws.specs.Rooms.{HasRoomForEntries, HasSteadyRates}
 
 -- a second model is the same, but that the rate of one arc is another at no more than w moments up to the horizon
 pub record IsDisturbed (m m' : Model) (a w : ℕ) : Type 0 where
@@ -34,10 +34,10 @@ pub record DelaysBy (m m' : Model) (w : ℕ) : Type 0 where
 -- where rates are steady and there is room, one arc that is disturbed at no more than w moments delays nobody by more than w
 abbrev pub OneArcDelaysLittle : Type 0
 OneArcDelaysLittle =
-    (m m' : Model) (a w : ℕ) → IsValid m → IsValid m' → IsDisturbed m m' a w → HasSteadyRates m → HasRoom m → DelaysBy m m' w
+    (m m' : Model) (a w : ℕ) → IsValid m → IsValid m' → IsDisturbed m m' a w → HasSteadyRates m → HasRoomForEntries m → DelaysBy m m' w
 
 -- so one window of an arc delays nobody by more than its length
 abbrev pub WindowDelaysByItsLength : Type 0
 WindowDelaysByItsLength =
     (m m' : Model) (a from until : ℕ) (e : Edit) → IsValid m → a < length m.arcs → applied m (Window a from until) ≡ Ok (m', e)
-    → HasSteadyRates m → HasRoom m → DelaysBy m m' (until - from)
+    → HasSteadyRates m → HasRoomForEntries m → DelaysBy m m' (until - from)

@@ -12,14 +12,14 @@ pub record IsBestAt (m : Model) (p : List Move) (k : ℕ) : Type 0 where
   pub most : (q : List Move) → IsFeasible m q k → out_by m q k ≤ out_by m p k
 
 -- a cut is worth at a moment just as many as the plan has out by then
-abbrev pub IsShown : Model → List Move → ℕ → Type 0
-IsShown m p k = (x : Cut) × IsCut m x × (out_by m p k ≡ cut_value m x k)
+abbrev pub HasEqualCut : Model → List Move → ℕ → Type 0
+HasEqualCut m p k = (x : Cut) × IsCut m x × (out_by m p k ≡ cut_value m x k)
 
 -- where some plan is feasible up to a moment, one plan is best by every moment up to then at once, and cuts show it
 abbrev pub BestAtEveryMoment : Type 0
 BestAtEveryMoment =
     (m : Model) (q : List Move) (z : ℕ) → IsValid m → z ≤ m.horizon → IsFeasible m q z
-    → (p : List Move) × IsFeasible m p z × ((k : ℕ) → k ≤ z → IsShown m p k)
+    → (p : List Move) × IsFeasible m p z × ((k : ℕ) → k ≤ z → HasEqualCut m p k)
 
 -- where some plan is feasible up to the horizon, as many people can get out by then as the least cut is worth
 abbrev pub MostIsReached : Type 0

@@ -17,15 +17,15 @@ abbrev pub HasSteadyRates : Model → Type 0
 HasSteadyRates m = (a t : ℕ) → a < length m.arcs → t ≤ m.horizon → rate m a t ≡ rate m a 0
 
 -- each node has room for all who ever come into it from nowhere
-abbrev pub HasRoom : Model → Type 0
-HasRoom m = (n : ℕ) → n < length m.nodes → sum_by (entry m n) (moments_to m.horizon) ≤ capacity m n
+abbrev pub HasRoomForEntries : Model → Type 0
+HasRoomForEntries m = (n : ℕ) → n < length m.nodes → sum_by (entry m n) (moments_to m.horizon) ≤ capacity m n
 
 -- so it is where no arc has a window, and where nobody comes later
 abbrev pub NoWindowsAreSteady : Type 0
 NoWindowsAreSteady = (m : Model) → All (λ a. a.windows.items ≡ []) m.arcs → HasSteadyRates m
 
 abbrev pub NobodyLaterHasRoom : Type 0
-NobodyLaterHasRoom = (m : Model) → IsValid m → m.entrants ≡ [] → HasRoom m
+NobodyLaterHasRoom = (m : Model) → IsValid m → m.entrants ≡ [] → HasRoomForEntries m
 
 -- two models are the same but for the capacities of their nodes
 pub record DifferInRoom (m m' : Model) : Type 0 where
@@ -36,7 +36,7 @@ pub record DifferInRoom (m m' : Model) : Type 0 where
   pub entrants : m.entrants ≡ m'.entrants
 
 -- best plans of both have as many out by each moment, and either building can be cleared where the other can
-pub record AreAlike (m m' : Model) : Type 0 where
+pub record HaveSameCurve (m m' : Model) : Type 0 where
   pub curve : (p q : List Move) (k : ℕ) → k ≤ m.horizon → IsBestAt m p k → IsBestAt m' q k → out_by m p k ≡ out_by m' q k
   pub clears : IsClearable m → IsClearable m'
   pub clears_back : IsClearable m' → IsClearable m
@@ -44,10 +44,10 @@ pub record AreAlike (m m' : Model) : Type 0 where
 -- where rates are steady and there is room, capacities change neither how many can be out by a moment nor whether everybody can get out
 abbrev pub RoomsKeepMost : Type 0
 RoomsKeepMost =
-    (m m' : Model) → IsValid m → IsValid m' → DifferInRoom m m' → HasSteadyRates m → HasRoom m → HasRoom m' → AreAlike m m'
+    (m m' : Model) → IsValid m → IsValid m' → DifferInRoom m m' → HasSteadyRates m → HasRoomForEntries m → HasRoomForEntries m' → HaveSameCurve m m'
 
 -- so an edit of a capacity changes neither, where there is room before and after it
 abbrev pub RoomEditsKeepMost : Type 0
 RoomEditsKeepMost =
     (m m' : Model) (n c : ℕ) (e : Edit) → IsValid m → n < length m.nodes → applied m (Room n c) ≡ Ok (m', e)
-    → HasSteadyRates m → HasRoom m → HasRoom m' → AreAlike m m'
+    → HasSteadyRates m → HasRoomForEntries m → HasRoomForEntries m' → HaveSameCurve m m'

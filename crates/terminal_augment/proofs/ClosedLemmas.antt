@@ -15,7 +15,7 @@ use Rattle.residual_net.specs.declared.place.Place.{Place}
 use Rattle.residual_net.specs.declared.place.Place.TheVariants.{Arc, Hold, Supply}
 use Rattle.residual_net.proofs.Walks.{start_open, stop_open}
 use Rattle.terminal_augment.specs.declared.spot.Met.{Met}
-use Rattle.terminal_augment.specs.Floods.{AreAlike, AreDoorsDone, AreExpanded, IsDone, IsExpanded, IsFlooding, IsGrown, IsOver}
+use Rattle.terminal_augment.specs.Floods.{HaveSameLabels, AreDoorsDone, AreExpanded, IsDone, IsExpanded, IsFlooding, IsGrown, IsFloodOver}
 use Rattle.terminal_augment.specs.Piles.{Pile}
 use Rattle.terminal_augment.specs.Settled.{IsLabelled, IsSettledBelow, IsUnsetFrom}
 use Rattle.terminal_augment.proofs.SpotLemmas.{all_has}
@@ -96,7 +96,7 @@ now_closed w m k net closed expanded doors y place room inside = by (stop_of w.s
 
 -- a flood that came to nobody is over
 pub over_after : (w : Network) (l m : LabelTable) (k : ℕ) (x y : Pile Met) → IsNet w → IsSettledBelow w l k → IsGrown k l m x y → IsFlooding w m k y
-    → AreExpanded w m k (length y.list) y.list → AreDoorsDone w m k (arc_count w.site) → IsOver w l m k
+    → AreExpanded w m k (length y.list) y.list → AreDoorsDone w m k (arc_count w.site) → IsFloodOver w l m k
 over_after w l m k x y net settled g flooding all doors = record {
   labels = labelled_after k l m x y g settled.unset;
   closed = λ i q. elim (cases_lt i k) [
@@ -118,7 +118,7 @@ over_after w l m k x y net settled g flooding all doors = record {
 
 -- the labels of a flood taken back are those before it
 pub alike_after : (k : ℕ) (l m v : LabelTable) (x y : Pile Met) → IsGrown k l m x y → IsUnsetFrom l k → length m.list ≡ m.nodes * (m.horizon + 1)
-    → v ≡ unset_from m k → AreAlike l v
+    → v ≡ unset_from m k → HaveSameLabels l v
 alike_after k l m v x y g free full same = record {
   nodes = ap (λ (z : LabelTable). z.nodes) same ∙ g.nodes;
   horizon = ap (λ (z : LabelTable). z.horizon) same ∙ g.horizon;
@@ -143,7 +143,7 @@ alike_after k l m v x y g free full same = record {
     ]
 
 -- labels that are alike serve a net alike
-pub settled_alike : (w : Network) (l m : LabelTable) (k : ℕ) → IsNet w → AreAlike l m → IsSettledBelow w l k → IsSettledBelow w m k
+pub settled_alike : (w : Network) (l m : LabelTable) (k : ℕ) → IsNet w → HaveSameLabels l m → IsSettledBelow w l k → IsSettledBelow w m k
 settled_alike w l m k net alike old = record {
   within = old.within;
   labels = record { nodes = alike.nodes ∙ old.labels.nodes; horizon = alike.horizon ∙ old.labels.horizon };
@@ -155,7 +155,7 @@ settled_alike w l m k net alike old = record {
       same ∙ old.unset n t (omega (arith, a, alike.nodes)) (omega (arith, b, alike.horizon)) (omega (arith, q, same));
 }
 
-pub labelled_alike : (l m v : LabelTable) (k : ℕ) → AreAlike l m → IsLabelled m v k → IsLabelled l v k
+pub labelled_alike : (l m v : LabelTable) (k : ℕ) → HaveSameLabels l m → IsLabelled m v k → IsLabelled l v k
 labelled_alike l m v k alike after = record {
   nodes = after.nodes ∙ alike.nodes;
   horizon = after.horizon ∙ alike.horizon;
@@ -165,7 +165,7 @@ labelled_alike l m v k alike after = record {
   others = λ n t a b more. after.others n t (omega (arith, a, alike.nodes)) (omega (arith, b, alike.horizon)) (omega (arith, more, alike.labels n t a b));
 }
 
-pub alike_then : (l m v : LabelTable) → AreAlike l m → AreAlike m v → AreAlike l v
+pub alike_then : (l m v : LabelTable) → HaveSameLabels l m → HaveSameLabels m v → HaveSameLabels l v
 alike_then l m v a b = record {
   nodes = b.nodes ∙ a.nodes;
   horizon = b.horizon ∙ a.horizon;

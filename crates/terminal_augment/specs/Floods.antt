@@ -61,23 +61,23 @@ AreDoorsDone w l k n = (a t : ℕ) → a < n → IsPlace w.site (Arc a t) → st
     → IsDone w l k (record { place = Arc a t; back = false })
 
 -- the same labels
-pub record AreAlike (l m : LabelTable) : Type 0 where
+pub record HaveSameLabels (l m : LabelTable) : Type 0 where
   pub nodes : m.nodes ≡ l.nodes
   pub horizon : m.horizon ≡ l.horizon
   pub labels : (n t : ℕ) → n < l.nodes → t ≤ l.horizon → label_at m n t ≡ label_at l n t
 
 -- nobody is left who can be sent to moment k, and the pairs labelled at most k are closed at k
-pub record IsOver (w : Network) (l m : LabelTable) (k : ℕ) : Type 0 where
+pub record IsFloodOver (w : Network) (l m : LabelTable) (k : ℕ) : Type 0 where
   pub labels : IsLabelled l m k
   pub closed : IsClosedBelow w m (k + 1)
 
 -- somebody can be sent by a step to one of the pairs that were met
 pub record IsMeeting (w : Network) (l m : LabelTable) (k : ℕ) (ms : List Met) (y : PathStep) : Type 0 where
-  pub alike : AreAlike l m
+  pub alike : HaveSameLabels l m
   pub met : AreMet w k ms
   pub found : IsFound w k ms y
 
 -- what a flood comes to
 abbrev pub IsFlooded : Network → LabelTable → LabelTable → ℕ → List Met → Option PathStep → Type 0
-IsFlooded w l m k ms None = IsOver w l m k
+IsFlooded w l m k ms None = IsFloodOver w l m k
 IsFlooded w l m k ms (Some y) = IsMeeting w l m k ms y

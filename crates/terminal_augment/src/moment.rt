@@ -2,7 +2,7 @@
 ghost use Rattle.std.specs.Prelude.{◌≡◌, ◌+◌, ◌*◌, ◌≤◌, IfOk, IsFalse, IsTrue};
 ghost use Rattle.evac_law.specs.Building.{IsValid};
 ghost use Rattle.residual_net.specs.OfModel.{site_of};
-ghost use Rattle.terminal_augment.specs.Floods.{AreAlike, IsOver};
+ghost use Rattle.terminal_augment.specs.Floods.{HaveSameLabels, IsFloodOver};
 ghost use Rattle.terminal_augment.specs.Searches.{IsWork};
 ghost use Rattle.terminal_augment.specs.Settled.{IsClosedBelow, IsCountedOn, IsLabelled, IsSearchOf, IsSettledBelow};
 
@@ -23,8 +23,8 @@ use std::sync::ledger::Ledger;
 fn is_over(net: &Net, labels: &mut Labels, met: &mut Pile<Met>, finder: &mut PathFinder, k: u16) -> bool
     requires settled { IsSettledBelow net.now labels.old k }
     requires room { net.now.site.shape.nodes * (net.now.site.shape.horizon + 1) ≤ met.old.room }
-    ensures over { IsTrue result → IsOver net.now labels.old labels.new k }
-    ensures alike { IsFalse result → AreAlike labels.old labels.new }
+    ensures over { IsTrue result → IsFloodOver net.now labels.old labels.new k }
+    ensures alike { IsFalse result → HaveSameLabels labels.old labels.new }
     ensures room { met.new.room ≡ met.old.room }
 {
     finder.waits(net, k) && flood(net, labels, met, k).is_none()

@@ -1,7 +1,7 @@
 use Rattle.std.proofs.Common.{◌-◌}
 use Rattle.residual_net.specs.Limits.{supply_limit}
 use Rattle.residual_net.specs.Network.{arrived_by}
-use Rattle.terminal_augment.specs.Floods.{AreAlike}
+use Rattle.terminal_augment.specs.Floods.{HaveSameLabels}
 use Rattle.terminal_augment.specs.Searches.{IsWork}
 use Rattle.terminal_augment.specs.Settled.{IsCountedOn, IsSettledBelow}
 use Rattle.terminal_augment.proofs.moment.settle_with.Given as goal
@@ -9,7 +9,7 @@ use Rattle.terminal_augment.proofs.moment.settle_with.Given as goal
 abbrev pub invariant-loop-found : goal.invariant-loop-found
 invariant-loop-found g l = record {
   settled : IsSettledBelow l.net l.labels l.k;
-  alike : AreAlike l.fn.labels l.labels;
+  alike : HaveSameLabels l.fn.labels l.labels;
   work : IsWork l.net.site.shape.nodes l.net.site.shape.horizon l.work;
   counted : IsCountedOn l.fn.net l.net l.k l.pushes l.fn.steps l.steps;
 }
