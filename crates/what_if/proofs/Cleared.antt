@@ -12,7 +12,6 @@ use Rattle.evac_law.specs.Edits.{applied}
 use Rattle.evac_law.specs.LabelTable.{LabelTable}
 use Rattle.evac_law.specs.Plans.{IsFeasible, out_by}
 use Rattle.evac_law.proofs.Optimal.{certified_is_best, out_le_out}
-use Rattle.evac_law.proofs.ShapeLemmas.{applied_keeps_shape}
 use Rattle.line_io.specs.Line.{Line, lines_of}
 use Rattle.model_text.specs.declared.named_edit.NamedEdit.TheVariants.{ShutExit}
 use Rattle.model_text.specs.Readings.{Described, model_of}
@@ -21,7 +20,6 @@ use Rattle.building_table.specs.declared.building.Building.{Building}
 use Rattle.building_table.specs.Built.{IsBuilding}
 use Rattle.building_table.specs.EditNames.{edit_named}
 use Rattle.building_table.specs.Names.{NameTable, NamesFit, names_of}
-use Rattle.building_table.proofs.FitLemmas.{names_kept}
 use Rattle.edit_session.specs.declared.faults.BeginFault.{BeginFault}
 use Rattle.edit_session.specs.declared.faults.BeginFault.TheVariants as begins
 use Rattle.edit_session.specs.declared.faults.EditRefusal.{EditRefusal}
@@ -88,15 +86,6 @@ pub faulted : (names : NameTable) (exit : NodeName) (v v' : SessionView) (e : Ed
 faulted names exit v v' e refusal fault steps named is ends =
     let refused = subst (λ (x : EditRefusal). EditEnds v e (Err x) v' steps) is ends in
     (e, sym named, refused.0)
-
--- the names of a building fit it after an edit too
-pub names-after : (names : NameTable) (v v' : SessionView) (e : Edit) (result : Result Work EditRefusal) (steps : ℕ) → NamesFit names v.state.model
-    → EditEnds v e result v' steps → NamesFit names v'.state.model
-names-after names v v' e (Ok work) steps fit ends =
-    let edit = ends.0 in
-    subst (NamesFit names) (sym edit.goes_on.gone) (names_kept names v.state.model edit.edited (applied_keeps_shape v.state.model edit.edited e edit.inverse edit.accepted) fit)
-names-after names v v' e (Err (refusals.Fault fault)) steps fit ends = subst (λ (x : SessionView). NamesFit names x.state.model) (sym ends.1) fit
-names-after names v v' e (Err (refusals.NotCleared all most)) steps fit ends = subst (λ (x : SessionState). NamesFit names x.model) (sym ends.1) fit
 
 -- ---- what a session begins with
 

@@ -1,20 +1,59 @@
-//! The block of a plan, checked by whoever wrote it.
-ghost use Rattle.std.specs.Prelude.{◌≡◌, [], IfOk, OnOk};
-ghost use Rattle.std.specs.Io.KnownBytes.{Appends};
+//! The block of a plan, written into memory, read back and checked.
+ghost use Rattle.std.specs.Prelude.{◌≡◌, ◌<◌, ◌≤◌, length, Some, [], IfOk, OnOk};
+ghost use Rattle.std.specs.Io.KnownBytes.{Appends, WriteAppends};
+ghost use Rattle.line_io.specs.Causes.{HasCause, in_64_bits};
 ghost use Rattle.building_table.specs.Names.{NamesFit};
 ghost use Rattle.certificate_text.specs.Block.{IsBlockOf};
 ghost use Rattle.plan_checker.specs.Verdicts.{IsRight};
 ghost use Rattle.session_text.specs.StateTexts.{block_text};
 
-use crate::limits::BLOCK_LIMIT;
 use block_reader::{BlockFault, read_block};
 use building_table::Names;
 use certificate_text::Block;
 use edit_session::Session;
-use line_io::{CleanSource, Lines, MemSink, Out, Sink, WriteFault};
+use line_io::{CleanSource, Failed, Lines, Out, Sink, WriteFault};
 use plan_checker::{Verdict, check};
 use session_text::write_block;
 use std::alloc::{AllocError, Global};
+
+// A sink that keeps what is written, as long as there is memory for it. It fails where there is none.
+#[derive(Drop)]
+struct Text {
+    bytes: Vec<u8>,
+    failures: u64,
+}
+
+impl Text {
+    fn new(alloc: Global) -> Text
+        ensures { result.bytes.items ≡ [] }
+    {
+        Text {
+            bytes: Vec::new(alloc),
+            failures: 0,
+        }
+    }
+}
+
+impl Sink for Text {
+    ghost held = { λ s. Some s.bytes.items };
+
+    ghost faults = { λ s. in_64_bits s.failures };
+
+    fn put(&mut self, piece: &[u8]) -> Result<usize, Failed>
+        requires { 0 < length piece.now }
+        ensures bound { IfOk result (λ n. (0 < n) × (n ≤ length piece.now)) }
+        ensures bytes { WriteAppends (Some self.old.bytes.items) (Some self.new.bytes.items) result piece.now }
+        ensures cause { HasCause (in_64_bits self.old.failures) (in_64_bits self.new.failures) result }
+    {
+        match self.bytes.extend_from_slice(piece) {
+            Ok(()) => Ok(piece.len()),
+            Err(AllocError) => {
+                self.failures = self.failures.saturating_add(1);
+                Err(Failed)
+            }
+        }
+    }
+}
 
 // Brings the block of a session's plan to a sink.
 fn send_block<K: Sink>(out: &mut Out, sink: &mut K, session: &Session) -> Result<(), WriteFault>
@@ -25,14 +64,15 @@ fn send_block<K: Sink>(out: &mut Out, sink: &mut K, session: &Session) -> Result
     out.flush(sink)
 }
 
-// A sink in memory that holds the block.
-fn held_block(alloc: Global, session: &Session) -> Result<MemSink, AllocError>
-    ensures { IfOk result (λ sink. sink.held ≡ block_text 0 session.now.state) }
+// The text of the block.
+fn text_of(alloc: Global, session: &Session) -> Result<Text, AllocError>
+    ensures { IfOk result (λ text. text.bytes.items ≡ block_text 0 session.now.state) }
 {
     let mut out = Out::new(alloc)?;
-    let mut sink = MemSink::new(alloc, BLOCK_LIMIT, BLOCK_LIMIT, &[])?;
-    match send_block(&mut out, &mut sink, session) {
-        Ok(()) => Ok(sink),
+    let mut text = Text::new(alloc);
+    match send_block(&mut out, &mut text, session) {
+        Ok(()) => Ok(text),
+        // the sink fails where there is no memory
         Err(WriteFault) => Err(AllocError),
     }
 }
@@ -68,12 +108,12 @@ fn block_back(
     }
 }
 
-/// What the checker says of the block of a session's plan, once that was written and read back: yes.
+/// What the checker says of the block of a session's plan, once that was written and read back: yes. The block may take tens of megabytes.
 pub fn check_plan(alloc: Global, session: &Session, names: &Names) -> Result<Verdict, AllocError>
     requires { NamesFit names.now session.now.state.model }
     ensures { IfOk result (λ verdict. verdict ≡ Verdict.Yes) }
 {
-    let sink = held_block(alloc, session)?;
-    let block = block_back(alloc, session, names, sink.bytes())?;
+    let text = text_of(alloc, session)?;
+    let block = block_back(alloc, session, names, &text.bytes)?;
     check(alloc, session.model(), &block)
 }

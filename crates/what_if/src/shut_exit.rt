@@ -5,13 +5,11 @@ ghost use Rattle.building_table.specs.Names.{NamesFit};
 ghost use Rattle.what_if.specs.WhatIf.{AnswersOn, AnswersWhatIf, Describes};
 
 use crate::answer::{Answer, WhatIfFault};
-use crate::own_block::check_plan;
 use building_table::{Building, ModelFault, Names, edit_of, read_model};
 use edit_session::{BeginFault, EditRefusal, Session};
 use evac_law::{Model, NodeName, Standing, Steps};
 use line_io::{CleanSource, Lines};
 use model_text::NamedEdit;
-use plan_checker::Verdict;
 use std::alloc::Global;
 use std::marker::Brand;
 use std::sync::ledger::{Blank, Ledger};
@@ -41,8 +39,7 @@ fn shut<L: Ledger>(
     steps: &mut Steps<L>,
 ) -> Result<Answer, WhatIfFault>
     requires { NamesFit names.now session.old.state.model }
-    ensures answer { AnswersOn session.old.state.model names.now exit result }
-    ensures names { NamesFit names.now session.new.state.model }
+    ensures { AnswersOn session.old.state.model names.now exit result }
 {
     // a session has a plan that is certified
     let _ = session.model();
@@ -65,25 +62,6 @@ fn shut<L: Ledger>(
     }
 }
 
-// Does so, and has the plan checked with which the session then stands.
-fn shut_checked<L: Ledger>(
-    alloc: Global,
-    session: &mut Session,
-    names: &Names,
-    exit: NodeName,
-    steps: &mut Steps<L>,
-) -> Result<Answer, WhatIfFault>
-    requires { NamesFit names.now session.old.state.model }
-    ensures { AnswersOn session.old.state.model names.now exit result }
-{
-    let answer = shut(session, names, exit, steps)?;
-    match check_plan(alloc, session, names)? {
-        Verdict::Yes => Ok(answer),
-        // the block of a session's plan is right
-        _ => unreachable!(),
-    }
-}
-
 // Plans a building, and answers what comes of shutting an exit.
 fn answer<L: Ledger>(
     alloc: Global,
@@ -98,7 +76,7 @@ fn answer<L: Ledger>(
 {
     match Session::begin(alloc, model, steps) {
         Ok(mut session) => {
-            let answer = shut_checked(alloc, &mut session, names, exit, steps);
+            let answer = shut(&mut session, names, exit, steps);
             drop(session);
             answer
         }
@@ -107,7 +85,8 @@ fn answer<L: Ledger>(
     }
 }
 
-// Answers with a counter of steps that nobody reads.
+// Answers with a counter of steps that nobody reads: contracts bound the work by it, and it takes no byte. A counter belongs to a ledger, and the
+// type `L` is that of a blank one.
 fn answer_uncounted<L: Ledger>(
     alloc: Global,
     model: Model,
@@ -131,5 +110,6 @@ pub fn what_if(alloc: Global, text: &[u8], exit: NodeName) -> Result<Answer, Wha
     ensures { AnswersWhatIf text.now exit result }
 {
     let Building { model, names } = building_of(alloc, text)?;
+    // a new ledger of one part, since a single counter counts in it; `Brand` is the type for a ledger that nobody else names
     answer_uncounted::<Brand>(alloc, model, &names, exit, Blank::new(1))
 }

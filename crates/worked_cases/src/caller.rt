@@ -1,9 +1,19 @@
-//! The example of a caller.
-use building_table::NameFault;
-use evac_law::{Code, EditFault, Kind, NodeName};
-use sample_buildings::{OFFICE, TRAPPED};
+//! The examples of a caller.
+ghost use Rattle.std.specs.Prelude.{◌≡◌};
+ghost use Rattle.evac_law.specs.Building.{IsValid};
+ghost use Rattle.building_table.specs.Names.{NamesFit};
+
+use building_table::{Building, NameFault};
+use edit_session::Session;
+use evac_law::{Code, EditFault, Kind, NodeName, Steps};
+use plan_checker::Verdict;
+use sample_buildings::{OFFICE, TRAPPED, building_of};
+use std::alloc::Global;
+use std::marker::Brand;
 use std::process::Abort;
-use what_if::{Answer, WhatIfFault, what_if};
+use std::sync::ledger::{Blank, Ledger};
+use std::test::Fail;
+use what_if::{Answer, WhatIfFault, check_plan, what_if};
 
 // A name on the ground floor.
 fn ground(kind: Kind, number: u16) -> NodeName {
@@ -62,4 +72,28 @@ fn texts_without_an_answer(rt: HostRuntime) {
         let answer = what_if(rt.alloc(), text.as_bytes(), ground(Kind::Exit, 1));
         assert_eq!(rt; answer, Err(want));
     }
+}
+
+fn verdict_counted<L: Ledger>(alloc: Global, building: Building, blank: Blank) -> Option<Verdict>
+    requires valid { IsValid building.model }
+    requires names { NamesFit building.names building.model }
+    requires name { blank.name ≡ L.name }
+    requires parts { blank.parts ≡ L.parts }
+    requires one { blank.parts ≡ 1 }
+{
+    let Building { model, names } = building;
+    let mut steps = Steps::<L>::new(blank);
+    match Session::begin(alloc, model, &mut steps) {
+        Ok(session) => check_plan(alloc, &session, &names).ok(),
+        Err(_) => None,
+    }
+}
+
+#[test]
+fn the_block_of_the_office_is_right(rt: HostRuntime) -> Result<(), Fail> {
+    let building = building_of(rt.alloc(), OFFICE)?;
+    assert!(rt;
+        verdict_counted::<Brand>(rt.alloc(), building, Blank::new(1)) == Some(Verdict::Yes)
+    );
+    Ok(())
 }

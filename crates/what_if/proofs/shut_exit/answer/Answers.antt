@@ -5,14 +5,14 @@ use Rattle.what_if.specs.WhatIf.{AnswersOn}
 use Rattle.what_if.proofs.Cleared.{begun, begun-fit, not-begun}
 use Rattle.what_if.proofs.shut_exit.answer.Goals as goal
 
-pub shut_checked-answer-requires : goal.shut_checked-answer-requires
-shut_checked-answer-requires g c =
+pub shut-answer-requires : goal.shut-answer-requires
+shut-answer-requires g c =
     let b = c.in-Ok.ensures in begun-fit c.args.names.now c.args.model c.in-Ok.session b.0 c.requires.names b.2
 
 pub returns-in-Ok : goal.returns-in-Ok
 returns-in-Ok g c =
     let b = c.in-Ok.ensures in
-    begun c.args.model c.args.names.now c.args.exit c.in-Ok.session b.0 c.shut_checked-answer.result b.2 c.shut_checked-answer.ensures
+    begun c.args.model c.args.names.now c.args.exit c.in-Ok.session b.0 c.shut-answer.result b.2 c.shut-answer.ensures
 
 pub returns-in-Err-NotCleared : goal.returns-in-Err-NotCleared
 returns-in-Err-NotCleared g c =
