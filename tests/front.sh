@@ -26,7 +26,7 @@ begin() {
     echo "of $crate" >"$here/repo/crates/$crate/proofs/One.antt"
   done
   export PATH="$here/bin:$path" TMPDIR=$here/tmp RT_ROOM=$here
-  unset RT_LOGIC RT_ENDS RT_FAILS RT_SLOW
+  unset RT_KIT RT_LOGIC RT_ENDS RT_FAILS RT_SLOW
 }
 path=$PATH
 
@@ -34,6 +34,16 @@ path=$PATH
 run() {
   "$@" >"$here/out" 2>"$here/err"
   status=$?
+}
+
+# Runs a command as somebody who may not write to the repository.
+run_as_nobody() {
+  chmod -R a+rX "$room" && chmod -R a-w "$here/repo"
+  chmod a+rwx "$here" "$here/tmp"
+  local as=()
+  [ "$(id -u)" -ne 0 ] || as=(setpriv --reuid=65534 --regid=65534 --clear-groups)
+  run "${as[@]}" "$@"
+  chmod -R u+w "$here/repo"
 }
 
 # Waits until a command succeeds, some 30 seconds at most.
@@ -187,6 +197,39 @@ for it in bash dirname readlink sed awk find grep cat mktemp rm; do ln -s "$(com
 PATH=$here/none run "$here/repo/evacplan" solve <<<'a building'
 expect status=70 out= lines=1 "says=rt isn't on the path"
 
+begin 'without find the program is not run, since nothing tells whether it is current'
+build_before
+mkdir "$here/none"
+for it in bash dirname readlink sed awk sort cut grep cat cmp mktemp rm; do ln -s "$(command -v "$it")" "$here/none/$it"; done
+PATH=$here/none run "$here/repo/evacplan" solve <<<'a building'
+expect status=70 out= lines=1 'says=the command find' calls=
+
+begin 'no folder for temporary files is told as such'
+TMPDIR=$here/none run "$here/repo/evacplan" solve <<<'a building'
+expect status=70 out= 'says=no room for temporary files'
+
+for size in 9 2000; do
+  begin "no room for temporary files is told as such, of $size KiB of input"
+  (
+    trap '' XFSZ
+    ulimit -f 4
+    head -c "${size}K" /dev/zero | run "$here/repo/evacplan" solve
+    echo "$status" >"$here/status"
+  )
+  status=$(cat "$here/status")
+  expect status=70 out= 'says=no room for temporary files'
+done
+
+begin 'no room for the answer is told as such'
+(
+  trap '' XFSZ
+  ulimit -f 4
+  RT_FAILS=long run "$here/repo/evacplan" solve <<<'a building'
+  echo "$status" >"$here/status"
+)
+status=$(cat "$here/status")
+expect status=70 out= 'says=no room for temporary files'
+
 begin 'another kit is told before anything is built'
 RT_LOGIC=fedcba9876543210 run "$here/repo/evacplan" solve <<<'a building'
 expect status=70 out= lines=1 'says=logic fedcba9876543210' 'says=logic 0123456789abcdef' calls=version
@@ -234,10 +277,59 @@ build_before
 run "$here/repo/evacplan" end 2
 expect status=2 lines=0
 
-begin 'other statuses get none at a terminal'
+for status in 0 1; do
+  begin "status $status gets none at a terminal"
+  build_before
+  run_at_terminal '' "$here/repo/evacplan" end "$status"
+  expect "status=$status" lines=0
+done
+
+for said in '3 standard input' '4 standard output' '5 memory' '6 UTF-8'; do
+  begin "status ${said%% *} gets a line at a terminal"
+  build_before
+  run_at_terminal '' "$here/repo/evacplan" end "${said%% *}"
+  expect "status=${said%% *}" lines=1 "says=${said#* }"
+done
+
+begin 'and none where standard error is a file'
 build_before
-run_at_terminal '' "$here/repo/evacplan" end 1
-expect status=1 lines=0
+run "$here/repo/evacplan" end 5
+expect status=5 lines=0
+
+begin 'input of an unproved run that cannot be read gets the line too'
+mkfifo "$here/input"
+run_at_terminal '' bash -c 'exec "$1" solve <"$2"' '' "$here/repo/evacplan" "$here"
+expect status=3 out= lines=2 'says=standard input'
+
+for word in session study replan; do
+  begin "a $word at a terminal names the companion"
+  build_before
+  printf '#!/bin/sh\n' >"$here/repo/evacask"
+  chmod +x "$here/repo/evacask"
+  run_at_terminal $'a line\n\004' "$here/repo/evacplan" "$word"
+  expect status=0 "out=built: $word, a line" lines=1 'says=./evacask talk BUILDING'
+done
+
+begin 'a session names it to nobody else'
+build_before
+printf '#!/bin/sh\n' >"$here/repo/evacask"
+chmod +x "$here/repo/evacask"
+run "$here/repo/evacplan" session <<<'a line'
+expect status=0 lines=0
+
+begin 'a session names no companion that is not there'
+build_before
+run_at_terminal $'a line\n\004' "$here/repo/evacplan" session
+expect status=0 lines=0
+
+for signal in INT TERM HUP; do
+  begin "SIG$signal ends the built program too, at a terminal"
+  build_before
+  run_at_terminal '' python3 "$top/tests/front/signalled.py" "$signal" "$here/pid" "$here/repo/evacplan" wait "$here/pid"
+  await has_ended "$(cat "$here/pid")" || echo 'the program goes on' >>"$here/out"
+  case $signal in INT) ends=130 ;; TERM) ends=143 ;; HUP) ends=129 ;; esac
+  expect "status=$ends" out=
+done
 
 begin 'refused words of an unproved run get the line too'
 export RT_ENDS=2
@@ -259,6 +351,36 @@ touch -d '1 minute' "$here/repo/crates/low/proofs"
 run "$here/repo/evacplan" solve <<<'a building'
 expect status=0 'out=solve: a building' lines=1 'says=a source is newer'
 
+for gone in proofs src; do
+  begin "nor where the folder $gone of a crate is gone"
+  run "$here/repo/build"
+  rm -r "$here/repo/crates/low/$gone"
+  run "$here/repo/evacplan" solve <<<'a building'
+  expect status=0 'out=solve: a building' lines=1 'says=a source is newer'
+done
+
+begin 'nor where a file is gone from a folder whose time is old'
+run "$here/repo/build"
+rm "$here/repo/crates/low/proofs/One.antt"
+touch -d '1 hour ago' "$here/repo/crates/low/proofs"
+run "$here/repo/evacplan" solve <<<'a building'
+expect status=0 'out=solve: a building' lines=1 'says=a source is newer'
+
+for changed in target link; do
+  begin "nor where the $changed of a link is changed"
+  mv "$here/repo/crates/low/src/one.rt" "$here/one.rt"
+  echo 'another' >"$here/two.rt"
+  ln -s "$here/one.rt" "$here/repo/crates/low/src/one.rt"
+  touch -d '1 hour ago' "$here/two.rt"
+  build_before
+  case $changed in
+    target) touch -d '1 minute' "$here/one.rt" ;;
+    link) ln -sf "$here/two.rt" "$here/repo/crates/low/src/one.rt" ;;
+  esac
+  run "$here/repo/evacplan" solve <<<'a building'
+  expect status=0 'out=solve: a building' lines=1 'says=a source is newer'
+done
+
 begin 'a crate that the program does not stand on may change'
 build_before
 touch -d '1 minute' "$here/repo/crates/worked/src/one.rt"
@@ -269,7 +391,8 @@ expect status=0 'out=built: solve, a building' lines=0
 
 begin 'build proves the crates of the program, names and counts them, and builds it'
 run "$here/repo/build" 3
-expect status=0 'says=1 of 2: low' 'says=2 of 2: evacplan' 'says=proving the 2 crates' 'hides=logic=proved' calls=version,ci
+expect status=0 'says=1 of 2: low' 'says=2 of 2: evacplan' 'says=proving the 2 crates of the program by rt ci' 'hides=logic=proved' \
+  'calls=version,ci probe,ci'
 
 begin 'evacplan then runs what was built'
 run "$here/repo/build"
@@ -281,10 +404,12 @@ build_before
 run "$here/repo/build"
 expect status=0 lines=1 'says=no source is newer' calls=version
 
-begin 'what changes while it is built is newer'
-RT_FAILS=edit run "$here/repo/build"
-run "$here/repo/evacplan" solve <<<'a building'
-expect status=0 'out=solve: a building' 'says=a source is newer'
+for kit in ci 13b; do
+  begin "what changes while it is built is newer, by kit $kit"
+  RT_KIT=$kit RT_FAILS=edit run "$here/repo/build"
+  run "$here/repo/evacplan" solve <<<'a building'
+  expect status=0 'out=solve: a building' 'says=a source is newer'
+done
 
 begin 'a crate that is not proved is named, and no program is left'
 build_before
@@ -303,7 +428,25 @@ expect status=70 'says=rt: low NOT PROVED' 'says=was not built'
 
 begin 'a program that is not there is status 70'
 RT_FAILS=program run "$here/repo/build" 3
-expect status=70 'says=was not built' calls=version,ci
+expect status=70 'says=was not built' 'calls=version,ci probe,ci'
+
+begin 'where nothing can be written, it is said before anything is proved, and nothing is left'
+run_as_nobody "$here/repo/build"
+[ ! -e "$here/repo/out" ] && [ ! -e "$here/repo/crates/evacplan/out" ] || echo 'something is left' >>"$here/out"
+expect status=70 out= lines=1 'says=nothing can be written' calls=version
+
+begin 'without room for temporary files nothing is built, and it is said why'
+TMPDIR=$here/none run "$here/repo/build"
+expect status=70 lines=1 'says=no room for temporary files' calls=version
+
+begin 'after a while without a line it is said that rt goes on'
+sed -i 's/^silence=.*/silence=1/' "$here/repo/build"
+RT_SLOW=1 "$here/repo/build" 2 >"$here/out" 2>"$here/err" &
+await grep -qs '0 of 2 are done' "$here/err"
+touch "$here/go"
+wait $!
+status=$?
+expect status=0 out= 'says=0 of 2 are done' 'says=2 of 2: evacplan'
 
 for processors in 4 2; do
   begin "with $processors processors the longest row of crates has $((processors / 4)) runs of its own"
@@ -341,15 +484,95 @@ await grep -qs 'another build' "$here/err"
 touch "$here/go"
 wait "$second"
 status=$?
-expect status=0 'says=another build is at work' 'says=no source is newer' calls=version,ci,version
+expect status=0 'says=another build is at work' 'says=no source is newer' 'calls=version,ci probe,ci,version'
 
-begin 'a build that is ended leaves nothing, and the next one goes on'
-RT_SLOW=1 "$here/repo/build" 2>"$here/first" &
-await test -e "$here/slow"
-kill $!
-wait $!
+for kit in ci 13b; do
+  begin "a build that is ended leaves nothing, and the next one goes on, by kit $kit"
+  export RT_KIT=$kit
+  RT_SLOW=1 "$here/repo/build" 2>"$here/first" &
+  await test -e "$here/slow"
+  kill $!
+  wait $!
+  await has_ended "$(cat "$here/slow")" || echo 'rt goes on' >>"$here/out"
+  [ ! -e "$here/repo/out" ] || echo 'something is left' >>"$here/out"
+  run "$here/repo/build"
+  [ ! -e "$here/repo/out" ] || echo 'something is left' >>"$here/out"
+  expect status=0 out= 'says=2 of 2: evacplan' "says=program is built"
+done
+
+# build, with a kit whose rt ci takes no names
+
+# Begins a case with such a kit, and another library of the program.
+begin_by_lib() {
+  begin "$1"
+  export RT_KIT=13b
+  mkdir -p "$here/repo/crates/other/src" "$here/repo/crates/low/must-fail"
+  echo 'of other' >"$here/repo/crates/other/src/one.rt"
+  printf '# crates\nlow:\nother: arrayvec\nevacplan: low other # and no more\nworked: low\n' >"$here/repo/crates.txt"
+}
+
+begin_by_lib 'each crate is proved once those below it are, and counted'
+run "$here/repo/build" 1
+[ -e "$here/repo/crates/low/out/rlib/stamp" ] || echo 'nothing is kept' >>"$here/out"
+[ ! -e "$here/repo/out" ] || echo 'something is left' >>"$here/out"
+expect status=0 out= 'says=proving the 3 crates of the program by rt lib' 'says=1 of 3: low' 'says=2 of 3: other' 'says=3 of 3: evacplan' 'hides=logic=proved' \
+  'calls=version,ci probe,proves low,proves other,proves evacplan'
+
+begin_by_lib 'evacplan then runs what was built by rt lib'
 run "$here/repo/build"
-expect status=0 'says=2 of 2: evacplan' "says=program is built"
+run "$here/repo/evacplan" solve <<<'a building'
+expect status=0 'out=built: solve, a building' lines=0
+
+begin_by_lib 'what did not change is kept, and what stands on a change is proved'
+run "$here/repo/build" 1
+echo 'of other, edited' >"$here/repo/crates/other/src/one.rt"
+rm "$here/calls"
+run "$here/repo/build" 1
+expect status=0 'says=3 of 3: evacplan' 'calls=version,ci probe,keeps low,proves other,proves evacplan'
+
+begin_by_lib 'crates that do not stand on one another are proved side by side'
+RT_SLOW=1 "$here/repo/build" 2 >"$here/out" 2>"$here/err" &
+await grep -qsx 'proves low' "$here/calls"
+await grep -qsx 'proves other' "$here/calls"
+touch "$here/go"
+wait $!
+status=$?
+expect status=0 out= 'says=3 of 3: evacplan'
+
+begin_by_lib 'what is not proved is named, the rest is kept, and no program is left'
+build_before
+touch -d '1 minute' "$here/repo/crates/low/src/one.rt"
+RT_FAILS='proof of other' run "$here/repo/build" 1
+[ ! -e "$here/repo/crates/evacplan/out/evacplan" ] || echo 'the program is there' >>"$here/out"
+[ -e "$here/repo/crates/low/out/rlib/stamp" ] || echo 'nothing is kept' >>"$here/out"
+[ ! -e "$here/repo/out" ] || echo 'something is left' >>"$here/out"
+expect status=70 out= 'says=1 of 3: low' 'says=Answers.antt:8' 'says=other is not proved: rt ended with 1' 'says=was not built' 'hides=: proved' \
+  'calls=version,ci probe,proves low,proves other'
+
+begin_by_lib 'a program that is not linked is status 70'
+RT_FAILS=program run "$here/repo/build"
+expect status=70 out= 'says=was not built'
+
+begin_by_lib 'a check by hand that is at work in a crate is waited for'
+exec {held}<"$here/repo/crates/low"
+flock "$held"
+"$here/repo/build" 2 >"$here/out" 2>"$here/err" {held}<&- &
+await grep -qs '1 of 3: other' "$here/err"
+flock -u "$held"
+exec {held}<&-
+wait $!
+status=$?
+expect status=0 out= 'says=waiting for another rt to finish in crates/low' 'says=1 of 3: other' 'says=3 of 3: evacplan' lines=6 \
+  'calls=version,ci probe,proves other,proves low,proves evacplan'
+
+begin_by_lib 'after a while without a line it is said what rt is at work on'
+sed -i 's/^silence=.*/silence=1/' "$here/repo/build"
+RT_SLOW=1 "$here/repo/build" 1 >"$here/out" 2>"$here/err" &
+await grep -qs 'at work on low' "$here/err"
+touch "$here/go"
+wait $!
+status=$?
+expect status=0 out= 'says=0 of 3 are done, and rt is at work on low'
 
 echo "front: $passed passed, $failed failed"
 [ "$failed" -eq 0 ]
