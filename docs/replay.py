@@ -12,6 +12,7 @@ The first word of a fence says what its block is, and a block without one of the
   commands below may read.
 - `python NAME`, `rust NAME`: lines of that file.
 - `sh`: commands that prove, build or measure. They are not run here.
+- `antt`: definitions, which check_promises.py looks up.
 - `text`: anything else. It isn't compared with anything.
 
 A line `..` stands for lines that are left out; between two of them all lines must be there, in order and side by side. The left column of a table
@@ -37,7 +38,7 @@ TOP = pathlib.Path(__file__).resolve().parent.parent
 DOCUMENTS = ("README.md", "docs/GUIDE.md", "docs/RECIPES.md", "docs/CALLING.md", "docs/FORMATS.md", "docs/FIGURES.md")
 # What the commands find in their folder, besides the program.
 LINKED = ("examples", "docs", "evacask", "companion")
-KINDS = ("console", "evac", "python", "rust", "sh", "text")
+KINDS = ("console", "evac", "python", "rust", "antt", "sh", "text")
 GAP = ".."
 
 
