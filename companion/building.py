@@ -138,6 +138,11 @@ def near(name: str, names: List[str]) -> str:
     return f"; near it: {', '.join(found)}" if found else ""
 
 
+def is_number(word: str) -> bool:
+    """Whether a word is a number of the language: digits alone, nine at most."""
+    return word.isascii() and word.isdigit() and len(word) <= 9
+
+
 def fields_of(line: str) -> List[str]:
     """The fields of a line: blanks are spaces and tabs alone."""
     return [it for it in line.replace("\t", " ").split(" ") if it]
@@ -171,7 +176,7 @@ def take(building: Building, fields: List[str], line: str, number: int, comment:
     if word == "title":
         building.title = line.strip(" \t")[len("title") :].strip(" \t")
         return
-    numbers = [int(it) for it in names if it.isdigit()]
+    numbers = [int(it) for it in names if is_number(it)]
     if word == "period":
         building.period = numbers[0]
     elif word == "horizon":

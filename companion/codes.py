@@ -3,14 +3,17 @@ from __future__ import annotations
 
 import re
 from dataclasses import dataclass
-from typing import Dict, List, Optional
+from typing import Dict, Iterator, List, Optional, Tuple
 
-from companion.building import Building, building_of, lines_of
+from companion.building import Building, building_of, is_number
 from companion.ending import Status, Stop
 from companion.program import TOP, Program, Reply, broken
 
 PAGE = TOP / "docs/FORMATS.md"
+# The heading of its codes of a building, and the headings and first columns of its tables of statements and of commands.
 OF_A_BUILDING = "The codes of a building"
+STATEMENTS = (("The statements", "Statement"),)
+COMMANDS = (("The session", "Command"), ("The study", "Line"), ("The replan", "Command"))
 
 
 @dataclass(frozen=True)
@@ -27,37 +30,46 @@ class Meaning:
         return f"{self.what} {self.remedy}"
 
 
-def meanings_of(page: str) -> List[Meaning]:
-    """The rows of all tables of codes on a page."""
-    found, heading, is_table = [], "", False
+def tables_of(page: str) -> Iterator[Tuple[str, str, List[str]]]:
+    """The rows of all tables on a page: the heading above, the head of the first column, and the cells without the targets of links."""
+    heading, column = "", ""
     for line in page.split("\n"):
-        cells = [it.strip() for it in line.strip("|").split(" | ")]
+        cells = [re.sub(r"\[([^]]*)\]\([^)]*\)", r"\1", it).strip() for it in line.strip("|").split("|")]
         if line.startswith("#"):
             heading = line.lstrip("#").strip()
-        elif cells[0] == "Code":
-            is_table = True
-        elif not line.startswith("|"):
-            is_table = False
-        elif is_table and cells[0].isdigit() and len(cells) == 3:
-            what, remedy = (plain(cell) for cell in cells[1:])
-            found.append(Meaning(int(cells[0]), what, remedy, heading))
-    return found
+        if not line.startswith("|"):
+            column = ""
+        elif not column:
+            column = cells[0]
+        else:
+            yield heading, column, cells
 
 
-def plain(cell: str) -> str:
-    """The text of a cell, without the targets of its links."""
-    return re.sub(r"\[([^]]*)\]\([^)]*\)", r"\1", cell)
+def rows() -> List[Tuple[str, str, List[str]]]:
+    """The rows of the tables of docs/FORMATS.md; none where it can't be read."""
+    try:
+        return list(tables_of(PAGE.read_text(encoding="utf-8")))
+    except OSError:
+        return []
 
 
 def meanings() -> Dict[int, List[Meaning]]:
-    """The meanings of each code, those of a building first; none where the page can't be read."""
+    """The meanings of each code, those of a building first."""
     found: Dict[int, List[Meaning]] = {}
-    try:
-        page = PAGE.read_text(encoding="utf-8")
-    except OSError:
-        return found
-    for it in sorted(meanings_of(page), key=lambda it: it.heading != OF_A_BUILDING):
-        found.setdefault(it.code, []).append(it)
+    of_codes = [(heading, cells) for heading, column, cells in rows() if column == "Code" and is_number(cells[0])]
+    for heading, (code, what, remedy) in sorted(of_codes, key=lambda it: it[0] != OF_A_BUILDING):
+        found.setdefault(int(code), []).append(Meaning(int(code), what, remedy, heading))
+    return found
+
+
+def forms_of(word: str, is_command: bool) -> List[str]:
+    """How a statement or a command with this first word is written, and its ranges."""
+    places = COMMANDS if is_command else STATEMENTS
+    found = []
+    for heading, column, cells in rows():
+        forms = re.findall(rf"`{re.escape(word)}(?: [^`]*)?`", cells[0]) if (heading, column) in places else []
+        ranges = f": {cells[1]}" if forms and cells[1] and not is_command else ""
+        found += [f"{form}{ranges}" for form in forms]
     return found
 
 

@@ -5,9 +5,10 @@ import sys
 from argparse import Namespace
 from typing import ContextManager, Optional
 
-from companion.building import near
+from companion.building import is_number, near
+from companion.briefly import Briefly
 from companion.codes import accepted, cleared_by
-from companion.compare import compare_lines, edited_column
+from companion.compare import compare_lines, edited_scenario
 from companion.doubts import doubts, doubts_lines
 from companion.ending import Status, Stop
 from companion.explain import MODES, code_lines, explained
@@ -17,7 +18,7 @@ from companion.program import Talk, find_program
 from companion.summary import shortfall, summary
 from companion.tables import write_table, write_walks
 from companion.terminal import converse
-from companion.ways import ANY_RATE, all_tried, ways_lines, write_csv
+from companion.ways import ANY_RATE, all_ways
 from companion.wide import asked_moment, wide
 from companion.why import why
 
@@ -62,11 +63,11 @@ def run_ways(given: Namespace) -> int:
     it = Asked(given)
     with it.talk() as talk:
         cleared_by(talk.opening, it.name)
-        cleared, found = all_tried(talk, it.building, ANY_RATE if given.rate is None else given.rate)
+        ways = all_ways(talk, it.building, ANY_RATE if given.rate is None else given.rate)
     if given.csv:
-        write_csv(it.building, cleared, found)
+        ways.write_csv()
     else:
-        show(ways_lines(it.building, cleared, found, given.rate))
+        show(ways.lines(given.rate))
     return Status.ANSWERED
 
 
@@ -88,11 +89,11 @@ def run_wide(given: Namespace) -> int:
 
 
 def run_compare(given: Namespace) -> int:
-    it, columns = Asked(given), []
+    it, scenarios = Asked(given), []
     for other, edits in [(it, ""), *((Asked(given, name), "") for name in given.others), *((it, edits) for edits in given.edit)]:
         with other.talk() as talk:
-            columns.append(edited_column(talk, other.building, other.name, edits))
-    show(compare_lines(columns))
+            scenarios.append(edited_scenario(talk, other.building, other.name, edits))
+    show(compare_lines(scenarios))
     return Status.ANSWERED
 
 
@@ -100,7 +101,13 @@ def run_talk(given: Namespace) -> int:
     if given.building == "-":
         raise Stop("talk reads what you type, so the building must be a file", Status.WORDS)
     it = Asked(given)
-    return converse(it.program, it.building, it.text, given.mode)
+    with it.talk() as session:
+        brief = Briefly(it.building)
+        show(brief.lines(cleared_by(session.opening, it.name)))
+        if given.mode == "session":
+            return converse(session, it.building, brief)
+    with it.talk(given.mode) as talk:
+        return converse(talk, it.building, brief)
 
 
 def run_doubts(given: Namespace) -> int:
@@ -115,8 +122,8 @@ def run_doubts(given: Namespace) -> int:
 
 
 def run_explain(given: Namespace) -> int:
-    if given.what.isdigit():
-        if given.more is not None and not given.more.isdigit():
+    if is_number(given.what):
+        if given.more is not None and not is_number(given.more):
             raise Stop(f"after a code comes the number of a line, and not {given.more}", Status.WORDS)
         show(code_lines(int(given.what), None if given.more is None else int(given.more)))
         return Status.ANSWERED

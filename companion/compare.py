@@ -2,7 +2,7 @@
 from __future__ import annotations
 
 from dataclasses import dataclass
-from typing import List, Optional
+from typing import List, Optional, Tuple
 
 from companion.building import Building
 from companion.codes import cleared_by, refusal
@@ -12,17 +12,16 @@ from companion.program import Reply, Talk
 
 
 @dataclass(frozen=True)
-class Column:
-    """One building of a comparison: its name, and its numbers or how many can be out of it. Moments are in periods of `period` seconds."""
+class Scenario:
+    """A building of a comparison: its numbers, or how many can be out of it. Moments are in periods of `period` seconds."""
 
     name: str
     period: int
     people: int
     most: int
     cleared: Optional[int] = None
-    uncongested: int = 0
     personperiods: int = 0
-    curve: tuple = ()
+    curve: Tuple[int, ...] = ()
 
     def seconds_by(self, share: float) -> str:
         """The seconds by which a share of the people is out."""
@@ -30,17 +29,16 @@ class Column:
         return "" if moment is None else f"{moment * self.period} s"
 
 
-def column_of(name: str, building: Building, block: Reply, report: Optional[Reply]) -> Column:
+def scenario_of(name: str, building: Building, block: Reply, report: Optional[Reply]) -> Scenario:
     """The numbers of a block and of its summary."""
     people = block.number("people")
     if report is None:
-        return Column(name, building.period, people, block.number("most"))
+        return Scenario(name, building.period, people, block.number("most"))
     curve = tuple(int(line[2]) for line in block.lines if line[0] == "out")
-    walk, total = report.number("uncongested"), report.number("personperiods")
-    return Column(name, building.period, people, people, block.number("cleared"), walk, total, curve)
+    return Scenario(name, building.period, people, people, block.number("cleared"), report.number("personperiods"), curve)
 
 
-def edited_column(talk: Talk, building: Building, name: str, edits: str) -> Column:
+def edited_scenario(talk: Talk, building: Building, name: str, edits: str) -> Scenario:
     """The building of a session after some edits with `;` between them, made one after the other."""
     reply, wanted = talk.opening, [edit.strip() for edit in edits.split(";") if edit.strip()]
     for at, edit in enumerate(wanted):
@@ -50,14 +48,14 @@ def edited_column(talk: Talk, building: Building, name: str, edits: str) -> Colu
             raise Stop(f"{edit}: {refusal(reply, is_command=True)}", Status.REFUSED)
         if reply.word not in ("answer", "refused"):
             raise Stop(f"{edit}: that is no edit, and changes nothing", Status.WORDS)
-    return column_of(edits or name, building, reply, None if reply.is_short else talk.ask("summary"))
+    return scenario_of(edits or name, building, reply, None if reply.is_short else talk.ask("summary"))
 
 
-def compare_lines(columns: List[Column]) -> List[str]:
+def compare_lines(scenarios: List[Scenario]) -> List[str]:
     """The table, a line for each building. Later and sooner is against the first."""
-    first = columns[0]
+    first = scenarios[0]
     rows = [["cleared", "seconds", "change", "half out", "95 of 100", "mean", "people", "building"]]
-    for it in columns:
+    for it in scenarios:
         if it.cleared is None:
             rows.append([f"short {it.most}", "", "", "", "", "", f"{it.people}", it.name])
             continue
@@ -65,12 +63,12 @@ def compare_lines(columns: List[Column]) -> List[str]:
         numbers = [f"{it.cleared}", f"{it.cleared * it.period} s", change(it, first), it.seconds_by(0.5), it.seconds_by(0.95), mean]
         rows.append([*numbers, f"{it.people}", it.name])
     lines = table(rows, "rrrrrrrl")
-    if any(it.cleared is None for it in columns):
+    if any(it.cleared is None for it in scenarios):
         lines.append("`short` is how many can be out by the horizon at most, where not all can.")
     return lines
 
 
-def change(it: Column, first: Column) -> str:
+def change(it: Scenario, first: Scenario) -> str:
     """The seconds by which it is later than the first, with a sign."""
     if it is first or first.cleared is None or it.cleared is None:
         return ""

@@ -18,13 +18,12 @@ LONG_TRAVEL, LONG_SHORTEST_TRAVEL, LATE_ENTRANT = 300, 20, 1800
 CROWD, NEARLY = 30, 1.15
 
 
-def reached(building: Building, starts: Iterable[str], is_forward: bool) -> Set[str]:
-    """The nodes to which an open arc leads from some nodes, or, going backwards, from which one leads to them."""
+def reached(building: Building, starts: Iterable[str]) -> Set[str]:
+    """Some nodes, and those to which people can walk from them."""
     onward: Dict[str, List[str]] = {}
     for arc in building.arcs.values():
         if arc.rate:
-            ends = (arc.tail, arc.head) if is_forward else (arc.head, arc.tail)
-            onward.setdefault(ends[0], []).append(ends[1])
+            onward.setdefault(arc.tail, []).append(arc.head)
     found, waiting = set(starts), list(starts)
     while waiting:
         for name in onward.get(waiting.pop(), []):
@@ -44,7 +43,7 @@ def node_doubts(building: Building) -> Iterator[Doubt]:
     """Nodes that nobody can leave or reach, and people in odd places."""
     with_people = {node.name for node in building.rooms if node.start} | {it.name for it in building.entrants}
     safe = walks(building)
-    met = reached(building, sorted(with_people), is_forward=True)
+    met = reached(building, with_people)
     heads = {head for _, head in building.arcs}
     for node in building.nodes.values():
         yield from node_doubt(node, node.name in with_people, node.name in safe, node.name in met, node.name in heads)

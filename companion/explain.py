@@ -5,11 +5,13 @@ import unicodedata
 from typing import List, Optional
 
 from companion.building import building_of, fields_of, lines_of
-from companion.codes import meaning_of, meanings
+from companion.codes import forms_of, meaning_of, meanings
 from companion.ending import Status, Stop
 from companion.program import Program
 from companion.summary import remedies
 
+# The codes whose remedy is to compare a line with its form: fields, a number, its range, a name.
+OF_FORM = (5, 6, 7, 8)
 MODES = ("solve", "cards", "upgrade", "check", "session", "study", "replan")
 
 
@@ -48,9 +50,10 @@ def refusal_lines(code: int, line: int, lines: List[str], end: int) -> List[str]
         said.append(f"    line {line}: {visible(lines[line - 1])}")
         odd = [character_name(it) for it in dict.fromkeys(lines[line - 1]) if is_odd(it)]
         said += [f"    in this line there is {', '.join(odd[:4])}"] if odd else []
-    else:
-        said.append(f"    line {line}: the input has ended before it")
-    return said + meaning_lines(code, line > end)
+        said += meaning_lines(code, line > end)
+        word = next(iter(fields_of(lines[line - 1])), "")
+        return said + [f"    {form}" for form in (forms_of(word, line > end) if code in OF_FORM else [])]
+    return [*said, f"    line {line}: the input has ended before it", *meaning_lines(code, line > end)]
 
 
 def is_odd(letter: str) -> bool:
@@ -60,15 +63,24 @@ def is_odd(letter: str) -> bool:
 
 def visible(line: str) -> str:
     """A line with its odd letters as numbers, and not longer than a line of a terminal."""
-    shown = "".join(f"<{ord(it):02X}>" if is_odd(it) and not it.isalpha() else it for it in line[:101])
+    shown = "".join(it if it.isalpha() or not is_odd(it) else f"<{number_of(it):02X}>" for it in line[:101])
     return shown if len(line) <= 100 else shown[:100] + " .."
+
+
+def is_byte(letter: str) -> bool:
+    """Whether it stands for a byte that is part of no letter."""
+    return "\udc80" <= letter <= "\udcff"
+
+
+def number_of(letter: str) -> int:
+    return ord(letter) - 0xDC00 if is_byte(letter) else ord(letter)
 
 
 def character_name(letter: str) -> str:
     """What an odd letter is: its number and its name, or its byte where it is no letter."""
-    if "\udc80" <= letter <= "\udcff":
-        return f"the byte {ord(letter) - 0xDC00:02X}"
-    return f"U+{ord(letter):04X} {unicodedata.name(letter, 'a control character')}"
+    if is_byte(letter):
+        return f"the byte {number_of(letter):02X}"
+    return f"U+{number_of(letter):04X} {unicodedata.name(letter, 'a control character')}"
 
 
 def meaning_lines(code: int, is_command: bool) -> List[str]:

@@ -5,7 +5,7 @@ import math
 from dataclasses import dataclass
 from typing import Iterator, List, Optional, Tuple
 
-from companion.building import fields_of, lines_of
+from companion.building import fields_of, is_number, lines_of
 from companion.codes import accepted
 from companion.ending import Status, Stop
 from companion.passages import DOOR, GREATEST_FLOWS, LEAF, LEVEL, SIDES, free_speed, speed
@@ -128,7 +128,7 @@ class Scale:
 
     def moment(self, word: str) -> str:
         """A moment of the plan as one of the other period, which must be a whole one."""
-        if not word.isdigit():
+        if not is_number(word):
             raise Fault(f"{word} is no number")
         seconds = int(word) * self.given
         if seconds % self.wanted:
@@ -142,7 +142,7 @@ class Scale:
             return f"period {self.wanted}"
         if self.given == self.wanted:
             return ""
-        if word == "horizon" and fields[1:2] and fields[1].isdigit():
+        if word == "horizon" and fields[1:2] and is_number(fields[1]):
             return f"horizon {math.ceil(int(fields[1]) * self.given / self.wanted)}"
         if word == "arc":
             raise Fault("an arc has no metres, so it can't go over to another period: write it as a way")
@@ -156,7 +156,7 @@ class Scale:
 def period_of(lines: List[str]) -> int:
     """The period that a plan gives."""
     given = next((fields for fields in map(fields_of, lines) if fields[:1] == ["period"]), [])
-    if len(given) != 2 or not given[1].isdigit() or not 1 <= int(given[1]) <= 600:
+    if len(given) != 2 or not is_number(given[1]) or not 1 <= int(given[1]) <= 600:
         raise Stop("the plan has no line `period SECONDS` with 1 to 600", Status.REFUSED)
     return int(given[1])
 

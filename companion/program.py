@@ -9,7 +9,7 @@ import subprocess
 from dataclasses import dataclass
 from typing import Iterator, List, Optional
 
-from companion.building import lines_of
+from companion.building import fields_of, lines_of
 from companion.ending import Status, Stop
 from companion.progress import Patience
 
@@ -26,7 +26,7 @@ class Reply:
     @property
     def lines(self) -> List[List[str]]:
         """The lines, each as a list of its fields."""
-        return [line.decode("utf-8", "surrogateescape").split() for line in self.raw]
+        return [fields_of(line.decode("utf-8", "surrogateescape").rstrip("\n")) for line in self.raw]
 
     @property
     def text(self) -> str:
@@ -35,12 +35,12 @@ class Reply:
     @property
     def word(self) -> str:
         """The first word of the first line."""
-        return self.raw[0].split()[0].decode() if self.raw and self.raw[0].split() else ""
+        return next(iter(Reply(self.raw[:1]).lines[0]), "") if self.raw else ""
 
     @property
     def code(self) -> Optional[int]:
         """The code of a refusal, or None."""
-        return int(self.raw[0].split()[1]) if self.word == "refused" else None
+        return int(self.raw[0].split()[1]) if self.raw and self.raw[0].startswith(b"refused ") else None
 
     @property
     def is_short(self) -> bool:
@@ -75,9 +75,8 @@ class Program:
     def start(self, words: List[str]) -> "subprocess.Popen[bytes]":
         """Starts the program apart from the terminal, so that Ctrl-C reaches evacask alone."""
         try:
-            return subprocess.Popen(
-                [str(self.path), *words], stdin=subprocess.PIPE, stdout=subprocess.PIPE, start_new_session=True
-            )
+            command = [str(self.path), *words]
+            return subprocess.Popen(command, stdin=subprocess.PIPE, stdout=subprocess.PIPE, start_new_session=True)
         except OSError as fault:
             raise Stop(f"{self.path} can't be run: {fault.strerror}", Status.NO_PROGRAM) from None
 
@@ -170,7 +169,7 @@ def find_program(given: Optional[str]) -> Program:
 
 
 def model_of(text: bytes) -> bytes:
-    """A building's text up to its line `end`, behind which a talk has its commands."""
+    """A building's text up to its line `end`, after which a talk has its commands."""
     lines = text.split(b"\n")
-    last = next(number for number, line in enumerate(lines_of(text)) if line.split() == ["end"])
+    last = next(number for number, line in enumerate(lines_of(text)) if fields_of(line) == ["end"])
     return b"\n".join(lines[: last + 1]) + b"\n"

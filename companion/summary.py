@@ -1,6 +1,7 @@
 """The short answer: how many people, when they are out, what congestion costs, and what decides."""
 from __future__ import annotations
 
+from collections import Counter
 from typing import List
 
 from companion.building import Building
@@ -68,9 +69,12 @@ def shortfall(building: Building, reply: Reply) -> List[str]:
 def remedies(building: Building) -> List[str]:
     """What to do, as far as evacask can tell: a way that is missing, or a horizon that is enough."""
     out = walks(building)
-    caught = [node for node in building.rooms if node.name not in out and node.start]
+    inside = Counter({node.name: node.start or 0 for node in building.rooms})
+    for it in building.entrants:
+        inside[it.name] += it.people
+    caught = {name: people for name, people in inside.items() if people and name not in out}
     if caught:
-        said = ", ".join(f"{node.name} ({some(node.start or 0, 'person', 'people')})" for node in caught)
+        said = ", ".join(f"{name} ({some(people, 'person', 'people')})" for name, people in caught.items())
         return [f"{OWN}: no way leads out from {said}. Add the arc that is missing, or turn one round."]
     bound = walking_bound(building)
     if bound:

@@ -6,9 +6,9 @@ from typing import Dict, Iterator, List
 
 from companion.briefly import Briefly
 from companion.building import Building, fields_of
-from companion.ending import Status, Stop
+from companion.ending import Status
 from companion.printed import show
-from companion.program import Program, Reply, Talk
+from companion.program import Talk
 
 LINE_LIMIT = 200
 # The commands of a session with what follows them: nodes A and B, an exit D, numbers in small letters.
@@ -94,24 +94,10 @@ def typed(prompt: str) -> Iterator[str]:
             print()  # (the line is dropped, and the talk goes on)
 
 
-def converse(program: Program, building: Building, text: bytes, mode: str) -> int:
-    """Talks until `quit` or the end of the input."""
+def converse(talk: Talk, building: Building, brief: Briefly) -> int:
+    """Answers each typed line, until `quit` or the end of the input."""
     if sys.stdin.isatty():
-        complete_names(building, mode)
-    with program.talk("session" if mode == "study" else mode, text) as talk:
-        opening = talk.opening
-        brief = Briefly(building)
-        if opening.is_short:
-            raise Stop("not everybody can be out by the horizon; evacask summary says more", Status.REFUSED)
-        show(brief.lines(opening))
-        if mode != "study":
-            return answer_lines(talk, building, brief)
-    with program.talk(mode, text) as talk:
-        return answer_lines(talk, building, brief)
-
-
-def answer_lines(talk: Talk, building: Building, brief: Briefly) -> int:
-    """Answers each typed line."""
+        complete_names(building, talk.mode)
     last = talk.opening
     for line in typed(f"{talk.mode}> "):
         line = line[:-1] if line.endswith("\r") else line

@@ -153,6 +153,14 @@ class Explain(unittest.TestCase):
             self.assertEqual((said.status, said.out, said.err.count("\n")), (2, "", 1))
             self.assertIn(wanted, said.err)
 
+    def test_the_form_of_a_line(self):
+        said = ask("explain", "-", text=changed("arc LO1.1 DS1.1 1 8", "arc LO1.1 DS1.1 1", OFFICE.read_text())).lines
+        self.assertEqual(said[-1], "    `arc FROM TO TRAVEL RATE`: travel 1 to 600, rate 0 to 10,000")
+        said = ask("explain", "-", text=changed("node LO1.1 40 0", "node LO1.1", OFFICE.read_text())).lines
+        self.assertEqual([line.partition(":")[0] for line in said[-2:]], ["    `node NAME CAPACITY START`", "    `node NAME`"])
+        for mode, line, form in (("session", "rate LO1.1 DS1.1", "`rate A B n`"), ("study", "least LO1.1", "`least A B K`"), ("replan", "advance", "`advance p`")):
+            self.assertEqual(ask("explain", "-", mode, text=OFFICE.read_text() + line + "\n").lines[-1], f"    {form}")
+
     def test_a_meaning_that_depends_on_the_place(self):
         text = changed("evacplan 1", "evacplan 2", OFFICE.read_text())
         of_building = ask("explain", "-", text=changed("end\n", "window LO1.1 SW1.2 1 2\nend\n", text)).out
