@@ -4,6 +4,7 @@ from __future__ import annotations
 import contextlib
 import os
 import pathlib
+import re
 import signal
 import subprocess
 from dataclasses import dataclass
@@ -15,32 +16,35 @@ from companion.progress import Patience
 
 TOP = pathlib.Path(__file__).resolve().parent.parent
 BUILT = TOP / "crates/evacplan/out/evacplan"
+# The end of a part that has several lines, and the most bytes that are read at once.
+END, CHUNK = b"\nend\n", 1 << 16
 
 
 @dataclass
 class Reply:
-    """What the program answers to one line, or to a building: its lines, each with its end."""
+    """The bytes that the program answers to one line, or to a building."""
 
-    raw: List[bytes]
+    raw: bytes
+
+    @property
+    def text(self) -> str:
+        return self.raw.decode("utf-8", "surrogateescape")
 
     @property
     def lines(self) -> List[List[str]]:
         """The lines, each as a list of its fields."""
-        return [fields_of(line.decode("utf-8", "surrogateescape").rstrip("\n")) for line in self.raw]
-
-    @property
-    def text(self) -> str:
-        return b"".join(self.raw).decode("utf-8", "surrogateescape")
+        return [fields_of(line) for line in self.text.split("\n")[:-1]]
 
     @property
     def word(self) -> str:
-        """The first word of the first line."""
-        return next(iter(Reply(self.raw[:1]).lines[0]), "") if self.raw else ""
+        """The first word."""
+        return self.raw[:100].decode("utf-8", "surrogateescape").partition("\n")[0].partition(" ")[0]
 
     @property
     def code(self) -> Optional[int]:
         """The code of a refusal, or None."""
-        return int(self.raw[0].split()[1]) if self.raw and self.raw[0].startswith(b"refused ") else None
+        refused = re.match(rb"refused (\d+) ", self.raw)
+        return int(refused[1]) if refused else None
 
     @property
     def is_short(self) -> bool:
@@ -49,14 +53,15 @@ class Reply:
 
     def number(self, word: str) -> int:
         """The number after the word of a line."""
-        start = word.encode() + b" "
-        return next(int(line.split()[1]) for line in self.raw if line.startswith(start))
+        found = re.search(rb"(?m)^%s (\d+)" % word.encode(), self.raw)
+        assert found, word
+        return int(found[1])
 
     def part(self, word: str) -> "Reply":
         """The part of a long reply that begins with a word, up to its line `end`."""
-        first = next(at for at, line in enumerate(self.raw) if line.split()[:1] == [word.encode()])
-        last = next(at for at in range(first, len(self.raw)) if self.raw[at] == b"end\n")
-        return Reply(self.raw[first : last + 1])
+        found = re.search(rb"(?ms)^%s .*?^end\n" % word.encode(), self.raw)
+        assert found, word
+        return Reply(found[0])
 
 
 @dataclass
@@ -90,7 +95,7 @@ class Program:
             run.kill()
         if run.returncode not in (Status.ANSWERED, Status.REFUSED, Status.WORDS) or not printed:
             raise broken(run.returncode)
-        return Ran([line + b"\n" for line in printed.split(b"\n")[:-1]], run.returncode)
+        return Ran(printed, run.returncode)
 
     @contextlib.contextmanager
     def talk(self, mode: str, text: bytes) -> Iterator["Talk"]:
@@ -109,40 +114,44 @@ class Talk:
     """A session, a study or a replan. `opening` is its first block; a study has none, and there the reply is empty."""
 
     def __init__(self, run: "subprocess.Popen[bytes]", mode: str, text: bytes):
-        self.mode, self.run = mode, run
+        self.mode, self.run, self.waiting = mode, run, bytearray()
         self.send(model_of(text))
-        self.opening = Reply([]) if mode == "study" else self.reply()
+        self.opening = Reply(b"") if mode == "study" else Reply(self.part())
 
     def send(self, text: bytes) -> None:
         assert self.run.stdin
-        try:
+        with contextlib.suppress(BrokenPipeError):  # (it has ended, and what it printed says why)
             self.run.stdin.write(text)
             self.run.stdin.flush()
-        except BrokenPipeError:
-            pass  # (it has ended, and the reply says why)
 
     def ask(self, line: str) -> Reply:
-        """Sends one line that gets a reply, and reads it."""
+        """Sends one line that gets a reply, and reads it. That to an accepted advance has two parts."""
         self.send(line.encode("utf-8", "surrogateescape") + b"\n")
-        reply = self.reply()
-        return Reply(reply.raw + self.reply().raw) if reply.word == "advance" else reply
+        reply = self.part()
+        return Reply(reply + self.part()) if reply.startswith(b"advance ") else Reply(reply)
 
-    def reply(self) -> Reply:
-        """A reply is one line, or goes up to its line `end`."""
-        with Patience():
-            lines = [self.line()]
-            is_one_line = lines[0].startswith((b"work ", b"refused ")) and not lines[0].startswith(b"refused 22 ")
-            while not is_one_line and lines[-1] != b"end\n":
-                lines.append(self.line())
-        return Reply(lines)
-
-    def line(self) -> bytes:
-        """The next line that the program prints."""
+    def part(self) -> bytes:
+        """The next part of what the program prints, waited for."""
         assert self.run.stdout
-        line = self.run.stdout.readline()
-        if not line:
-            raise broken(self.run.wait())
-        return line
+        looked = 0
+        with Patience():
+            while not (length := part_length(self.waiting, max(0, looked - len(END)))):
+                looked = len(self.waiting)
+                more = self.run.stdout.read1(CHUNK)  # type: ignore[attr-defined]
+                if not more:
+                    raise broken(self.run.wait())
+                self.waiting += more
+        part = bytes(self.waiting[:length])
+        del self.waiting[:length]
+        return part
+
+
+def part_length(text: bytearray, start: int) -> int:
+    """The bytes of the first part of a text: one line, or the lines up to `end`, which is looked for from some byte on; 0 where it isn't whole."""
+    is_one_line = text.startswith((b"work ", b"refused ")) and not text.startswith(b"refused 22 ")
+    end = b"\n" if is_one_line else END
+    found = text.find(end, 0 if is_one_line else start)
+    return 0 if found < 0 else found + len(end)
 
 
 def broken(status: int) -> Stop:

@@ -34,6 +34,8 @@ def ask(*words: object, text: Union[str, bytes] = "") -> Ended:
     try:
         sys.stdin, sys.stdout, sys.stderr = source, out, err
         status = main([str(word) for word in words])
+    except SystemExit as ended:  # (after --help)
+        status = int(ended.code or 0)
     finally:
         sys.stdin, sys.stdout, sys.stderr = streams
     printed = []

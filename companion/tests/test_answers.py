@@ -4,7 +4,7 @@ import io
 import re
 import unittest
 
-from companion.tests.asking import EXAMPLES, OFFICE, SCHOOL, TOWER, TOP, ask, edited, solved
+from companion.tests.asking import EXAMPLES, OFFICE, SCHOOL, TOP, ask, edited, solved
 
 
 def number(text: str, word: str) -> int:
@@ -88,11 +88,6 @@ class Ways(unittest.TestCase):
                 costs = [re.match(r" *(short )?(\d+)( s)? +\d+ s ", line) for line in said.lines[2:]]
                 costs = [(not it[1], int(it[2]) * (1 if it[1] else -1)) for it in costs if it]
                 self.assertEqual(costs, sorted(costs))
-
-    def test_a_tower(self):
-        said = ask("ways", TOWER)
-        self.assertEqual((said.status, said.err), (0, ""))
-        self.assertRegex(said.lines[0], "Everybody is out after 855 s.")
 
     def test_a_building_that_can_t_be_cleared(self):
         said = ask("ways", "-", text=edited(OFFICE, "horizon 120", "horizon 20"))

@@ -46,16 +46,17 @@ class Endings(unittest.TestCase):
             (["metres", OFFICE, "--period", "2", "--period", "3"], "--both"),
         ):
             with self.subTest(words):
-                self.assert_one_line(run(*words), Status.WORDS, wanted)
+                self.assert_one_line(ask(*words), Status.WORDS, wanted)
+        self.assert_one_line(run("sumary", OFFICE), Status.WORDS, "near it: summary")
 
     def test_no_words_show_the_commands(self):
-        said = run()
+        said = ask()
         self.assertEqual((said.status, said.out), (Status.WORDS, ""))
         self.assertTrue(all(f"\n    {it.name} " in said.err for it in COMMANDS))
 
     def test_help(self):
         for words in ([], *([it.name] for it in COMMANDS)):
-            said = run(*words, "--help")
+            said = ask(*words, "--help")
             self.assertEqual((said.status, said.err), (0, ""))
             for status in Status:
                 self.assertRegex(said.out, rf"\n  {int(status)} +\w")
@@ -163,7 +164,7 @@ class Terminal(io.StringIO):
 
 class Progress(unittest.TestCase):
     def test_it_is_for_a_terminal_alone(self):
-        self.assertEqual(ask("ways", TOWER).err, "")
+        self.assertEqual(ask("ways", OFFICE).err, "")
 
     def test_a_count(self):
         with contextlib.redirect_stderr(Terminal()) as said, Count("ways", 3) as count:
