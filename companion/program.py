@@ -93,7 +93,7 @@ class Program:
                 printed = run.communicate(text)[0]
         finally:
             run.kill()
-        if run.returncode not in (Status.ANSWERED, Status.REFUSED, Status.WORDS) or not printed:
+        if run.returncode not in (Status.ANSWERED, Status.REFUSED, Status.WORDS):
             raise broken(run.returncode)
         return Ran(printed, run.returncode)
 
@@ -164,8 +164,10 @@ def broken(status: int) -> Stop:
 
 
 def find_program(given: Optional[str]) -> Program:
-    """The program that is named by --program or by EVACPLAN, or else the built one."""
+    """The program that is named by --program or by EVACPLAN, or else the built one, for which its script stands too."""
     named = given or os.environ.get("EVACPLAN")
+    if named and pathlib.Path(named).resolve() == TOP / "evacplan":
+        named = None  # (where nothing is built, the script answers after its input has ended, and so can't be talked to)
     path = pathlib.Path(named) if named else BUILT
     if path.is_file() and os.access(path, os.X_OK):
         return Program(path.resolve())

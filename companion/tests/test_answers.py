@@ -4,6 +4,7 @@ import io
 import re
 import unittest
 
+from companion.building import building_of
 from companion.tests.asking import EXAMPLES, OFFICE, SCHOOL, TOP, ask, edited, solved
 
 
@@ -163,6 +164,51 @@ class Wide(unittest.TestCase):
             said = ask("wide", OFFICE, *words)
             self.assertEqual((said.status, said.out, said.err.count("\n")), (1, "", 1))
             self.assertIn(wanted, said.err)
+
+
+class EveryExample(unittest.TestCase):
+    """The commands that the other tests ask about a few buildings alone."""
+
+    def test_the_rate_that_is_needed_is_enough_and_one_less_is_not(self):
+        for path in EXAMPLES:
+            building, opening = building_of(path.read_bytes()), solved(path.read_bytes(), "solve")
+            arc, cleared = next(iter(building.arcs.values())), number(opening, "cleared")
+            with self.subTest(path.name):
+                said = ask("wide", path, arc.tail, arc.head, building.seconds(cleared))
+                self.assertEqual((said.status, said.err), (0, ""))
+                rate = re.search(r"needs a rate of (\d+) ", said.lines[0])
+                least = int(rate[1]) if rate else 0
+                for tried in {least, max(0, least - 1)}:
+                    edited = ask("compare", path, "--edit", f"rate {arc.tail} {arc.head} {tried}").lines[2].split()
+                    is_in_time = edited[0] != "short" and int(edited[0]) <= cleared
+                    self.assertEqual(is_in_time, tried == least)
+
+    def test_lost_exits(self):
+        for path in EXAMPLES:
+            names = [it.name for it in building_of(path.read_bytes()).exits]
+            with self.subTest(path.name):
+                said = ask("talk", path, "--study", text="exits\n")
+                self.assertEqual((said.status, said.err, len(said.lines)), (0, "", 1 + len(names)))
+                compared = ask("compare", path, *(word for name in names for word in ("--edit", f"shutexit {name}")))
+                self.assertEqual((compared.status, compared.err), (0, ""))
+                for name, line, row in zip(names, said.lines[1:], compared.lines[2:]):
+                    wanted = re.match(rf"without {name}: (?:cleared (\d+)|at most (\d+) )", line)
+                    self.assertIn(wanted[1] or wanted[2], row.split()[:2])
+
+    def test_nothing_is_refused(self):
+        for path in EXAMPLES:
+            for mode in ("solve", "session", "study", "replan"):
+                said = ask("explain", path, mode)
+                self.assertEqual((said.status, said.out, said.err), (0, f"{mode} refuses nothing\n", ""))
+
+    def test_a_talk_undoes_what_it_did(self):
+        for path in EXAMPLES:
+            building = building_of(path.read_bytes())
+            node = building.rooms[0].name
+            for mode in ([], ["--replan"]):
+                said = ask("talk", path, *mode, text=f"room {node} 100000\nundo\ncut 0\nclearing\nsummary\n")
+                self.assertEqual((said.status, said.err), (0, ""))
+                self.assertTrue(said.lines[2].startswith(said.lines[0].replace("answer 0", "answer 2")))
 
 
 class Compare(unittest.TestCase):

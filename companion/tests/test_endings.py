@@ -81,6 +81,7 @@ class Endings(unittest.TestCase):
             settings = {name: value for name, value in os.environ.items() if name != "EVACPLAN"}
             ran = subprocess.run([sys.executable, f"{folder}/evacask", "summary", OFFICE], capture_output=True, text=True, env=settings)
             self.assertEqual((ran.returncode, ran.stdout, ran.stderr.count("\n")), (Status.NO_PROGRAM, "", 1))
+            self.assertEqual(subprocess.run([f"{folder}/evacask", "why", OFFICE, "--program", f"{folder}/evacplan"], capture_output=True, text=True).stderr, ran.stderr)
             self.assertIn("./build", ran.stderr)
             self.assertIn("./evacplan", ran.stderr)
             wrong = subprocess.run(
