@@ -66,7 +66,7 @@ leads_on w k e (m ∷ ms) met among = elim (cases_Bool (is_at e m.spot)) [
 ]
   where
     not_met : (has (spots (way_on w.site (stop_of w.site m.step) ms)) m.spot.node m.spot.moment ≡ true)
-            ⊎ (has (spots (way_on w.site (stop_of w.site m.step) ms)) m.spot.node m.spot.moment ≡ false)
+        ⊎ (has (spots (way_on w.site (stop_of w.site m.step) ms)) m.spot.node m.spot.moment ≡ false)
         → has (spots (way_on w.site (stop_of w.site m.step) ms)) m.spot.node m.spot.moment ≡ false
     not_met (inl h) = absurd (differs _ (way_has w.site (stop_of w.site m.step) ms m.spot.node m.spot.moment h) met.0.fresh)
     not_met (inr h) = h

@@ -17,7 +17,14 @@ use evac_law::Labels;
 use residual_net::{End, Net, PathStep, Place};
 
 // Meets the pair at which a step starts, if the step may be taken. Whether it is.
-fn meet(net: &Net, labels: &mut Labels, met: &mut Pile<Met>, spot: Spot, step: PathStep, k: u16) -> bool
+fn meet(
+    net: &Net,
+    labels: &mut Labels,
+    met: &mut Pile<Met>,
+    spot: Spot,
+    step: PathStep,
+    k: u16,
+) -> bool
     requires place { IsPlace net.now.site step.place }
     requires start { start_of net.now.site step ≡ Pair spot.node spot.moment }
     requires inside { IsOpenPair net.now.site spot.node spot.moment }
@@ -120,7 +127,14 @@ fn meet_after(net: &Net, labels: &mut Labels, met: &mut Pile<Met>, spot: Spot, k
 
 // Meets the pair to which an arc leads by which people leave a pair. A step by which somebody may be sent to that pair, if there is
 // one.
-fn meet_out(net: &Net, labels: &mut Labels, met: &mut Pile<Met>, arc: u32, moment: u16, k: u16) -> Option<PathStep>
+fn meet_out(
+    net: &Net,
+    labels: &mut Labels,
+    met: &mut Pile<Met>,
+    arc: u32,
+    moment: u16,
+    k: u16,
+) -> Option<PathStep>
     requires arc { IsArcAt net.now.site arc moment }
     requires stop { IsAmong k (spots met.old.list) (tail_of net.now.site (Arc arc moment)) }
     requires flooding { IsFlooding net.now labels.old k met.old }
@@ -145,7 +159,13 @@ fn meet_out(net: &Net, labels: &mut Labels, met: &mut Pile<Met>, arc: u32, momen
 
 // Meets the pairs to which the arcs lead by which people leave a pair. A step by which somebody may be sent to that pair, if there is
 // one.
-fn expand_out(net: &Net, labels: &mut Labels, met: &mut Pile<Met>, spot: Spot, k: u16) -> Option<PathStep>
+fn expand_out(
+    net: &Net,
+    labels: &mut Labels,
+    met: &mut Pile<Met>,
+    spot: Spot,
+    k: u16,
+) -> Option<PathStep>
     requires inside { IsOpenPair net.now.site spot.node spot.moment }
     requires met { IsTrue (has (spots met.old.list) spot.node spot.moment) }
     requires flooding { IsFlooding net.now labels.old k met.old }
@@ -166,7 +186,13 @@ fn expand_out(net: &Net, labels: &mut Labels, met: &mut Pile<Met>, spot: Spot, k
 }
 
 // Meets all pairs from which steps lead to a pair. A step by which somebody may be sent to it, if there is one.
-fn expand(net: &Net, labels: &mut Labels, met: &mut Pile<Met>, spot: Spot, k: u16) -> Option<PathStep>
+fn expand(
+    net: &Net,
+    labels: &mut Labels,
+    met: &mut Pile<Met>,
+    spot: Spot,
+    k: u16,
+) -> Option<PathStep>
     requires inside { IsOpenPair net.now.site spot.node spot.moment }
     requires met { IsTrue (has (spots met.old.list) spot.node spot.moment) }
     requires flooding { IsFlooding net.now labels.old k met.old }

@@ -20,7 +20,13 @@ use std::marker::Model;
 use std::sync::ledger::Ledger;
 
 // Whether everybody is sent and nobody can arrive sooner, where that is worth a look of its own.
-fn is_over(net: &Net, labels: &mut Labels, met: &mut Pile<Met>, finder: &mut PathFinder, k: u16) -> bool
+fn is_over(
+    net: &Net,
+    labels: &mut Labels,
+    met: &mut Pile<Met>,
+    finder: &mut PathFinder,
+    k: u16,
+) -> bool
     requires settled { IsSettledBelow net.now labels.old k }
     requires room { net.now.site.shape.nodes * (net.now.site.shape.horizon + 1) ≤ met.old.room }
     ensures over { IsTrue result → IsFloodOver net.now labels.old labels.new k }

@@ -8,8 +8,8 @@ pub returns-in-None : goal.returns-in-None
 returns-in-None c =
     let same = c.as_slice.ensures.value ∙ ap (λ r. r.windows.items) c.arc.ensures in
     let fault =
-        unwindow_none c.args.model.now c.args.arc c.args.from c.args.until
-        (ap (position (λ v. is_same_window v (window_of c.args.from c.args.until))) (sym same) ∙ sym c.place_of.ensures ∙ c.in-None.is) in
+    unwindow_none c.args.model.now c.args.arc c.args.from c.args.until
+    (ap (position (λ v. is_same_window v (window_of c.args.from c.args.until))) (sym same) ∙ sym c.place_of.ensures ∙ c.in-None.is) in
     record { answer = record { ok = tt; fault = fault; unchanged = refl } }
 
 pub returns-in-Some : goal.returns-in-Some
@@ -17,12 +17,12 @@ returns-in-Some c =
     let same = c.as_slice.ensures.value ∙ ap (λ r. r.windows.items) c.arc.ensures in
     record {
       answer =
-        record {
-          ok =
-            rw c.remove_window.ensures
-            (unwindow_some c.args.model.now c.args.arc c.args.from c.args.until c.in-Some.place
-            (ap (position (λ v. is_same_window v (window_of c.args.from c.args.until))) (sym same) ∙ sym c.place_of.ensures ∙ c.in-Some.is));
-          fault = tt;
-          unchanged = tt
-        }
+          record {
+            ok =
+                rw c.remove_window.ensures
+                (unwindow_some c.args.model.now c.args.arc c.args.from c.args.until c.in-Some.place
+                (ap (position (λ v. is_same_window v (window_of c.args.from c.args.until))) (sym same) ∙ sym c.place_of.ensures ∙ c.in-Some.is));
+            fault = tt;
+            unchanged = tt;
+          };
     }

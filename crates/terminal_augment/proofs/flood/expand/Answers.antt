@@ -64,10 +64,10 @@ returns-clause-found c =
     let from_b = grown_then k b d z ps qs zs c.meet_before.ensures.grown from_d in
     none_weaker c.expand_out.result _ _ _
     (λ leaving.
-        expanded_by w z k c.args.spot.node c.args.spot.moment c.requires.inside
-        (λ room. absurd (omega (arith, room, c.unsent.ensures, c.if-unsent-gt0.false)))
-        (λ i h. way_later w k b z ps zs _ from_b (c.expand_in.ensures.done i h))
-        (way_later w k d z qs zs _ from_d c.meet_before.ensures.done)
-        leaving
-        (done_later w k e z rs zs (record { place = Hold c.args.spot.node c.args.spot.moment; back = true }) from_e c.meet_after.ensures.done))
+    expanded_by w z k c.args.spot.node c.args.spot.moment c.requires.inside
+    (λ room. absurd (omega (arith, room, c.unsent.ensures, c.if-unsent-gt0.false)))
+    (λ i h. way_later w k b z ps zs _ from_b (c.expand_in.ensures.done i h))
+    (way_later w k d z qs zs _ from_d c.meet_before.ensures.done)
+    leaving
+    (done_later w k e z rs zs (record { place = Hold c.args.spot.node c.args.spot.moment; back = true }) from_e c.meet_after.ensures.done))
     c.expand_out.ensures.found
