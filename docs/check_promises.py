@@ -6,6 +6,7 @@
 - In DEFINITIONS.md each name must be defined in a file that its paragraph links.
 - In the tables of PROVED.md each name in the right column must be a definition, a function, a clause or a field of a crate of its section.
 - EDITS.md must have just the edits of each crate's must-fail/, and each name there must be in that crate, or be a definition.
+- In LAWS.md each block of definitions must stand so in the file that is linked last before it.
 - In every document each link must lead to a file, and to a heading of it.
 - The tables of codes and of statuses in FORMATS.md must have just the numbers of `Code` and of `Status`, and these have each number once.
 - The tables of names in DECISIONS.md must have just the names that two modules of definitions define, and the types of two crates.
@@ -119,6 +120,16 @@ def missing_rows(document):
             for place, name in enumerate(names):
                 if not is_named(texts, name, names[:place]) and not (name[0].isupper() and is_named(everywhere, name, [])):
                     yield f"{document.name}: no {name} in the row {row[:60]}"
+
+
+def missing_statements(document):
+    """Blocks of definitions in LAWS.md whose parts the file that is linked last before them doesn't have."""
+    before, *blocks = document.read_text().split("```antt\n")
+    for block in blocks:
+        shown, _, after = block.partition("\n```")
+        files = [text for text in (text_of(document, link) for link in LINK.findall(before)) if text]
+        yield from (f"{document.name}: no {part[:60]!r}" for part in shown.split("\n\n") if not files or part not in files[-1])
+        before += after
 
 
 def edits_of(document):
@@ -291,6 +302,7 @@ def main():
     missing += missing_promises(TOP / "docs/PROMISES.md")
     missing += missing_definitions(TOP / "docs/DEFINITIONS.md")
     missing += missing_rows(TOP / "docs/PROVED.md")
+    missing += missing_statements(TOP / "docs/LAWS.md")
     missing += wrong_edits(TOP / "docs/EDITS.md")
     missing += wrong_numbers("Code", "evac_law/specs/Codes.antt", "code_number", TOP / "docs/FORMATS.md")
     missing += wrong_numbers("Status", "talk/specs/Statuses.antt", "status_number", TOP / "docs/FORMATS.md")

@@ -1,40 +1,510 @@
 #!/usr/bin/env python3
-"""Tries on random buildings what the documents say was tried and isn't proved, and prints what it came to.
+"""Tries the laws of docs/LAWS.md on random buildings, and shows by a building that what is nearly one of them is false.
 
-    yardstick/tried.py [--program PATH] [--count N] [--seed N] [FILE.evac ..]
+    yardstick/tried.py [--program PATH] [--count N] [--seed N] [NAME ..]
 
-Of buildings whose rates never change with time and in which everybody is there at moment 0:
+A name is that of a law or of a near miss; without names all are tried. For a law N buildings are made that meet what it asks, planned, and compared
+with what it says. For a near miss one building is made, by the seed that LAWS.md names, and must go against it. Buildings are edited in a session
+where everybody gets out of them, and else as texts. Capacities are tried on the large buildings of `buildings.py` and on examples/ too.
 
-- with each capacity raised to 100,000, as many people are out by each period, and as many at most where not everybody gets out;
-- with the travel of one arc longer, nobody is out earlier.
-
-The buildings of `buildings.py`, those of examples/ that are of this kind, and files that are given are tried with the first. It is no part of
-any test. It prints each building that goes against it, and its status is 1 where one does.
+It is no part of any test. It prints each building that goes against a law, and each near miss that its building doesn't show to be false. Its
+status is 1 where there is one.
 """
 import argparse
+import copy
 import pathlib
 import random
 import subprocess
 import sys
+from dataclasses import dataclass, field
 
 sys.dont_write_bytecode = True
 import buildings
 
 TOP = pathlib.Path(__file__).resolve().parent.parent
+PROGRAM = TOP / "crates/evacplan/out/evacplan"
 
 
-def curve_of(program, lines):
-    """What `solve` says of the people out: by each period, or at most."""
-    ran = subprocess.run([program, "solve"], input="\n".join(lines).encode() + b"\n", capture_output=True)
+# ---- buildings
+
+
+@dataclass
+class Building:
+    """Rooms with capacity and start, exits, arcs with travel and rate; windows as (tail, head, from, until), entrants as (room, moment, people)."""
+
+    horizon: int
+    rooms: dict
+    exits: list
+    arcs: dict
+    windows: list = field(default_factory=list)
+    entrants: list = field(default_factory=list)
+
+    def lines(self):
+        lines = ["evacplan 2", "period 5", f"horizon {self.horizon}", "floor 1 Ground"]
+        lines += [f"node {name} {room} {start}" for name, (room, start) in self.rooms.items()]
+        lines += [f"node {name}" for name in self.exits]
+        lines += [f"arc {tail} {head} {travel} {rate}" for (tail, head), (travel, rate) in self.arcs.items()]
+        lines += [f"window {tail} {head} {first} {end}" for tail, head, first, end in self.windows]
+        return [*lines, *(f"entrant {room} {moment} {people}" for room, moment, people in self.entrants), "end"]
+
+    def people(self):
+        return sum(start for _, start in self.rooms.values()) + sum(people for _, _, people in self.entrants)
+
+    def has_room(self):
+        """Whether each room holds all who come into it from nowhere."""
+        return all(start + sum(it[2] for it in self.entrants if it[0] == name) <= room for name, (room, start) in self.rooms.items())
+
+    def rate_at(self, arc, moment):
+        closed = any((tail, head) == arc and first <= moment < end for tail, head, first, end in self.windows)
+        return 0 if closed else self.arcs[arc][1]
+
+
+def random_building(rng, windows=0, entrants=0, exits=2, room=2):
+    """A small building: rooms in a row with other arcs between them, some of which hold few people more than start there."""
+    count = rng.randint(1, 5)
+    names = [f"WP{number}.1" for number in range(1, count + 1)]
+    doors = [f"DS{number}.1" for number in range(1, rng.randint(1, exits) + 1)]
+    rooms = {}
+    for name in names:
+        start = rng.choice([0, rng.randint(1, 6)])
+        rooms[name] = [start + rng.randint(0, room), start]
+    pairs = {(name, rng.choice(names[at + 1 :] or doors)) for at, name in enumerate(names)}
+    for _ in range(rng.randint(0, 2 * count)):
+        tail, head = rng.choice(names), rng.choice(names + doors)
+        if tail != head:
+            pairs.add((tail, head))
+    arcs = {pair: [rng.randint(1, 3), rng.randint(1, 4)] for pair in sorted(pairs)}
+    made = Building(rng.randint(3, 14), rooms, doors, arcs)
+    for tail, head in rng.sample(sorted(pairs), min(len(pairs), rng.randint(0, windows))):
+        first = rng.randint(0, made.horizon)
+        made.windows.append((tail, head, first, first + rng.randint(1, 4)))
+    for name in rng.sample(names, min(count, rng.randint(0, entrants))):
+        made.entrants.append((name, rng.randint(1, made.horizon), rng.randint(1, 3)))
+    return made
+
+
+# ---- the program
+
+
+def run(words, lines):
+    ran = subprocess.run([str(PROGRAM), *words], input="\n".join(lines).encode() + b"\n", capture_output=True)
     said = ran.stdout.decode().split("\n")
-    if ran.returncode not in (0, 1) or said[0].startswith("refused") and not said[0].startswith("refused 22 "):
-        sys.exit(f"tried: the program ended with {ran.returncode}: {said[0]}")
-    return [line for line in said if line.startswith(("cleared ", "out ", "most "))]
+    if ran.returncode > 1 or said[0].startswith("refused") and not said[0].startswith("refused 22 "):
+        sys.exit("\n".join([*lines, f"tried: {' '.join(words)} ended with {ran.returncode}: {said[0]}"]))
+    return said
 
 
-def is_plain(lines):
-    """Whether rates never change with time, and everybody is there at moment 0."""
-    return not any(line.split()[0] in ("window", "entrant") for line in lines)
+def numbers_out(said, horizon):
+    """The people out by each moment up to the horizon, of an answer block."""
+    curve = [int(it.split()[2]) for it in said if it.startswith("out ")]
+    return (curve + curve[-1:] * (horizon + 1))[: horizon + 1]
+
+
+def clears(made):
+    return run(["solve"], made.lines())[0].startswith("answer")
+
+
+def most_out(made):
+    """The most people who can be out by each moment up to the horizon, where some plan is feasible.
+
+    A way that everybody may take to one exit more, and that ends after the horizon, changes no cut of a moment up to then. With it everybody gets
+    out, so one answer has all the numbers."""
+    longer = copy.deepcopy(made)
+    longer.horizon = 2 * made.horizon + 2
+    longer.exits.append("DS99.1")
+    longer.arcs.update({(name, "DS99.1"): [made.horizon + 1, 10_000] for name in made.rooms})
+    return numbers_out(run(["solve"], longer.lines()), made.horizon)
+
+
+def after(made, command, edited):
+    """The most people out by each moment after an edit: as a session says where everybody gets out before and after it, else of the edited text."""
+    said = run(["session"], [*made.lines(), command]) if clears(made) else []
+    at = said.index("answer 1") if "answer 1" in said else None
+    return most_out(edited) if at is None else numbers_out(said[at:], made.horizon)
+
+
+def edit(made, **changed):
+    """A building with other parts, the rest as it was."""
+    made = copy.deepcopy(made)
+    for part, value in changed.items():
+        setattr(made, part, value)
+    return made
+
+
+def with_room(made, name, room):
+    return edit(made, rooms={**made.rooms, name: [room, made.rooms[name][1]]})
+
+
+def with_start(made, name, start):
+    return edit(made, rooms={**made.rooms, name: [made.rooms[name][0], start]})
+
+
+def with_arc(made, arc, travel=None, rate=None):
+    return edit(made, arcs={**made.arcs, arc: [travel or made.arcs[arc][0], made.arcs[arc][1] if rate is None else rate]})
+
+
+def without_arcs(made, *closed):
+    return edit(made, arcs={arc: [travel, 0 if arc in closed else rate] for arc, (travel, rate) in made.arcs.items()})
+
+
+def without_exits(made, *lost):
+    return without_arcs(made, *(arc for arc in made.arcs if arc[1] in lost))
+
+
+def with_window(made, first, end, *arcs):
+    return edit(made, windows=[*made.windows, *((*arc, first, end) for arc in arcs)])
+
+
+def is_least(lower, upper, more=0):
+    """Whether one curve is nowhere above another one raised by a number."""
+    return all(one <= other + more for one, other in zip(lower, upper))
+
+
+# ---- the laws: None where the building isn't one that the law asks for, else whether it holds of it
+
+
+def best(rng):
+    """One plan has as many out by each moment as can be out by it at all."""
+    made = random_building(rng, windows=2)
+    made.horizon = max(made.horizon, 4)
+    shorter = edit(made, horizon=rng.randint(0, made.horizon))
+    return most_out(shorter) == most_out(made)[: shorter.horizon + 1]
+
+
+def most(rng):
+    """The number of a shortfall is how many can get out by the horizon, where some plan is feasible."""
+    made = random_building(rng, windows=2, entrants=2)
+    said = run(["solve"], made.lines())
+    if said[0].startswith("answer") or not made.has_room():
+        return None
+    return [int(it[5:]) for it in said if it.startswith("most ")] == most_out(made)[-1:]
+
+
+def capacities(rng):
+    """Without windows, and where each room holds all who come into it from nowhere, a capacity changes no number out."""
+    made = random_building(rng, entrants=1)
+    name = rng.choice(list(made.rooms))
+    room = made.rooms[name][1] + sum(it[2] for it in made.entrants if it[0] == name) + rng.randint(0, 5)
+    other = with_room(made, name, room)
+    if not made.has_room():
+        return None
+    return after(made, f"room {name} {room}", other) == most_out(made) and clears(made) == clears(other)
+
+
+def looser(rng):
+    """A larger rate or capacity, a window less, or an arc or exit opened: never fewer out."""
+    made = random_building(rng, windows=2, entrants=2)
+    name, arc = rng.choice(list(made.rooms)), rng.choice(list(made.arcs))
+    room, rate = made.rooms[name][0] + rng.randint(0, 3), made.arcs[arc][1] + rng.randint(0, 3)
+    kind = rng.choice(["room", "rate", "unwindow", "reopen"])
+    if kind == "room":
+        first, command, second = made, f"room {name} {room}", with_room(made, name, room)
+    elif kind == "rate":
+        first, command, second = made, f"rate {' '.join(arc)} {rate}", with_arc(made, arc, rate=rate)
+    elif kind == "unwindow" and made.windows:
+        first, command, second = made, f"unwindow {' '.join(map(str, made.windows[0]))}", edit(made, windows=made.windows[1:])
+    else:
+        first, command, second = without_arcs(made, arc), f"rate {' '.join(arc)} {made.arcs[arc][1]}", made
+    cleared = clears(first)
+    if not cleared and not first.has_room():
+        return None
+    return is_least(most_out(first), after(first, command, second)) and (clears(second) or not cleared)
+
+
+def people(rng):
+    """People who leave a room, come into one or are shifted: at most so many more or fewer out by each moment, and never the wrong way round."""
+    made = random_building(rng, windows=2, entrants=2)
+    name, other = rng.choice(list(made.rooms)), rng.choice(list(made.rooms))
+    count = rng.randint(1, 3)
+    room, start = made.rooms[name]
+    if start < count or not made.has_room() and not clears(made):
+        return None
+    fewer = with_start(made, name, start - count)
+    before, left = most_out(made), after(made, f"leave {name} {count}", fewer)
+    holds = is_least(left, before) and is_least(before, left, count) and (clears(fewer) or not clears(made))
+    back = after(fewer, f"enter {name} {count}", made)
+    holds = holds and back == before
+    if other != name and made.rooms[other][1] + count <= made.rooms[other][0]:
+        shifted = with_start(fewer, other, made.rooms[other][1] + count)
+        if shifted.has_room() or clears(shifted):
+            moved = after(made, f"shift {name} {other} {count}", shifted)
+            holds = holds and is_least(moved, before, count) and is_least(before, moved, count)
+    return holds
+
+
+def exits(rng):
+    """Two exits lost together keep inside at least as many as each alone, added up."""
+    made = random_building(rng, windows=2, entrants=2, exits=3)
+    if len(made.exits) < 2:
+        return None
+    one, other = rng.sample(made.exits, 2)
+    both = without_exits(made, one, other)
+    if not made.has_room() and not clears(both):
+        return None
+    alone = [after(made, f"shutexit {lost}", without_exits(made, lost)) for lost in (one, other)]
+    return all(a + b <= c + d for a, b, c, d in zip(most_out(made), most_out(both), *alone))
+
+
+def one_arc(rng):
+    """One arc with windows of w moments in all: by w moments later as many are out. Rates are steady else, and there is room."""
+    made = random_building(rng, entrants=1)
+    arc, held = rng.choice(list(made.arcs)), rng.randint(1, 2)
+    if not made.has_room():
+        return None
+    moments = sorted(rng.sample(range(made.horizon + 1), min(held * 2, made.horizon + 1)))
+    spans = [(first, first + 1) for first in moments[::2]]
+    closed, length = edit(made, windows=[(*arc, first, end) for first, end in spans]), len(spans)
+    curve = after(made, f"window {' '.join(arc)} {spans[0][0]} {spans[0][1]}", closed) if length == 1 else most_out(closed)
+    return is_least(most_out(made), curve[length:])
+
+
+def common_window(rng):
+    """Arcs that are closed in one common window, where each room holds everybody."""
+    made = random_building(rng, entrants=1)
+    made.rooms = {name: [made.people(), start] for name, (_, start) in made.rooms.items()}
+    first, length = rng.randint(0, made.horizon), rng.randint(1, 4)
+    closed = with_window(made, first, first + length, *rng.sample(list(made.arcs), rng.randint(1, len(made.arcs))))
+    return is_least(most_out(made), most_out(closed)[length:])
+
+
+def walking_time(made, width):
+    """The time that somebody needs at most who starts in a room, over arcs for so many people at once; none where there is no way."""
+    time = {name: 0 for name in made.exits}
+    for _ in made.rooms:
+        for (tail, head), (travel, rate) in made.arcs.items():
+            if rate >= width and head in time:
+                time[tail] = min(time.get(tail, 10_000), time[head] + travel)
+    needed = [time.get(name) for name, (_, start) in made.rooms.items() if start]
+    return None if not needed or None in needed else max(needed)
+
+
+def keeps_pace(made, width, longest):
+    """Whether from so long on so many more are out at each moment until all are, and nobody is left too late."""
+    curve, people = most_out(made), made.people()
+    grows = all(after == people or before + width <= after for before, after in zip(curve[max(longest - 1, 0) :], curve[max(longest, 1) :]))
+    return grows and all(it == people for at, it in enumerate(curve) if people <= width * (at + 1 - longest))
+
+
+def ways(rng):
+    """Where ways for r people are no longer than u, r come out at each moment from u on, until all are out."""
+    made, width = random_building(rng), rng.randint(1, 3)
+    longest = walking_time(made, width)
+    return None if longest is None else keeps_pace(made, width, longest)
+
+
+def never_falls(made, smallest, ahead=2, strict=True):
+    """Whether no fewer come out at a moment than at the one before, as long as fewer are out than start in any room with people."""
+    curve = most_out(made)
+    early = [at for at in range(len(curve) - 2) if (curve[at + ahead] < smallest if strict else curve[at + ahead] <= smallest)]
+    return all(2 * curve[at + 1] <= curve[at] + curve[at + 2] for at in early)
+
+
+def smallest_start(made):
+    return min([start for _, start in made.rooms.values() if start] or [0])
+
+
+def pace(rng):
+    """As long as fewer are out than start in any room with people, no fewer come out at a moment than at the one before."""
+    made = random_building(rng)
+    return never_falls(made, smallest_start(made)) if smallest_start(made) else None
+
+
+def travel(rng):
+    """A longer travel never lets more out, where rates are steady and there is room."""
+    made = random_building(rng, entrants=1)
+    arc = rng.choice(list(made.arcs))
+    if not made.has_room():
+        return None
+    return is_least(most_out(with_arc(made, arc, travel=made.arcs[arc][0] + rng.randint(1, 3))), most_out(made))
+
+
+def uncongested(rng):
+    """Those who meet nobody need no longer than all of them, where somebody is inside at moment 0."""
+    made = random_building(rng, windows=2, entrants=2)
+    said = run(["solve", "--reports"], made.lines())
+    if not said[0].startswith("answer") or not smallest_start(made):
+        return None
+    number = {it.split()[0]: int(it.split()[1]) for it in said if it.startswith(("cleared ", "uncongested "))}
+    return number["uncongested"] <= number["cleared"]
+
+
+LAWS = (best, most, capacities, looser, people, exits, one_arc, common_window, ways, pace, travel, uncongested)
+
+
+# ---- near misses: whether the building goes against one
+
+
+def unreached(rng):
+    """The number of a shortfall is reached, whether or not some plan is feasible."""
+    made = random_building(rng, entrants=2, room=0)
+    over = [it for it in made.entrants if it[2] > made.rooms[it[0]][0] + sum(rate for arc, (_, rate) in made.arcs.items() if arc[0] == it[0])]
+    said = run(["solve"], made.lines()) if over and not made.has_room() else []
+    return any(int(it[5:]) > 0 for it in said if it.startswith("most "))
+
+
+def other_room(rng, **kinds):
+    """The first numbers out that a capacity changes."""
+    made = random_building(rng, **kinds)
+    name = rng.choice(list(made.rooms))
+    other = with_room(made, name, made.rooms[name][0] + rng.randint(1, 4))
+    return clears(made) and most_out(made) != most_out(other)
+
+
+def capacities_window(rng):
+    """A capacity changes nothing, with a window."""
+    return other_room(rng, windows=1, room=0)
+
+
+def capacities_later(rng):
+    """A capacity changes nothing, where somebody comes later into a room that doesn't hold them."""
+    return other_room(rng, entrants=2, room=0)
+
+
+def shorter_travel(rng):
+    """A shorter travel lets no fewer out, with windows and small rooms."""
+    made = random_building(rng, windows=2, room=0)
+    arc = rng.choice(list(made.arcs))
+    return made.arcs[arc][0] > 1 and not is_least(most_out(made), most_out(with_arc(made, arc, travel=made.arcs[arc][0] - 1)))
+
+
+def clearing_of(made):
+    """When each room is empty, as the report on a plan says."""
+    said = run(["solve", "--reports"], made.lines())
+    rows = [it.split() for it in said[said.index("clearing 0") : said.index("bottlenecks 0")]]
+    return {row[1]: int(row[2]) if row[2].isdigit() else -1 for row in rows if row[0] == "node"}
+
+
+def emptied_sooner(rng):
+    """Where people leave a room, no room is empty later."""
+    made = random_building(rng)
+    name = rng.choice(list(made.rooms))
+    if not made.rooms[name][1] or not clears(made):
+        return False
+    before, left = clearing_of(made), clearing_of(with_start(made, name, made.rooms[name][1] - 1))
+    return any(left[room] > before[room] for room in before)
+
+
+def two_losses(rng, lost):
+    """The numbers out of a building, without each of two, and without both."""
+    made = random_building(rng, exits=3)
+    parts = made.exits if lost is without_exits else list(made.arcs)
+    if len(parts) < 2:
+        return None
+    one, other = rng.sample(parts, 2)
+    return made, [most_out(it) for it in (made, lost(made, one), lost(made, other), lost(made, one, other))]
+
+
+def two_arcs(rng):
+    """Two arcs that are shut together keep inside at least as many as each alone, added up."""
+    found = two_losses(rng, without_arcs)
+    return found is not None and any(m + both > one + other for m, one, other, both in zip(*found[1]))
+
+
+def at_most_both(rng):
+    """Two exits lost together keep inside at most as many as each alone, added up."""
+    found = two_losses(rng, without_exits)
+    return found is not None and any(m + both < one + other for m, one, other, both in zip(*found[1]))
+
+
+def moments_add_up(rng):
+    """Two exits lost together make it later by at least as much as each alone, added up."""
+    found = two_losses(rng, without_exits)
+    if found is None or any(curve[-1] < found[0].people() for curve in found[1]):
+        return False
+    m, one, other, both = (curve.index(found[0].people()) for curve in found[1])
+    return both - m < (one - m) + (other - m)
+
+
+def held_up(made, closed, length):
+    return not is_least(most_out(made), most_out(closed)[length:])
+
+
+def two_windows(rng):
+    """Two arcs that are closed for the same moment delay nobody by more than it, whatever the rooms hold."""
+    made = random_building(rng, room=0)
+    first = rng.randint(0, made.horizon)
+    return len(made.arcs) > 1 and held_up(made, with_window(made, first, first + 1, *rng.sample(list(made.arcs), 2)), 1)
+
+
+def window_again(rng):
+    """A window of an arc that has one already delays nobody by more than its length."""
+    made = random_building(rng)
+    arc, first = rng.choice(list(made.arcs)), rng.randint(1, made.horizon)
+    made = with_window(made, first, first + 3, arc)
+    return held_up(made, with_window(made, first - 1, first, arc), 1)
+
+
+def window_elsewhere(rng):
+    """A window of an arc delays nobody by more than its length, where another arc has one."""
+    made = random_building(rng, windows=1)
+    others = [arc for arc in made.arcs if made.windows and arc != made.windows[0][:2]]
+    first = rng.randint(0, made.horizon)
+    return bool(others) and held_up(made, with_window(made, first, first + 1, rng.choice(others)), 1)
+
+
+def off_pace(rng, sooner=0, **kinds):
+    """Whether fewer than r come out at some moment from u on."""
+    made, width = random_building(rng, **kinds), rng.randint(1, 3)
+    longest = walking_time(made, width)
+    return longest is not None and longest > sooner and not keeps_pace(made, width, longest - sooner)
+
+
+def ways_sooner(rng):
+    """r people come out at each moment from u - 1 on."""
+    return off_pace(rng, sooner=1)
+
+
+def ways_window(rng):
+    """r people come out at each moment from u on, with a window."""
+    return off_pace(rng, windows=1)
+
+
+def ways_later(rng):
+    """r people come out at each moment from u on until all are out, where somebody comes later."""
+    return off_pace(rng, entrants=1)
+
+
+def pace_at_most(rng):
+    """No fewer come out than at the moment before, as long as at most as many are out as start in any room with people."""
+    made = random_building(rng)
+    return smallest_start(made) > 0 and not never_falls(made, smallest_start(made), strict=False)
+
+
+def pace_before(rng):
+    """No fewer come out than at the moment before, as long as fewer were out by then than start in any room with people."""
+    made = random_building(rng)
+    return smallest_start(made) > 0 and not never_falls(made, smallest_start(made), ahead=1)
+
+
+def pace_window(rng):
+    """No fewer come out than at the moment before, with a window."""
+    made = random_building(rng, windows=1)
+    return smallest_start(made) > 0 and not never_falls(made, smallest_start(made))
+
+
+# each with the seed of a building that goes against it
+NEAR = {
+    unreached: 33,
+    capacities_window: 840,
+    capacities_later: 57,
+    shorter_travel: 524,
+    emptied_sooner: 65,
+    two_arcs: 1,
+    at_most_both: 4,
+    moments_add_up: 695,
+    two_windows: 241,
+    window_again: 6,
+    window_elsewhere: 883,
+    ways_sooner: 1,
+    ways_window: 121,
+    ways_later: 1,
+    pace_at_most: 1,
+    pace_before: 3,
+    pace_window: 186,
+}
+
+
+# ---- large buildings
 
 
 def roomy(lines):
@@ -43,70 +513,69 @@ def roomy(lines):
     return [" ".join([*it[:2], "100000", it[3]]) if it[:1] == ["node"] and len(it) == 4 else " ".join(it) for it in words]
 
 
-def slower(lines, rng):
-    """The building with the travel of one arc longer."""
-    words = [line.split() for line in lines]
-    arc = rng.choice([it for it in words if it[:1] == ["arc"]])
-    arc[3] = str(int(arc[3]) + rng.randint(1, 3))
-    return [" ".join(it) for it in words]
+def curve_of(lines):
+    """What `solve` says of the people out: by each period, or at most."""
+    return [line for line in run(["solve"], lines) if line.startswith(("cleared ", "out ", "most "))]
 
 
-def is_earlier(one, other):
-    """Whether somebody is out earlier by the second curve, or more are at all."""
-    if one[0].startswith("most") or other[0].startswith("most"):
-        return one[0].startswith("most") and (not other[0].startswith("most") or int(other[0][5:]) > int(one[0][5:]))
-    first, second = ([int(it.split()[2]) for it in curve[1:]] for curve in (one, other))
-    longest = max(len(first), len(second))
-    first, second = (it + it[-1:] * (longest - len(it)) for it in (first, second))
-    return any(b > a for a, b in zip(first, second))
+def large_buildings():
+    """Those of buildings.py and of examples/ in which rates never change with time and everybody is there at moment 0."""
+    large = {name: make().split("\n")[:-1] for name, make in buildings.ALL.items()}
+    for path in sorted((TOP / "examples").glob("*.evac")):
+        large[path.name] = [line for line in path.read_text().split("\n") if line.strip() and not line.startswith("#")]
+    return {name: lines for name, lines in large.items() if not any(line.split()[0] in ("window", "entrant") for line in lines)}
 
 
-def random_building(rng):
-    """A small building with narrow capacities. Some can't be cleared by their horizon."""
-    count = rng.randint(2, 14)
-    rooms = [f"{rng.choice(['WP', 'HA', 'SW', 'LO'])}{number}.1" for number in range(1, count + 1)]
-    exits = [f"DS{number}.1" for number in range(1, rng.randint(1, 3) + 1)]
-    lines = ["evacplan 1", "period 5", f"horizon {rng.choice([10, 20, 60, 120])}", "floor 1 Ground"]
-    for room in rooms:
-        start = rng.choice([0, rng.randint(1, 12)])
-        lines.append(f"node {room} {start + rng.randint(0, 2)} {start}")
-    lines += [f"node {it}" for it in exits]
-    pairs = {(room, rng.choice([it for it in rooms[at + 1 :]] or exits)) for at, room in enumerate(rooms)}
-    for _ in range(rng.randint(0, 2 * count)):
-        tail, head = rng.choice(rooms), rng.choice(rooms + exits)
-        if tail != head:
-            pairs.add((tail, head))
-    lines += [f"arc {tail} {head} {rng.randint(1, 4)} {rng.randint(1, 5)}" for tail, head in sorted(pairs)]
-    return [*lines, "end"]
+def large_capacities():
+    """The large buildings whose numbers out change with each capacity raised to the greatest."""
+    return [name for name, lines in large_buildings().items() if curve_of(lines) != curve_of(roomy(lines))]
+
+
+# ---- the whole
+
+
+def try_law(law, count, seed):
+    """How many of so many buildings that the law asks for go against it."""
+    against = made = 0
+    while made < count:
+        holds = law(random.Random(f"{law.__name__} {seed}"))
+        seed += 1
+        if holds is None:
+            continue
+        made += 1
+        if not holds:
+            against += 1
+            print(f"{law.__name__}: seed {seed - 1} goes against it")
+    print(f"{law.__name__}: {made} buildings, {against} against it")
+    return against
+
+
+def try_near(near):
+    """Whether the building of a near miss's seed fails to show that it is false."""
+    shown = near(random.Random(NEAR[near]))
+    print(f"{near.__name__}: {'false' if shown else 'NOT shown to be false'} by the building of seed {NEAR[near]}")
+    return not shown
 
 
 def main():
     parser = argparse.ArgumentParser(description=__doc__.split("\n")[0])
-    parser.add_argument("--program", default=str(TOP / "crates/evacplan/out/evacplan"))
-    parser.add_argument("--count", type=int, default=400)
+    parser.add_argument("--program", type=pathlib.Path, default=PROGRAM)
+    parser.add_argument("--count", type=int, default=2000)
     parser.add_argument("--seed", type=int, default=1)
-    parser.add_argument("files", nargs="*", type=pathlib.Path)
+    parser.add_argument("names", nargs="*", metavar="NAME")
     given = parser.parse_args()
-    rng, against, short = random.Random(given.seed), 0, 0
-    for number in range(given.count):
-        lines = random_building(rng)
-        one = curve_of(given.program, lines)
-        short += one[0].startswith("most")
-        for what, other in (("capacities", curve_of(given.program, roomy(lines))), ("travel", curve_of(given.program, slower(lines, rng)))):
-            if one != other if what == "capacities" else is_earlier(one, other):
-                against += 1
-                print(f"building {number} goes against it by its {what}:", *lines, sep="\n")
-    large = {name: make().split("\n")[:-1] for name, make in buildings.ALL.items()}
-    for path in [*sorted((TOP / "examples").glob("*.evac")), *given.files]:
-        lines = [line for line in path.read_text().split("\n") if line.strip() and not line.startswith("#")]
-        large[path.name] = lines
-    large = {name: lines for name, lines in large.items() if is_plain(lines)}
-    for name, lines in large.items():
-        if curve_of(given.program, lines) != curve_of(given.program, roomy(lines)):
-            against += 1
-            print(f"{name} goes against it by its capacities")
-    print(f"{given.count} random buildings, {short} of which can't be cleared, and {', '.join(large)}: {against} go against it")
-    return 1 if against else 0
+    globals()["PROGRAM"] = given.program
+    known = {it.__name__ for it in (*LAWS, *NEAR)}
+    if not set(given.names) <= known:
+        parser.error(f"a name is one of {', '.join(sorted(known))}")
+    wanted = given.names or known
+    bad = sum(try_law(law, given.count, given.seed) for law in LAWS if law.__name__ in wanted)
+    bad += sum(try_near(near) for near in NEAR if near.__name__ in wanted)
+    if "capacities" in wanted:
+        changed = large_capacities()
+        print(f"capacities: {len(large_buildings())} large buildings and examples, {len(changed)} against it", *changed)
+        bad += len(changed)
+    return 1 if bad else 0
 
 
 if __name__ == "__main__":
