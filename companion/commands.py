@@ -8,7 +8,7 @@ from typing import ContextManager, Optional
 from companion.building import is_number, near
 from companion.briefly import Briefly
 from companion.codes import accepted, cleared_by
-from companion.compare import compare_lines, edited_scenario
+from companion.compare import compare_lines, edited_scenario, edits_of
 from companion.doubts import doubts, doubts_lines
 from companion.ending import Status, Stop
 from companion.explain import MODES, code_lines, explained
@@ -89,10 +89,12 @@ def run_wide(given: Namespace) -> int:
 
 
 def run_compare(given: Namespace) -> int:
+    edits = [edits_of(words) for words in given.edit]
     it, scenarios = Asked(given), []
-    for other, edits in [(it, ""), *((Asked(given, name), "") for name in given.others), *((it, edits) for edits in given.edit)]:
-        with other.talk() as talk:
-            scenarios.append(edited_scenario(talk, other.building, other.name, edits))
+    others = [Asked(given, name) for name in given.others]
+    for asked, wanted in [(it, []), *((other, []) for other in others), *((it, some) for some in edits)]:
+        with asked.talk() as talk:
+            scenarios.append(edited_scenario(talk, asked.building, asked.name, wanted))
     show(compare_lines(scenarios))
     return Status.ANSWERED
 

@@ -4,9 +4,10 @@ from __future__ import annotations
 from dataclasses import dataclass
 from typing import List, Optional, Tuple
 
-from companion.building import Building
+from companion.building import Building, fields_of
 from companion.codes import cleared_by, refusal
 from companion.ending import Status, Stop
+from companion.forms import EDITS, LINE_LIMIT
 from companion.printed import table
 from companion.program import Reply, Talk
 
@@ -38,17 +39,24 @@ def scenario_of(name: str, building: Building, block: Reply, report: Optional[Re
     return Scenario(name, building.period, people, people, block.number("cleared"), report.number("personperiods"), curve)
 
 
-def edited_scenario(talk: Talk, building: Building, name: str, edits: str) -> Scenario:
-    """The building of a session after some edits with `;` between them, made one after the other."""
-    reply, wanted = talk.opening, [edit.strip() for edit in edits.split(";") if edit.strip()]
-    for at, edit in enumerate(wanted):
-        cleared_by(reply, wanted[at - 1] if at else name)
+def edits_of(words: str) -> List[str]:
+    """The edits that some words name, with `;` between them."""
+    edits = [edit.strip() for edit in words.split(";")]
+    for edit in edits:
+        if next(iter(fields_of(edit)), "") not in EDITS or not edit.isprintable() or len(edit) > LINE_LIMIT:
+            raise Stop(f"{edit or 'nothing'} is no edit: an edit begins with {', '.join(EDITS)}", Status.WORDS)
+    return edits
+
+
+def edited_scenario(talk: Talk, building: Building, name: str, edits: List[str]) -> Scenario:
+    """The building of a session after some edits, made one after the other."""
+    reply = talk.opening
+    for at, edit in enumerate(edits):
+        cleared_by(reply, edits[at - 1] if at else name)
         reply = talk.ask(edit)
         if reply.code and not reply.is_short:
             raise Stop(f"{edit}: {refusal(reply, is_command=True)}", Status.REFUSED)
-        if reply.word not in ("answer", "refused"):
-            raise Stop(f"{edit}: that is no edit, and changes nothing", Status.WORDS)
-    return scenario_of(edits or name, building, reply, None if reply.is_short else talk.ask("summary"))
+    return scenario_of("; ".join(edits) or name, building, reply, None if reply.is_short else talk.ask("summary"))
 
 
 def compare_lines(scenarios: List[Scenario]) -> List[str]:

@@ -24,7 +24,7 @@ def main(words: Optional[Sequence[str]] = None) -> int:
         return status
     except Stop as stop:
         status = stop.status
-        said = f"evacask: {stop}"
+        said = f"evacask: {' '.join(str(stop).split())}"
     except KeyboardInterrupt:
         status, said = Status.INTERRUPTED, "evacask: interrupted"
     except BrokenPipeError:

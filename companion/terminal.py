@@ -2,43 +2,16 @@
 from __future__ import annotations
 
 import sys
-from typing import Dict, Iterator, List
+from typing import Iterator, List
 
 from companion.briefly import Briefly
 from companion.building import Building, fields_of
 from companion.ending import Status
+from companion.forms import COMMANDS, LINE_LIMIT, OF_ARCS
 from companion.printed import show
 from companion.program import Talk
 
-LINE_LIMIT = 200
-# The commands of a session with what follows them: nodes A and B, an exit D, numbers in small letters.
-SESSION = {
-    "shut": "A B",
-    "reopen": "A B",
-    "shutexit": "D",
-    "openexit": "D",
-    "rate": "A B n",
-    "room": "A n",
-    "shift": "A B n",
-    "enter": "A n",
-    "leave": "A n",
-    "window": "A B p q",
-    "unwindow": "A B p q",
-    "undo": "",
-    "cut": "k",
-    "routes": "",
-    "clearing": "",
-    "bottlenecks": "",
-    "summary": "",
-    "work": "",
-}
-COMMANDS: Dict[str, Dict[str, str]] = {
-    "session": SESSION,
-    "study": {"exits": "", "least": "A B k"},
-    "replan": {**SESSION, "advance": "p"},
-}
 OWN_WORDS = {"whole": "prints the last reply whole", "help": "prints these lines", "quit": "ends, as Ctrl-D does"}
-OF_ARCS = ("shut", "reopen", "rate", "window", "unwindow", "least")
 
 
 def candidates(building: Building, mode: str, before: List[str]) -> List[str]:

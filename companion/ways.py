@@ -133,7 +133,7 @@ def tried(talk: Talk, edits: Sequence[str]) -> Outcome:
     made, reply = 0, talk.opening
     for edit in edits:
         reply = talk.ask(edit)
-        if reply.code:
+        if reply.is_short:
             break
         made += 1
     outcome = outcome_of(reply)

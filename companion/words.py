@@ -59,7 +59,7 @@ class Command:
 def number(text: str) -> int:
     """A number without a sign."""
     if not re.fullmatch(r"[0-9]{1,9}", text):
-        raise ArgumentTypeError(f"{text} is no whole number")
+        raise ArgumentTypeError(f"{text} is no whole number of at most nine digits")
     return int(text)
 
 
@@ -67,6 +67,13 @@ def period(text: str) -> int:
     """The seconds of a period."""
     if not 1 <= number(text) <= 600:
         raise ArgumentTypeError(f"{text} is no period: 1 to 600 seconds")
+    return int(text)
+
+
+def rate(text: str) -> int:
+    """The rate of an arc: people a period."""
+    if number(text) > commands.ANY_RATE:
+        raise ArgumentTypeError(f"{text} is no rate: 0 to {commands.ANY_RATE:,} people a period")
     return int(text)
 
 
@@ -88,7 +95,7 @@ COMMANDS = (
         "One session tries them all. What costs most comes first.",
         (
             BUILDING,
-            argument("--rate", type=number, metavar="N", help="try this rate, and not any rate"),
+            argument("--rate", type=rate, metavar="N", help="try this rate, and not any rate"),
             argument("--csv", action="store_true", help="print all ways, for a spreadsheet"),
         ),
     ),

@@ -229,7 +229,13 @@ class Compare(unittest.TestCase):
             ("shut DS2.1", "refused 5"),
             ("shut LO1.1 SW1.2", "refused 32"),
             ("shutexit DS1.1; shut HA1.3 SW1.3", "can be out by the horizon"),
-            ("summary", "no edit"),
+            ("summary", "summary is no edit"),
+            ("undo", "undo is no edit"),
+            ("# nothing", "is no edit"),
+            ("", "nothing is no edit"),
+            ("shutexit DS2.1;", "nothing is no edit"),
+            ("shutexit DS2.1\nshutexit DS1.1", "is no edit"),
+            (f"shutexit {'D' * 200}", "is no edit"),
         ):
             said = ask("compare", OFFICE, "--edit", edit)
             self.assertEqual((said.out, said.err.count("\n")), ("", 1), said.err)

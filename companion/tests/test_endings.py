@@ -43,6 +43,8 @@ class Endings(unittest.TestCase):
             (["talk", "-"], "must be a file"),
             (["talk", OFFICE, "--study", "--replan"], "--study"),
             (["metres", OFFICE, "--period", "0"], "0 is no period"),
+            (["ways", OFFICE, "--rate", "10001"], "10001 is no rate"),
+            (["why", OFFICE, "1234567890"], "at most nine digits"),
             (["metres", OFFICE, "--period", "2", "--period", "3"], "--both"),
         ):
             with self.subTest(words):
