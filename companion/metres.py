@@ -2,13 +2,14 @@
 from __future__ import annotations
 
 import math
+import re
 from dataclasses import dataclass
-from typing import Iterator, List, Optional, Tuple
+from typing import Callable, Dict, Iterator, List, Optional, Tuple
 
 from companion.building import fields_of, is_number, lines_of
 from companion.codes import accepted
 from companion.ending import Status, Stop
-from companion.passages import DOOR, GREATEST_FLOWS, LEAF, LEVEL, SIDES, free_speed, speed
+from companion.passages import DOOR, GREATEST_FLOWS, LEAF, LEVEL, SIDES, STAIRS, free_speed, speed
 from companion.printed import OWN, table
 from companion.program import Program
 
@@ -54,44 +55,57 @@ class Fault(Exception):
     """What is wrong about a line of a plan."""
 
 
-def parts_of(words: List[str]) -> Iterator[Part]:
-    """The parts that the words of a way name."""
-    rest = iter(words)
+class Rest:
+    """The words that are left of a way."""
 
-    def length() -> float:
-        word = next(rest, None)
+    def __init__(self, words: List[str]):
+        self.words = iter(words)
+
+    def number(self) -> float:
+        """The next word as a number of metres or people, above 0."""
+        word = next(self.words, None)
         if word is None:
             raise Fault("a number is missing at its end")
-        try:
-            value = float(word)
-        except ValueError:
-            raise Fault(f"{word} is no number") from None
-        if not 0 < value < 10_000:
+        if not re.fullmatch(r"[0-9]{1,4}(\.[0-9]{1,9})?", word):
+            raise Fault(f"{word} is no number up to 9999, with a point where it has a fraction")
+        if not float(word):
             raise Fault(f"{word} is out of its range")
-        return value
+        return float(word)
 
-    for word in rest:
-        if word == "free":
-            yield Part(LEVEL, length())
-        elif word == "level":
-            yield passage(LEVEL, length(), length())
-        elif word == "stair":
-            metres, width, kind = length(), length(), next(rest, "")
-            if kind not in GREATEST_FLOWS or kind == LEVEL:
-                raise Fault(f"a stair needs its riser/tread, one of {', '.join(it for it in GREATEST_FLOWS if it != LEVEL)}")
-            yield passage(kind, metres, width)
-        elif word == "escalator":
-            yield Part(LEVEL, length(), pace=length(), most=length())
-        elif word == "door":
-            yield Part(LEVEL, most=GREATEST_FLOWS[LEVEL] * wide_enough(length() - DOOR))
-        elif word == "leaves":
-            yield Part(LEVEL, most=LEAF * length())
-        elif word == "people":
-            yield Part(LEVEL, held=length())
-        elif word == "comes":
-            yield Part(LEVEL, comes=length())
-        else:
-            raise Fault(f"{word} is no part of a way: they are free, level, stair, escalator, door, leaves, people, comes")
+    def count(self) -> float:
+        """The next word as a whole number."""
+        number = self.number()
+        if number != int(number):
+            raise Fault(f"{number} is no whole number")
+        return number
+
+    def stair(self) -> Part:
+        """A stair, by the next three words."""
+        length, width, kind = self.number(), self.number(), next(self.words, "")
+        if kind not in STAIRS:
+            raise Fault(f"a stair needs its riser/tread, one of {', '.join(STAIRS)}")
+        return passage(kind, length, width)
+
+
+PART_OF: Dict[str, Callable[[Rest], Part]] = {
+    "free": lambda rest: Part(LEVEL, rest.number()),
+    "level": lambda rest: passage(LEVEL, rest.number(), rest.number()),
+    "stair": Rest.stair,
+    "escalator": lambda rest: Part(LEVEL, rest.number(), pace=rest.number(), most=rest.number()),
+    "door": lambda rest: Part(LEVEL, most=GREATEST_FLOWS[LEVEL] * wide_enough(rest.number() - DOOR)),
+    "leaves": lambda rest: Part(LEVEL, most=LEAF * rest.count()),
+    "people": lambda rest: Part(LEVEL, held=rest.number()),
+    "comes": lambda rest: Part(LEVEL, comes=rest.number()),
+}
+
+
+def parts_of(words: List[str]) -> Iterator[Part]:
+    """The parts that the words of a way name."""
+    rest = Rest(words)
+    for word in rest.words:
+        if word not in PART_OF:
+            raise Fault(f"{word} is no part of a way: they are {', '.join(PART_OF)}")
+        yield PART_OF[word](rest)
 
 
 def passage(kind: str, length: float, clear: float) -> Part:

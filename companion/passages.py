@@ -8,6 +8,7 @@ LEVEL = "level"
 PACES = {LEVEL: 1.40, "191/254": 1.00, "178/279": 1.08, "165/305": 1.16, "165/330": 1.23}
 A = 0.266
 GREATEST_FLOWS = {LEVEL: 1.30, "191/254": 0.94, "178/279": 1.01, "165/305": 1.09, "165/330": 1.16}
+STAIRS = [kind for kind in PACES if kind != LEVEL]
 # Both boundary layers of a way, and of a door.
 SIDES = {kind: 0.40 if kind == LEVEL else 0.30 for kind in PACES}
 DOOR = 0.30

@@ -6,7 +6,7 @@ from typing import List
 
 from companion.building import Arc, Building
 from companion.ending import Status, Stop
-from companion.passages import DOOR, GREATEST_FLOWS, LEAF, LEVEL, SIDES
+from companion.passages import DOOR, GREATEST_FLOWS, LEAF, LEVEL, SIDES, STAIRS
 from companion.printed import OWN, some, table
 from companion.program import Reply
 
@@ -45,7 +45,7 @@ def short_of(reply: Reply) -> int:
 def widths(rate: int, period: int) -> List[str]:
     """The clear widths that let so many people through in a period, by the figures of docs/FIGURES.md."""
     rows = [["door held open", centimetres(rate, period, LEVEL, DOOR)], ["corridor or ramp", centimetres(rate, period, LEVEL, SIDES[LEVEL])]]
-    rows += [[f"stair {kind}", centimetres(rate, period, kind, SIDES[kind])] for kind in GREATEST_FLOWS if kind != LEVEL]
+    rows += [[f"stair {kind}", centimetres(rate, period, kind, SIDES[kind])] for kind in STAIRS]
     rows.append(["door not held open", leaves_text(rate, period)])
     need = f"{some(rate, 'person needs', 'people need')} a clear width, in {period} s, of:"
     return [f"{OWN}, by docs/FIGURES.md. {need}", *("  " + line for line in table(rows, "ll"))]

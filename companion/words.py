@@ -122,7 +122,8 @@ COMMANDS = (
         "compare",
         commands.run_compare,
         "buildings, or a building and edits of it, side by side",
-        "An edit is a line of a session, as 'shut A B' or 'rate A B 9'. Each --edit is a line of the table; several edits in one have ; between them.",
+        "An edit is a line of a session, as 'shut A B' or 'rate A B 9'. Each --edit is a line of the table.\n"
+        "Several edits in one have ; between them.",
         (
             BUILDING,
             argument("others", metavar="OTHER", nargs="*", help="another building"),
@@ -181,7 +182,7 @@ COMMANDS = (
             argument("plan", metavar="PLAN", help="a file with a plan, or - for standard input"),
             argument("--period", type=period, action="append", default=[], metavar="N", help="a period of N seconds, and not that of the plan"),
             [
-                argument("--down", dest="rounding", action="store_const", const="down", default="down", help="rates down, travels up: so it is without a word"),
+                argument("--down", dest="rounding", action="store_const", const="down", default="down", help="rates down, travels up, as without a word"),
                 argument("--up", dest="rounding", action="store_const", const="up", help="rates up, travels down"),
                 argument("--both", dest="rounding", action="store_const", const="both", help="the answers of both, for each --period, in a table"),
             ],

@@ -83,7 +83,8 @@ class Endings(unittest.TestCase):
             settings = {name: value for name, value in os.environ.items() if name != "EVACPLAN"}
             ran = subprocess.run([sys.executable, f"{folder}/evacask", "summary", OFFICE], capture_output=True, text=True, env=settings)
             self.assertEqual((ran.returncode, ran.stdout, ran.stderr.count("\n")), (Status.NO_PROGRAM, "", 1))
-            self.assertEqual(subprocess.run([f"{folder}/evacask", "why", OFFICE, "--program", f"{folder}/evacplan"], capture_output=True, text=True).stderr, ran.stderr)
+            by_script = [f"{folder}/evacask", "why", OFFICE, "--program", f"{folder}/evacplan"]
+            self.assertEqual(subprocess.run(by_script, capture_output=True, text=True).stderr, ran.stderr)
             self.assertIn("./build", ran.stderr)
             self.assertIn("./evacplan", ran.stderr)
             wrong = subprocess.run(
@@ -98,7 +99,11 @@ class Endings(unittest.TestCase):
                 self.assert_one_line(run("summary", OFFICE, EVACPLAN=name), Status.NO_PROGRAM, "is it evacplan")
 
     def test_the_program_breaks_off(self):
-        for ends, status, wanted in (("exit 5", Status.MEMORY, "no memory"), ("kill -9 $$", Status.NO_PROGRAM, "SIGKILL"), ("exit 0", Status.NO_PROGRAM, "broke off")):
+        for ends, status, wanted in (
+            ("exit 5", Status.MEMORY, "no memory"),
+            ("kill -9 $$", Status.NO_PROGRAM, "SIGKILL"),
+            ("exit 0", Status.NO_PROGRAM, "broke off"),
+        ):
             with tempfile.TemporaryDirectory() as folder, self.subTest(ends):
                 stand_in = pathlib.Path(folder, "program")
                 stand_in.write_text(f'#!/bin/sh\n[ "$1" != upgrade ] || exec {program()} upgrade\n{ends}\n')
@@ -155,7 +160,8 @@ class Endings(unittest.TestCase):
     def test_closed_streams(self):
         for closed, wanted in (("<&-", Status.INPUT), (">&-", Status.OUTPUT), ("2>&-", Status.OUTPUT)):
             with self.subTest(closed):
-                ran = subprocess.run(["sh", "-c", f'exec "$@" {closed}', "sh", *EVACASK, "summary", "-"], capture_output=True, stdin=subprocess.DEVNULL)
+                command = ["sh", "-c", f'exec "$@" {closed}', "sh", *EVACASK, "summary", "-"]
+                ran = subprocess.run(command, capture_output=True, stdin=subprocess.DEVNULL)
                 self.assertEqual(ran.returncode, wanted)
                 self.assertEqual(ran.stderr.count(b"can't be "), 0 if closed == "2>&-" else 1)
 

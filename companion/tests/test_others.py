@@ -121,8 +121,10 @@ class Metres(unittest.TestCase):
             ("way A B level 5", "a number is missing"),
             ("way A B level 5 0.4", "no wider than its boundary layers"),
             ("way A B level x 2", "x is no number"),
-            ("way A B level -5 2", "out of its range"),
-            ("way A B level nan 2", "out of its range"),
+            ("way A B level -5 2", "-5 is no number"),
+            ("way A B level 5 2,40", "2,40 is no number up to 9999, with a point"),
+            ("way A B level 0.0 2", "out of its range"),
+            ("way A B leaves 1.5", "no whole number"),
             ("way A B stair 5 1.2 180/280", "a stair needs its riser/tread"),
             ("way A B lift 3", "lift is no part of a way"),
             ("arc A B 1 2", "an arc has no metres"),
@@ -158,7 +160,11 @@ class Explain(unittest.TestCase):
         self.assertEqual(said[-1], "    `arc FROM TO TRAVEL RATE`: travel 1 to 600, rate 0 to 10,000")
         said = ask("explain", "-", text=changed("node LO1.1 40 0", "node LO1.1", OFFICE.read_text())).lines
         self.assertEqual([line.partition(":")[0] for line in said[-2:]], ["    `node NAME CAPACITY START`", "    `node NAME`"])
-        for mode, line, form in (("session", "rate LO1.1 DS1.1", "`rate A B n`"), ("study", "least LO1.1", "`least A B K`"), ("replan", "advance", "`advance p`")):
+        for mode, line, form in (
+            ("session", "rate LO1.1 DS1.1", "`rate A B n`"),
+            ("study", "least LO1.1", "`least A B K`"),
+            ("replan", "advance", "`advance p`"),
+        ):
             self.assertEqual(ask("explain", "-", mode, text=OFFICE.read_text() + line + "\n").lines[-1], f"    {form}")
 
     def test_a_meaning_that_depends_on_the_place(self):
@@ -252,7 +258,8 @@ class TalkAtATerminal(unittest.TestCase):
             self.skipTest("no pseudo-terminal, or no readline")
         child, self.terminal = pty.fork()
         if not child:
-            os.execve(sys.executable, [sys.executable, "-B", str(TOP / "evacask"), "talk", str(OFFICE)], {**os.environ, "TERM": "dumb", "EVACPLAN": program()})
+            settings = {**os.environ, "TERM": "dumb", "EVACPLAN": program()}
+            os.execve(sys.executable, [sys.executable, "-B", str(TOP / "evacask"), "talk", str(OFFICE)], settings)
         self.child, self.said = child, ""
 
     def tearDown(self):
