@@ -1,7 +1,7 @@
 """The lines that a session, a study and a replan answer, and what follows their first words."""
 from typing import Dict
 
-# Nodes A and B, an exit D, and numbers in small letters.
+# Nodes A and B, an exit D, and numbers by other letters.
 EDITS = {
     "shut": "A B",
     "reopen": "A B",
@@ -18,7 +18,7 @@ EDITS = {
 SESSION = {**EDITS, "undo": "", "cut": "k", "routes": "", "clearing": "", "bottlenecks": "", "summary": "", "work": ""}
 COMMANDS: Dict[str, Dict[str, str]] = {
     "session": SESSION,
-    "study": {"exits": "", "least": "A B k"},
+    "study": {"exits": "", "least": "A B K"},
     "replan": {**SESSION, "advance": "p"},
 }
 # Of these A and B are the ends of an arc.

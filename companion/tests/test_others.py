@@ -9,6 +9,8 @@ import time
 import unittest
 
 from companion.building import building_of
+from companion.codes import rows
+from companion.forms import COMMANDS
 from companion.metres import building_text
 from companion.terminal import candidates
 from companion.tests.asking import EXAMPLES, OFFICE, SCHOOL, TOP, ask, changed, program, solved
@@ -147,6 +149,11 @@ class Explain(unittest.TestCase):
             said = ask("explain", code)
             self.assertEqual((said.status, said.err), (0, ""))
             self.assertGreaterEqual(len(said.lines), 3)
+
+    def test_the_forms_of_commands_are_those_of_formats(self):
+        for mode, place in (("session", ("The session", "Command")), ("study", ("The study", "Line"))):
+            cells = " ".join(cells[0] for *there, cells in rows() if tuple(there) == place)
+            self.assertEqual(dict(re.findall(r"`([a-z]+)(?: ([^`]*))?`", cells)), {**COMMANDS[mode], "quit": ""})
 
     def test_words(self):
         self.assertIn("line 33 of the input", ask("explain", 13, 33).lines[0])
