@@ -9,6 +9,8 @@ from typing import Union
 
 from companion.main import main
 
+# The seconds after which something hangs; a machine with much else to do is slow.
+PATIENCE = 300
 TOP = pathlib.Path(__file__).resolve().parent.parent.parent
 EXAMPLES = sorted((TOP / "examples").glob("*.evac"))
 OFFICE, SCHOOL, METRO, TOWER = (TOP / f"examples/{name}.evac" for name in ("office", "school", "metro", "tower"))
@@ -48,7 +50,7 @@ def ask(*words: object, text: Union[str, bytes] = "") -> Ended:
 def run(*words: object, text: bytes = b"", **settings: str) -> Ended:
     """Runs evacask as a command, with settings of the environment beside those that are there."""
     command = [sys.executable, "-B", str(TOP / "evacask"), *(str(word) for word in words)]
-    ran = subprocess.run(command, input=text, capture_output=True, env={**os.environ, **settings}, timeout=120)
+    ran = subprocess.run(command, input=text, capture_output=True, env={**os.environ, **settings}, timeout=PATIENCE)
     return Ended(ran.returncode, ran.stdout.decode("utf-8", "surrogateescape"), ran.stderr.decode("utf-8", "surrogateescape"))
 
 
@@ -59,7 +61,7 @@ def program() -> str:
 
 def solved(text: bytes, *words: str) -> str:
     """What the program itself prints."""
-    return subprocess.run([program(), *words], input=text, capture_output=True, timeout=120).stdout.decode("utf-8", "surrogateescape")
+    return subprocess.run([program(), *words], input=text, capture_output=True, timeout=PATIENCE).stdout.decode("utf-8", "surrogateescape")
 
 
 def changed(old: str, new: str, text: str) -> str:

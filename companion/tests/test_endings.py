@@ -14,7 +14,7 @@ import unittest
 
 from companion.ending import Status
 from companion.progress import Count, Patience
-from companion.tests.asking import OFFICE, TOP, TOWER, ask, program, run
+from companion.tests.asking import OFFICE, PATIENCE, TOP, TOWER, ask, program, run
 from companion.words import COMMANDS
 
 EVACASK = [sys.executable, "-B", str(TOP / "evacask")]
@@ -123,7 +123,7 @@ class Endings(unittest.TestCase):
                 asked = start(*words)
                 asked.stdout.close()
                 with asked.stderr:
-                    self.assertEqual((asked.wait(60), asked.stderr.read()), (Status.CLOSED_PIPE, b""))
+                    self.assertEqual((asked.wait(PATIENCE), asked.stderr.read()), (Status.CLOSED_PIPE, b""))
 
     @unittest.skipUnless(os.path.exists("/dev/full"), "no /dev/full")
     def test_a_full_disk(self):
@@ -138,17 +138,17 @@ class Endings(unittest.TestCase):
             slow.write_text(f'#!/bin/sh\n[ "$1" != upgrade ] || exec {program()} upgrade\necho $$ >{began}\nexec sleep 60\n')
             slow.chmod(0o755)
             asked = start("why", OFFICE, "--program", slow)
-            end = time.monotonic() + 30
+            end = time.monotonic() + PATIENCE
             while not (began.exists() and began.read_text()) and time.monotonic() < end:
                 time.sleep(0.02)
             asked.send_signal(signal.SIGINT)
-            said = asked.communicate(timeout=30)
+            said = asked.communicate(timeout=PATIENCE)
             self.assertEqual((asked.returncode, said), (Status.INTERRUPTED, (b"", b"evacask: interrupted\n")))
             self.assert_is_gone(int(began.read_text()))
 
     def assert_is_gone(self, process: int) -> None:
         """No program is left running."""
-        end = time.monotonic() + 30
+        end = time.monotonic() + PATIENCE
         while time.monotonic() < end:
             try:
                 os.kill(process, 0)
@@ -177,16 +177,18 @@ class Progress(unittest.TestCase):
 
     def test_a_count(self):
         with contextlib.redirect_stderr(Terminal()) as said, Count("ways", 3) as count:
+            count.began += 1000
             count.step()
             self.assertEqual(said.getvalue(), "")
-            count.began -= 2
+            count.began -= 2000
             count.step()
         self.assertEqual(said.getvalue(), "\revacask: 2 of 3 ways\r\033[K")
 
     def test_waiting_for_the_program(self):
         with contextlib.redirect_stderr(Terminal()) as said, Patience():
             time.sleep(1.2)
-        self.assertEqual(said.getvalue(), "\revacask: the program has been at work for 1 s\r\033[K")
+        self.assertTrue(said.getvalue().startswith("\revacask: the program has been at work for 1 s"))
+        self.assertTrue(said.getvalue().endswith("\r\033[K"))
 
 
 class Sources(unittest.TestCase):
