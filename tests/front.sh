@@ -64,7 +64,7 @@ build_before() {
   mkdir -p "$here/repo/crates/evacplan/out"
   cp "$top/tests/front/program" "$here/repo/crates/evacplan/out/evacplan"
   touch -d '1 hour ago' "$here/repo/crates.txt" "$here/repo/crates"/*/* "$here/repo/crates"/*/*/*
-  touch "$here/repo/crates/evacplan/out/evacplan"
+  touch -d '1 minute ago' "$here/repo/crates/evacplan/out/evacplan"
 }
 
 # Ends a case: each word is a test by name, with its value behind `=`.
