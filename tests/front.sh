@@ -1,5 +1,5 @@
 #!/usr/bin/env bash
-# Tests the scripts `evacplan` and `build` on copies of them, with a stand-in for the command rt: nothing is proved or built here.
+# Tests the scripts `evacplan`, `build` and `.ci/run` on copies of them, with a stand-in for the command rt: nothing is proved or built here.
 #
 #     tests/front.sh
 #
@@ -573,6 +573,53 @@ touch "$here/go"
 wait $!
 status=$?
 expect status=0 out= 'says=0 of 3 are done, and rt is at work on low'
+
+# The gate
+
+# Begins a case with a gate whose parts do nothing, but for those that fail with status 3.
+begin_gate() {
+  local part
+  begin "$1"
+  shift
+  printf 'low:\nevacplan: low\n' >"$here/repo/crates.txt"
+  mkdir -p "$here/repo/.ci" "$here/repo/docs" "$here/repo/tests" "$here/repo/companion/tests"
+  cp "$top/.ci/run" "$here/repo/.ci/"
+  for part in docs/check_promises.py docs/replay.py; do
+    echo 'import sys; sys.exit(0)' >"$here/repo/$part"
+  done
+  for part in tests/front.sh companion/tests/run; do
+    printf '#!/bin/sh\nexit 0\n' >"$here/repo/$part"
+    chmod +x "$here/repo/$part"
+  done
+  for part in "$@"; do
+    sed -i '$s/0/3/' "$here/repo/$part"
+  done
+}
+
+# Runs the gate, and keeps the last line that it prints.
+run_gate() {
+  run "$here/repo/.ci/run"
+  sed -i '$!d' "$here/out"
+}
+
+begin_gate 'a gate that passes says so in its last line'
+run_gate
+expect status=0 'out=gate: passed' calls=ci
+
+begin_gate 'a gate names the parts that failed' docs/replay.py companion/tests/run
+run_gate
+expect status=1 'out=gate: FAILED in docs/replay.py, companion/tests/run' calls=ci
+
+begin_gate 'a gate without a program says where to begin' docs/replay.py
+RT_FAILS=proof run_gate
+expect status=1 'out=gate: FAILED in rt ci, docs/replay.py. No program was built, and what runs it fails without one: begin with rt ci'
+
+begin 'without a program the tests of evacask say so in one line'
+mkdir -p "$here/repo/companion/tests"
+cp "$top/companion/tests/run" "$here/repo/companion/tests/"
+run env -u EVACPLAN "$here/repo/companion/tests/run"
+expect status=1 lines=0 \
+  "out=evacask wasn't tested: there is no program crates/evacplan/out/evacplan; ./build makes it, and EVACPLAN may name another"
 
 echo "front: $passed passed, $failed failed"
 [ "$failed" -eq 0 ]
