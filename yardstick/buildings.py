@@ -1,10 +1,12 @@
 """Large buildings to time a planner on, each made anew from its name: the same at every call.
 
 A name that ends with `_shut` is a building whose busiest exit lets nobody out, and one that ends with `_late` has people who come in later.
+`python3 yardstick/buildings.py NAME` prints one.
 """
 import collections
 import heapq
 import random
+import sys
 
 CELLS = 400_000
 MOST_CELLS, LONGEST = 1_000_000, 1_200
@@ -207,6 +209,20 @@ def arena():
     return b.text()
 
 
+def layers():
+    """Layers of four halls, from each a way for one person to each hall of the next: its block has more than 20,000,000 bytes."""
+    b, before = Building("Layers", longest=LONGEST, cells=MOST_CELLS), []
+    for _ in range(45):
+        halls = [b.room("HA", 100, 5_000, 0 if before else 4_300) for _ in range(4)]
+        for one in before:
+            for other in halls:
+                b.arc(one, other, 1, 1)
+        before = halls
+    for hall in before:
+        b.arc(hall, b.exit(100), 1, 4)
+    return b.text()
+
+
 def statements(text, word):
     """Returns the fields behind a word, for each line of a text that begins with it."""
     lines = (line.split() for line in text.split("\n"))
@@ -280,3 +296,9 @@ ALL = {
     "tower_shut": lambda: shut(tall_tower()),
     "tower_late": lambda: late(tall_tower()),
 }
+# Too large to be measured beside the others.
+LARGE = {"layers": layers}
+
+
+if __name__ == "__main__":
+    print({**ALL, **LARGE}[sys.argv[1]](), end="")
