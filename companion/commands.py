@@ -15,6 +15,7 @@ from companion.explain import MODES, code_lines, explained
 from companion.metres import both_lines, building_text, marked
 from companion.printed import show
 from companion.program import Talk, find_program
+from companion.routes import write_routes
 from companion.summary import shortfall, summary
 from companion.tables import write_table, write_walks
 from companion.terminal import converse
@@ -144,7 +145,10 @@ def run_tables(given: Namespace) -> int:
         return Status.ANSWERED
     with it.talk() as talk:
         block = cleared_by(talk.opening, it.name)
-        write_table(it.building, block, given.kind)
+        if given.kind == "routes":
+            write_routes(it.building, talk.ask("routes"))
+        else:
+            write_table(it.building, block, given.kind)
     return Status.ANSWERED
 
 

@@ -7,6 +7,7 @@ from typing import List, Optional
 from companion.building import building_of, fields_of, lines_of
 from companion.codes import forms_of, meaning_of, meanings
 from companion.ending import Status, Stop
+from companion.printed import indented
 from companion.program import Program
 from companion.summary import remedies
 
@@ -22,9 +23,8 @@ def code_lines(code: int, line: Optional[int]) -> List[str]:
         raise Stop(f"there is no code {code}: docs/FORMATS.md has them all", Status.WORDS)
     said = [f"refused {code}" + (f" {line}: line {line} of the input" if line is not None else "")]
     for row in rows:
-        said += [f"    {row.what}", f"    {row.remedy}"]
-        if len(rows) > 1:
-            said[-2] = f"    {row.heading}: {row.what}"
+        place = f"{row.heading}: " if len(rows) > 1 else ""
+        said += [*indented(place + row.what), *indented(row.remedy)]
     return said
 
 
@@ -37,7 +37,7 @@ def explained(program: Program, text: bytes, mode: str) -> List[str]:
         if reply[0] == "refused":
             said += refusal_lines(int(reply[1]), int(reply[2]), lines, end)
             if reply[1] == "22" and int(reply[2]) <= end:
-                said += [f"    {line}" for line in remedies(building_of(text))]
+                said += [line for remedy in remedies(building_of(text)) for line in indented(remedy)]
         elif reply[0] == "no":
             said += ["no " + " ".join(reply[1:]), *meaning_lines(int(reply[1]), True)]
     return said
@@ -85,4 +85,4 @@ def character_name(letter: str) -> str:
 
 def meaning_lines(code: int, is_command: bool) -> List[str]:
     row = meaning_of(code, is_command)
-    return [f"    {row.what}", f"    {row.remedy}"] if row else ["    docs/FORMATS.md says what it means."]
+    return [*indented(row.what), *indented(row.remedy)] if row else ["    docs/FORMATS.md says what it means."]

@@ -1,9 +1,11 @@
 """What evacask prints: tables, and numbers in words."""
 from __future__ import annotations
 
+import textwrap
 from typing import Iterable, List, Sequence
 
 OWN = "evacask's own arithmetic, not proved"
+WIDTH = 118
 
 
 def table(rows: Iterable[Sequence[object]], align: str) -> List[str]:
@@ -15,6 +17,11 @@ def table(rows: Iterable[Sequence[object]], align: str) -> List[str]:
         padded = [cell.ljust(width) if side == "l" else cell.rjust(width) for cell, width, side in zip(row, widths, align)]
         lines.append("  ".join(padded).rstrip())
     return lines
+
+
+def indented(text: str) -> List[str]:
+    """A text as lines that are indented and not too long."""
+    return textwrap.wrap(text, WIDTH, initial_indent="    ", subsequent_indent="    ", break_long_words=False, break_on_hyphens=False)
 
 
 def show(lines: Iterable[str]) -> None:

@@ -35,7 +35,7 @@ class Cut:
 
 
 def cut_of(reply: Reply) -> Cut:
-    """The cut that a session printed, added up. Its items come in the order of their first lines, the people beyond it first."""
+    """The cut that a session printed, added up. Its items come in the order of their first lines, the people whom it doesn't hold up first."""
     items: Dict[Tuple[str, ...], Item] = {}
     for word, *rest in reply.lines[1:-1]:
         if word == "entry":
@@ -60,7 +60,7 @@ def cut_lines(building: Building, cut: Cut) -> List[str]:
         named = building.named(*item.names)
         if item.closed:
             named = f"{named + ', ' if named else ''}closed at {runs_text(item.closed)}"
-        rows.append([str(item.people), item.what or f"beyond it from the first: {listed(item.names)}", moments, seconds, named if item.what else ""])
+        rows.append([str(item.people), item.what or f"not held up: {listed(item.names)}", moments, seconds, named if item.what else ""])
     return table(rows, "rllll")
 
 

@@ -11,9 +11,9 @@ from companion import commands
 from companion.building import near
 from companion.ending import STATUSES, Status, Stop
 from companion.metres import PARTS
+from companion.printed import WIDTH
 
-WIDTH = 118
-TABLES = ("exits", "nodes", "arcs", "totals", "fullest", "walks")
+TABLES = ("exits", "nodes", "arcs", "routes", "totals", "fullest", "walks")
 
 
 class Words(argparse.ArgumentParser):
@@ -47,12 +47,13 @@ def argument(*names: str, **options: Any) -> Argument:
 
 @dataclass(frozen=True)
 class Command:
-    """A command: what it does in a line and in more, and its arguments. Of arguments in a list only one may be given."""
+    """A command: its question in a line, what it does, an example, and its arguments. Of arguments in a list only one may be given."""
 
     name: str
     run: Callable[[Namespace], int]
+    question: str
     what: str
-    more: str
+    example: str
     arguments: Tuple[Union[Argument, List[Argument]], ...]
 
 
@@ -83,16 +84,26 @@ COMMANDS = (
     Command(
         "summary",
         commands.run_summary,
-        "the short answer: when everybody is out, what congestion costs, what decides",
+        "how soon can all be out, what does congestion cost, and what decides?",
         "",
+        "examples/office.evac",
         (BUILDING,),
+    ),
+    Command(
+        "why",
+        commands.run_why,
+        "why not sooner? the ways that are full, and when",
+        "The cut of a period, added up by way and moments: whoever is out by then counts in one of its lines.",
+        "examples/office.evac",
+        (BUILDING, argument("period", type=number, nargs="?", metavar="K", help="the period; without it the one before all are out")),
     ),
     Command(
         "ways",
         commands.run_ways,
-        "what each way costs and brings",
-        "Of each arc and exit: when everybody is out without it, as it is, and with any rate (10,000; of an exit: of all arcs into it).\n"
+        "what does it cost to lose a way, and what does a wider one bring?",
+        "Of each arc and exit: when all are out without it, as it is, and with any rate (10,000; of an exit: of all arcs into it).\n"
         "One session tries them all. What costs most comes first.",
+        "examples/office.evac",
         (
             BUILDING,
             argument("--rate", type=rate, metavar="N", help="try this rate, and not any rate"),
@@ -100,30 +111,25 @@ COMMANDS = (
         ),
     ),
     Command(
-        "why",
-        commands.run_why,
-        "why not sooner: the cut of a period, added up by way and moments",
-        "",
-        (BUILDING, argument("period", type=number, nargs="?", metavar="K", help="the period; without it the one before all are out")),
-    ),
-    Command(
         "wide",
         commands.run_wide,
-        "how wide is wide enough: the least rate of an arc for a time, and its width",
-        "",
+        "how wide must a way be, to have all out in a time?",
+        "The least rate of the arc from A to B, and the widths of a door, a corridor and a stair for it.",
+        "examples/office.evac SW2.2 DS2.1 120",
         (
             BUILDING,
             argument("tail", metavar="A", help="the node from which the arc leads"),
             argument("head", metavar="B", help="the node to which it leads"),
-            argument("seconds", type=number, metavar="SECONDS", help="by when everybody is to be out"),
+            argument("seconds", type=number, metavar="SECONDS", help="by when all are to be out"),
         ),
     ),
     Command(
         "compare",
         commands.run_compare,
-        "buildings, or a building and edits of it, side by side",
+        "what if? a building, edits of it, and other buildings side by side",
         "An edit is a line of a session, as 'shut A B' or 'rate A B 9'. Each --edit is a line of the table.\n"
         "Several edits in one have ; between them.",
+        "examples/office.evac --edit 'shutexit DS2.1; rate SW1.2 LO1.1 8'",
         (
             BUILDING,
             argument("others", metavar="OTHER", nargs="*", help="another building"),
@@ -133,8 +139,10 @@ COMMANDS = (
     Command(
         "talk",
         commands.run_talk,
-        "a session at a terminal: prompt, history, completion, a line for each block",
+        "one question after the other, at a prompt",
+        "A session, with a line for each block, earlier lines by the arrow keys, and names completed by the tab key.\n"
         "It takes the commands of docs/FORMATS.md, and whole, help and quit. Lines may come from a pipe too.",
+        "examples/office.evac",
         (
             argument("building", metavar="BUILDING", help="a file with a building"),
             [
@@ -144,40 +152,45 @@ COMMANDS = (
         ),
     ),
     Command(
+        "tables",
+        commands.run_tables,
+        "who is where when, and who goes which way? for a spreadsheet",
+        "exits    at each moment: how many are out, and by which exit\n"
+        "nodes    at each moment: how many are in each node and stay there\n"
+        "arcs     at each moment: how many enter each arc\n"
+        "routes   of each room: how many go which way, and when the first and the last set out\n"
+        "totals   of each arc: how many enter it in all, and when\n"
+        "fullest  of each node: the most who stay in it, and when first\n"
+        "walks    of each node: the quickest way out with nobody in the way\n"
+        "All but walks are of the printed plan: but for `out`, other best plans may differ.",
+        "exits examples/office.evac",
+        (argument("kind", metavar="KIND", choices=TABLES, help=", ".join(TABLES)), BUILDING),
+    ),
+    Command(
         "doubts",
         commands.run_doubts,
-        "what the language allows and is often a mistake",
+        "is it the building that I meant? what is often a mistake",
         "A doubt is evacask's own and is no fault: whoever made the building knows better. Without one nothing is printed.",
+        "examples/office.evac",
         (BUILDING,),
     ),
     Command(
         "explain",
         commands.run_explain,
-        "a refusal, as its line of the building, its meaning and its remedy",
+        "why is it refused? the line, what is wrong, and what to do",
         "A building is run, and each refusal explained. Where commands or a block come after the building, name the mode.",
+        "13 33",
         (
             argument("what", metavar="BUILDING|CODE", help="a file with a building, or - for standard input; or a code, as in `refused 13 33`"),
             argument("more", metavar="MODE|LINE", nargs="?", help="the mode that refuses (solve); or after a code the number of the line"),
         ),
     ),
     Command(
-        "tables",
-        commands.run_tables,
-        "tables for a spreadsheet: people by exit, node and arc over time",
-        "exits    at each moment: how many are out, and by which exit\n"
-        "nodes    at each moment: how many are in each node and stay there\n"
-        "arcs     at each moment: how many enter each arc\n"
-        "totals   of each arc: how many enter it in all, and when\n"
-        "fullest  of each node: the most who stay in it, and when first\n"
-        "walks    of each node: the quickest way out with nobody in the way\n"
-        "Those before walks are of the printed plan: but for `out`, other best plans may differ.",
-        (argument("kind", metavar="KIND", choices=TABLES, help=", ".join(TABLES)), BUILDING),
-    ),
-    Command(
         "metres",
         commands.run_metres,
-        "ways in metres become arcs, by the figures of docs/FIGURES.md",
+        "from drawings: ways in metres become arcs",
         PARTS,
+        "examples/school.plan",
         (
             argument("plan", metavar="PLAN", help="a file with a plan, or - for standard input"),
             argument("--period", type=period, action="append", default=[], metavar="N", help="a period of N seconds, and not that of the plan"),
@@ -198,19 +211,35 @@ def add(it: Any, given: Argument) -> None:
 def parser() -> Words:
     """The parser of all commands."""
     what = "Asks the proved program evacplan about a building, and says what it answers in an engineer's words."
-    top = Words(prog="evacask", description=what, epilog=STATUSES, formatter_class=Layout)
+    epilog = f"{example_of(COMMANDS[0])}evacask COMMAND --help says what a command takes.\n\n{STATUSES}"
+    top = Words(prog="evacask", description=what, epilog=epilog, formatter_class=Layout)
     add(top, argument("--program", metavar="PATH", default=None, help=PROGRAM))
     places = top.add_subparsers(title="commands", metavar="COMMAND", dest="command", parser_class=Words)
     for command in COMMANDS:
-        description = f"{command.what[0].upper()}{command.what[1:]}.\n\n{command.more}".strip()
-        it = places.add_parser(command.name, help=command.what, description=description, epilog=STATUSES, formatter_class=Layout)
+        question = f"{command.question[0].upper()}{command.question[1:]}"
+        it = places.add_parser(
+            command.name,
+            help=command.question,
+            description=f"{question}\n\n{command.what}".strip(),
+            epilog=f"{example_of(command)}{STATUSES}",
+            formatter_class=Layout,
+        )
         add(it, argument("--program", metavar="PATH", default=argparse.SUPPRESS, help=PROGRAM))
         it.set_defaults(run=command.run)
         for given in command.arguments:
-            if isinstance(given, Argument):
-                add(it, given)
-            else:
-                group = it.add_mutually_exclusive_group()
-                for one in given:
-                    add(group, one)
+            add_given(it, given)
     return top
+
+
+def example_of(command: Command) -> str:
+    return f"example:\n  ./evacask {command.name} {command.example}\n\n"
+
+
+def add_given(it: argparse.ArgumentParser, given: Union[Argument, List[Argument]]) -> None:
+    """Adds an argument, or several of which only one may be given."""
+    if isinstance(given, Argument):
+        add(it, given)
+        return
+    group = it.add_mutually_exclusive_group()
+    for one in given:
+        add(group, one)

@@ -5,6 +5,7 @@ import io
 import os
 import pathlib
 import re
+import shlex
 import signal
 import subprocess
 import sys
@@ -63,6 +64,13 @@ class Endings(unittest.TestCase):
             for status in Status:
                 self.assertRegex(said.out, rf"\n  {int(status)} +\w")
             self.assertLessEqual(max(len(line) for line in said.lines), 140)
+
+    def test_the_examples_of_help_are_answered(self):
+        for it in COMMANDS:
+            with self.subTest(it.name):
+                said = ask(it.name, *(TOP / word if word.startswith("examples/") else word for word in shlex.split(it.example)))
+                self.assertEqual((said.status, said.err), (0, ""))
+                self.assertEqual(bool(said.out), it.name != "doubts")
 
     def test_files(self):
         with tempfile.TemporaryDirectory() as folder:

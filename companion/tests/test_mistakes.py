@@ -151,6 +151,11 @@ COMMANDS = [
 ]
 
 
+def unwrapped(text: str) -> str:
+    """A text without its line ends and indents."""
+    return " ".join(text.split())
+
+
 def looked_up(words: list, text: str) -> Ended:
     """What one look explains: of a run of the program, or of the words that it refuses."""
     refused = re.match(r"refused 40 ", solved(text.encode(), *words))
@@ -166,7 +171,7 @@ class Mistakes(unittest.TestCase):
             with self.subTest(what):
                 said = ask("explain", "-", text=text)
                 self.assertRegex(said.out, rf"^refused {code} \d+\n    line ")
-                self.assertIn(remedy, said.out)
+                self.assertIn(remedy, unwrapped(said.out))
                 self.assertEqual((said.status, said.err), (1, ""))
 
     def test_a_refused_building_gets_one_line_elsewhere(self):
@@ -208,7 +213,7 @@ class Mistakes(unittest.TestCase):
                     self.assertEqual((said.status, said.out), (0, f"{words[0]} refuses nothing\n"))
                 else:
                     self.assertRegex(said.out, rf"(?m)^(refused|no) {code}\b")
-                    self.assertIn(remedy, said.out)
+                    self.assertIn(remedy, unwrapped(said.out))
 
 
 if __name__ == "__main__":

@@ -58,6 +58,21 @@ class Tables(unittest.TestCase):
             self.assertEqual((row["first"], row["last"]), (mine[0][1], mine[-1][1]) if mine else ("", ""))
         self.assertEqual(rows[0]["names"], "Classroom 1 to West half of the corridor")
 
+    def test_routes(self):
+        for path in EXAMPLES:
+            with self.subTest(path.name):
+                rows, building = table("routes", path), building_of(path.read_bytes())
+                last = table("exits", path)[-1]
+                for node in building.exits:
+                    self.assertEqual(sum(int(row["people"]) for row in rows if row["exit"] == node.name), int(last[node.name]))
+                for row in rows:
+                    way = row["way"].split()
+                    self.assertTrue(all(step in building.arcs for step in zip(way, way[1:])))
+                    self.assertEqual((way[0], way[-1]), (row["from"], row["exit"]))
+                    self.assertLessEqual(int(row["first"]), int(row["last"]))
+        rows = table("routes", OFFICE)
+        self.assertEqual([(row["from"], row["people"], row["exit"]) for row in rows[:2]], [("WP1.1", "60", "DS1.1"), ("WP1.2", "32", "DS1.1")])
+
     def test_fullest(self):
         for path in EXAMPLES:
             rows = table("nodes", path)
