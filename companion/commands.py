@@ -51,20 +51,20 @@ class Asked:
 
 
 def run_summary(given: Namespace) -> int:
-    it = Asked(given)
-    with it.talk() as talk:
+    asked = Asked(given)
+    with asked.talk() as talk:
         if talk.opening.is_short:
-            show(shortfall(it.building, talk.opening))
+            show(shortfall(asked.building, talk.opening))
             return Status.REFUSED
-        show(summary(talk, it.building))
+        show(summary(talk, asked.building))
     return Status.ANSWERED
 
 
 def run_ways(given: Namespace) -> int:
-    it = Asked(given)
-    with it.talk() as talk:
-        cleared_by(talk.opening, it.name)
-        ways = all_ways(talk, it.building, ANY_RATE if given.rate is None else given.rate)
+    asked = Asked(given)
+    with asked.talk() as talk:
+        cleared_by(talk.opening, asked.name)
+        ways = all_ways(talk, asked.building, ANY_RATE if given.rate is None else given.rate)
     if given.csv:
         ways.write_csv()
     else:
@@ -73,27 +73,27 @@ def run_ways(given: Namespace) -> int:
 
 
 def run_why(given: Namespace) -> int:
-    it = Asked(given)
-    with it.talk() as talk:
-        cleared_by(talk.opening, it.name)
-        show(why(talk, it.building, given.period))
+    asked = Asked(given)
+    with asked.talk() as talk:
+        cleared_by(talk.opening, asked.name)
+        show(why(talk, asked.building, given.period))
     return Status.ANSWERED
 
 
 def run_wide(given: Namespace) -> int:
-    it = Asked(given)
-    arc, moment = it.building.arc(given.tail, given.head), asked_moment(it.building, given.seconds)
-    with it.talk("study") as study:
-        reply = cleared_by(study.ask(f"least {arc.tail} {arc.head} {moment}"), it.name)
-    show(wide(reply, it.building, arc, moment))
+    asked = Asked(given)
+    arc, moment = asked.building.arc(given.tail, given.head), asked_moment(asked.building, given.seconds)
+    with asked.talk("study") as study:
+        reply = cleared_by(study.ask(f"least {arc.tail} {arc.head} {moment}"), asked.name)
+    show(wide(reply, asked.building, arc, moment))
     return Status.ANSWERED
 
 
 def run_compare(given: Namespace) -> int:
     edits = [edits_of(words) for words in given.edit]
-    it, scenarios = Asked(given), []
+    first, scenarios = Asked(given), []
     others = [Asked(given, name) for name in given.others]
-    for asked, wanted in [(it, []), *((other, []) for other in others), *((it, some) for some in edits)]:
+    for asked, wanted in [(first, []), *((other, []) for other in others), *((first, some) for some in edits)]:
         with asked.talk() as talk:
             scenarios.append(edited_scenario(talk, asked.building, asked.name, wanted))
     show(compare_lines(scenarios))
@@ -103,24 +103,24 @@ def run_compare(given: Namespace) -> int:
 def run_talk(given: Namespace) -> int:
     if given.building == "-":
         raise Stop("talk reads what you type, so the building must be a file", Status.WORDS)
-    it = Asked(given)
-    with it.talk() as session:
-        brief = Briefly(it.building)
-        show(brief.lines(cleared_by(session.opening, it.name)))
+    asked = Asked(given)
+    with asked.talk() as session:
+        brief = Briefly(asked.building)
+        show(brief.lines(cleared_by(session.opening, asked.name)))
         if given.mode == "session":
-            return converse(session, it.building, brief)
-    with it.talk(given.mode) as talk:
-        return converse(talk, it.building, brief)
+            return converse(session, asked.building, brief)
+    with asked.talk(given.mode) as talk:
+        return converse(talk, asked.building, brief)
 
 
 def run_doubts(given: Namespace) -> int:
-    it = Asked(given)
-    with it.talk() as talk:
+    asked = Asked(given)
+    with asked.talk() as talk:
         if talk.opening.is_short:
-            found = doubts(it.building, None, 0)
+            found = doubts(asked.building, None, 0)
         else:
-            found = doubts(it.building, talk.opening.number("cleared"), talk.ask("summary").number("uncongested"))
-    show(doubts_lines(it.building, found))
+            found = doubts(asked.building, talk.opening.number("cleared"), talk.ask("summary").number("uncongested"))
+    show(doubts_lines(found))
     return Status.REFUSED if found else Status.ANSWERED
 
 
@@ -139,16 +139,16 @@ def run_explain(given: Namespace) -> int:
 
 
 def run_tables(given: Namespace) -> int:
-    it = Asked(given)
+    asked = Asked(given)
     if given.kind == "walks":
-        write_walks(it.building)
+        write_walks(asked.building)
         return Status.ANSWERED
-    with it.talk() as talk:
-        block = cleared_by(talk.opening, it.name)
+    with asked.talk() as talk:
+        block = cleared_by(talk.opening, asked.name)
         if given.kind == "routes":
-            write_routes(it.building, talk.ask("routes"))
+            write_routes(asked.building, talk.ask("routes"))
         else:
-            write_table(it.building, block, given.kind)
+            write_table(asked.building, block, given.kind)
     return Status.ANSWERED
 
 

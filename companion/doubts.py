@@ -114,7 +114,7 @@ def answer_doubts(building: Building, cleared: Optional[int], walk: int) -> Iter
         yield building.end_line, f"{times}: are the rates too great?"
 
 
-def doubts_lines(building: Building, found: List[Doubt]) -> List[str]:
+def doubts_lines(found: List[Doubt]) -> List[str]:
     """The doubts with their lines; nothing where there is none."""
     if not found:
         return []

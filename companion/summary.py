@@ -52,8 +52,11 @@ def bound_lines(building: Building) -> List[str]:
     bound = walking_bound(building)
     if bound is None:
         return []
-    walk = f"From each room {some(bound.rate, 'person', 'people')} at once can walk out within {some(bound.periods, 'period')}"
-    return [f"{OWN}: a best plan is over by {building.time(bound.moment)} at the latest.", f"{walk} (law: walking bound)."]
+    walk = f"{some(bound.rate, 'person', 'people')} at once can walk out within {some(bound.periods, 'period')}"
+    return [
+        f"A check by hand: a best plan is over by {building.time(bound.moment)} at the latest, since from each room",
+        f"{walk} (law: walking bound; {OWN}).",
+    ]
 
 
 def shortfall(building: Building, reply: Reply) -> List[str]:

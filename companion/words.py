@@ -204,8 +204,8 @@ COMMANDS = (
 )
 
 
-def add(it: Any, given: Argument) -> None:
-    it.add_argument(*given.names, **given.options)
+def add(place: Any, given: Argument) -> None:
+    place.add_argument(*given.names, **given.options)
 
 
 def parser() -> Words:
@@ -217,17 +217,17 @@ def parser() -> Words:
     places = top.add_subparsers(title="commands", metavar="COMMAND", dest="command", parser_class=Words)
     for command in COMMANDS:
         question = f"{command.question[0].upper()}{command.question[1:]}"
-        it = places.add_parser(
+        place = places.add_parser(
             command.name,
             help=command.question,
             description=f"{question}\n\n{command.what}".strip(),
             epilog=f"{example_of(command)}{STATUSES}",
             formatter_class=Layout,
         )
-        add(it, argument("--program", metavar="PATH", default=argparse.SUPPRESS, help=PROGRAM))
-        it.set_defaults(run=command.run)
+        add(place, argument("--program", metavar="PATH", default=argparse.SUPPRESS, help=PROGRAM))
+        place.set_defaults(run=command.run)
         for given in command.arguments:
-            add_given(it, given)
+            add_given(place, given)
     return top
 
 
@@ -235,11 +235,11 @@ def example_of(command: Command) -> str:
     return f"example:\n  ./evacask {command.name} {command.example}\n\n"
 
 
-def add_given(it: argparse.ArgumentParser, given: Union[Argument, List[Argument]]) -> None:
+def add_given(place: argparse.ArgumentParser, given: Union[Argument, List[Argument]]) -> None:
     """Adds an argument, or several of which only one may be given."""
     if isinstance(given, Argument):
-        add(it, given)
+        add(place, given)
         return
-    group = it.add_mutually_exclusive_group()
+    group = place.add_mutually_exclusive_group()
     for one in given:
         add(group, one)
