@@ -68,7 +68,7 @@ def visible(line: str) -> str:
 
 
 def is_byte(letter: str) -> bool:
-    """Whether it stands for a byte that is part of no letter."""
+    """Whether it is in place of a byte that is part of no letter."""
     return "\udc80" <= letter <= "\udcff"
 
 

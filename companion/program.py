@@ -164,7 +164,7 @@ def broken(status: int) -> Stop:
 
 
 def find_program(given: Optional[str]) -> Program:
-    """The program that is named by --program or by EVACPLAN, or else the built one, for which its script stands too."""
+    """The program that is named by --program or by EVACPLAN, or else the built one, which its script names too."""
     named = given or os.environ.get("EVACPLAN")
     if named and pathlib.Path(named).resolve() == TOP / "evacplan":
         named = None  # (where nothing is built, the script answers after its input has ended, and so can't be talked to)

@@ -1,9 +1,9 @@
 #!/usr/bin/env python3
-"""Computes the tables, buildings and answers of FIGURES.md, and compares them with what stands there.
+"""Computes the tables, buildings and answers of FIGURES.md, and compares them with the page.
 
     python3 docs/figures.py [--program PATH] [--write]
 
-What stands on the page below a line `<!-- figures: NAME -->` is what the function of that name puts out here. Every sum on the page, as
+What is on the page below a line `<!-- figures: NAME -->` is what the function of that name puts out here. Every sum on the page, as
 `1.3 × 0.60 × 5 = 3.90`, is computed anew too. The answers are those of the built program. It prints each difference with its line, and its
 status is 1 where there is one. With --write it writes the tables into the page instead.
 """
@@ -76,7 +76,7 @@ def crowding():
 
 
 def merging():
-    """A corridor of 2.00 m, and a stair behind it, into which several doors of 0.90 m lead."""
+    """A corridor of 2.00 m, and a stair after it, into which several doors of 0.90 m lead."""
     rows = []
     for doors in (1, 2, 3, 4):
         comes, width = doors * ROOM_DOOR, frac("1.60")

@@ -15,7 +15,7 @@ The first word of a fence says what its block is, and a block without one of the
 - `antt`: definitions, which check_promises.py looks up.
 - `text`: anything else. It isn't compared with anything.
 
-A line `..` stands for lines that are left out; between two of them all lines must be there, in order and side by side. The left column of a table
+A line `..` is in place of lines that are left out; between two of them all lines must be there, in order and side by side. The left column of a table
 that is headed `Line` or `Command`, right below a block, has lines of that block. In a table that is headed `Question | Command | Answer` each command
 is run, ends with status 0 or 1, and what is in code in the last column must be in the first ten lines that it prints.
 
@@ -53,7 +53,7 @@ class Item:
 
 
 def items_of(text):
-    """The code blocks and tables of a document, in order, and a text item for what stands between them."""
+    """The code blocks and tables of a document, in order, and a text item for what is between them."""
     found, is_fenced = [], False
     for number, line in enumerate(text.split("\n"), 1):
         if line.startswith("```"):

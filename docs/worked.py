@@ -116,7 +116,7 @@ def corridor():
     """One room, a corridor and a stair."""
     places = [
         Place("WP1.2", 75, 60),
-        Place("HA1.2", 7, area="4", what="corridor behind the room's door"),
+        Place("HA1.2", 7, area="4", what="corridor after the room's door"),
         Place("SW1.2", 11, area="6", what="corridor before the stair, its head"),
         Place("LO1.1", 38, area="20", what="lobby"),
         Place("DS1.1"),

@@ -11,7 +11,7 @@ trap 'rm -rf "$room"' EXIT
 passed=0 failed=0
 name='' here='' status=0
 
-# Begins a case: a repository of three crates, of which the program stands on two, an empty folder for temporary files, and the stand-in.
+# Begins a case: a repository of three crates, of which the program is built on two, an empty folder for temporary files, and the stand-in.
 begin() {
   name=$1 here=$room/$((passed + failed))
   mkdir -p "$here/bin" "$here/tmp" "$here/repo"
@@ -67,7 +67,7 @@ build_before() {
   touch -d '1 minute ago' "$here/repo/crates/evacplan/out/evacplan"
 }
 
-# Ends a case: each word is a test by name, with its value behind `=`.
+# Ends a case: each word is a test by name, with its value after `=`.
 expect() {
   local it why=()
   for it in "$@"; do
@@ -381,7 +381,7 @@ for changed in target link; do
   expect status=0 'out=solve: a building' lines=1 'says=a source is newer'
 done
 
-begin 'a crate that the program does not stand on may change'
+begin 'a crate that the program is not built on may change'
 build_before
 touch -d '1 minute' "$here/repo/crates/worked/src/one.rt"
 run "$here/repo/evacplan" solve <<<'a building'
@@ -523,14 +523,14 @@ run "$here/repo/build"
 run "$here/repo/evacplan" solve <<<'a building'
 expect status=0 'out=built: solve, a building' lines=0
 
-begin_by_lib 'what did not change is kept, and what stands on a change is proved'
+begin_by_lib 'what did not change is kept, and what is built on a change is proved'
 run "$here/repo/build" 1
 echo 'of other, edited' >"$here/repo/crates/other/src/one.rt"
 rm "$here/calls"
 run "$here/repo/build" 1
 expect status=0 'says=3 of 3: evacplan' 'calls=version,ci probe,keeps low,proves other,proves evacplan'
 
-begin_by_lib 'crates that do not stand on one another are proved side by side'
+begin_by_lib 'crates that are not built on one another are proved side by side'
 RT_SLOW=1 "$here/repo/build" 2 >"$here/out" 2>"$here/err" &
 await grep -qsx 'proves low' "$here/calls"
 await grep -qsx 'proves other' "$here/calls"

@@ -224,7 +224,7 @@ def layers():
 
 
 def statements(text, word):
-    """Returns the fields behind a word, for each line of a text that begins with it."""
+    """Returns the fields after a word, for each line of a text that begins with it."""
     lines = (line.split() for line in text.split("\n"))
     return [fields[1:] for fields in lines if fields[:1] == [word]]
 
