@@ -1,4 +1,6 @@
 """The buildings that FIGURES.md works out: their places, and their passages with widths and lengths, as lines of a building."""
+from __future__ import annotations
+
 import math
 from dataclasses import dataclass
 from fractions import Fraction

@@ -205,6 +205,7 @@ class Sources(unittest.TestCase):
             with self.subTest(path.name):
                 ast.parse(path.read_text(), feature_version=(3, 9))
 
+    @unittest.skipUnless(hasattr(sys, "stdlib_module_names"), "Python before 3.10 doesn't name the modules of its library")
     def test_only_the_standard_library(self):
         for path in sorted((TOP / "companion").glob("*.py")):
             for name in re.findall(r"(?m)^(?:from|import) (\w+)", path.read_text()):
