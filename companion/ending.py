@@ -23,7 +23,7 @@ STATUSES = """statuses:
   3    a file can't be read
   4    the output can't be written
   5    the program found no memory
-  70   there is no program, or it broke off
+  70   there is no program, it broke off, or Python is too old
   130  ended by Ctrl-C
   141  whoever read the output has gone"""
 
