@@ -1,55 +1,95 @@
 #!/usr/bin/env python3
 """Checks that what the documents name is there.
 
-- In PROMISES.md each name in backticks must be defined in the file that is linked before it. A name that is no function of a source file is
-  a clause of the function named before it.
-- In DEFINITIONS.md each name must be defined in a file that its paragraph links.
-- In the tables of PROVED.md each name in the right column must be a definition, a function, a clause or a field of a crate of its section.
+- In PROVED.md each name in backticks after a link to a file must be defined there. A name that is no function of a source file is a clause of the
+  function named before it.
+- In the tables below a heading that names crates each name in the right column must be a definition, a function, a clause or a field of one of them.
+- In DEFINITIONS.md each name must be defined in a file that its row links.
 - EDITS.md must have just the edits of each crate's must-fail/, and each name there must be in that crate, or be a definition.
 - In LAWS.md each block of definitions must stand so in the file that is linked last before it.
+- The files of lemmas that CONTRIBUTING.md maps must be in `proofs/` of the crate named before them.
 - In every document each link must lead to a file, and to a heading of it.
 - The tables of codes and of statuses in FORMATS.md must have just the numbers of `Code` and of `Status`, and these have each number once.
 - The tables of names in DECISIONS.md must have just the names that two modules of definitions define, and the types of two crates.
 
-And it checks house rules that can be told from the text alone:
+And it checks what can be told from the text alone:
 
+- The table of crates in ARCHITECTURE.md must be that of the crates, and each definition must have words above it (`tables.py`).
 - A crate of `crates.txt` must use each crate that its line lists.
 - A source file must have at most 400 lines, and a function's body at most 50, but for those that stand here as too long.
 
     python3 docs/check_promises.py [--edits]
 
-It prints what is missing, and its status is 1 where something is. With --edits it prints for each promise of PROVED.md where it stands, and the
-edits that are refused by that; a law has no body that an edit could turn.
+It prints what is missing, and its status is 1 where something is. With --edits it prints for each promise where it is carried, and the edits
+that are refused by that; a law has no body that an edit could turn.
 """
 import collections
+import functools
 import pathlib
 import re
 import sys
 
+sys.dont_write_bytecode = True
+import tables
+
 TOP = pathlib.Path(__file__).resolve().parent.parent
 LINK = re.compile(r"\[[^\[\]]*\]\(([^)\s]+)\)")
 NAME = re.compile(r"`([A-Za-z_][\w:.]*)`")
+ROWS = ("PROVED.md", "ALGORITHM.md")
 FILE_LIMIT, BODY_LIMIT = 400, 50
 LONG_FILES = {"building_table/src/builder.rt", "residual_net/src/net.rt", "worked_runs/src/sessions.rt"}
 LONG_BODIES = {"building_table/src/commands.rt: edit_of"}
-DEFINITION = r"(?m)^\s*(?:(?:abbrev|unfoldable|record|data|pub(?:\(crate\))?|struct|enum|trait|const|fn|type|ghost)\s+)+{}\b"
+DEFINED = re.compile(r"(?m)^\s*(?:(?:abbrev|unfoldable|record|data|pub(?:\(crate\))?|struct|enum|trait|const|fn|type|ghost)\s+)+(\w+)")
+
+USES = [re.compile(form) for form in (r"\bRattle\.(\w+)\.", r"\b(\w+)::", r"\buse (\w+)\b")]
+
+
+@functools.cache
+def read(path):
+    """The text of a file, which is read once."""
+    return path.read_text()
+
+
+@functools.cache
+def defined_in(text):
+    """The names that a file defines."""
+    return set(DEFINED.findall(text))
+
+
+@functools.cache
+def clauses_in(text):
+    """The names of the clauses of each function of a source file."""
+    clauses, function = collections.defaultdict(set), None
+    for line in text.splitlines():
+        if head := re.match(r"\s*(?:pub(?:\(crate\))? )?fn (\w+)", line):
+            function = head[1]
+            clauses[function].add("")
+        elif clause := re.match(r"\s+ensures (\w+) \{", line):
+            clauses[function].add(clause[1])
+    return clauses
+
+
+@functools.cache
+def fields_in(text):
+    """The fields of each record of a specification."""
+    blocks = re.findall(r"(?ms)^(?:pub )?record (\w+)\b(.*?)(?=\n\S|\Z)", text)
+    return {owner: set(re.findall(r"(?m)^\s+pub (\w+)\s*:", block)) for owner, block in blocks}
+
+
+@functools.cache
+def owners_in(text):
+    """The words of the heads of the `impl` blocks of a source file."""
+    return {word for head in re.findall(r"(?m)^impl\b.*", text) for word in re.findall(r"\w+", head)}
 
 
 def clause_of(text, function, clause):
     """Whether a function of a source file has a clause of this name."""
-    for found in re.finditer(rf"(?m)^(\s*)(?:pub(?:\(crate\))? )?fn {function}\b", text):
-        end = text.find(f"\n{found[1].strip(chr(10))}{{", found.end())
-        if re.search(rf"ensures {clause} \{{", text[found.end() : end]):
-            return True
-    return False
+    return clause in clauses_in(text).get(function, ())
 
 
 def member_of(text, owner, member):
     """Whether a record of a specification, or an impl of a source file, has a member of this name."""
-    block = re.search(rf"(?ms)^(?:pub )?record {owner}\b.*?(?=\n\S|\Z)", text)
-    if block and re.search(rf"(?m)^\s+pub {member}\s*:", block[0]):
-        return True
-    return bool(re.search(rf"\bimpl\b[^\n]*\b{owner}\b", text) and re.search(rf"(?m)^\s*(?:pub(?:\(crate\))? )?fn {member}\b", text))
+    return member in fields_in(text).get(owner, ()) or (owner in owners_in(text) and member in clauses_in(text))
 
 
 def is_defined(text, name):
@@ -57,17 +97,17 @@ def is_defined(text, name):
     parts = re.split(r"::|\.", name)
     if len(parts) == 2:
         return member_of(text, *parts)
-    return bool(re.search(DEFINITION.format(re.escape(name)), text))
+    return name in defined_in(text)
 
 
 def text_of(document, target):
     """The text of a linked file of the code, or nothing."""
     path = (document.parent / target.split("#")[0]).resolve()
-    return path.read_text() if path.suffix in (".rt", ".antt") and path.is_file() else None
+    return read(path) if path.suffix in (".rt", ".antt") and path.is_file() else None
 
 
 def missing_promises(document):
-    """Names of PROMISES.md that the file linked before them doesn't have."""
+    """Names of PROVED.md that the file linked before them doesn't have."""
     for number, line in enumerate(document.read_text().split("\n"), 1):
         links = list(LINK.finditer(line))
         for link, after in zip(links, links[1:] + [None]):
@@ -80,17 +120,27 @@ def missing_promises(document):
 
 
 def missing_definitions(document):
-    """Names of a paragraph of DEFINITIONS.md that no file linked there has."""
-    for paragraph in re.split(r"\n\s*\n", document.read_text()):
-        texts = [text for text in (text_of(document, link) for link in LINK.findall(paragraph)) if text]
-        for name in NAME.findall(paragraph) if texts else []:
+    """Names of a row of DEFINITIONS.md that no file linked there has."""
+    for row in document.read_text().splitlines():
+        texts = [text for text in (text_of(document, link) for link in LINK.findall(row)) if text]
+        for name in NAME.findall(row) if texts else []:
             if not any(is_defined(text, name) or re.search(rf"(?m)^\s+(?:pub )?{name}\b", text) for text in texts):
-                yield f"{document.name}: no file of its paragraph has {name}"
+                yield f"{document.name}: no file of its row has {name}"
+
+
+def missing_lemmas(document):
+    """Files of lemmas that CONTRIBUTING.md maps, and their crate doesn't have."""
+    table = document.read_text().partition("| Statement | Files |")[2].partition("\n\n")[0]
+    for row in table.splitlines()[2:]:
+        for crate, files in re.findall(r"(\w+): ((?:`\w+`[, ]*)+)", row):
+            for name in NAME.findall(files):
+                if not (TOP / "crates" / crate / "proofs" / f"{name}.antt").is_file():
+                    yield f"{document.name}: {crate} has no lemmas {name}"
 
 
 def code_of(crate):
     """The source files and specifications of a crate, as texts."""
-    return [path.read_text() for part in ("src/*.rt", "specs/*.antt") for path in sorted((TOP / "crates" / crate).glob(part))]
+    return [read(path) for part in ("src/*.rt", "specs/*.antt") for path in sorted((TOP / "crates" / crate).glob(part))]
 
 
 def is_named(texts, name, before):
@@ -104,7 +154,7 @@ def is_named(texts, name, before):
 
 
 def missing_rows(document):
-    """Names in the right column of the tables of PROVED.md that no crate of the section's heading has, nor one that the cell speaks of.
+    """Names in the right column of a document's tables of promises that no crate of the section's heading has, nor one that the cell speaks of.
 
     A name that begins with a capital may be of any crate.
     """
@@ -160,14 +210,14 @@ def is_law(crates, name):
     return any(re.search(law, text) for crate in crates for text in code_of(crate))
 
 
-def promises_with_edits(proved, edits):
-    """Each promise of a table of PROVED.md, with the names where it stands, and the edits that are refused by them.
+def promises_with_edits(document, edits):
+    """Each promise of a document's tables, with the names where it stands, and the edits that are refused by them.
 
     An edit of the section's crates is, where all its names stand in the row; one of another crate, where they are definitions there.
     """
     all_edits = [(crate, edit, names) for crate, rows in edits_of(edits).items() for edit, names in rows.items()]
     crates = [path.name for path in (TOP / "crates").iterdir() if (path / "src").is_dir()]
-    for section in re.split(r"(?m)^### ", proved.read_text())[1:]:
+    for section in re.split(r"(?m)^### ", document.read_text())[1:]:
         spoken_of = re.findall(r"\w+", section.split("\n")[0].split(":")[0])
         for row in re.findall(r"(?m)^\|.*\|$", section.partition("| Promise |")[2])[1:]:
             promise, names = row.strip("| ").split(" | ")[0], NAME.findall(row.rpartition(" | ")[2])
@@ -220,7 +270,7 @@ def sources(part):
     """The files of a part of all crates, as their crate, their name below `crates/` and their text."""
     for path in sorted((TOP / "crates").glob(f"*/{part}")):
         name = path.relative_to(TOP / "crates")
-        yield name.parts[0], name.as_posix(), path.read_text()
+        yield name.parts[0], name.as_posix(), read(path)
 
 
 def names_of_two():
@@ -260,10 +310,9 @@ def unused_crates():
     for line in (TOP / "crates.txt").read_text().splitlines():
         crate, _, below = line.split("#")[0].partition(":")
         folder = TOP / "crates" / crate.strip()
-        texts = [path.read_text() for path in folder.rglob("*") if path.suffix in (".rt", ".antt") and "out" not in path.parts] if below else []
-        for used in below.split():
-            if not any(re.search(rf"\bRattle\.{used}\.|\b{used}::|\buse {used}\b", text) for text in texts):
-                yield f"crates.txt: {crate.strip()} doesn't use {used}"
+        files = [path for part in ("src", "specs", "proofs") for path in (folder / part).rglob("*") if path.suffix in (".rt", ".antt")] if below else []
+        used = {name for path in files for form in USES for name in form.findall(read(path))}
+        yield from (f"crates.txt: {crate.strip()} doesn't use {name}" for name in below.split() if name not in used)
 
 
 def bodies(text):
@@ -294,19 +343,22 @@ def too_long():
 
 def main():
     if sys.argv[1:] == ["--edits"]:
-        for promise, names, shown in promises_with_edits(TOP / "docs/PROVED.md", TOP / "docs/EDITS.md"):
-            print(f"{promise}\n    {', '.join(names)}\n    {', '.join(shown)}")
+        for document in ROWS:
+            for promise, names, shown in promises_with_edits(TOP / "docs" / document, TOP / "docs/EDITS.md"):
+                print(f"{promise}\n    {', '.join(names)}\n    {', '.join(shown)}")
         return 0
     documents = [TOP / "README.md", *sorted((TOP / "docs").glob("*.md"))]
     missing = [fault for document in documents for fault in missing_links(document)]
-    missing += missing_promises(TOP / "docs/PROMISES.md")
+    missing += missing_promises(TOP / "docs/PROVED.md")
     missing += missing_definitions(TOP / "docs/DEFINITIONS.md")
-    missing += missing_rows(TOP / "docs/PROVED.md")
+    missing += [row for name in ROWS for row in missing_rows(TOP / "docs" / name)]
+    missing += missing_lemmas(TOP / "docs/CONTRIBUTING.md")
     missing += missing_statements(TOP / "docs/LAWS.md")
     missing += wrong_edits(TOP / "docs/EDITS.md")
     missing += wrong_numbers("Code", "evac_law/specs/Codes.antt", "code_number", TOP / "docs/FORMATS.md")
     missing += wrong_numbers("Status", "talk/specs/Statuses.antt", "status_number", TOP / "docs/FORMATS.md")
     missing += wrong_names(TOP / "docs/DECISIONS.md")
+    missing += tables.differences()
     missing += unused_crates()
     missing += too_long()
     print("\n".join(missing) if missing else "all that is named is there")
