@@ -16,7 +16,7 @@ use Rattle.evac_law.proofs.ValidLemmas.{arc_is, head_in}
 use Rattle.evac_law.proofs.WeakDuality.{out_le_value, within}
 use Rattle.building_laws.specs.Duality.{IsBestAt, HasEqualCut}
 use Rattle.building_laws.specs.Rooms.{HasRoomForEntries}
-use Rattle.building_laws.proofs.Growing.{Closed, Grown, grow_up}
+use Rattle.building_laws.proofs.Growing.{Better, Closed, Grown, grow_up}
 use Rattle.building_laws.proofs.Tables.{IsFlow, before, comes, comes_least, flow_of_plan, goes_none, gone_moved, out_is, plan, plan_is_feasible, stays}
 
 -- ---- a closed set is a tight cut
@@ -208,51 +208,45 @@ module _ (m : Model) (z k : ℕ) (by_z : k ≤ z) (valid : IsValid m) (l : z ≤
   shown_too p q i s feasible more is =
       (is.0, is.1, omega (arith, more, is.2, out_le_value m is.0 q i valid (lawful_down m q i z (omega (arith, s, by_z)) feasible)))
 
-  raise : (fuel : ℕ) (q : List Move) → Best m z k q → people m ≤ out_by m q k + fuel → (p : List Move) × Best m z (suc k) p
-  raise zero q best few = elim (grow_up m z k by_z valid (moved q) (stays m q) (flow_of_plan m z q best.0)) [
-    | inr done ↦ (
-      q,
-      (
-        best.0,
-        λ i s. elim (cases_lt i k) [
-          | inl less ↦ best.1 i less
-          | inr last ↦ let same : k ≡ i = omega (arith, s, last) in subst (HasEqualCut m q) same (shown m q z k by_z valid best.0 done.0 done.1 done.2 (omega (arith, by_z, l)))
-        ],
-      ),
-    )
-    | inl better ↦
-        let next = plan m z better.0 better.1 better.2 in
-        let feasible = plan_is_feasible m z better.0 better.1 better.2 in
-        absurd (omega (
-          arith,
-          few,
-          out_le_people m next k valid (lawful_down m next k z by_z feasible),
-          out_is m z better.0 better.1 better.2 k by_z,
-          better.4,
-          gone_moved m k q best.0.arcs,
-        ))
-  ]
-  raise (suc fuel) q best few = elim (grow_up m z k by_z valid (moved q) (stays m q) (flow_of_plan m z q best.0)) [
-    | inr done ↦ (
-      q,
-      (
-        best.0,
-        λ i s. elim (cases_lt i k) [
-          | inl less ↦ best.1 i less
-          | inr last ↦ let same : k ≡ i = omega (arith, s, last) in subst (HasEqualCut m q) same (shown m q z k by_z valid best.0 done.0 done.1 done.2 (omega (arith, by_z, l)))
-        ],
-      ),
-    )
-    | inl better ↦
-        let next = plan m z better.0 better.1 better.2 in
-        let feasible = plan_is_feasible m z better.0 better.1 better.2 in
-        raise fuel next (
+  -- a set that no one can leave shows that the plan is best at k too
+  settle : (q : List Move) (best : Best m z k q) (r : ℕ → ℕ → Bool) → Grown m z k by_z valid (moved q) (stays m q) (flow_of_plan m z q best.0) r
+      → Closed m z k by_z valid (moved q) (stays m q) (flow_of_plan m z q best.0) r → Best m z (suc k) q
+  settle q best r grown closed = (
+    best.0,
+    λ i s. elim (cases_lt i k) [
+      | inl less ↦ best.1 i less
+      | inr last ↦
+          let same : k ≡ i = omega (arith, s, last) in
+          subst (HasEqualCut m q) same (shown m q z k by_z valid best.0 r grown closed (omega (arith, by_z, l)))
+    ],
+  )
+
+  -- a better flow is a better plan
+  improve : (q : List Move) (best : Best m z k q) → Better m z k by_z valid (moved q) (stays m q) (flow_of_plan m z q best.0)
+      → (p : List Move) × Best m z k p × (out_by m p k ≡ out_by m q k + 1)
+  improve q best better =
+      let next = plan m z better.0 better.1 better.2 in
+      let feasible = plan_is_feasible m z better.0 better.1 better.2 in (
+        next,
+        (
           feasible,
           λ i s. shown_too q next i (omega (arith, s)) feasible
               (omega (arith, out_is m z better.0 better.1 better.2 i (omega (arith, s, by_z)), better.3 i (omega (arith, s)), gone_moved m i q best.0.arcs))
               (best.1 i s),
-        )
-        (omega (arith, few, out_is m z better.0 better.1 better.2 k by_z, better.4, gone_moved m k q best.0.arcs))
+        ),
+        omega (arith, out_is m z better.0 better.1 better.2 k by_z, better.4, gone_moved m k q best.0.arcs),
+      )
+
+  raise : (fuel : ℕ) (q : List Move) → Best m z k q → people m ≤ out_by m q k + fuel → (p : List Move) × Best m z (suc k) p
+  raise zero q best few = elim (grow_up m z k by_z valid (moved q) (stays m q) (flow_of_plan m z q best.0)) [
+    | inr done ↦ (q, settle q best done.0 done.1 done.2)
+    | inl better ↦
+        let next = improve q best better in
+        absurd (omega (arith, few, next.2, out_le_people m next.0 k valid (lawful_down m next.0 k z by_z next.1.0)))
+  ]
+  raise (suc fuel) q best few = elim (grow_up m z k by_z valid (moved q) (stays m q) (flow_of_plan m z q best.0)) [
+    | inr done ↦ (q, settle q best done.0 done.1 done.2)
+    | inl better ↦ let next = improve q best better in raise fuel next.0 next.1 (omega (arith, few, next.2))
   ]
 
 module _ (m : Model) (z : ℕ) (valid : IsValid m) (l : z ≤ m.horizon) (q : List Move) (feasible : IsFeasible m q z) where

@@ -38,14 +38,14 @@ module _ (m : Model) (x : Cut) (k : ℕ) where
   value_at r = entries_of + (holds_of + arcs_of r)
 
 -- two models are the same but for their rates
-record DifferInRates (m s : Model) : Type 0 where
+record SameButRates (m s : Model) : Type 0 where
   pub places : length m.nodes ≡ length s.nodes
   pub arcs : m.arcs ≡ s.arcs
   pub exits : (n : ℕ) → is_exit_at m n ≡ is_exit_at s n
   pub entries : (n t : ℕ) → entry m n t ≡ entry s n t
   pub rooms : (n : ℕ) → capacity m n ≡ capacity s n
 
-value_of : (m s : Model) (x : Cut) (k : ℕ) → DifferInRates m s → cut_value s x k ≡ value_at m x k (rate s)
+value_of : (m s : Model) (x : Cut) (k : ℕ) → SameButRates m s → cut_value s x k ≡ value_at m x k (rate s)
 value_of m s x k d =
     value_is s x k
     ∙ omega (
@@ -174,14 +174,14 @@ meet_join m x y k r s w b four =
           (four.inner a t) (four.less a t).0 (four.less a t).1 (four.least a t)),
     )
 
-same_model : (m : Model) → DifferInRates m m
+same_model : (m : Model) → SameButRates m m
 same_model m = record { places = refl; arcs = refl; exits = λ n. refl; entries = λ n t. refl; rooms = λ n. refl }
 
 -- ---- exits that are shut
 
 -- a model is another one with an exit shut
 record Shuts (m s : Model) (e : ℕ) : Type 0 where
-  pub alike : DifferInRates m s
+  pub alike : SameButRates m s
   pub rates : (a t : ℕ) → rate s a t ≡ cond (eqb (head m a) e) 0 (rate m a t)
 
 module _ (m : Model) (e : ℕ) (l : e < length m.nodes) where
@@ -227,7 +227,7 @@ accepted m s e i valid l h =
       ap (λ s. s.horizon) same,
     )
 
-both_alike : (m s w : Model) → DifferInRates m s → DifferInRates s w → DifferInRates m w
+both_alike : (m s w : Model) → SameButRates m s → SameButRates s w → SameButRates m w
 both_alike m s w d g = record {
   places = d.places ∙ g.places;
   arcs = d.arcs ∙ g.arcs;

@@ -12,18 +12,12 @@ use Rattle.evac_law.proofs.SumLemmas.{sum_below-pick, sum_by-nothing, sum_by-sam
 use Rattle.building_laws.specs.Rooms.{HasSteadyRates}
 use Rattle.building_laws.proofs.Counts.{count, longer, run_all, run_count, termwise}
 use Rattle.building_laws.proofs.Plain.{start_alone}
-use Rattle.building_laws.proofs.WaitingCut.{at_rate, from_moments, leaves, nodes_and_arcs, of_arc, of_node}
+use Rattle.building_laws.proofs.WaitingCut.{at_rate, from_moments, into_exit, into_node, leaves, nodes_and_arcs, of_arc, of_node}
 
 -- ---- arcs
 
-exit_run : (f d k t : ℕ) → (leb f t && (leb (t + d) k && true)) ≡ true → (f ≤ t) × (t < (k + 1) - d)
-exit_run f d k t e = (grind (arith, nat_tests), grind (arith, nat_tests))
-
 exit_back : (f d k t : ℕ) → f ≤ t → t < (k + 1) - d → (leb f t && (leb (t + d) k && true)) ≡ true
 exit_back f d k t l h = grind (arith, nat_tests)
-
-node_run : (f g d k t : ℕ) → (leb f t && (leb (t + d) k && not (leb g (t + d)))) ≡ true → (f ≤ t) × (t < g - d)
-node_run f g d k t e = (grind (arith, nat_tests), grind (arith, nat_tests))
 
 node_back : (f g d k t : ℕ) → g ≤ k + 1 → f ≤ t → t < g - d → (leb f t && (leb (t + d) k && not (leb g (t + d)))) ≡ true
 node_back f g d k t s l h = grind (arith, nat_tests)
@@ -34,11 +28,11 @@ gap exit k d f g = cond exit (k + 1) g - (d + f)
 
 pub gap_is : (exit : Bool) (k d f g : ℕ) → g ≤ k + 1 → count (leaves (λ t. leb f t) (λ t. leb g t) exit d k) (k + 1) ≡ gap exit k d f g
 gap_is true k d f g few =
-    let most = run_count (leaves (λ t. leb f t) (λ t. leb g t) true d k) f ((k + 1) - d) (k + 1) (exit_run f d k) in
+    let most = run_count (leaves (λ t. leb f t) (λ t. leb g t) true d k) f ((k + 1) - d) (k + 1) (into_exit f d k) in
     let least = run_all (leaves (λ t. leb f t) (λ t. leb g t) true d k) f ((k + 1) - d) (k + 1) (omega arith) (exit_back f d k) in
     omega (arith, most, least)
 gap_is false k d f g few =
-    let most = run_count (leaves (λ t. leb f t) (λ t. leb g t) false d k) f (g - d) (k + 1) (node_run f g d k) in
+    let most = run_count (leaves (λ t. leb f t) (λ t. leb g t) false d k) f (g - d) (k + 1) (into_node f g d k) in
     let least = run_all (leaves (λ t. leb f t) (λ t. leb g t) false d k) f (g - d) (k + 1) (omega (arith, few)) (λ t. node_back f g d k t few) in
     omega (arith, most, least)
 

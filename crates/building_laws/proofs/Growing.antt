@@ -167,12 +167,6 @@ module _ (m : Model) (z k : ℕ) (by_z : k ≤ z) (valid : IsValid m) (f h : ℕ
   abbrev Larger : (ℕ → ℕ → Bool) → Type 0
   Larger r = (n : ℕ) × (t : ℕ) × (n < length m.nodes) × (t ≤ z) × (r n t ≡ false) × Grown (with_pair r n t)
 
-  not_same : (x y b c : ℕ) (r : ℕ → ℕ → Bool) → r x y ≡ true → r b c ≡ false → (eqb x b && eqb y c) ≡ false
-  not_same x y b c r p q = elim (cases_Bool (eqb x b && eqb y c)) [
-    | inl same ↦ let pair = pair_is x y b c same in absurd (both_ways (r b c) q (sym (ap₂ r pair.0 pair.1) ∙ p))
-    | inr apart ↦ apart
-  ]
-
   leaving_exit : (r : ℕ → ℕ → Bool) → Grown r → (a t : ℕ) → a < length m.arcs → t < z + 1 → exits_by r a t ≡ true → Better
   leaving_exit r grown a t i l e =
       let is = and5 (leb (arrival m a t) k) (is_exit_at m (head m a)) (r (tail m a) t) true (ltb (f a t) (rate m a t)) e in

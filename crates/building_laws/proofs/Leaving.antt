@@ -16,13 +16,10 @@ use Rattle.evac_law.proofs.EditLemmas.{at-set, valid_start}
 use Rattle.evac_law.proofs.SumLemmas.{sum2-same}
 use Rattle.evac_law.proofs.ValidLemmas.{arc_is, head_in, node_is}
 use Rattle.building_laws.proofs.Counts.{found}
-use Rattle.building_laws.proofs.Steps.{come_back, end_here, go_back, stay_back, wait_back}
+use Rattle.building_laws.proofs.Steps.{come_back, end_here, go_back, nobody, stay_back, wait_back}
 use Rattle.building_laws.proofs.Tables.{IsFlow, before, comes, comes_least, flow_of_plan, goes, goes_none, gone, gone_more, gone_moved, one_taken, out_is, plan, plan_is_feasible, point, stays}
 
 -- ---- one person's way
-
-abbrev nobody : ℕ → ℕ → ℕ
-nobody _ _ = 0
 
 earlier : (n t i s : ℕ) → s < t → point n t i s ≡ 0
 earlier n t i s l = grind (arith, nat_tests)

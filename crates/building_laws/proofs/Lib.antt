@@ -1,5 +1,5 @@
 mod Counts
-mod Plain
+pub mod Plain
 mod WaitingCut
 mod Gaps
 mod Tables
@@ -7,11 +7,13 @@ mod Steps
 mod Growing
 mod Duality
 mod Delays
+mod Windows
 mod Values
 mod Rooms
 mod Looser
+mod Slower
 mod Exits
-mod Ways
+pub mod Ways
 mod Pace
 mod Leaving
 mod People

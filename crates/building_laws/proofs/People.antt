@@ -76,8 +76,10 @@ module _ (m less : Model) (n w : ℕ) (is : IsWithout m less n w) where
 
   has_fewer : HasFewer m less w
   has_fewer = record {
-    never_more = λ p q k l best other. never_more p q k l best other.feasible;
-    little_fewer = λ p q k l best other. little_fewer p q k best.feasible other;
+    never_more = never_more;
+    little_fewer = λ p q k l. little_fewer p q k;
+    no_later = λ p q k l feasible all_out best.
+        omega (arith, little_fewer p q k feasible best, all_out, people_less, out_le_people less q k is.valid_less best.feasible);
     clears = clears;
   }
 

@@ -26,7 +26,7 @@ less_of_more f g a t b s most more fits = omega (arith, more b s, fits)
 off_pair : (p n t s : ℕ) → (p ≡ n → t ≡ s → ⊥) → point p t n s ≡ 0
 off_pair p n t s h = grind (arith, nat_tests)
 
-abbrev nobody : ℕ → ℕ → ℕ
+abbrev pub nobody : ℕ → ℕ → ℕ
 nobody _ _ = 0
 
 module _ (m : Model) (k : ℕ) (f g h : ℕ → ℕ → ℕ) (a t : ℕ) (i : a < length m.arcs) where

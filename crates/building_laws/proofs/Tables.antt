@@ -126,9 +126,6 @@ flow_of_plan m k q feasible = record {
 
 -- ---- a plan of tables
 
-cond_same : (b : Bool) (x y : ℕ) → (b ≡ true → x ≡ y) → cond b x 0 ≡ cond b y 0
-cond_same b x y h = grind arith
-
 module _ (m : Model) (k : ℕ) (f h : ℕ → ℕ → ℕ) (flow : IsFlow m k f h (λ _ _. 0)) where
   abbrev pub plan : List Move
   plan = moves_of (length m.arcs) k f

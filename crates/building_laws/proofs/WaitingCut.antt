@@ -25,11 +25,11 @@ from_moments f n t = leb (f n) t
 
 module _ (b : ℕ → Bool) (cap : ℕ) where
   -- what it takes to hold people who are in the cut back to where they aren't
-  abbrev drop : ℕ → ℕ
+  abbrev pub drop : ℕ → ℕ
   drop t = cond (b t && not (b (t + 1))) cap 0
 
   -- the test holds from a moment on
-  abbrev Settled : ℕ → Type 0
+  abbrev pub Settled : ℕ → Type 0
   Settled k = (t : ℕ) → t ≤ k → b t ≡ leb (misses b (k + 1)) t
 
   first_at : (x : Bool) (t ms : ℕ) → ms ≡ cond x 0 1 → t ≡ 0 → x ≡ leb ms t
@@ -67,7 +67,7 @@ module _ (b : ℕ → Bool) (cap : ℕ) where
   full_drop x y e f = grind arith
 
   -- the test holds from a moment on, or it costs the whole capacity that it fails again
-  drops : (k : ℕ) → (cap ≤ sum_by drop (below k)) ⊎ Settled k
+  pub drops : (k : ℕ) → (cap ≤ sum_by drop (below k)) ⊎ Settled k
   drops zero = inr settled_first
   drops (suc k) = elim (drops k) [
     | inl paid ↦ inl (omega (arith, paid, sum_below-suc drop k))
@@ -111,10 +111,10 @@ module _ (b : ℕ → Bool) (cap : ℕ) where
 abbrev pub leaves : (ℕ → Bool) → (ℕ → Bool) → Bool → ℕ → ℕ → ℕ → Bool
 leaves u v exit d k t = u t && (leb (t + d) k && (exit || not (v (t + d))))
 
-into_exit : (f d k t : ℕ) → (leb f t && (leb (t + d) k && true)) ≡ true → (f ≤ t) × (t < (k + 1) - d)
+pub into_exit : (f d k t : ℕ) → (leb f t && (leb (t + d) k && true)) ≡ true → (f ≤ t) × (t < (k + 1) - d)
 into_exit f d k t e = (grind (arith, nat_tests), grind (arith, nat_tests))
 
-into_node : (f g d k t : ℕ) → (leb f t && (leb (t + d) k && not (leb g (t + d)))) ≡ true → (f ≤ t) × (t < g - d)
+pub into_node : (f g d k t : ℕ) → (leb f t && (leb (t + d) k && not (leb g (t + d)))) ≡ true → (f ≤ t) × (t < g - d)
 into_node f g d k t e = (grind (arith, nat_tests), grind (arith, nat_tests))
 
 exit_once : (u i : Bool) → cond i 1 0 ≤ cond u 0 1 + cond (u && (i && true)) 1 0

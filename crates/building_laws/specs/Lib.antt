@@ -7,6 +7,7 @@ pub use Rattle.evac_law.specs.Sums
 pub mod Duality
 pub mod Rooms
 pub mod Looser
+pub mod Slower
 pub mod People
 pub mod Exits
 pub mod Delays

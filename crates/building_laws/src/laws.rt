@@ -1,11 +1,12 @@
 //! The laws, each the contract of a function with nothing to do.
-ghost use Rattle.building_laws.specs.Delays.{OneArcDelaysLittle, WindowDelaysByItsLength};
+ghost use Rattle.building_laws.specs.Delays.{OneArcDelaysLittle, WindowDelaysByItsLength, CommonWindowDelaysByItsLength};
 ghost use Rattle.building_laws.specs.Duality.{BestAtEveryMoment, MostIsReached};
 ghost use Rattle.building_laws.specs.Exits.{TwoExitsCostMost};
 ghost use Rattle.building_laws.specs.Looser.{LooserKeepsPlans, LooseningKeepsPlans};
 ghost use Rattle.building_laws.specs.Pace.{PaceNeverFalls};
 ghost use Rattle.building_laws.specs.People.{FewerAreNoLater, MoreAreNoSooner, ShiftedChangeLittle};
 ghost use Rattle.building_laws.specs.Rooms.{NoWindowsAreSteady, NobodyLaterHasRoom, RoomEditsKeepMost, RoomsKeepMost};
+ghost use Rattle.building_laws.specs.Slower.{SlowerIsNoBetter};
 ghost use Rattle.building_laws.specs.Ways.{WaysKeepPace};
 
 /// Where some plan is feasible up to a moment, one plan is best by every moment up to then at once, and cuts show it.
@@ -49,6 +50,11 @@ pub fn loosening_keeps_plans()
     ensures { LooseningKeepsPlans }
 {}
 
+/// Where rates are steady and there is room, a longer walk or a narrower door lets nobody out sooner.
+pub fn slower_is_no_better()
+    ensures { SlowerIsNoBetter }
+{}
+
 /// Where w people leave a room before it begins, by each moment never more are out and at most w fewer, and what could be cleared can be.
 pub fn fewer_are_no_later()
     ensures { FewerAreNoLater }
@@ -78,6 +84,11 @@ pub fn one_arc_delays_little()
 /// So it is with one closure of w moments.
 pub fn window_delays_by_its_length()
     ensures { WindowDelaysByItsLength }
+{}
+
+/// Where each room has place for everybody, so it is with any doors, corridors and stairs that are closed for the same w moments.
+pub fn common_window_delays_by_its_length()
+    ensures { CommonWindowDelaysByItsLength }
 {}
 
 /// Where from each room with people a way for r at once is no longer than u, from moment u on r more are out at each moment until all are; so

@@ -7,8 +7,9 @@
 mod laws;
 
 pub use laws::{
-    best_at_every_moment, fewer_are_no_later, loosening_keeps_plans, looser_keeps_plans,
-    more_are_no_sooner, most_is_reached, no_windows_are_steady, nobody_later_has_room,
-    one_arc_delays_little, pace_never_falls, room_edits_keep_most, rooms_keep_most,
-    shifted_change_little, two_exits_cost_most, ways_keep_pace, window_delays_by_its_length,
+    best_at_every_moment, common_window_delays_by_its_length, fewer_are_no_later,
+    loosening_keeps_plans, looser_keeps_plans, more_are_no_sooner, most_is_reached,
+    no_windows_are_steady, nobody_later_has_room, one_arc_delays_little, pace_never_falls,
+    room_edits_keep_most, rooms_keep_most, shifted_change_little, slower_is_no_better,
+    two_exits_cost_most, ways_keep_pace, window_delays_by_its_length,
 };
