@@ -1,8 +1,10 @@
--- Where a plan has everybody out, everybody who starts has a walk.
-use Rattle.std.proofs.Common.{◌≡◌, ℕ, ◌+◌, ◌<◌, ◌≤◌, ◌⊎◌, inl, inr, Bool, true, false, cond, not, ◌&&◌, ◌||◌, eqb, ltb, leb, List, length, refl, ap, sym, ◌∙◌, arith, Option, Some, None}
-use Rattle.std.specs.List.{sum_by}
-use Rattle.std.proofs.lemmas.Bool.{cases_Bool, lt-ltb}
+-- Whoever starts in a node from which no walk ends by a moment isn't out by then.
+use Rattle.std.proofs.Common.{◌≡◌, ℕ, zero, suc, ◌+◌, ◌-◌, ◌<◌, ◌≤◌, ◌⊎◌, inl, inr, Bool, true, false, cond, not, ◌&&◌, ◌||◌, eqb, ltb, leb, List, [], ◌∷◌, length, get_or, refl, ap, ap₂, sym, ◌∙◌, arith, Some, IsTrue}
+use Rattle.std.specs.List.{list_any, sum_by}
+use Rattle.std.proofs.lemmas.Bool.{both_ways, cases_Bool, cases_lt, leb-true, lt-ltb}
 use Rattle.std.proofs.lemmas.Bool.Decides.{nat_tests}
+use Rattle.std.proofs.lemmas.List.Folds.{Any-from_list_any, list_any_at}
+use Rattle.std.proofs.lemmas.List.FromFn.{get_or-range_with_len, length-range_with_len}
 use Rattle.evac_law.specs.declared.model.Model.{Model}
 use Rattle.evac_law.specs.declared.plan.Move.{Move}
 use Rattle.evac_law.specs.Building.{IsValid, arc_at, arrival, capacity, entry, entered_by, head, is_exit_at, node_at, people, rate, start, tail}
@@ -10,120 +12,199 @@ use Rattle.evac_law.specs.Cuts.{Cut, cut_value, leaves_cut}
 use Rattle.evac_law.specs.Plans.{IsFeasible, out_by}
 use Rattle.evac_law.specs.Sums.{below, moments_to, places}
 use Rattle.evac_law.specs.Windows.{is_closed_at}
-use Rattle.evac_law.proofs.SumLemmas.{All-below, sum_by-add, sum_by-le_all, sum_by-nothing, sum_by-same, sum_by-same_all, sum_below-pick, pick_le}
-use Rattle.evac_law.proofs.WeakDuality.{out_le_value, value_is}
-use Rattle.evac_law.proofs.Entries.{entered_le, without_zero}
+use Rattle.evac_law.proofs.Entries.{entered_le}
+use Rattle.evac_law.proofs.SumLemmas.{All-below, sum_below-pick, sum_by-add, sum_by-le_all, sum_by-nothing, sum_by-same, sum_by-same_all}
 use Rattle.evac_law.proofs.ValidLemmas.{arc_is}
-use Rattle.clearing_report.specs.Distances.{AllFound, AreTimes, time_at}
-use Rattle.clearing_report.specs.Walks.{IsStartNode, Walk, is_open}
+use Rattle.evac_law.proofs.WeakDuality.{out_le_value, value_is}
+use Rattle.clearing_report.specs.Walks.{IsStartNode, IsUncongested, Walk, is_open, walk_time}
+use Rattle.clearing_report.proofs.TimeLemmas.{time_cons}
 
--- whether a time isn't known
-abbrev is_lost : Option ℕ → Bool
-is_lost None = true
-is_lost (Some d) = false
+-- ---- whether a walk is in time
 
-lost_none : (t : Option ℕ) → is_lost t ≡ true → t ≡ None
-lost_none None e = refl
-lost_none (Some d) e = absurd (apart e)
-  where
-    apart : false ≡ true → ⊥
-    apart x = cc
+-- whether a walk of at most so many arcs from a node takes no longer than d
+abbrev near : Model → ℕ → ℕ → ℕ → Bool
+near m zero d n = is_exit_at m n
+near m (suc f) d n =
+    is_exit_at m n
+    || list_any (λ a. (is_open m a && eqb (tail m a) n) && (leb (arc_at m a).travel d && near m f (d - (arc_at m a).travel) (head m a))) (places m.arcs)
 
-module _ (m : Model) (times : List (Option ℕ)) (valid : IsValid m) (are : AreTimes m times) (all : AllFound m times) where
-  -- the nodes whose time isn't known, at all moments
-  abbrev lost : Cut
-  lost n t = is_lost (time_at times n)
+module _ (m : Model) (valid : IsValid m) where
+  abbrev InTime : ℕ → ℕ → Type 0
+  InTime d n = (arcs : List ℕ) × Walk m n arcs × (walk_time m arcs ≤ d)
 
-  no_way_out : (a : ℕ) → a < length m.arcs → is_open m a ≡ true → time_at times (tail m a) ≡ None → (t : Option ℕ) → time_at times (head m a) ≡ t → t ≡ None
-  no_way_out a l o e None f = refl
-  no_way_out a l o e (Some r) f = absurd (all a ((arc_at m a).travel + r) (record { arc_in = l; opened = o; from = e; rest = r; to = f; time = refl }))
+  -- whether an arc leads from a node to one that is near in the rest of the time
+  abbrev leads : ℕ → ℕ → ℕ → ℕ → Bool
+  leads f d n a = (is_open m a && eqb (tail m a) n) && (leb (arc_at m a).travel d && near m f (d - (arc_at m a).travel) (head m a))
 
-  shut_rate : (r : ℕ) (s x c : Bool) → (ltb 0 r && not (s || x)) ≡ false → cond ((s || x) || c) 0 r ≡ 0
-  shut_rate r s x c e = grind (arith, nat_tests)
+  leads_parts : (o near : Bool) (from n travel d : ℕ) → ((o && eqb from n) && (leb travel d && near)) ≡ true
+      → (o ≡ true) × (from ≡ n) × (travel ≤ d) × (near ≡ true)
+  leads_parts o near from n travel d e = (grind (arith, nat_tests), grind (arith, nat_tests), grind (arith, nat_tests), grind (arith, nat_tests))
 
-  all_parts : (a b c d : Bool) → (a && (b && (c || not d))) ≡ true → (a ≡ true) × ((c ≡ true) ⊎ (d ≡ false))
-  all_parts true true true d e = (refl, inl refl)
-  all_parts true true false true e = absurd (apart e)
-    where
-      apart : false ≡ true → ⊥
-      apart x = cc
-  all_parts true true false false e = (refl, inr refl)
-  all_parts true false c d e = absurd (apart e)
-    where
-      apart : false ≡ true → ⊥
-      apart x = cc
-  all_parts false b c d e = absurd (apart e)
-    where
-      apart : false ≡ true → ⊥
-      apart x = cc
+  all_lead : (o near : Bool) (from n travel d : ℕ) → o ≡ true → from ≡ n → travel ≤ d → near ≡ true → ((o && eqb from n) && (leb travel d && near)) ≡ true
+  all_lead o near from n travel d p q l e = grind (arith, nat_tests)
 
-  none_some : (d : ℕ) → ◌≡◌ {A = Option ℕ} None (Some d) → ⊥
-  none_some d e = cc
+  second : (b c : Bool) → b ≡ false → (b || c) ≡ true → c ≡ true
+  second b c e f = grind arith
 
-  true_false : true ≡ false → ⊥
-  true_false x = cc
+  either : (b c : Bool) → c ≡ true → (b || c) ≡ true
+  either b c e = grind arith
 
-  no_rate : (k t a : ℕ) → a < length m.arcs → cond (leaves_cut m lost k t a) (rate m a t) 0 ≡ 0
-  no_rate k t a l = split (cases_Bool (leaves_cut m lost k t a))
-    where
-      here : leaves_cut m lost k t a ≡ true → (is_open m a ≡ true) ⊎ (is_open m a ≡ false) → rate m a t ≡ 0
-      here e (inr o) = shut_rate (arc_at m a).rate (arc_at m a).shut (node_at m (head m a)).shut (is_closed_at (arc_at m a).windows.items t) o
-      here e (inl o) =
-          let parts = all_parts (is_lost (time_at times (tail m a))) (leb (arrival m a t) k) (is_exit_at m (head m a)) (is_lost (time_at times (head m a))) e in
-          let gone = no_way_out a l o (lost_none (time_at times (tail m a)) parts.0) (time_at times (head m a)) refl in
-          absurd (never gone parts.1)
-        where
-          never : time_at times (head m a) ≡ None → (is_exit_at m (head m a) ≡ true) ⊎ (is_lost (time_at times (head m a)) ≡ false) → ⊥
-          never g (inl x) = none_some 0 (sym g ∙ are.exits (head m a) (arc_is m a valid l).to_in x)
-          never g (inr x) = true_false (sym (ap is_lost g) ∙ x)
+  walk_of : (f d n : ℕ) → near m f d n ≡ true → InTime d n
+  walk_of zero d n e = ([], e, omega arith)
+  walk_of (suc f) d n e = elim (cases_Bool (is_exit_at m n)) [
+    | inl exit ↦ ([], exit, omega arith)
+    | inr inner ↦
+        let some = Any-from_list_any (leads f d n) (places m.arcs) (second (is_exit_at m n) (list_any (leads f d n) (places m.arcs)) inner e) in
+        let a = some.1 in
+        let in_arcs : some.0 < length m.arcs = omega (arith, some.2, length-range_with_len 0 (length m.arcs)) in
+        let place : a ≡ some.0 = omega (arith, sym some.3 ∙ get_or-range_with_len 0 (length m.arcs) some.0 a in_arcs) in
+        let is = leads_parts (is_open m a) (near m f (d - (arc_at m a).travel) (head m a)) (tail m a) n (arc_at m a).travel d some.4 in
+        let rest = walk_of f (d - (arc_at m a).travel) (head m a) is.3 in
+        (a ∷ rest.0, (omega (arith, place, in_arcs), is.0, is.1, rest.1), omega (arith, time_cons m a rest.0, rest.2, is.2))
+  ]
 
-      split : (leaves_cut m lost k t a ≡ true) ⊎ (leaves_cut m lost k t a ≡ false) → cond (leaves_cut m lost k t a) (rate m a t) 0 ≡ 0
-      split (inl e) = ap (λ b. cond b (rate m a t) 0) e ∙ here e (cases_Bool (is_open m a))
-      split (inr e) = ap (λ b. cond b (rate m a t) 0) e
+  near_by : (f d n : ℕ) (arcs : List ℕ) → Walk m n arcs → length arcs ≤ f → walk_time m arcs ≤ d → near m f d n ≡ true
+  near_by zero d n [] w few short = w
+  near_by zero d n (a ∷ arcs) w few short = absurd (omega (arith, few))
+  near_by (suc f) d n [] w few short = ap (λ b. b || list_any (leads f d n) (places m.arcs)) w
+  near_by (suc f) d n (a ∷ arcs) w few short =
+      let time = time_cons m a arcs in
+      let rest = near_by f (d - (arc_at m a).travel) (head m a) arcs w.3 (omega (arith, few)) (omega (arith, time, short)) in
+      let place : get_or (places m.arcs) a 0 ≡ a = omega (arith, get_or-range_with_len 0 (length m.arcs) a 0 w.0) in
+      let this = all_lead (is_open m a) (near m f (d - (arc_at m a).travel) (head m a)) (tail m a) n (arc_at m a).travel d w.1 w.2 (omega (arith, time, short)) rest in
+      either (is_exit_at m n) (list_any (leads f d n) (places m.arcs))
+      (list_any_at (leads f d n) (places m.arcs) a 0 (omega (arith, w.0, length-range_with_len 0 (length m.arcs)))
+      (ap (leads f d n) place ∙ this))
 
-  no_hold : (b : Bool) (c : ℕ) → cond (b && not b) c 0 ≡ 0
-  no_hold true c = refl
-  no_hold false c = refl
+  -- each arc takes time
+  few_arcs : (n : ℕ) (arcs : List ℕ) → Walk m n arcs → length arcs ≤ walk_time m arcs
+  few_arcs n [] w = omega arith
+  few_arcs n (a ∷ arcs) w = omega (arith, time_cons m a arcs, few_arcs (head m a) arcs w.3, (arc_is m a valid w.0).travel_fits.0)
 
-  abbrev counted : ℕ → ℕ → ℕ
-  counted k n = cond (lost n 0) 0 (sum_by (entry m n) (moments_to k))
+  near_in : (d n : ℕ) → InTime d n → near m d d n ≡ true
+  near_in d n walk = near_by d d n walk.0 walk.1 (omega (arith, few_arcs n walk.0 walk.1, walk.2)) walk.2
 
-  value : (k : ℕ) → cut_value m lost k ≡ sum_by (counted k) (places m.nodes)
-  value k =
-      let entries : sum_by (λ n. sum_by (λ t. cond (lost n t || eqb (entry m n t) 0) 0 (entry m n t)) (moments_to k)) (places m.nodes) ≡ sum_by (counted k) (places m.nodes) =
-      sum_by-same _ _ (places m.nodes) (λ n. without_zero (lost n 0) (entry m n) (moments_to k)) in
-      let holds : sum_by (λ n. sum_by (λ t. cond (lost n t && not (lost n (t + 1))) (capacity m n) 0) (below k)) (places m.nodes) ≡ 0 =
-      sum_by-same _ (λ _. 0) (places m.nodes) (λ n. sum_by-same _ (λ _. 0) (below k) (λ t. no_hold (is_lost (time_at times n)) (capacity m n)) ∙ sum_by-nothing (below k))
-      ∙ sum_by-nothing (places m.nodes) in
-      let arcs : sum_by (λ t. sum_by (λ a. cond (leaves_cut m lost k t a) (rate m a t) 0) (places m.arcs)) (moments_to k) ≡ 0 =
-      sum_by-same _ (λ _. 0) (moments_to k)
-      (λ t. sum_by-same_all _ (λ _. 0) (places m.arcs) (All-below (λ a. cond (leaves_cut m lost k t a) (rate m a t) 0 ≡ 0) (length m.arcs) (λ a l. no_rate k t a l))
-      ∙ sum_by-nothing (places m.arcs))
-      ∙ sum_by-nothing (moments_to k) in
-      omega (arith, value_is m lost k, entries, holds, arcs)
+  -- ---- the cut of those who come too late
 
-  without : (i n s p : ℕ) (b : Bool) → (i ≡ n → b ≡ true) → s ≤ p → cond b 0 p + cond (eqb i n) s 0 ≤ p
-  without i n s p b e l = grind (arith, nat_tests)
+  module _ (k : ℕ) where
+    abbrev late : Cut
+    late n t = not (near m (k - t) (k - t) n)
 
-  fewer : (k i : ℕ) → i < length m.nodes → time_at times i ≡ None → sum_by (counted k) (places m.nodes) + start m i ≤ people m
-  unfolding entered_by
-  fewer k i l e =
-      let pick = λ (n : ℕ). cond (eqb i n) (start m n) 0 in
-      let come = λ (n : ℕ). sum_by (entry m n) (moments_to k) in
-      let le = sum_by-le_all (λ n. counted k n + pick n) come (places m.nodes)
-      (All-below _ (length m.nodes)
-      (λ n h. without i n (start m n) (come n) (lost n 0) (λ f. ap (λ z. is_lost (time_at times z)) (sym f) ∙ ap is_lost e)
-      (pick_le (entry m n) (k + 1) 0 (omega arith)))) in
-      let one : sum_by pick (places m.nodes) ≡ start m i = sum_below-pick (λ n. start m n) (length m.nodes) i ∙ ap (λ b. cond b (start m i) 0) (lt-ltb i (length m.nodes) l) in
-      omega (arith, le, one, sum_by-add (counted k) pick (places m.nodes), entered_le m k)
+    no_hold : (n t : ℕ) → cond (late n t && not (late n (t + 1))) (capacity m n) 0 ≡ 0
+    no_hold n t =
+        none (near m (k - t) (k - t) n) (near m (k - (t + 1)) (k - (t + 1)) n) (capacity m n)
+        (λ e. let walk = walk_of (k - (t + 1)) (k - (t + 1)) n e in near_in (k - t) n (walk.0, walk.1, omega (arith, walk.2)))
+      where
+        none : (a b : Bool) (c : ℕ) → (b ≡ true → a ≡ true) → cond (not a && not (not b)) c 0 ≡ 0
+        none a b c h = grind arith
 
-  pub all_walk : (p : List Move) → IsFeasible m p m.horizon → out_by m p m.horizon ≡ people m → (n : ℕ) → IsStartNode m n → time_at times n ≡ None → ⊥
-  all_walk p feasible all_out n s e =
-      omega (arith, out_le_value m lost p m.horizon valid feasible, value m.horizon, fewer m.horizon n s.0 e, s.1, all_out)
+    shut_rate : (r : ℕ) (s x c : Bool) → (ltb 0 r && not (s || x)) ≡ false → cond ((s || x) || c) 0 r ≡ 0
+    shut_rate r s x c e = grind (arith, nat_tests)
+
+    crossing : (u l e v : Bool) → (not u && (l && (e || not (not v)))) ≡ true → (u ≡ false) × (l ≡ true) × ((e ≡ true) ⊎ (v ≡ true))
+    crossing false true true v h = (refl, refl, inl refl)
+    crossing false true false true h = (refl, refl, inr refl)
+    crossing false true false false h = cc
+    crossing false false e v h = cc
+    crossing true l e v h = cc
+
+    never : (t a : ℕ) → a < length m.arcs → is_open m a ≡ true → leaves_cut m late k t a ≡ true → ⊥
+    never t a i o e =
+        let is = crossing (near m (k - t) (k - t) (tail m a)) (leb (arrival m a t) k) (is_exit_at m (head m a))
+        (near m (k - arrival m a t) (k - arrival m a t) (head m a)) e in
+        let in_time = leb-true (arrival m a t) k is.1 in
+        let rest : InTime (k - arrival m a t) (head m a) = elim is.2 [
+          | inl exit ↦ ([], exit, omega arith)
+          | inr on ↦ walk_of (k - arrival m a t) (k - arrival m a t) (head m a) on
+        ] in
+        both_ways (near m (k - t) (k - t) (tail m a))
+        is.0
+        (near_in (k - t) (tail m a) (a ∷ rest.0, (i, o, refl, rest.1), omega (arith, time_cons m a rest.0, rest.2, in_time)))
+
+    no_rate : (t a : ℕ) → a < length m.arcs → cond (leaves_cut m late k t a) (rate m a t) 0 ≡ 0
+    no_rate t a i = elim (cases_Bool (leaves_cut m late k t a)) [
+      | inr stays ↦ ap (λ b. cond b (rate m a t) 0) stays
+      | inl leaves ↦ ap (λ b. cond b (rate m a t) 0) leaves ∙ elim (cases_Bool (is_open m a)) [
+        | inl open_arc ↦ absurd (never t a i open_arc leaves)
+        | inr shut ↦ shut_rate (arc_at m a).rate (arc_at m a).shut (node_at m (head m a)).shut (is_closed_at (arc_at m a).windows.items t) shut
+      ]
+    ]
+
+    abbrev paid : ℕ → ℕ → ℕ
+    paid n t = cond (late n t || eqb (entry m n t) 0) 0 (entry m n t)
+
+    value : cut_value m late k ≡ sum_by (λ n. sum_by (paid n) (moments_to k)) (places m.nodes)
+    value =
+        let holds : sum_by (λ n. sum_by (λ t. cond (late n t && not (late n (t + 1))) (capacity m n) 0) (below k)) (places m.nodes) ≡ 0 =
+        sum_by-same _ (λ _. 0) (places m.nodes) (λ n. sum_by-same _ (λ _. 0) (below k) (no_hold n) ∙ sum_by-nothing (below k)) ∙ sum_by-nothing (places m.nodes) in
+        let arcs : sum_by (λ t. sum_by (λ a. cond (leaves_cut m late k t a) (rate m a t) 0) (places m.arcs)) (moments_to k) ≡ 0 =
+        sum_by-same _ (λ _. 0) (moments_to k)
+        (λ t. sum_by-same_all _ (λ _. 0) (places m.arcs) (All-below (λ a. cond (leaves_cut m late k t a) (rate m a t) 0 ≡ 0) (length m.arcs) (no_rate t))
+        ∙ sum_by-nothing (places m.arcs))
+        ∙ sum_by-nothing (moments_to k) in
+        omega (arith, value_is m late k, holds, arcs)
+
+    -- ---- without those who start too far away
+
+    module _ (i : ℕ) (l : i < length m.nodes) (far : late i 0 ≡ true) where
+      abbrev own : ℕ → ℕ
+      own n = cond (eqb i n) (start m n) 0
+
+      spared : (n t s e : ℕ) (b : Bool) → (t ≡ 0 → e ≡ s) → (i ≡ n → t ≡ 0 → b ≡ true)
+          → cond (b || eqb e 0) 0 e + cond (eqb 0 t) (cond (eqb i n) s 0) 0 ≤ e
+      spared n t s e b h g = grind (arith, nat_tests)
+
+      first : (n t : ℕ) → t ≡ 0 → entry m n t ≡ start m n
+      first n t e = ap (entry m n) e
+
+      far_at : (n t : ℕ) → i ≡ n → t ≡ 0 → late n t ≡ true
+      far_at n t e f = sym (ap₂ late e (sym f)) ∙ far
+
+      by_node : (n : ℕ) → sum_by (paid n) (moments_to k) + own n ≤ sum_by (entry m n) (moments_to k)
+      by_node n =
+          omega (
+            arith,
+            sum_by-le_all (λ t. paid n t + cond (eqb 0 t) (own n) 0) (entry m n) (moments_to k)
+                (All-below _ (k + 1) (λ t _. spared n t (start m n) (entry m n t) (late n t) (first n t) (far_at n t))),
+            sum_by-add (paid n) (λ t. cond (eqb 0 t) (own n) 0) (moments_to k),
+            sum_below-pick (λ t. own n) (k + 1) 0,
+            ap (λ b. cond b (own n) 0) (lt-ltb 0 (k + 1) (omega arith)),
+          )
+
+      fewer : cut_value m late k + start m i ≤ people m
+      unfolding entered_by
+      fewer =
+          omega (
+            arith,
+            value,
+            sum_by-le_all (λ n. sum_by (paid n) (moments_to k) + own n) (λ n. sum_by (entry m n) (moments_to k)) (places m.nodes)
+                (All-below _ (length m.nodes) (λ n _. by_node n)),
+            sum_by-add (λ n. sum_by (paid n) (moments_to k)) own (places m.nodes),
+            sum_below-pick (start m) (length m.nodes) i,
+            ap (λ b. cond b (start m i) 0) (lt-ltb i (length m.nodes) l),
+            entered_le m k,
+          )
+
+  -- ---- plans
+
+  too_far : (k n : ℕ) → ((arcs : List ℕ) → Walk m n arcs → k < walk_time m arcs) → late k n 0 ≡ true
+  too_far k n h = elim (cases_Bool (near m (k - 0) (k - 0) n)) [
+    | inl e ↦ let walk = walk_of (k - 0) (k - 0) n e in absurd (omega (arith, h walk.0 walk.1, walk.2))
+    | inr e ↦ ap not e
+  ]
+
+  pub late_start : (p : List Move) (k n : ℕ) → IsFeasible m p k → IsStartNode m n → ((arcs : List ℕ) → Walk m n arcs → k < walk_time m arcs)
+      → out_by m p k + start m n ≤ people m
+  late_start p k n feasible s h = omega (arith, out_le_value m (late k) p k valid feasible, fewer k n s.0 (too_far k n h))
 
   pub some_walk : (p : List Move) → IsFeasible m p m.horizon → out_by m p m.horizon ≡ people m → (n : ℕ) → IsStartNode m n → ((arcs : List ℕ) → Walk m n arcs → ⊥) → ⊥
-  some_walk p feasible all_out n s h = split (time_at times n) refl
-    where
-      split : (t : Option ℕ) → time_at times n ≡ t → ⊥
-      split None e = all_walk p feasible all_out n s e
-      split (Some d) e = let walk = are.walks n d e in h walk.0 walk.1
+  some_walk p feasible all_out n s h = omega (arith, late_start p m.horizon n feasible s (λ arcs w. absurd (h arcs w)), all_out, s.1)
+
+  pub uncongested_is_least : (p : List Move) (u k : ℕ) → IsUncongested m (Some u) → IsFeasible m p k → out_by m p k ≡ people m → u ≤ k
+  uncongested_is_least p u k is feasible all_out = elim is.least [
+    | inl none ↦ omega (arith, none)
+    | inr far ↦ elim (cases_lt k u) [
+      | inr enough ↦ enough
+      | inl sooner ↦ absurd (omega (arith, late_start p k far.0 feasible far.1 (λ arcs w. omega (arith, far.2 arcs w, sooner)), all_out, far.1.1))
+    ]
+  ]

@@ -5,3 +5,4 @@ pub use Rattle.floor_index.specs.Floors
 pub mod Clearing
 pub mod Walks
 pub mod Distances
+pub mod Laws

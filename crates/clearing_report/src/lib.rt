@@ -2,8 +2,10 @@
 #![tactic(auto)]
 
 mod clearing;
+mod laws;
 mod moments;
 mod periods;
 mod times;
 
 pub use clearing::Clearing;
+pub use laws::uncongested_is_least;

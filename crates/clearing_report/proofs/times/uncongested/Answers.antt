@@ -5,5 +5,4 @@ pub returns-in-None-clause-time : goal.returns-in-None-clause-time
 returns-in-None-clause-time c =
     let none = c.in-None.ensures.bound in
     let clear = c.requires.clearable in
-    absurd (some_walk c.args.model.now c.walk_bound.new.times c.requires.valid c.walk_bound.ensures.times c.walk_bound.ensures.all
-    clear.0 clear.1 clear.2 none.0 none.1 none.2)
+    absurd (some_walk c.args.model.now c.requires.valid clear.0 clear.1 clear.2 none.0 none.1 none.2)
