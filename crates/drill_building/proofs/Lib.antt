@@ -3,3 +3,4 @@ pub mod Floors
 pub mod NodeLemmas
 pub mod Storeys
 pub mod Validity
+pub mod WaysOut

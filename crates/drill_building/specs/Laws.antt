@@ -1,6 +1,7 @@
--- The law of drills.
+-- The laws of drills.
 use Rattle.std.specs.Prelude.{◌≡◌, ℕ, ◌+◌, ◌*◌, ◌≤◌, length}
 use Rattle.evac_law.specs.Building.{IsValid}
+use Rattle.evac_law.specs.Certificates.{IsClearable}
 use Rattle.drill_building.specs.Drill.{drill_model}
 use Rattle.drill_building.specs.declared.limits.TheConstants.{STOREY_LIMIT}
 
@@ -13,3 +14,7 @@ pub record IsDrill (n : ℕ) : Type 0 where
 -- each number of storeys up to the limit
 abbrev pub DrillsAreValid : Type 0
 DrillsAreValid = (n : ℕ) → n ≤ STOREY_LIMIT → IsDrill n
+
+-- and each can be cleared
+abbrev pub DrillsAreClearable : Type 0
+DrillsAreClearable = (n : ℕ) → n ≤ STOREY_LIMIT → IsClearable (drill_model n)

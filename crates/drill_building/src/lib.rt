@@ -8,6 +8,6 @@ mod rows;
 mod summary;
 
 pub use building::drill_model;
-pub use laws::drills_are_valid;
+pub use laws::{drills_are_clearable, drills_are_valid};
 pub use limits::STOREY_LIMIT;
 pub use summary::{Figures, write_drill};
