@@ -40,7 +40,8 @@ class Building:
     entrants: list = field(default_factory=list)
 
     def lines(self):
-        lines = ["evacplan 2", "period 5", f"horizon {self.horizon}", "floor 1 Ground"]
+        floors = sorted({int(name.split(".")[1]) for name in [*self.rooms, *self.exits]})
+        lines = ["evacplan 2", "period 5", f"horizon {self.horizon}", *(f"floor {floor} Storey" for floor in floors)]
         lines += [f"node {name} {room} {start}" for name, (room, start) in self.rooms.items()]
         lines += [f"node {name}" for name in self.exits]
         lines += [f"arc {tail} {head} {travel} {rate}" for (tail, head), (travel, rate) in self.arcs.items()]
@@ -309,26 +310,51 @@ def pace(rng):
     return never_falls(made, smallest_start(made)) if smallest_start(made) else None
 
 
-def travel(rng):
-    """A longer travel never lets more out, where rates are steady and there is room."""
+def slower(rng):
+    """A longer travel and a smaller rate never let more out, where rates are steady and there is room."""
     made = random_building(rng, entrants=1)
     arc = rng.choice(list(made.arcs))
+    travel, rate = made.arcs[arc]
     if not made.has_room():
         return None
-    return is_least(most_out(with_arc(made, arc, travel=made.arcs[arc][0] + rng.randint(1, 3))), most_out(made))
+    worse = with_arc(made, arc, travel + rng.randint(1, 3), max(rate - rng.randint(0, 2), 0))
+    return is_least(most_out(worse), most_out(made)) and (clears(made) or not clears(worse))
 
 
-def uncongested(rng):
-    """Those who meet nobody need no longer than all of them, where somebody is inside at moment 0."""
-    made = random_building(rng, windows=2, entrants=2)
+def walks_and_clearing(made):
+    """The numbers `uncongested` and `cleared` of the reports on a plan; none where there is no plan or nobody starts inside."""
     said = run(["solve", "--reports"], made.lines())
     if not said[0].startswith("answer") or not smallest_start(made):
         return None
     number = {it.split()[0]: int(it.split()[1]) for it in said if it.startswith(("cleared ", "uncongested "))}
-    return number["uncongested"] <= number["cleared"]
+    return number["uncongested"], number["cleared"]
 
 
-LAWS = (best, most, capacities, looser, people, exits, one_arc, common_window, ways, pace, travel, uncongested)
+def uncongested(rng):
+    """Those who meet nobody need no longer than all of them."""
+    found = walks_and_clearing(random_building(rng, windows=2, entrants=2))
+    return found and found[0] <= found[1]
+
+
+def tower(storeys):
+    """The building that `drill` generates, of any number of storeys."""
+    rooms, arcs = {"LO1.1": [40, 0]}, {("LO1.1", "DS1.1"): [1, 3], ("LO1.1", "DS2.1"): [2, 2]}
+    for at in range(1, storeys + 1):
+        rooms.update({f"WP{room}.{at}": [40, 10 + (7 * at + 3 * room) % 11] for room in (1, 2)})
+        rooms.update({f"HA1.{at}": [30, 0], f"SW1.{at}": [12, 0]})
+        arcs.update({(f"WP{room}.{at}", f"HA1.{at}"): [1, 6] for room in (1, 2)})
+        arcs.update({(f"HA1.{at}", f"SW1.{at}"): [1, 4], (f"SW1.{at}", f"SW1.{at - 1}" if at > 1 else "LO1.1"): [2, 4]})
+    return Building(600, rooms, ["DS1.1", "DS2.1"], arcs)
+
+
+def drills(rng):
+    """A generated building of up to 40 storeys can be cleared, as `drill` says and `solve` of the same building."""
+    storeys = rng.randint(1, 40)
+    said, solved = run(["drill", "--number", str(storeys)], []), run(["solve"], tower(storeys).lines())
+    return [it for it in said if it.startswith("cleared ")] == [it for it in solved if it.startswith("cleared ")] != []
+
+
+LAWS = (best, most, capacities, looser, slower, people, exits, one_arc, common_window, ways, pace, uncongested, drills)
 
 
 # ---- near misses: whether the building goes against one
@@ -360,11 +386,69 @@ def capacities_later(rng):
     return other_room(rng, entrants=2, room=0)
 
 
+def full_halls(rng):
+    """A building of halls for nobody and doors for one, into each of which one person comes."""
+    made = random_building(rng)
+    made.rooms = {name: [0, 0] for name in made.rooms}
+    made.arcs = {arc: [travel, 1] for arc, (travel, _) in made.arcs.items()}
+    made.entrants = [(name, rng.randint(1, 3), 1) for name in made.rooms]
+    return made
+
+
+def capacities_one_less(rng):
+    """A capacity changes nothing, where each room lacks place for one of those who come into it from nowhere."""
+    made = full_halls(rng)
+    return clears(made) and most_out(made) != most_out(with_room(made, rng.choice(list(made.rooms)), 1))
+
+
+def looser_one_less(rng):
+    """A rate that is one smaller lets no fewer out."""
+    made = random_building(rng)
+    arc = rng.choice(list(made.arcs))
+    return not is_least(most_out(made), most_out(with_arc(made, arc, rate=made.arcs[arc][1] - 1)))
+
+
+def looser_turned(rng):
+    """A smaller room lets no fewer out, with windows."""
+    made = random_building(rng, windows=2, room=0)
+    name = rng.choice(list(made.rooms))
+    return not is_least(most_out(with_room(made, name, made.rooms[name][0] + 1)), most_out(made))
+
+
+def slower_one_less(rng):
+    """A travel that is one shorter lets no more out."""
+    made = random_building(rng)
+    arc = rng.choice(list(made.arcs))
+    return made.arcs[arc][0] > 1 and not is_least(most_out(with_arc(made, arc, travel=made.arcs[arc][0] - 1)), most_out(made))
+
+
+def slower_turned(rng):
+    """A greater rate lets no more out."""
+    made = random_building(rng)
+    arc = rng.choice(list(made.arcs))
+    return not is_least(most_out(with_arc(made, arc, rate=made.arcs[arc][1] + 1)), most_out(made))
+
+
+def slower_later(rng):
+    """A longer travel lets no more out, where somebody comes later into a room that doesn't hold them."""
+    made = full_halls(rng)
+    arc = rng.choice(list(made.arcs))
+    longer = with_arc(made, arc, travel=made.arcs[arc][0] + 1)
+    return clears(made) and clears(longer) and not is_least(most_out(longer), most_out(made))
+
+
 def shorter_travel(rng):
     """A shorter travel lets no fewer out, with windows and small rooms."""
     made = random_building(rng, windows=2, room=0)
     arc = rng.choice(list(made.arcs))
     return made.arcs[arc][0] > 1 and not is_least(most_out(made), most_out(with_arc(made, arc, travel=made.arcs[arc][0] - 1)))
+
+
+def people_one_less(rng):
+    """Where one person leaves a room, no fewer are out."""
+    made = random_building(rng)
+    name = rng.choice([it for it, (_, start) in made.rooms.items() if start] or [None])
+    return name is not None and not is_least(most_out(made), most_out(with_start(made, name, made.rooms[name][1] - 1)))
 
 
 def clearing_of(made):
@@ -400,6 +484,12 @@ def two_arcs(rng):
     return found is not None and any(m + both > one + other for m, one, other, both in zip(*found[1]))
 
 
+def exits_one_less(rng):
+    """Two exits lost together keep inside more than each alone, added up."""
+    found = two_losses(rng, without_exits)
+    return found is not None and any(m + both + 1 > one + other and m > both for m, one, other, both in zip(*found[1]))
+
+
 def at_most_both(rng):
     """Two exits lost together keep inside at most as many as each alone, added up."""
     found = two_losses(rng, without_exits)
@@ -417,6 +507,28 @@ def moments_add_up(rng):
 
 def held_up(made, closed, length):
     return not is_least(most_out(made), most_out(closed)[length:])
+
+
+def one_arc_one_less(rng):
+    """A closure of one moment delays nobody."""
+    made = random_building(rng)
+    first = rng.randint(0, made.horizon)
+    return held_up(made, with_window(made, first, first + 1, rng.choice(list(made.arcs))), 0)
+
+
+def one_arc_turned(rng):
+    """A closure of more moments than w delays nobody by more than w."""
+    made = random_building(rng)
+    first = rng.randint(0, made.horizon)
+    return held_up(made, with_window(made, first, first + 2, rng.choice(list(made.arcs))), 1)
+
+
+def common_one_less(rng):
+    """Arcs that are closed in one common window, where each room holds all but one."""
+    made = random_building(rng)
+    made.rooms = {name: [max(made.people() - 1, start), start] for name, (_, start) in made.rooms.items()}
+    first = rng.randint(0, made.horizon)
+    return held_up(made, with_window(made, first, first + 1, *made.arcs), 1)
 
 
 def two_windows(rng):
@@ -454,6 +566,13 @@ def ways_sooner(rng):
     return off_pace(rng, sooner=1)
 
 
+def ways_turned(rng):
+    """r people come out at each moment from u on, by ways for one person at once."""
+    made = random_building(rng)
+    longest = walking_time(made, 1)
+    return longest is not None and not keeps_pace(made, rng.randint(2, 3), longest)
+
+
 def ways_window(rng):
     """r people come out at each moment from u on, with a window."""
     return off_pace(rng, windows=1)
@@ -470,6 +589,12 @@ def pace_at_most(rng):
     return smallest_start(made) > 0 and not never_falls(made, smallest_start(made), strict=False)
 
 
+def pace_turned(rng):
+    """No more come out than at the moment before."""
+    curve = most_out(random_building(rng))
+    return any(2 * now < before + after for before, now, after in zip(curve, curve[1:], curve[2:]))
+
+
 def pace_before(rng):
     """No fewer come out than at the moment before, as long as fewer were out by then than start in any room with people."""
     made = random_building(rng)
@@ -482,25 +607,58 @@ def pace_window(rng):
     return smallest_start(made) > 0 and not never_falls(made, smallest_start(made))
 
 
+def uncongested_one_less(rng):
+    """Those who meet nobody need less time than all of them."""
+    found = walks_and_clearing(random_building(rng, windows=2, entrants=2))
+    return found is not None and found[0] >= found[1]
+
+
+def uncongested_turned(rng):
+    """All of them need no longer than those who meet nobody."""
+    found = walks_and_clearing(random_building(rng, windows=2, entrants=2))
+    return found is not None and found[0] < found[1]
+
+
+def drills_taller(rng):
+    """The generated building can be cleared, of whatever number of storeys."""
+    return clears(tower(79)) and not clears(tower(80))
+
+
 # each with the seed of a building that goes against it
 NEAR = {
     unreached: 33,
+    capacities_one_less: 23,
     capacities_window: 840,
     capacities_later: 57,
+    looser_one_less: 1,
+    looser_turned: 840,
     shorter_travel: 524,
+    slower_one_less: 1,
+    slower_turned: 14,
+    slower_later: 23,
+    people_one_less: 1,
     emptied_sooner: 65,
-    two_arcs: 1,
+    exits_one_less: 1,
     at_most_both: 4,
+    two_arcs: 1,
     moments_add_up: 695,
-    two_windows: 241,
+    one_arc_one_less: 41,
+    one_arc_turned: 41,
     window_again: 6,
     window_elsewhere: 883,
+    two_windows: 241,
+    common_one_less: 77,
     ways_sooner: 1,
+    ways_turned: 5,
     ways_window: 121,
     ways_later: 1,
     pace_at_most: 1,
+    pace_turned: 1,
     pace_before: 3,
     pace_window: 186,
+    uncongested_one_less: 4,
+    uncongested_turned: 3,
+    drills_taller: 1,
 }
 
 
