@@ -59,6 +59,26 @@ fn first_span(session: &Session, arc: u32, by: u16) -> Span
     }
 }
 
+// How many times a search doubles the least rate that is left, before it halves the span.
+const DOUBLINGS: u32 = 2;
+
+// The rate to try next. While no rate is known to be enough, the first ones aren't far above the rate that the arc has: the answer is
+// often near it, and a trial costs less there.
+#[tactic(auto, unfolding(evac_law::specs::Limits::rate_limit))]
+fn next_rate(low: u32, high: u32, doublings: u32) -> u32
+    requires some { low < high }
+    requires in_range { high ≤ rate_limit + 1 }
+    ensures least { low ≤ result }
+    ensures most { result < high }
+{
+    let middle = (low + high) / 2;
+    if high > RATE_LIMIT && doublings > 0 {
+        middle.min(2 * low)
+    } else {
+        middle
+    }
+}
+
 /// The least rate of an arc at which everybody is out of the session's model by a moment. The session stands as before.
 #[tactic(auto, unfolding(evac_law::specs::Limits::rate_limit))]
 pub fn least_rate<L: Ledger>(
@@ -76,13 +96,15 @@ pub fn least_rate<L: Ledger>(
     // a session has a plan that is solved
     let _ = session.model();
     let Span { mut low, mut high } = first_span(session, arc, by);
+    let mut doublings = DOUBLINGS;
     while low < high {
-        let middle = (low + high) / 2;
-        if try_rate(session, arc, middle, by, steps) {
-            high = middle;
+        let rate = next_rate(low, high, doublings);
+        if try_rate(session, arc, rate, by, steps) {
+            high = rate;
         } else {
-            low = middle + 1;
+            low = rate + 1;
         }
+        doublings = doublings.saturating_sub(1);
     }
     if low > RATE_LIMIT {
         Least::Never
