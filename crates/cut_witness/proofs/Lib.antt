@@ -1,4 +1,5 @@
 pub mod CrossingLemmas
+pub mod ValueLemmas
 pub mod WalkLemmas
 pub mod Spans
 pub mod Nets

@@ -1,4 +1,4 @@
--- What is left of the parts of a cut's value.
+-- What is left of the items of a cut.
 use Rattle.std.specs.Prelude.{◌≡◌, ℕ, ◌+◌, ◌-◌, ◌≤◌, List, ◌++◌, length}
 use Rattle.evac_law.specs.declared.model.Model.{Model}
 use Rattle.evac_law.specs.declared.cut.CutItem.{CutItem}
@@ -11,15 +11,17 @@ use Rattle.cut_witness.specs.declared.position.Part.TheVariants.{Entries, Holds,
 use Rattle.cut_witness.specs.declared.position.Position.{Position}
 use Rattle.cut_witness.specs.Walk.{rest_of_rows, steps_left}
 
+-- the items that are left of a part from a row and a column on, and of the parts after it
 abbrev pub rest_in : Model → Cut → ℕ → Part → ℕ → ℕ → List CutItem
 rest_in m x k Entries i j = rest_of_rows (entry_part m x) (k + 1) i j (length m.nodes - i) ++ (hold_items m x k ++ arc_items m x k)
 rest_in m x k Holds i j = rest_of_rows (hold_part m x) k i j (length m.nodes - i) ++ arc_items m x k
 rest_in m x k Arcs i j = rest_of_rows (arc_part m x k) (length m.arcs) i j (k + 1 - i)
 
--- the parts that are left at a position
+-- the items that are left at a position
 unfoldable pub rest_at : Model → Cut → ℕ → Position → List CutItem
 rest_at m x k p = rest_in m x k p.part p.row p.column
 
+-- how many rows a part has, and how many columns
 abbrev pub rows_of : Model → ℕ → Part → ℕ
 rows_of m k Entries = length m.nodes
 rows_of m k Holds = length m.nodes
@@ -30,7 +32,7 @@ width_of m k Entries = k + 1
 width_of m k Holds = k
 width_of m k Arcs = length m.arcs
 
--- the position is one of the walk: past the last row stands column 0 alone
+-- the position is one of the walk: after the last row there is column 0 alone
 pub record IsPosition (m : Model) (k : ℕ) (p : Position) : Type 0 where
   pub row_in : p.row ≤ rows_of m k p.part
   pub column_in : p.column ≤ width_of m k p.part
@@ -57,7 +59,7 @@ next_part Entries = Holds
 next_part Holds = Arcs
 next_part Arcs = Arcs
 
--- what a walk stands on: a valid model, labels for it, a moment up to its horizon, and a position
+-- what a walk rests on: a valid model, labels for it, a moment up to its horizon, and a position
 pub record IsCrossing (m : Model) (l : LabelTable) (k : ℕ) (p : Position) : Type 0 where
   pub valid : IsValid m
   pub table : IsTableOf m l
