@@ -1,5 +1,9 @@
--- A session that keeps the headline answers the first line behind its building.
-use Rattle.std.proofs.Common.{◌≡◌, ℕ, ◌+◌, List, [], ◌∷◌, ◌++◌, length, Result, Ok, Err, refl, sym, ap, subst, ◌∙◌, arith, append-nil, append_assoc, length-append, inl, inr}
+-- Whoever keeps the headline answers the first line after its building.
+use Rattle.std.proofs.Common.{◌≡◌, ℕ, ◌+◌, ◌≤◌, Bool, true, false, ◌&&◌, nat_lt, List, [], ◌∷◌, ◌++◌, length, take, codes, slice_index, Result, Ok, Err, refl, sym, ap, subst, ◌∙◌, arith, append-nil, append_assoc, length-append, inl, inr}
+use Rattle.std.proofs.lemmas.Bool.Decides.{nat_tests}
+use Rattle.std.proofs.lemmas.List.{get_or-replicate}
+use Rattle.std.proofs.lemmas.Slice.Eq.{bytes_eq-Decides}
+use Rattle.evac_law.specs.declared.code.Code.TheVariants.{NothingToUndo}
 use Rattle.evac_law.specs.declared.edit.Edit.{Edit}
 use Rattle.evac_law.specs.declared.edit.EditFault.{EditFault}
 use Rattle.evac_law.specs.declared.model.Model.{Model}
@@ -10,17 +14,23 @@ use Rattle.model_text.specs.declared.command.Command.{Command}
 use Rattle.model_text.specs.declared.command.Command.TheVariants as commands
 use Rattle.model_text.specs.declared.named_edit.NamedEdit.{NamedEdit}
 use Rattle.model_text.specs.declared.fault.TextFault.{TextFault}
-use Rattle.model_text.specs.Commands.{command_of}
+use Rattle.model_text.specs.Commands.{command_of, command_of_fields}
+use Rattle.model_text.specs.Fields.{behind_field, fields_of}
 use Rattle.model_text.specs.Taken.{Description}
 use Rattle.building_table.specs.declared.faults.NameFault.{NameFault}
 use Rattle.building_table.specs.Names.{names_of}
 use Rattle.certificate_text.specs.BlockText.{answer_text, end_line, refusal_line}
-use Rattle.session_text.specs.StateTexts.{block_text}
-use Rattle.session_talk.specs.Sessions.{AsksEdit, Edits, Replies, State, session}
-use Rattle.talk.specs.Talks.{EndsAt, RepliesTo, Reply, Spoken, Talk, followed}
+use Rattle.edit_session.specs.Sessions.{SessionState, kept_limit, with_former}
+use Rattle.replan.specs.Committed.{gone_by}
+use Rattle.replan.specs.Replans.{is_bad_moment, nobody_gone}
+use Rattle.replan_talk.specs.ReplanTalks.{AdvancesTo, AsksAdvance, AsksSession, CarriesOut, ReplanReplies, Replanned, RowOf, asked_moment, asks_advance, asks_of_people, carried_on, gone_text, is_advance_word, replan}
+use Rattle.report_text.specs.ReportText.{work_text}
+use Rattle.session_text.specs.StateTexts.{block_text, work_of}
+use Rattle.session_talk.specs.Sessions.{Advances, AsksEdit, Edits, Replies, State, Undoes, session}
+use Rattle.talk.specs.Talks.{EndsAt, RepliesTo, Reply, Replying, Spoken, Talk, followed, refuses, says}
 use Rattle.evac_top.specs.Accounts.{Account}
-use Rattle.evac_top.specs.FirstLine.{FirstEditGetsItsBlock, GoesOnWith, IsAcceptedEdit, StoppingIsRefused}
-use Rattle.evac_top.specs.Headline.{IsBestBlock, KeepsPromise}
+use Rattle.evac_top.specs.FirstLine.{FirstAdvanceIsCarriedOut, FirstEditGetsItsBlock, FirstReplanEditGetsItsBlock, FirstUndoIsRefused, FirstWorkIsOfTheOpening, GoesOnWith, IsAcceptedEdit, StoppingIsRefused}
+use Rattle.evac_top.specs.Headline.{KeepsCarried, KeepsPromise}
 use Rattle.evac_top.specs.Talking.{spoken}
 use Rattle.evac_top.proofs.HeadlineLemmas.{best-block}
 
@@ -39,26 +49,55 @@ block-some : (s : State) → block_text s.index s.standing ≡ [] → ⊥
 unfolding answer_text
 block-some s e = end-some _ e
 
--- ---- the line is answered
+-- ---- the first line of a talk is answered
+
+-- what ends a talk comes after its replies
+ends-behind : {S : Type 0} (talk : Talk S) (before : ℕ) (rest : List Line) (r : Reply S) (x : Spoken) → EndsAt talk before rest r x
+    → (behind : List ℕ) × (x.text ≡ r.text ++ behind)
+ends-behind talk before [] r x h = ([], ap (λ (y : Spoken). y.text) h ∙ sym (append-nil r.text))
+ends-behind talk before (Ok line ∷ rest) r x h = ([], ap (λ (y : Spoken). y.text) h.1 ∙ sym (append-nil r.text))
+ends-behind talk before (Err code ∷ rest) r x h = (refusal_line code (before + 1), ap (λ (y : Spoken). y.text) h)
+
+-- a reply to the first line, after an opening's text
+abbrev FirstReply : {S : Type 0} → Replying S → ℕ → Reply S → List ℕ → Account → Type 0
+FirstReply Gets number opening line x =
+    (reply : Reply _) × Gets number opening.after line reply × ((behind : List ℕ) × (x.written ≡ opening.text ++ (reply.text ++ behind)))
+
+-- by how many lines were answered: not none, since the first doesn't quit
+first-reply : {S : Type 0} (talk : Talk S) (Gets : Replying S) (last : ℕ) (line : List ℕ) (lines : List Line) (x : Account) (opening more : Reply S)
+    (answered : List (List ℕ)) (rest : List Line) → Ok line ∷ lines ≡ text_lines answered ++ rest → ¬ talk.Quits line
+    → RepliesTo Gets last opening.after answered more → EndsAt talk (last + length answered) rest (followed opening more) (spoken x)
+    → FirstReply Gets (last + 1) opening line x
+unfolding RepliesTo
+first-reply talk Gets last line lines x opening more [] rest parts stays h ends =
+    let T : List Line → Type 0 = λ l. EndsAt talk (last + 0) l (followed opening more) (spoken x) in
+    absurd (stays (subst T (sym parts) ends).0)
+first-reply {S} talk Gets last line lines x opening more (text ∷ texts) rest parts stays h ends =
+    let same : text ≡ line = cc in
+    let P : List ℕ → Type 0 = λ t. Gets (last + 1) opening.after t h.0 in
+    let behind = ends-behind talk (last + length (text ∷ texts)) rest (followed opening more) (spoken x) ends in
+    let next = h.2.0 in (
+      h.0,
+      subst P same h.1,
+      (
+        next.text ++ behind.0,
+        behind.1 ∙ ap (λ (r : Reply S). (opening.text ++ r.text) ++ behind.0) h.2.2 ∙ append_assoc opening.text (h.0.text ++ next.text) behind.0
+            ∙ ap (λ t. opening.text ++ t) (append_assoc h.0.text next.text behind.0),
+      ),
+    )
+
+-- ---- an edit that is accepted
 
 not-quit : (line : List ℕ) (e : NamedEdit) → command_of line ≡ Ok (commands.Edit e) → command_of line ≡ Ok commands.Quit → ⊥
 not-quit line e says quits = cc
 
--- what ends a talk stands behind its replies
-ends-behind : (S : Type 0) (talk : Talk S) (before : ℕ) (rest : List Line) (r : Reply S) (x : Spoken) → EndsAt talk before rest r x
-    → (behind : List ℕ) × (x.text ≡ r.text ++ behind)
-ends-behind S talk before [] r x h = ([], ap (λ (y : Spoken). y.text) h ∙ sym (append-nil r.text))
-ends-behind S talk before (Ok line ∷ rest) r x h = ([], ap (λ (y : Spoken). y.text) h.1 ∙ sym (append-nil r.text))
-ends-behind S talk before (Err code ∷ rest) r x h = (refusal_line code (before + 1), ap (λ (y : Spoken). y.text) h)
-
--- an edit that is accepted gets the block of the edited building
 accepted-gets : (number : ℕ) (s : State) (edited : Model) (inverse : Edit) (r : Reply State) → IsClearable edited → Edits number s (Ok (edited, inverse)) r
-    → (r.after.standing.model ≡ edited) × IsBestBlock r.after r.text
-accepted-gets number s edited inverse r can (inl made) = (made.goes_on.gone, best-block r.after r.text made.goes_on.solved made.answer)
+    → Advances s edited (with_former s.standing) r
+accepted-gets number s edited inverse r can (inl made) = made
 accepted-gets number s edited inverse r can (inr short) = absurd (short.short.barred can)
 
 edit-gets : (d : Description) (number : ℕ) (line : List ℕ) (edited : Model) (s : State) (r : Reply State) → s.standing.model ≡ d.model
-    → IsAcceptedEdit d line edited → Replies (names_of d) number s (command_of line) r → (r.after.standing.model ≡ edited) × IsBestBlock r.after r.text
+    → IsAcceptedEdit d line edited → Replies (names_of d) number s (command_of line) r → Advances s edited (with_former s.standing) r
 edit-gets d number line edited s r of a h =
     let P : Result Command TextFault → Type 0 = λ c. Replies (names_of d) number s c r in
     let Q : Result Edit NameFault → Type 0 = λ e. AsksEdit number s e r in
@@ -67,43 +106,77 @@ edit-gets d number line edited s r of a h =
     let asks : AsksEdit number s (Ok a.edit) r = subst Q a.named (subst P a.says h) in
     accepted-gets number s edited a.inverse r a.can (subst T a.accepted (subst R of asks))
 
--- ---- what is written
+-- where no edit was kept, one is
+one-kept : (s : SessionState) → s.former ≡ [] → with_former s ≡ s.model ∷ []
+unfolding kept_limit
+one-kept s e = ap (λ (ms : List Model). take kept_limit (s.model ∷ ms)) e
 
--- an opening, a reply and what follows it, one text behind the other
-goes-on : (d : Description) (number : ℕ) (line : List ℕ) (edited : Model) (opening reply more all : Reply State) (x : Account) (behind : List ℕ)
-    → opening.after.standing.model ≡ d.model → IsAcceptedEdit d line edited → Replies (names_of d) number opening.after (command_of line) reply
-    → all ≡ followed reply more → x.written ≡ (followed opening all).text ++ behind → GoesOnWith edited opening x
-goes-on d number line edited opening reply more all x behind of a h e w =
-    let gets = edit-gets d number line edited opening.after reply of a h in record {
-      reply = reply;
-      behind = more.text ++ behind;
-      of_edited = gets.0;
-      best = gets.1;
-      next =
-          w ∙ ap (λ (r : Reply State). (opening.text ++ r.text) ++ behind) e ∙ append_assoc opening.text (reply.text ++ more.text) behind
-          ∙ ap (λ t. opening.text ++ t) (append_assoc reply.text more.text behind);
-    }
-
--- by how many lines were answered: none can't be, since an edit doesn't quit
-by-answered : (d : Description) (last : ℕ) (line : List ℕ) (lines : List Line) (x : Account) (edited : Model) (opening more : Reply State)
-    (answered : List (List ℕ)) (rest : List Line) → Ok line ∷ lines ≡ text_lines answered ++ rest → opening.after.standing.model ≡ d.model
-    → IsAcceptedEdit d line edited
-    → RepliesTo (λ line s text r. Replies (names_of d) line s (command_of text) r × KeepsPromise s r) last opening.after answered more
-    → EndsAt (session (names_of d) d.model) (last + length answered) rest (followed opening more) (spoken x) → GoesOnWith edited opening x
-unfolding RepliesTo
-by-answered d last line lines x edited opening more [] rest parts of a h ends =
-    let T : List Line → Type 0 = λ l. EndsAt (session (names_of d) d.model) (last + 0) l (followed opening more) (spoken x) in
-    let quits = subst T (sym parts) ends in
-    absurd (not-quit line a.by_names a.says quits.0)
-by-answered d last line lines x edited opening more (text ∷ texts) rest parts of a h ends =
-    let same : text ≡ line = cc in
-    let P : List ℕ → Type 0 = λ t. Replies (names_of d) (last + 1) opening.after (command_of t) h.0 in
-    let behind = ends-behind State (session (names_of d) d.model) (last + length (text ∷ texts)) rest (followed opening more) (spoken x) ends in
-    goes-on d (last + 1) line edited opening h.0 h.2.0 more x behind.0 of a (subst P same h.1.0) h.2.2 behind.1
+goes-on : (edited : Model) (s : State) (text : List ℕ) (reply : Reply State) (behind : List ℕ) (x : Account) → s.index ≡ 0 → s.standing.former ≡ []
+    → Advances s edited (with_former s.standing) reply → x.written ≡ text ++ (reply.text ++ behind) → GoesOnWith edited s text x
+goes-on edited s text reply behind x first none a w = record {
+  reply = reply;
+  behind = behind;
+  of_edited = a.goes_on.gone;
+  numbered = omega (arith, a.next, first);
+  kept = a.goes_on.kept ∙ one-kept s.standing none;
+  best = best-block reply.after reply.text a.goes_on.solved a.answer;
+  thrifty = a.goes_on.thrifty;
+  next = w;
+}
 
 pub first-edit-gets-its-block : FirstEditGetsItsBlock
 first-edit-gets-its-block d last line rest x edited kept a =
-    by-answered d last line rest x edited kept.opening kept.more kept.answered kept.rest kept.parts kept.of_model a kept.replies kept.ends
+    let s = kept.opening.after in
+    let Gets : Replying State = λ line s text r. Replies (names_of d) line s (command_of text) r × KeepsPromise s r in
+    let f = first-reply (session (names_of d) d.model) Gets last line rest x kept.opening kept.more kept.answered kept.rest kept.parts
+    (not-quit line a.by_names a.says) kept.replies kept.ends in
+    goes-on edited s kept.opening.text f.0 f.2.0 x kept.opens.first kept.opens.begins.none_former
+    (edit-gets d (last + 1) line edited s f.0 kept.opens.begins.begun a f.1.0) f.2.1
+
+-- ---- in a replan
+
+no-command : (words rest : List (List ℕ)) (c : Command) → is_advance_word words ≡ true → command_of_fields words rest ≡ Ok c → ⊥
+no-command [] rest c asks is = cc
+no-command (word ∷ fields) rest c asks is =
+    let same : word ≡ codes "advance" = (bytes_eq-Decides word (codes "advance")).0 asks in
+    let P : List ℕ → Type 0 = λ w. command_of_fields (w ∷ fields) rest ≡ Ok c in
+    let there : command_of_fields (codes "advance" ∷ fields) rest ≡ Ok c = subst P same is in
+    cc
+
+-- a line that asks to carry the plan out commands nothing in a session
+no-line : (line : List ℕ) (c : Command) → asks_advance line ≡ true → command_of line ≡ Ok c → ⊥
+unfolding command_of
+no-line line c asks is = no-command (fields_of line) (fields_of (behind_field line)) c asks is
+
+no-advance : (line : List ℕ) (c : Command) → command_of line ≡ Ok c → (asks : Bool) → asks_advance line ≡ asks → asks ≡ false
+no-advance line c is true asks = absurd (no-line line c asks is)
+no-advance line c is false asks = refl
+
+-- before an advance a line that asks for none gets what a session says
+session-gets : (d : Description) (number : ℕ) (line : List ℕ) (s : Replanned) (r : Reply Replanned) → s.moment ≡ 0 → asks_advance line ≡ false
+    → ReplanReplies (names_of d) number s line r → (q : Reply State) × Replies (names_of d) number s.session (command_of line) q × (r ≡ carried_on s q)
+session-gets d number line s r start other h =
+    let late = asks_of_people (names_of d) (command_of line) in
+    let P : Bool → Type 0 = λ b. RowOf (names_of d) number s line b r in
+    let Q : ℕ → Type 0 = λ t. AsksSession (names_of d) number s (command_of line) (nat_lt 0 t && late) r in
+    subst Q start (subst P other h)
+
+pub first-replan-edit-gets-its-block : FirstReplanEditGetsItsBlock
+first-replan-edit-gets-its-block d last line rest x edited kept a =
+    let o = kept.opening in
+    let q = kept.opens.0 in
+    let opens = kept.opens.1 in
+    let is = kept.opens.2 in
+    let Gets : Replying Replanned = λ line s text r. ReplanReplies (names_of d) line s text r × KeepsCarried s r in
+    let f = first-reply (replan (names_of d) d.model) Gets last line rest x o kept.more kept.answered kept.rest kept.parts
+    (not-quit line a.by_names a.says) kept.replies kept.ends in
+    let g = session-gets d (last + 1) line o.after f.0 (ap (λ (r : Reply Replanned). r.after.moment) is)
+    (no-advance line (commands.Edit a.by_names) a.says (asks_advance line) refl) f.1.0 in
+    let s = o.after.session in
+    let same : s ≡ q.after = ap (λ (r : Reply Replanned). r.after.session) is in
+    goes-on edited s o.text g.0 f.2.0 x (ap (λ (s : State). s.index) same ∙ opens.first) (ap (λ (s : State). s.standing.former) same ∙ opens.begins.none_former)
+    (edit-gets d (last + 1) line edited s g.0 (ap (λ (s : State). s.standing.model) same ∙ opens.begins.begun) a g.1)
+    (f.2.1 ∙ ap (λ (r : Reply Replanned). o.text ++ (r.text ++ f.2.0)) g.2)
 
 -- ---- stopping
 
@@ -114,3 +187,83 @@ pub stopping-is-refused : StoppingIsRefused
 stopping-is-refused d last line rest x edited kept a stops =
     let g = first-edit-gets-its-block d last line rest x edited kept a in
     block-some g.reply.after (sym g.best.block ∙ no-more kept.opening.text g.reply.text g.behind (sym stops ∙ g.next))
+
+-- ---- an undo
+
+undo-stays : (line : List ℕ) → command_of line ≡ Ok commands.Undo → command_of line ≡ Ok commands.Quit → ⊥
+undo-stays line says quits = cc
+
+undo-gets : (d : Description) (number : ℕ) (line : List ℕ) (s : State) (r : Reply State) → s.standing.former ≡ [] → command_of line ≡ Ok commands.Undo
+    → Replies (names_of d) number s (command_of line) r → r ≡ refuses s NothingToUndo number
+undo-gets d number line s r none says h =
+    let P : Result Command TextFault → Type 0 = λ c. Replies (names_of d) number s c r in
+    let Q : List Model → Type 0 = λ ms. Undoes number s ms r in
+    subst Q none (subst P says h)
+
+pub first-undo-is-refused : FirstUndoIsRefused
+first-undo-is-refused d last line rest x kept says =
+    let o = kept.opening in
+    let Gets : Replying State = λ line s text r. Replies (names_of d) line s (command_of text) r × KeepsPromise s r in
+    let f = first-reply (session (names_of d) d.model) Gets last line rest x o kept.more kept.answered kept.rest kept.parts
+    (undo-stays line says) kept.replies kept.ends in
+    let is = undo-gets d (last + 1) line o.after f.0 kept.opens.begins.none_former says f.1.0 in
+    (f.2.0, f.2.1 ∙ ap (λ (r : Reply State). o.text ++ (r.text ++ f.2.0)) is)
+
+-- ---- the work of the opening
+
+work-stays : (line : List ℕ) → command_of line ≡ Ok commands.Work → command_of line ≡ Ok commands.Quit → ⊥
+work-stays line says quits = cc
+
+pub first-work-is-of-the-opening : FirstWorkIsOfTheOpening
+first-work-is-of-the-opening d last line rest x kept asks =
+    let o = kept.opening in
+    let Gets : Replying State = λ line s text r. Replies (names_of d) line s (command_of text) r × KeepsPromise s r in
+    let f = first-reply (session (names_of d) d.model) Gets last line rest x o kept.more kept.answered kept.rest kept.parts
+    (work-stays line asks) kept.replies kept.ends in
+    let P : Result Command TextFault → Type 0 = λ c. Replies (names_of d) (last + 1) o.after c f.0 in
+    let is : f.0 ≡ says o.after (work_of o.after.standing) = subst P asks f.1.0 in
+    let w = o.after.standing.work in (
+      f.2.0,
+      f.2.1 ∙ ap (λ (r : Reply State). o.text ++ (r.text ++ f.2.0)) is ∙ ap (λ c. o.text ++ (work_text c w.pushes ++ f.2.0)) kept.opens.begins.thrifty.none_cancelled
+          ∙ ap (λ p. o.text ++ (work_text 0 p ++ f.2.0)) (sym kept.opens.counted),
+    )
+
+-- ---- the first advance
+
+free-moment : (p horizon last : ℕ) → 1 ≤ p → p ≤ horizon → last ≡ 0 → is_bad_moment p horizon last ≡ false
+free-moment p horizon last low high start = grind (arith, nat_tests)
+
+advance-gets : (d : Description) (number : ℕ) (line : List ℕ) (p : ℕ) (s : Replanned) (r : Reply Replanned) → s.moment ≡ 0 → p ≤ s.session.standing.model.horizon
+    → asks_advance line ≡ true → asked_moment line ≡ Ok p → 1 ≤ p → ReplanReplies (names_of d) number s line r → CarriesOut s p r
+advance-gets d number line p s r start high asks named low h =
+    let P : Bool → Type 0 = λ b. RowOf (names_of d) number s line b r in
+    let Q : Result ℕ TextFault → Type 0 = λ m. AsksAdvance number s m r in
+    let A : Bool → Type 0 = λ b. AdvancesTo number s p b r in
+    subst A (free-moment p s.session.standing.model.horizon s.moment low high start) (subst Q named (subst P asks h))
+
+none-gone : (m : Model) (k n : ℕ) → k ≤ m.horizon → slice_index (nobody_gone m) k + n ≡ n
+none-gone m k n h = omega (arith, get_or-replicate {A = ℕ} (m.horizon + 1) k 0 0 (omega (arith, h)))
+
+pub first-advance-is-carried-out : FirstAdvanceIsCarriedOut
+first-advance-is-carried-out d last line rest x p kept asks named low high =
+    let o = kept.opening in
+    let s = o.after.session in
+    let m = s.standing.model in
+    let is = kept.opens.2 in
+    let Gets : Replying Replanned = λ line s text r. ReplanReplies (names_of d) line s text r × KeepsCarried s r in
+    let f = first-reply (replan (names_of d) d.model) Gets last line rest x o kept.more kept.answered kept.rest kept.parts
+    (no-line line commands.Quit asks) kept.replies kept.ends in
+    let of_model : m ≡ d.model = ap (λ (r : Reply Replanned). r.after.session.standing.model) is ∙ kept.opens.1.begins.begun in
+    let within : p ≤ m.horizon = subst (λ (n : Model). p ≤ n.horizon) (sym of_model) high in
+    let goes = advance-gets d (last + 1) line p o.after f.0 (ap (λ (r : Reply Replanned). r.after.moment) is) within asks named low f.1.0 in
+    let none : o.after.gone ≡ nobody_gone m = ap (λ (r : Reply Replanned). r.after.gone) is ∙ ap nobody_gone (sym of_model) in
+    let after = f.0.after.gone in
+    record {
+      gone = after;
+      counts = λ k i.
+          goes.gone k i ∙ ap (λ (g : List ℕ). slice_index g k + gone_by m s.standing.plan p k) none ∙ none-gone m k (gone_by m s.standing.plan p k) i;
+      last = goes.last;
+      last_gone = goes.last_gone;
+      behind = goes.block ++ f.2.0;
+      next = f.2.1 ∙ ap (λ t. o.text ++ (t ++ f.2.0)) goes.text ∙ ap (λ t. o.text ++ t) (append_assoc (gone_text p after goes.last) goes.block f.2.0);
+    }

@@ -1,12 +1,17 @@
--- Every run of a session and every plan that is written keeps the headline.
+-- Every run of a session and of a replan and every plan that is written keeps the headline.
 use Rattle.std.specs.declared.option.Option.{Option}
-use Rattle.std.proofs.Common.{◌≡◌, ◌≢◌, Some, ℕ, ◌+◌, ◌≤◌, Bool, true, false, ◌&&◌, nat_lt, List, [], ◌∷◌, length, Result, Ok, Err, refl, sym, ap, subst, ◌∙◌, arith, inl, inr}
+use Rattle.std.proofs.Common.{◌≡◌, ◌≢◌, Some, ℕ, zero, suc, ◌+◌, ◌<◌, ◌≤◌, Bool, true, false, ◌&&◌, nat_lt, List, [], ◌∷◌, length, Result, Ok, Err, sym, ap, subst, ◌∙◌, arith, inl, inr}
 use Rattle.evac_law.specs.declared.code.Code.{Code}
 use Rattle.evac_law.specs.declared.edit.Edit.{Edit}
 use Rattle.evac_law.specs.declared.edit.EditFault.{EditFault}
 use Rattle.evac_law.specs.declared.model.Model.{Model}
+use Rattle.evac_law.specs.declared.plan.Move.{Move}
+use Rattle.evac_law.specs.Building.{IsValid, people}
+use Rattle.evac_law.specs.Certificates.{IsCertified, IsClearable}
 use Rattle.evac_law.specs.Edits.{applied}
-use Rattle.evac_law.proofs.Optimal.{stated_cut_is_worth}
+use Rattle.evac_law.specs.LabelTable.{LabelTable}
+use Rattle.evac_law.specs.Plans.{out_by}
+use Rattle.evac_law.proofs.Optimal.{certified_is_best, certified_is_feasible, out_le_out, stated_cut_is_worth}
 use Rattle.line_io.specs.Causes.{Rose}
 use Rattle.line_io.specs.Line.{Line, lines_of}
 use Rattle.model_text.specs.declared.command.Command.{Command}
@@ -25,34 +30,45 @@ use Rattle.edit_session.specs.Sessions.{IsSolved, with_former}
 use Rattle.edit_session.specs.Thrift.{IsThrifty, IsThriftyOpening}
 use Rattle.replan_talk.specs.ReplanTalks.{AdvancesTo, AsksAdvance, AsksSession, CarriesOut, ReplanReplies, Replanned, RowOf, asks_advance, asks_of_people, bars_moment, asked_moment, replan}
 use Rattle.session_talk.specs.Sessions.{Advances, AsksEdit, Edits, IsAnswerText, Replies, Reports, State, Undoes, session}
-use Rattle.talk.specs.Talks.{EndsAt, RepliesTo, Reply, TalkRun, says}
+use Rattle.talk.specs.Short.{OpensShort}
+use Rattle.talk.specs.Talks.{EndsAt, RepliesTo, Reply, Spoken, TalkRun, says}
 use Rattle.session_talk.proofs.Bridge.{answer_of}
 use Rattle.session_talk.proofs.Same.{cut_stays}
 use Rattle.evac_top.specs.Accounts.{Account, Outside}
 use Rattle.evac_top.specs.Answers.{runs_of}
-use Rattle.evac_top.specs.Headline.{IsBestBlock, IsCarriedOut, KeepsAll, KeepsBlock, KeepsCarried, KeepsPlan, KeepsPromise, KeepsReplan, KeepsReplans, KeepsSession, PlansKeepPromise, ReplansKeepPromise, SessionsKeepPromise}
+use Rattle.evac_top.specs.Headline.{IsBestBlock, IsBestPlan, IsCarriedOut, KeepsAll, KeepsBlock, KeepsCarried, KeepsPlan, KeepsPromise, KeepsReplan, KeepsTalk, PlansKeepPromise, ReplansKeepPromise, SessionsKeepPromise}
 use Rattle.evac_top.specs.Inputs.{Asked, input_of}
-use Rattle.evac_top.specs.Runs.{OfInput, Runs}
+use Rattle.evac_top.specs.Runs.{OfInput, Runs, RunsKeep}
 use Rattle.evac_top.specs.Solve.{IsPlanned, Solves}
-use Rattle.evac_top.specs.Talking.{Talks, spoken}
+use Rattle.evac_top.specs.Talking.{ReadsOn, TalkOn, Talks, spoken}
 use Rattle.evac_top.specs.declared.words.Flags.{Flags}
 use Rattle.evac_top.specs.declared.words.Mode.{Mode}
 use Rattle.evac_top.specs.declared.words.Mode.TheVariants.{Replan, Session, Solve}
 use Rattle.session_text.specs.StateTexts.{block_text}
-use Rattle.session_text.proofs.Solved.{feasible_of}
+use Rattle.evac_top.proofs.SolveLemmas.{opening-clears}
 use Rattle.evac_top.proofs.TellLemmas.{of-input}
 
--- ---- one block
+-- ---- one plan and its block
+
+not-before : (m : Model) (p : List Move) (l : LabelTable) (c k : ℕ) → IsCertified m p l c → k < c → out_by m p k < people m
+not-before m p l zero k h i = absurd (omega (arith, i))
+not-before m p l (suc b) k h i = omega (arith, h.least b (omega arith), out_le_out m p k b (omega (arith, i)))
+
+pub best-plan : (m : Model) (p : List Move) (l : LabelTable) (c : ℕ) → IsValid m → IsCertified m p l c → IsBestPlan m p c
+best-plan m p l c valid good = record {
+  feasible = certified_is_feasible m p l c m.horizon valid good;
+  in_time = good.in_horizon;
+  all_out = good.all_out;
+  not_before = λ k i. not-before m p l c k good i;
+  best = certified_is_best m p l c valid good;
+}
 
 pub best-block : (s : State) (text : List ℕ) → IsSolved s.standing → IsAnswerText s text → IsBestBlock s text
 best-block s text h a = record {
   block = a.block;
   reads_back = a.reads_back;
-  feasible = feasible_of s.standing s.standing.model refl h;
-  in_time = h.certified.in_horizon;
-  all_out = h.certified.all_out;
+  plan = best-plan s.standing.model s.standing.plan s.standing.labels s.standing.last h.valid h.certified;
   cuts = λ k. (stated_cut_is_worth s.standing.model s.standing.plan s.standing.labels s.standing.last k h.valid h.certified).1;
-  best = a.best;
 }
 
 -- ---- what a line gets
@@ -116,16 +132,13 @@ runs-keep d last lines x run =
       parts = run.parts;
       opening = goes.opening;
       more = goes.more;
-      of_model = goes.opens.begins.begun;
+      opens = goes.opens;
       first = best-block goes.opening.after goes.opening.text goes.opens.begins.solved goes.opens.answer;
       replies = all_lines (names_of d) d.model last goes.opening.after run.answered goes.more goes.replies;
       ends = subst (λ (r : Reply State). EndsAt (session (names_of d) d.model) (last + length run.answered) run.rest r (spoken x)) goes.all run.ends;
     }
 
-keeps-session : (r : Reading) (x : Account) → Talks session r x → KeepsSession r x
-keeps-session (Described d last rest) x (inl run) = λ can. runs-keep d last rest x run
-keeps-session (Described d last rest) x (inr short) = λ can. absurd (short.short.barred can)
-keeps-session (Refused code line) x h = tt
+-- ---- any run
 
 -- a run in which neither count of faults rose, and there was memory, answered
 answered-all : (mode : Option Mode) (status : ℕ) (before after : Outside) (r : Runs mode status before after) → ¬ Rose before.source.faults after.source.faults
@@ -136,15 +149,35 @@ answered-all mode status before after r reads_kept writes_kept memory =
     let known : status ≤ 5 = r.causes.known in
     r.answered (omega (arith, known, three, four, memory))
 
-session-kept : (input : List ℕ) (x : Account) → (runs_of (Some Session)).Answers input x → KeepsSession (model_of (lines_of input)) x
+-- so it keeps what every answer keeps
+pub each-run : (mode : Mode) (Keeps : List ℕ → Account → Type 0) → ((input : List ℕ) (x : Account) → (runs_of (Some mode)).Answers input x → Keeps input x)
+    → RunsKeep mode Keeps
+each-run mode Keeps keeps status before after r reads_kept writes_kept memory =
+    of-input (runs_of (Some mode)).reads before.source.bytes (λ input. (runs_of (Some mode)).Answers input r.did) (λ input. Keeps input r.did)
+    (λ input. keeps input r.did) (answered-all (Some mode) status before after r reads_kept writes_kept memory)
+
+-- what is kept by a talk that opens just where the building can be cleared
+pub keeps-talk : {S : Type 0} (talk : TalkOn S) (Keeps : Description → ℕ → List Line → Account → Type 0)
+    → ((names : NameTable) (m : Model) (r : Reply S) → (talk names m).Opens r → IsClearable m)
+    → ((names : NameTable) (m : Model) (line : ℕ) (x : Spoken) → (talk names m).Refuses line x → OpensShort m line x)
+    → ((d : Description) (last : ℕ) (lines : List Line) (x : Account) → TalkRun (talk (names_of d) d.model) last lines (spoken x) → Keeps d last lines x)
+    → (r : Reading) (x : Account) → Talks talk r x → KeepsTalk Keeps r x
+keeps-talk talk Keeps clears short keeps (Described d last rest) x (inl run) =
+    (λ can. keeps d last rest x run, λ cannot. absurd (cannot (clears (names_of d) d.model run.goes.opening run.goes.opens)))
+keeps-talk talk Keeps clears short keeps (Described d last rest) x (inr refused) =
+    let barred = short (names_of d) d.model last (spoken x) refused in (λ can. absurd (barred.short.barred can), λ cannot. barred)
+keeps-talk talk Keeps clears short keeps (Refused code line) x h = h
+
+session-kept : (input : List ℕ) (x : Account) → (runs_of (Some Session)).Answers input x → KeepsTalk KeepsAll (model_of (lines_of input)) x × ReadsOn session input x
 unfolding runs_of
-session-kept input x h = keeps-session (model_of (lines_of input)) x h.0
+session-kept input x h = (
+  keeps-talk session KeepsAll (λ names m r opens. opening-clears m r.after.standing opens.begins) (λ names m line y refused. refused) runs-keep
+      (model_of (lines_of input)) x h.0,
+  h.1,
+)
 
 pub sessions-keep-promise : SessionsKeepPromise
-sessions-keep-promise status before after r reads_kept writes_kept memory =
-    of-input (runs_of (Some Session)).reads before.source.bytes (λ input. (runs_of (Some Session)).Answers input r.did)
-    (λ input. KeepsSession (model_of (lines_of input)) r.did) (λ input h. session-kept input r.did h)
-    (answered-all (Some Session) status before after r reads_kept writes_kept memory)
+sessions-keep-promise = each-run Session _ session-kept
 
 -- ---- a plan that is carried out
 
@@ -191,9 +224,7 @@ carried-lines names m before s (line ∷ lines) r h =
 replans-keep : (d : Description) (last : ℕ) (lines : List Line) (x : Account) → TalkRun (replan (names_of d) d.model) last lines (spoken x) → KeepsReplan d last lines x
 replans-keep d last lines x run =
     let goes = run.goes in
-    let q = goes.opening in
     let opened = goes.opens in
-    let is = opened.2 in
     let s = opened.0 in
     record {
       answered = run.answered;
@@ -201,26 +232,22 @@ replans-keep d last lines x run =
       parts = run.parts;
       opening = goes.opening;
       more = goes.more;
-      of_model = ap (λ (a : Reply Replanned). a.after.session.standing.model) is ∙ opened.1.begins.begun;
-      first = subst (λ (a : Reply Replanned). IsBestBlock a.after.session a.text) (sym is) (best-block s.after s.text opened.1.begins.solved opened.1.answer);
+      opens = opened;
+      first = subst (λ (a : Reply Replanned). IsBestBlock a.after.session a.text) (sym opened.2) (best-block s.after s.text opened.1.begins.solved opened.1.answer);
       replies = carried-lines (names_of d) d.model last goes.opening.after run.answered goes.more goes.replies;
       ends = subst (λ (r : Reply Replanned). EndsAt (replan (names_of d) d.model) (last + length run.answered) run.rest r (spoken x)) goes.all run.ends;
     }
 
-keeps-replans : (r : Reading) (x : Account) → Talks replan r x → KeepsReplans r x
-keeps-replans (Described d last rest) x (inl run) = λ can. replans-keep d last rest x run
-keeps-replans (Described d last rest) x (inr short) = λ can. absurd (short.short.barred can)
-keeps-replans (Refused code line) x h = tt
-
-replan-kept : (input : List ℕ) (x : Account) → (runs_of (Some Replan)).Answers input x → KeepsReplans (model_of (lines_of input)) x
+replan-kept : (input : List ℕ) (x : Account) → (runs_of (Some Replan)).Answers input x → KeepsTalk KeepsReplan (model_of (lines_of input)) x × ReadsOn replan input x
 unfolding runs_of
-replan-kept input x h = keeps-replans (model_of (lines_of input)) x h.0
+replan-kept input x h = (
+  keeps-talk replan KeepsReplan (λ names m r opens. opening-clears m opens.0.after.standing opens.1.begins) (λ names m line y refused. refused) replans-keep
+      (model_of (lines_of input)) x h.0,
+  h.1,
+)
 
 pub replans-keep-promise : ReplansKeepPromise
-replans-keep-promise status before after r reads_kept writes_kept memory =
-    of-input (runs_of (Some Replan)).reads before.source.bytes (λ input. (runs_of (Some Replan)).Answers input r.did)
-    (λ input. KeepsReplans (model_of (lines_of input)) r.did) (λ input h. replan-kept input r.did h)
-    (answered-all (Some Replan) status before after r reads_kept writes_kept memory)
+replans-keep-promise = each-run Replan _ replan-kept
 
 -- ---- a plan that is written
 
@@ -229,22 +256,23 @@ keeps-block flags names m x h =
     let s : State = record { index = 0; standing = h.opening } in
     record {
       opening = h.opening;
-      of_model = h.begins.begun;
+      begins = h.begins;
+      done = h.done;
       first = best-block s (block_text 0 h.opening) h.begins.solved (answer_of reads_back s (omega arith) h.begins.solved);
       says = h.says;
+      counted = h.counted;
     }
 
-keeps-plan : (flags : Flags) (input : List ℕ) (result : Result Asked (Code × ℕ)) (x : Account) → Solves flags input result x → KeepsPlan flags result x
-keeps-plan flags input (Ok asked) x (all, inl h) = λ can. keeps-block flags (names_of asked.building) asked.building.model x h
-keeps-plan flags input (Ok asked) x (all, inr short) = λ can. absurd (short.barred can)
-keeps-plan flags input (Err fault) x h = tt
+keeps-plan : (flags : Flags) (input : List ℕ) (result : Result Asked (Code × ℕ)) (x : Account) → Solves flags input result x → KeepsPlan flags input result x
+keeps-plan flags input (Ok asked) x (all, inl h) =
+    let m = asked.building.model in
+    (all, λ can. keeps-block flags (names_of asked.building) m x h, λ cannot. absurd (cannot (opening-clears m h.opening h.begins)))
+keeps-plan flags input (Ok asked) x (all, inr short) = (all, λ can. absurd (short.barred can), λ cannot. short)
+keeps-plan flags input (Err fault) x h = h
 
-plan-kept : (flags : Flags) (input : List ℕ) (x : Account) → (runs_of (Some (Solve flags))).Answers input x → KeepsPlan flags (input_of (lines_of input)) x
+plan-kept : (flags : Flags) (input : List ℕ) (x : Account) → (runs_of (Some (Solve flags))).Answers input x → KeepsPlan flags input (input_of (lines_of input)) x
 unfolding runs_of
 plan-kept flags input x h = keeps-plan flags input (input_of (lines_of input)) x h
 
 pub plans-keep-promise : PlansKeepPromise
-plans-keep-promise flags status before after r reads_kept writes_kept memory =
-    of-input (runs_of (Some (Solve flags))).reads before.source.bytes (λ input. (runs_of (Some (Solve flags))).Answers input r.did)
-    (λ input. KeepsPlan flags (input_of (lines_of input)) r.did) (λ input h. plan-kept flags input r.did h)
-    (answered-all (Some (Solve flags)) status before after r reads_kept writes_kept memory)
+plans-keep-promise flags = each-run (Solve flags) _ (plan-kept flags)

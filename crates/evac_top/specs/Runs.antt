@@ -1,5 +1,5 @@
 -- A run, from outside: what it took, wrote and counted, its status, and the causes of its failures; and that it answers its input.
-use Rattle.std.specs.Prelude.{◌≡◌, ◌≢◌, ℕ, ◌+◌, ◌≤◌, Bool, true, false, List, [], length, None}
+use Rattle.std.specs.Prelude.{◌≡◌, ◌≢◌, ℕ, ◌+◌, ◌≤◌, Bool, true, false, List, [], length, None, Some}
 use Rattle.std.specs.declared.option.Option.{Option}
 use Rattle.std.specs.Io.KnownBytes.{Appends, Consumes}
 use Rattle.line_io.specs.Causes.{Rose}
@@ -46,3 +46,9 @@ abbrev pub RunsAnswer : Type 0
 RunsAnswer =
     (mode : Option Mode) (status : ℕ) (before after : Outside) (r : Runs mode status before after) → ¬ Rose before.source.faults after.source.faults
     → ¬ Rose before.sink.faults after.sink.faults → status ≢ 5 → OfInput (runs_of mode).reads before.source.bytes (λ input. (runs_of mode).AnswersAll input r.did)
+
+-- each run of a mode in which neither count rose, and there was memory, keeps this of its input and of what it did, where source and sink tell their bytes
+abbrev pub RunsKeep : Mode → (List ℕ → Account → Type 0) → Type 0
+RunsKeep mode Keeps =
+    (status : ℕ) (before after : Outside) (r : Runs (Some mode) status before after) → ¬ Rose before.source.faults after.source.faults
+    → ¬ Rose before.sink.faults after.sink.faults → status ≢ 5 → OfInput (runs_of (Some mode)).reads before.source.bytes (λ input. Keeps input r.did)

@@ -1,5 +1,5 @@
 //! The laws on runs, each the contract of a function with nothing to do.
-ghost use Rattle.evac_top.specs.FirstLine.{FirstEditGetsItsBlock, StoppingIsRefused};
+ghost use Rattle.evac_top.specs.FirstLine.{FirstAdvanceIsCarriedOut, FirstEditGetsItsBlock, FirstReplanEditGetsItsBlock, FirstUndoIsRefused, FirstWorkIsOfTheOpening, StoppingIsRefused};
 ghost use Rattle.evac_top.specs.Headline.{PlansKeepPromise, ReplansKeepPromise, SessionsKeepPromise};
 ghost use Rattle.evac_top.specs.Runs.{RunsAnswer};
 
@@ -9,35 +9,56 @@ pub fn runs_answer()
     ensures { RunsAnswer }
 {}
 
-/// A session on a building that can be cleared, with any lines behind it: each answer block written reads back as a feasible plan of the
-/// edited building that takes everybody out, with a cut for every period that is worth as many as are out by then, so no feasible plan
-/// has more people out by any period; a count bounds what the repair took back and how often it sent people; and whatever was refused
-/// left model and plan as they were. Nothing else is written: the replies to the lines stand one behind the other, up to the end of the
-/// input, a line that quits, or the refusal of a line that has a fault of its own.
+/// A session on a building that can be cleared, with any lines after it, opens with block 0 of that building, and no edit is kept yet. Each answer
+/// block written reads back as a feasible plan of the edited building that takes everybody out, with a cut for every period that is worth as
+/// many as are out by then, so no feasible plan has more people out by any period; a count bounds what the repair took back and how often it
+/// sent people; and whatever was refused left model and plan as they were. Nothing else is written: the replies to the lines stand one after
+/// another, up to the end of the input, a line that quits, or the refusal of a line that has a fault of its own. A building that can't be cleared
+/// is refused with its shortfall, and a text with a fault by its line.
 pub fn sessions_keep_promise()
     ensures { SessionsKeepPromise }
 {}
 
-/// The same of a session whose plan is carried out, on a building that can be cleared: each answer block that is written is such a block of its
-/// own building. Behind a plan that was carried out up to a moment that is what is left of the building, and the moves made by then with the
-/// plan that is written are best at every period among all plans that make the same moves.
+/// The same of a session whose plan is carried out. It opens with nobody gone, and each answer block that is written is such a block of its own
+/// building. After a plan that was carried out up to a moment that is what is left of the building, and the moves made by then with the plan that
+/// is written are best at every period among all plans that make the same moves.
 pub fn replans_keep_promise()
     ensures { ReplansKeepPromise }
 {}
 
-/// A building that can be cleared, planned without a session: the block written is such a block too, and behind it stands what is asked for
-/// and nothing else.
+/// A building that can be cleared, planned without a session: the block written is such a block too, and after it stands what is asked for
+/// and nothing else. Others are refused as a session refuses them.
 pub fn plans_keep_promise()
     ensures { PlansKeepPromise }
 {}
 
 /// Whoever keeps the promise of a session answers an edit that is accepted by the block of the edited building, and not of another one: here it
-/// is said of the first line behind the building.
+/// is said of the first line after the building.
 pub fn first_edit_gets_its_block()
     ensures { FirstEditGetsItsBlock }
 {}
 
-/// Whoever writes block 0 and stops answering, with such an edit behind the building, doesn't keep the promise of a session.
+/// Whoever writes block 0 and stops answering, with such an edit after the building, doesn't keep the promise of a session.
 pub fn stopping_is_refused()
     ensures { StoppingIsRefused }
+{}
+
+/// Whoever keeps the promise of a replan answers such an edit alike: before an advance none comes too late.
+pub fn first_replan_edit_gets_its_block()
+    ensures { FirstReplanEditGetsItsBlock }
+{}
+
+/// Whoever keeps the promise of a replan carries the plan out by the first advance, and nobody is gone but whom the moves before it bring out.
+pub fn first_advance_is_carried_out()
+    ensures { FirstAdvanceIsCarriedOut }
+{}
+
+/// Whoever keeps the promise of a session refuses an undo as the first line after the building: no edit is kept yet.
+pub fn first_undo_is_refused()
+    ensures { FirstUndoIsRefused }
+{}
+
+/// It says of the work before any edit that nobody was taken back.
+pub fn first_work_is_of_the_opening()
+    ensures { FirstWorkIsOfTheOpening }
 {}

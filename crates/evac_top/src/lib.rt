@@ -25,7 +25,8 @@ mod verdict;
 mod words;
 
 pub use laws::{
-    first_edit_gets_its_block, plans_keep_promise, replans_keep_promise, runs_answer,
-    sessions_keep_promise, stopping_is_refused,
+    first_advance_is_carried_out, first_edit_gets_its_block, first_replan_edit_gets_its_block,
+    first_undo_is_refused, first_work_is_of_the_opening, plans_keep_promise, replans_keep_promise,
+    runs_answer, sessions_keep_promise, stopping_is_refused,
 };
 pub use top::run;
