@@ -6,6 +6,7 @@ pub mod HeadlineLemmas
 pub mod InputLemmas
 pub mod OpenLemmas
 pub mod PlanLemmas
+pub mod PromiseLemmas
 pub mod SendLemmas
 pub mod SolveLemmas
 pub mod TailLemmas

@@ -1,5 +1,5 @@
 -- A building that was read is written as a text that describes it again.
-use Rattle.std.proofs.Common.{◌≡◌, ℕ, ◌≤◌, List, Ok, Err, Some, None, sym, ap, subst, ◌∙◌, arith}
+use Rattle.std.proofs.Common.{◌≡◌, ℕ, ◌≤◌, List, Ok, Err, Some, None, refl, sym, ap, subst, ◌∙◌, arith}
 use Rattle.std.specs.declared.option.Option.{Option}
 use Rattle.evac_law.specs.declared.code.Code.{Code}
 use Rattle.line_io.specs.Line.{Line, lines_of}
@@ -19,17 +19,21 @@ use Rattle.evac_top.specs.declared.read.Input.{Input}
 use Rattle.evac_top.specs.declared.words.Mode.TheVariants.{Upgrade}
 use Rattle.evac_top.proofs.TellLemmas.{FaultIs}
 
--- the building of an input is that of its lines
-building-of : (r : Reading) (asked : Asked) → input_by r ≡ Ok asked → (rest : List Line) × (r ≡ Described asked.building asked.last rest)
-building-of (Described d last rest) asked e = (rest, by_tail (tail_fault last rest) e)
+-- the building of an input is that of its lines, and no line behind it has a fault
+pub building-of : (r : Reading) (asked : Asked) → input_by r ≡ Ok asked
+    → (rest : List Line) × (r ≡ Described asked.building asked.last rest) × (tail_fault asked.last rest ≡ None)
+building-of (Described d last rest) asked e = let is = by_tail (tail_fault last rest) refl e in (rest, is.0, is.1)
   where
     here : Asked
     here = record { building = d; last = last }
 
-    by_tail : (fault : Option (Code × ℕ)) → unless_fault fault here ≡ Ok asked → Described d last rest ≡ Described asked.building asked.last rest
-    by_tail None e = let same : here ≡ asked = cc in ap (λ (a : Asked). Described a.building a.last rest) same
-    by_tail (Some fault) e = cc
-building-of (Refused code line) asked e = cc
+    by_tail : (fault : Option (Code × ℕ)) → tail_fault last rest ≡ fault → unless_fault fault here ≡ Ok asked
+        → (Described d last rest ≡ Described asked.building asked.last rest) × (tail_fault asked.last rest ≡ None)
+    by_tail None none e =
+        let same : here ≡ asked = cc in
+        (ap (λ (a : Asked). Described a.building a.last rest) same, ap (λ (a : Asked). tail_fault a.last rest) (sym same) ∙ none)
+    by_tail (Some fault) none e = absurd (cc)
+building-of (Refused code line) asked e = absurd (cc)
 
 described-again : (bytes : List ℕ) (asked : Asked) → input_of (lines_of bytes) ≡ Ok asked → DescribesAgain asked.building
 described-again bytes asked e =

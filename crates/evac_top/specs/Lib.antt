@@ -7,6 +7,7 @@ pub mod Drill
 pub mod FirstLine
 pub mod Headline
 pub mod Inputs
+pub mod Promises
 pub mod Reads
 pub mod Runs
 pub mod Sends

@@ -1,6 +1,7 @@
 //! The laws on runs, each the contract of a function with nothing to do.
 ghost use Rattle.evac_top.specs.FirstLine.{FirstAdvanceIsCarriedOut, FirstEditGetsItsBlock, FirstReplanEditGetsItsBlock, FirstUndoIsRefused, FirstWorkIsOfTheOpening, StoppingIsRefused};
 ghost use Rattle.evac_top.specs.Headline.{PlansKeepPromise, ReplansKeepPromise, SessionsKeepPromise};
+ghost use Rattle.evac_top.specs.Promises.{ChecksKeepPromise, DrillsKeepPromise, StudyKeepsPromise, UpgradesKeepPromise, YesIsBest};
 ghost use Rattle.evac_top.specs.Runs.{RunsAnswer};
 
 /// A run in which neither count of faults rose, and there was memory, answers its input: the words exactly by the modes, a building by its
@@ -61,4 +62,30 @@ pub fn first_undo_is_refused()
 /// It says of the work before any edit that nobody was taken back.
 pub fn first_work_is_of_the_opening()
     ensures { FirstWorkIsOfTheOpening }
+{}
+
+/// A study on a building that can be cleared: each row is right of the building without that exit. It names the moment by which a best plan
+/// has everybody out, or no plan takes all out and none more people than it says.
+pub fn study_keeps_promise()
+    ensures { StudyKeepsPromise }
+{}
+
+/// A check answers by yes exactly where the block is right, and then no feasible plan of the building has more people out by any period.
+pub fn checks_keep_promise()
+    ensures { ChecksKeepPromise }
+{}
+
+/// A check that ends with status 0 was given a building and a block of a best plan of it. The status is the only premise.
+pub fn yes_is_best()
+    ensures { YesIsBest }
+{}
+
+/// An upgrade writes a text that is read as the building that was read.
+pub fn upgrades_keep_promise()
+    ensures { UpgradesKeepPromise }
+{}
+
+/// A drill writes the summary of a best plan of its building.
+pub fn drills_keep_promise()
+    ensures { DrillsKeepPromise }
 {}
