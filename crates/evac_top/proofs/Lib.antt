@@ -1,4 +1,5 @@
 pub mod BlockOpenLemmas
+pub mod CheckedLemmas
 pub mod ClaimLemmas
 pub mod CompleteLemmas
 pub mod FirstLineLemmas
@@ -7,10 +8,12 @@ pub mod InputLemmas
 pub mod OpenLemmas
 pub mod PlanLemmas
 pub mod PromiseLemmas
+pub mod QuietLemmas
 pub mod SendLemmas
 pub mod SolveLemmas
 pub mod TailLemmas
 pub mod TakeLemmas
 pub mod TalkLemmas
 pub mod TellLemmas
+pub mod TwoRunsLemmas
 pub mod UpgradeLemmas

@@ -15,5 +15,6 @@ pub mod Solve
 pub mod Tables
 pub mod Talking
 pub mod Tells
+pub mod TwoRuns
 pub mod Upgrade
 pub mod Words

@@ -3,6 +3,7 @@ ghost use Rattle.evac_top.specs.FirstLine.{FirstAdvanceIsCarriedOut, FirstEditGe
 ghost use Rattle.evac_top.specs.Headline.{PlansKeepPromise, ReplansKeepPromise, SessionsKeepPromise};
 ghost use Rattle.evac_top.specs.Promises.{ChecksKeepPromise, DrillsKeepPromise, StudyKeepsPromise, UpgradesKeepPromise, YesIsBest};
 ghost use Rattle.evac_top.specs.Runs.{RunsAnswer};
+ghost use Rattle.evac_top.specs.TwoRuns.{DrillsAgree, SessionSolvesAlike, SolvedIsChecked, SolvesAgree, UpgradedSolvesAlike, UpgradedTwice};
 
 /// A run in which neither count of faults rose, and there was memory, answers its input: the words exactly by the modes, a building by its
 /// plan exactly where it can be cleared, a block by yes exactly where it is right, and a fault by its line.
@@ -88,4 +89,34 @@ pub fn upgrades_keep_promise()
 /// A drill writes the summary of a best plan of its building.
 pub fn drills_keep_promise()
     ensures { DrillsKeepPromise }
+{}
+
+/// A check of an input that `solve` planned, followed by the block that it wrote, says yes.
+pub fn solved_is_checked()
+    ensures { SolvedIsChecked }
+{}
+
+/// Two runs of `solve` on one input have the same status, the same lines `answer`, `people`, `cleared` and `out`, and the same summary.
+pub fn solves_agree()
+    ensures { SolvesAgree }
+{}
+
+/// To upgrade what an upgrade wrote changes nothing.
+pub fn upgraded_twice()
+    ensures { UpgradedTwice }
+{}
+
+/// A run of `solve` on what an upgrade wrote agrees so with one on the input.
+pub fn upgraded_solves_alike()
+    ensures { UpgradedSolvesAlike }
+{}
+
+/// So does a session with no line after its building that says anything.
+pub fn session_solves_alike()
+    ensures { SessionSolvesAlike }
+{}
+
+/// A drill has one summary, whatever best plan is found.
+pub fn drills_agree()
+    ensures { DrillsAgree }
 {}

@@ -25,10 +25,11 @@ mod verdict;
 mod words;
 
 pub use laws::{
-    checks_keep_promise, drills_keep_promise, first_advance_is_carried_out,
+    checks_keep_promise, drills_agree, drills_keep_promise, first_advance_is_carried_out,
     first_edit_gets_its_block, first_replan_edit_gets_its_block, first_undo_is_refused,
     first_work_is_of_the_opening, plans_keep_promise, replans_keep_promise, runs_answer,
-    sessions_keep_promise, stopping_is_refused, study_keeps_promise, upgrades_keep_promise,
-    yes_is_best,
+    session_solves_alike, sessions_keep_promise, solved_is_checked, solves_agree,
+    stopping_is_refused, study_keeps_promise, upgraded_solves_alike, upgraded_twice,
+    upgrades_keep_promise, yes_is_best,
 };
 pub use top::run;
