@@ -12,10 +12,6 @@ pub const EMPTY_ROOM: &str =
 pub const TOO_SHORT: &str =
     "evacplan 1\nperiod 5\nhorizon 1\nfloor 1 Ground\nnode WP1.1 10 3\nnode DS1.1\narc WP1.1 DS1.1 1 2\nend\n";
 
-/// Three people in a room, through whose door one goes a period, and one who comes into it a period later.
-pub const ONE_LATE: &str =
-    "evacplan 2\nperiod 5\nhorizon 20\nfloor 1 Ground\nnode WP1.1 10 3\nnode DS1.1\narc WP1.1 DS1.1 1 1\nentrant WP1.1 1 1\nend\n";
-
 /// Three people in a room, through whose door two go a period, and four who come into it two periods later.
 pub const FOUR_LATE: &str =
     "evacplan 2\nperiod 5\nhorizon 20\nfloor 1 Ground\nnode WP1.1 10 3\nnode DS1.1\narc WP1.1 DS1.1 1 2\nentrant WP1.1 2 4\nend\n";
@@ -31,10 +27,6 @@ pub const TWO_EXITS: &str =
 /// `TWO_EXITS`, and a third exit that nobody can reach.
 pub const THREE_EXITS: &str =
     "evacplan 1\nperiod 5\nhorizon 20\nfloor 1 Ground\nnode WP1.1 8 8\nnode DS1.1\nnode DS2.1\nnode DS3.1\narc WP1.1 DS1.1 1 1\narc WP1.1 DS2.1 3 5\nend\n";
-
-/// `TWO_EXITS`, where the wide way is closed before moment 2.
-pub const OPENS_LATE: &str =
-    "evacplan 2\nperiod 5\nhorizon 20\nfloor 1 Ground\nnode WP1.1 8 8\nnode DS1.1\nnode DS2.1\narc WP1.1 DS1.1 1 1\narc WP1.1 DS2.1 3 5\nwindow WP1.1 DS2.1 0 2\nend\n";
 
 /// `TWO_EXITS` with a second room in which nobody is, and a third exit that nobody can reach.
 pub const SPARE_ROOM: &str =

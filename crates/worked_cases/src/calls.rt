@@ -3,7 +3,7 @@ ghost use Rattle.std.specs.Prelude.{◌≡◌};
 ghost use Rattle.evac_law.specs.Building.{IsValid};
 ghost use Rattle.evac_law.specs.Edits.{IsEditOf};
 
-use edit_session::{EditRefusal, Session, UndoRefusal, Work};
+use edit_session::{EditRefusal, Session, Work};
 use evac_law::{Edit, Model, Steps};
 use sample_buildings::{is_edit_of, model_of};
 use std::alloc::Global;
@@ -78,18 +78,4 @@ pub(crate) fn expect(
     want: Result<Work, EditRefusal>,
 ) {
     assert!(rt; make(rt, session, edit) == want);
-}
-
-fn undo_counted<L: Ledger>(session: &mut Session, blank: Blank) -> Result<Work, UndoRefusal>
-    requires name { blank.name ≡ L.name }
-    requires parts { blank.parts ≡ L.parts }
-    requires one { blank.parts ≡ 1 }
-{
-    let mut steps = Steps::<L>::new(blank);
-    session.undo(&mut steps)
-}
-
-/// Goes back to the model before the last edit.
-pub(crate) fn undo(session: &mut Session) -> Result<Work, UndoRefusal> {
-    undo_counted::<Brand>(session, Blank::new(1))
 }

@@ -1,4 +1,5 @@
-//! Worked cases: buildings as text, and what is known of the reports and the cards of their plans, and of sessions on them.
+//! Worked cases of calls: what a session is left with behind a refused edit, what work an edit takes, what a repair answers, the least time for a
+//! building, what faults say, and the examples of a caller. What a whole run prints is a row of worked_rows.
 //!
 //! Nothing here is called by a program. What is expected was worked out by hand, or by a slow solver of its own.
 #![tactic(auto)]
@@ -8,22 +9,14 @@ mod caller;
 #[cfg(test)]
 mod calls;
 #[cfg(test)]
-mod deals;
-#[cfg(test)]
-mod edits;
-#[cfg(test)]
 mod faults;
-#[cfg(test)]
-mod late;
 #[cfg(test)]
 mod refused;
 #[cfg(test)]
 mod repairs;
 #[cfg(test)]
-mod reports;
-#[cfg(test)]
-mod session;
-#[cfg(test)]
 mod shown;
+#[cfg(test)]
+mod walks;
 #[cfg(test)]
 mod windows;

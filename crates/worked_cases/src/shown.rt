@@ -21,16 +21,6 @@ fn out_by(net: &Net, moment: u16) -> Option<u32> {
     }
 }
 
-// Whether as many people of two nets are out by each moment up to the horizon.
-fn have_same_arrivals(one: &Net, other: &Net) -> bool {
-    for moment in 0..=one.horizon() {
-        if out_by(one, moment) != out_by(other, moment) {
-            return false;
-        }
-    }
-    one.horizon() == other.horizon()
-}
-
 /// Whether as many people are out in a session by each moment from 0 on as is wanted.
 pub(crate) fn has_curve(session: &Session, wanted: &[u32]) -> bool {
     for (moment, people) in wanted.iter().enumerate() {
@@ -44,11 +34,6 @@ pub(crate) fn has_curve(session: &Session, wanted: &[u32]) -> bool {
     true
 }
 
-/// Whether as many people are out in two sessions by each moment up to the horizon.
-pub(crate) fn have_same_curve(one: &Session, other: &Session) -> bool {
-    have_same_arrivals(one.net(), other.net())
-}
-
 // Whether two nets have the same flow and limit at each place.
 fn have_same_cells(one: &Net, other: &Net) -> bool {
     one.cells() == other.cells()
@@ -60,9 +45,4 @@ pub(crate) fn stand_alike(one: &Session, other: &Session) -> bool {
         && have_same_cells(one.net(), other.net())
         && one.kept() == other.kept()
         && one.work() == other.work()
-}
-
-/// Whether a session is back at the model and the curve of another.
-pub(crate) fn is_back_at(session: &Session, first: &Session) -> bool {
-    are_same(session.model(), first.model()) && have_same_curve(session, first)
 }

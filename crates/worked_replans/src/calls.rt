@@ -3,7 +3,7 @@ ghost use Rattle.std.specs.Prelude.{◌≡◌};
 ghost use Rattle.evac_law.specs.Building.{IsValid};
 ghost use Rattle.evac_law.specs.Edits.{IsEditOf};
 
-use edit_session::{BeginFault, UndoRefusal, Work};
+use edit_session::{BeginFault, Work};
 use evac_law::{Edit, Model, Steps};
 use replan::{AdvanceFault, Replan, ReplanRefusal};
 use sample_buildings::{is_edit_of, model_of};
@@ -82,18 +82,4 @@ pub(crate) fn make(
 ) -> Result<Work, ReplanRefusal> {
     assert!(rt; is_edit_of(replan.session().model(), edit));
     edit_within(replan, edit)
-}
-
-fn undo_counted<L: Ledger>(replan: &mut Replan, blank: Blank) -> Result<Work, UndoRefusal>
-    requires name { blank.name ≡ L.name }
-    requires parts { blank.parts ≡ L.parts }
-    requires one { blank.parts ≡ 1 }
-{
-    let mut steps = Steps::<L>::new(blank);
-    replan.undo(&mut steps)
-}
-
-/// Goes back to the model before the last edit.
-pub(crate) fn undo(replan: &mut Replan) -> Result<Work, UndoRefusal> {
-    undo_counted::<Brand>(replan, Blank::new(1))
 }

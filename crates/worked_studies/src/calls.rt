@@ -1,12 +1,12 @@
 //! The calls of a session that is studied, each over a counter of steps that nobody reads.
-ghost use Rattle.std.specs.Prelude.{◌≡◌, ◌<◌, ◌≤◌, IsTrue, length};
+ghost use Rattle.std.specs.Prelude.{◌≡◌, IsTrue};
 ghost use Rattle.evac_law.specs.Building.{IsValid};
 ghost use Rattle.evac_law.specs.Edits.{IsEditOf};
 ghost use Rattle.exit_study.specs.Exits.{IsOpenExit};
 
 use edit_session::{EditRefusal, Session, Work};
 use evac_law::{Edit, Model, Steps};
-use exit_study::{ExitRow, Least, least_rate, study_exit};
+use exit_study::{ExitRow, study_exit};
 use sample_buildings::{is_edit_of, model_of};
 use std::alloc::Global;
 use std::marker::Brand;
@@ -139,43 +139,4 @@ pub(crate) fn study(session: &mut Session, node: u32) -> Option<ExitRow> {
     } else {
         None
     }
-}
-
-// Whether an arc is one of a model.
-fn has_arc(model: &Model, arc: u32) -> bool
-    ensures { IsTrue result → arc < length model.now.arcs }
-{
-    (arc as usize) < model.arcs.len()
-}
-
-// Whether a moment is one of a model.
-fn has_moment(model: &Model, moment: u16) -> bool
-    ensures { IsTrue result → moment ≤ model.now.horizon }
-{
-    moment <= model.horizon
-}
-
-fn least_counted<L: Ledger>(session: &mut Session, arc: u32, by: u16, blank: Blank) -> Least
-    requires arc { arc < length session.old.state.model.arcs }
-    requires by { by ≤ session.old.state.model.horizon }
-    requires name { blank.name ≡ L.name }
-    requires parts { blank.parts ≡ L.parts }
-    requires one { blank.parts ≡ 1 }
-{
-    let mut steps = Steps::<L>::new(blank);
-    least_rate(session, arc, by, &mut steps)
-}
-
-fn least_within(session: &mut Session, arc: u32, by: u16) -> Least
-    requires arc { arc < length session.old.state.model.arcs }
-    requires by { by ≤ session.old.state.model.horizon }
-{
-    least_counted::<Brand>(session, arc, by, Blank::new(1))
-}
-
-/// The least rate of an arc of the building at which everybody is out by one of its moments.
-pub(crate) fn least(rt: &impl Abort, session: &mut Session, arc: u32, by: u16) -> Least {
-    assert!(rt; has_arc(session.model(), arc));
-    assert!(rt; has_moment(session.model(), by));
-    least_within(session, arc, by)
 }

@@ -1,4 +1,5 @@
-//! Worked studies: buildings as text, what they come to without an exit or behind an edit that is tried, and the least rates of their ways.
+//! Worked studies: buildings as text, and what they come to without an exit or behind an edit that is tried. The rest of a study is rows of
+//! worked_rows.
 //!
 //! Nothing here is called by a program. What is expected was worked out by hand.
 #![tactic(auto)]
@@ -7,8 +8,6 @@
 mod calls;
 #[cfg(test)]
 mod exits;
-#[cfg(test)]
-mod rates;
 #[cfg(test)]
 mod shortfalls;
 #[cfg(test)]

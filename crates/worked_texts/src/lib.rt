@@ -1,4 +1,5 @@
-//! Worked texts: lines and fields, models, answer blocks, drills and the nodes of floors, as they are read and written.
+//! Worked texts: lines and fields, names, answer blocks, drills and the nodes of floors, as calls read and write them. What a whole run makes
+//! of a text is a row of worked_rows.
 //!
 //! Nothing here is called by a program.
 #![tactic(auto)]
@@ -10,10 +11,8 @@ mod drills;
 #[cfg(test)]
 mod floors;
 #[cfg(test)]
-mod limits;
-#[cfg(test)]
 mod lines;
 #[cfg(test)]
-mod models;
+mod names;
 #[cfg(test)]
 mod statements;
