@@ -1,8 +1,7 @@
 //! Lines of the language, and what they say.
-use evac_law::{Code, Kind, NodeName};
+use evac_law::Code;
 use model_text::{
-    Command, Fields, NamedEdit, Part, Report, Statement, TextFault, read_command, read_later_line,
-    read_line, read_name, read_number,
+    Fields, TextFault, read_command, read_later_line, read_line, read_name, read_number,
 };
 
 // The number of a line's fault, or 0.
@@ -103,53 +102,6 @@ fn an_unknown_word_is_refused_before_its_fields(rt: HostRuntime) {
     }
 }
 
-const LOBBY: NodeName = NodeName {
-    kind: Kind::Lobby,
-    number: 12,
-    floor: 0,
-};
-
-const SAID: &[(&str, Statement<'static>)] = &[
-    (
-        " title  Three \t storey office \t",
-        Statement::Part(Part::Title {
-            text: b"Three \t storey office",
-        }),
-    ),
-    (
-        "floor 007 Second#floor  ",
-        Statement::Part(Part::Floor {
-            floor: 7,
-            text: b"Second#floor",
-        }),
-    ),
-    (
-        "node\tLO12.0\t40 0",
-        Statement::Part(Part::Node {
-            name: LOBBY,
-            capacity: 40,
-            start: 0,
-        }),
-    ),
-    (
-        "arc LO12.0 LO12.0 3 4",
-        Statement::Part(Part::Arc {
-            from: LOBBY,
-            to: LOBBY,
-            travel: 3,
-            rate: 4,
-        }),
-    ),
-    ("evacplan 2", Statement::Header { version: 2 }),
-];
-
-#[test]
-fn lines_say_their_values(rt: HostRuntime) {
-    for (line, statement) in SAID {
-        assert_eq!(rt; read_line(line.as_bytes()), Ok(*statement), "at {line}");
-    }
-}
-
 const NUMBERS: &[(&str, Option<u32>)] = &[
     ("0", Some(0)),
     ("007", Some(7)),
@@ -231,49 +183,6 @@ const COMMANDS: &[(&str, u8)] = &[
 fn commands_have_their_first_fault(rt: HostRuntime) {
     for (line, code) in COMMANDS {
         assert_eq!(rt; command_code(line), *code, "at {line}");
-    }
-}
-
-const WORK: NodeName = NodeName {
-    kind: Kind::Work,
-    number: 1,
-    floor: 2,
-};
-
-const HALL: NodeName = NodeName {
-    kind: Kind::Hall,
-    number: 3,
-    floor: 4,
-};
-
-const MEANT: &[(&str, Command)] = &[
-    (
-        "shift WP1.2 HA3.4 005",
-        Command::Edit(NamedEdit::Shift {
-            from: WORK,
-            to: HALL,
-            people: 5,
-        }),
-    ),
-    (
-        "room HA3.4 6",
-        Command::Edit(NamedEdit::Room {
-            node: HALL,
-            capacity: 6,
-        }),
-    ),
-    ("cut 7", Command::Cut { period: 7 }),
-    (
-        "openexit HA3.4",
-        Command::Edit(NamedEdit::ReopenExit { node: HALL }),
-    ),
-    ("clearing", Command::Report(Report::Clearing)),
-];
-
-#[test]
-fn commands_say_their_values(rt: HostRuntime) {
-    for (line, command) in MEANT {
-        assert_eq!(rt; read_command(line.as_bytes()), Ok(*command), "at {line}");
     }
 }
 
