@@ -18,10 +18,9 @@ And it checks what can be told from the text alone:
 - A crate of `crates.txt` must use each crate that its line lists.
 - A source file must have at most 400 lines, and a function's body at most 50, but for those that stand here as too long.
 
-    python3 docs/check_promises.py [--edits]
+    python3 docs/check_promises.py
 
-It prints what is missing, and its status is 1 where something is. With --edits it prints for each promise where it is carried, and the edits
-that are refused by that; a law has no body that an edit could turn.
+It prints what is missing, and its status is 1 where something is.
 """
 import collections
 import functools
@@ -37,7 +36,7 @@ LINK = re.compile(r"\[[^\[\]]*\]\(([^)\s]+)\)")
 NAME = re.compile(r"`([A-Za-z_][\w:.]*)`")
 ROWS = ("PROVED.md", "ALGORITHM.md")
 FILE_LIMIT, BODY_LIMIT = 400, 50
-LONG_FILES = {"building_table/src/builder.rt", "residual_net/src/net.rt", "worked_runs/src/sessions.rt"}
+LONG_FILES = {"building_table/src/builder.rt", "residual_net/src/net.rt"}
 LONG_BODIES = {"building_table/src/commands.rt: edit_of"}
 DEFINED = re.compile(r"(?m)^\s*(?:(?:abbrev|unfoldable|record|data|pub(?:\(crate\))?|struct|enum|trait|const|fn|type|ghost)\s+)+(\w+)")
 
@@ -204,35 +203,6 @@ def wrong_edits(document):
                     yield f"{document.name}: no {name} for the edit {edit} of {crate}"
 
 
-def is_law(crates, name):
-    """Whether a name is that of a function with an empty body."""
-    law = rf"(?ms)^pub fn {re.escape(name)}\(\)\n[^}}]*\{{[^}}]*\}}\n\{{\n?\}}"
-    return any(re.search(law, text) for crate in crates for text in code_of(crate))
-
-
-def promises_with_edits(document, edits):
-    """Each promise of a document's tables, with the names where it stands, and the edits that are refused by them.
-
-    An edit of the section's crates is, where all its names stand in the row; one of another crate, where they are definitions there.
-    """
-    all_edits = [(crate, edit, names) for crate, rows in edits_of(edits).items() for edit, names in rows.items()]
-    crates = [path.name for path in (TOP / "crates").iterdir() if (path / "src").is_dir()]
-    for section in re.split(r"(?m)^### ", document.read_text())[1:]:
-        spoken_of = re.findall(r"\w+", section.split("\n")[0].split(":")[0])
-        for row in re.findall(r"(?m)^\|.*\|$", section.partition("| Promise |")[2])[1:]:
-            promise, names = row.strip("| ").split(" | ")[0], NAME.findall(row.rpartition(" | ")[2])
-            lasts = {re.split(r"::|\.", name)[-1] for name in names}
-            shown = [
-                f"{crate}/{edit}"
-                for crate, edit, refused in all_edits
-                if (crate in spoken_of or all(name[0].isupper() and "::" not in name for name in refused))
-                and all(name in names or re.split(r"::|\.", name)[-1] in lasts for name in refused)
-            ]
-            calls = [name for name in names if name[0].islower()]
-            laws = calls and all(is_law([crate for crate in spoken_of if crate in crates], name) for name in calls)
-            yield promise, names, shown or (["a law"] if laws else ["no edit"])
-
-
 def headings(path):
     """The anchors of a document's headings."""
     return {re.sub(r"[^\w\- ]", "", line.lower()).replace(" ", "-") for line in re.findall(r"(?m)^#+ (.*)$", path.read_text())}
@@ -342,11 +312,6 @@ def too_long():
 
 
 def main():
-    if sys.argv[1:] == ["--edits"]:
-        for document in ROWS:
-            for promise, names, shown in promises_with_edits(TOP / "docs" / document, TOP / "docs/EDITS.md"):
-                print(f"{promise}\n    {', '.join(names)}\n    {', '.join(shown)}")
-        return 0
     documents = [TOP / "README.md", *sorted((TOP / "docs").glob("*.md"))]
     missing = [fault for document in documents for fault in missing_links(document)]
     missing += missing_promises(TOP / "docs/PROVED.md")
