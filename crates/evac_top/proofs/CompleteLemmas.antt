@@ -10,11 +10,9 @@ use Rattle.model_text.specs.Readings.{Reading, Described, Refused, model_of}
 use Rattle.evac_top.specs.Accounts.{Account}
 use Rattle.evac_top.specs.Answers.{runs_of}
 use Rattle.building_table.specs.Names.{NameTable, names_of}
-use Rattle.drill_building.specs.Drill.{drill_model}
 use Rattle.plan_checker.specs.Verdicts.{IsRight}
 use Rattle.evac_top.specs.Check.{Checks, IsChecked, verdict_status}
 use Rattle.evac_top.specs.Complete.{ChecksAll, PlansAll, SolvesAll, TalksAll, UpgradesAll}
-use Rattle.evac_top.specs.Drill.{IsDrillSolved}
 use Rattle.evac_top.specs.Inputs.{Asked, Claimed, ClaimsBehind, IsClaimOf, claim_by, input_of}
 use Rattle.evac_top.specs.Runs.{RunsAnswer}
 use Rattle.evac_top.specs.Solve.{IsPlannedOrShort, Solves}
@@ -44,12 +42,6 @@ plans-all flags names m line x (inr h) = (λ can. absurd (h.barred can), λ cann
 solves-all : (flags : Flags) (input : List ℕ) (result : Result Asked (Code × ℕ)) (x : Account) → Solves flags input result x → SolvesAll result x
 solves-all flags input (Ok asked) x h = plans-all flags (names_of asked.building) asked.building.model asked.last x h.1
 solves-all flags input (Err fault) x h = h
-
-drills-all : (n : ℕ) (x : Account) → IsDrillSolved n x → PlansAll (drill_model n) 0 x
-drills-all n x (inl h) =
-    let clearable = opening-clears (drill_model n) h.opening h.begins in
-    (λ can. h.ends.over, λ cannot. absurd (cannot clearable), λ one. absurd (omega (arith, h.ends.over, one)))
-drills-all n x (inr h) = (λ can. absurd (h.barred can), λ cannot. h.refused, λ one. h)
 
 checks-block : (claimed : Claimed) (x : Account) → let m = claimed.building.model in IsChecked m claimed.block x → (IsRight m claimed.block → x.status ≡ 0) × (¬ IsRight m claimed.block → x.status ≡ 1)
 checks-block claimed x h =
@@ -121,7 +113,7 @@ answers-all (Some Session) input x h = sessions-all (model_of (lines_of input)) 
 answers-all (Some Study) input x h = studies-all (model_of (lines_of input)) x h.0
 answers-all (Some Replan) input x h = replans-all (model_of (lines_of input)) x h.0
 answers-all (Some Upgrade) input x h = upgrades-all input (input_of (lines_of input)) x h
-answers-all (Some (Drill n)) input x h = drills-all n x h.1
+answers-all (Some (Drill n)) input x h = h.1.ends.over
 
 pub runs-answer : RunsAnswer
 runs-answer mode status before after r reads_kept writes_kept memory =

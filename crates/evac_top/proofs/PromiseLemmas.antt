@@ -1,6 +1,6 @@
 -- Every run of a study, a check, an upgrade and a drill keeps its promise.
 use Rattle.std.specs.declared.option.Option.{Option}
-use Rattle.std.proofs.Common.{◌≡◌, Some, None, ℕ, ◌+◌, ◌<◌, true, List, [], ◌∷◌, length, map, Result, Ok, Err, refl, sym, ap, subst, ◌∙◌, arith, inl, inr}
+use Rattle.std.proofs.Common.{◌≡◌, Some, None, ℕ, ◌+◌, ◌<◌, true, List, [], ◌∷◌, length, map, Result, Ok, Err, refl, sym, ap, subst, ◌∙◌, arith}
 use Rattle.std.specs.List.{All}
 use Rattle.std.proofs.lemmas.List.Elements.{All-filter, All-head, All-tail, All-cons, All-nil, filter_passes}
 use Rattle.evac_law.specs.declared.code.Code.{Code}
@@ -22,7 +22,6 @@ use Rattle.model_text.specs.Taken.{Description}
 use Rattle.model_text.proofs.ReadingLemmas.{opening-valid}
 use Rattle.building_table.specs.Names.{NameTable, names_of}
 use Rattle.certificate_text.specs.BlockReadings as blocks
-use Rattle.drill_building.specs.Drill.{drill_model}
 use Rattle.edit_session.specs.Sessions.{IsNotCleared}
 use Rattle.exit_study.specs.Exits.{IsExitRow, without_exit}
 use Rattle.exit_study.specs.declared.exits.ExitRow.{ExitRow}
@@ -37,7 +36,7 @@ use Rattle.talk.specs.Talks.{EndsAt, RepliesTo, Reply, TalkRun}
 use Rattle.evac_top.specs.Accounts.{Account}
 use Rattle.evac_top.specs.Answers.{ChecksInput, runs_of}
 use Rattle.evac_top.specs.Check.{Checks, IsChecked, verdict_status, verdict_text}
-use Rattle.evac_top.specs.Drill.{IsDrilled, IsDrillSolved}
+use Rattle.evac_top.specs.Drill.{IsDrilled}
 use Rattle.evac_top.specs.Headline.{IsBestPlan, KeepsTalk}
 use Rattle.evac_top.specs.Inputs.{Asked, Claimed, ClaimsBehind, IsClaimOf, claim_by, input_by, input_of, tail_fault, unless_fault}
 use Rattle.evac_top.specs.Promises.{ChecksKeepPromise, DrillsKeepPromise, IsRightRow, IsStuck, IsYes, KeepsClaim, KeepsDrill, KeepsRows, KeepsStudy, KeepsSummary, KeepsUpgrade, SaysRightRows, StudyKeepsPromise, UpgradesKeepPromise, YesIsBest}
@@ -45,7 +44,6 @@ use Rattle.evac_top.specs.Talking.{ReadsOn, Talks, spoken}
 use Rattle.evac_top.specs.Upgrade.{Upgrades}
 use Rattle.evac_top.specs.declared.words.Mode.TheVariants.{Check, Drill, Study, Upgrade}
 use Rattle.evac_top.proofs.HeadlineLemmas.{best-plan, each-run, keeps-talk}
-use Rattle.evac_top.proofs.SolveLemmas.{opening-clears}
 use Rattle.evac_top.proofs.TellLemmas.{of-input}
 use Rattle.evac_top.proofs.UpgradeLemmas.{building-of}
 
@@ -251,13 +249,9 @@ keeps-summary n x h =
       ends = h.ends;
     }
 
-keeps-drill : (n : ℕ) (x : Account) → x.taken ≡ [] → IsDrillSolved n x → KeepsDrill n x
-keeps-drill n x none (inl h) = (none, λ can. keeps-summary n x h, λ cannot. absurd (cannot (opening-clears (drill_model n) h.opening h.begins)))
-keeps-drill n x none (inr short) = (none, λ can. absurd (short.barred can), λ cannot. short)
-
 drill-kept : (n : ℕ) (input : List ℕ) (x : Account) → (runs_of (Some (Drill n))).Answers input x → KeepsDrill n x
 unfolding runs_of
-drill-kept n input x h = keeps-drill n x h.0 h.1
+drill-kept n input x h = (h.0, keeps-summary n x h.1)
 
 pub drills-keep-promise : DrillsKeepPromise
 drills-keep-promise n = each-run (Drill n) (λ input x. KeepsDrill n x) (drill-kept n)

@@ -22,7 +22,7 @@ use Rattle.edit_session.specs.declared.faults.Short.{Short}
 use Rattle.edit_session.specs.Thrift.{IsSpentOpening}
 use Rattle.evac_top.specs.Accounts.{Account, Side}
 use Rattle.evac_top.specs.Answers.{runs_of}
-use Rattle.evac_top.specs.Drill.{IsDrillSolved, IsDrilled}
+use Rattle.evac_top.specs.Drill.{IsDrilled}
 use Rattle.evac_top.specs.Reads.{InputIs}
 use Rattle.evac_top.specs.Solve.{IsPlanned, IsShort, IsPlannedOrShort, SaysPlan, Solves}
 use Rattle.evac_top.specs.declared.read.Input.{Input}
@@ -98,9 +98,8 @@ pub solved-few : (flags : Flags) (names : NameTable) (m : Model) (line : ℕ) (x
 solved-few flags names m line x (inl h) = omega (arith, h.done)
 solved-few flags names m line x (inr h) = omega (arith, h.refused)
 
-pub drilled-few : (n : ℕ) (x : Account) → IsDrillSolved n x → x.status ≤ 1
-drilled-few n x (inl h) = omega (arith, h.ends.over)
-drilled-few n x (inr h) = omega (arith, h.refused)
+pub drilled-few : (n : ℕ) (x : Account) → IsDrilled n x → x.status ≤ 1
+drilled-few n x h = omega (arith, h.ends.over)
 
 -- ---- inputs
 
@@ -135,10 +134,8 @@ told-planned flags names m line s n status before after h same told =
     (λ x p. inl (subst (λ (y : Model). IsPlanned flags names y x) h.begun p)) told)
 
 pub told-drilled : (number : ℕ) (s : SessionState) (n status : ℕ) (before after : Side) → n ≡ s.work.pushes
-    → Tells (IsDrilled number) status s.work.pushes before after → Tells (IsDrillSolved number) status n before after
-told-drilled number s n status before after same told =
-    subst (λ (k : ℕ). Tells (IsDrillSolved number) status k before after) (sym same)
-    (tells-as (IsDrilled number) (IsDrillSolved number) status s.work.pushes before after (λ x p. inl p) told)
+    → Tells (IsDrilled number) status s.work.pushes before after → Tells (IsDrilled number) status n before after
+told-drilled number s n status before after same told = subst (λ (k : ℕ). Tells (IsDrilled number) status k before after) (sym same) told
 
 pub valid-as : (m other : Model) → other ≡ m → IsValid m → IsValid other
 valid-as m other e valid = subst IsValid (sym e) valid

@@ -12,7 +12,7 @@ use Rattle.building_table.specs.declared.faults.ModelFault.TheVariants.{Named, R
 use Rattle.certificate_text.specs.BlockText.{refusal_line}
 use Rattle.evac_top.specs.Accounts.{Account, Ends, IsFront, IsRefusal, Outside, Side, Told}
 use Rattle.evac_top.specs.Answers.{WritesNothing, runs_of, words_text}
-use Rattle.evac_top.specs.Drill.{IsDrillSolved}
+use Rattle.evac_top.specs.Drill.{IsDrilled}
 use Rattle.evac_top.specs.Inputs.{IsOpenClaim, IsOpenInput}
 use Rattle.evac_top.specs.Reads.{Takes}
 use Rattle.evac_top.specs.Runs.{OfInput, Runs}
@@ -262,12 +262,12 @@ tells-as Holds Others status steps before after f t = record {
 
 -- ---- a mode that reads nothing
 
-pub drill-told : (n status steps : ℕ) (source before after : Side) (old new : ℕ) → new ≡ old + steps → ((x : Account) → IsDrillSolved n x → x.status ≤ 1)
-    → Tells (IsDrillSolved n) status steps before after
+pub drill-told : (n status steps : ℕ) (source before after : Side) (old new : ℕ) → new ≡ old + steps → ((x : Account) → IsDrilled n x → x.status ≤ 1)
+    → Tells (IsDrilled n) status steps before after
     → Runs (Some (Drill n)) status (record { source = source; sink = before; steps = old }) (record { source = source; sink = after; steps = new })
 unfolding runs_of
 drill-told n status steps source before after old new counted few tells =
-    runs-told (Some (Drill n)) (IsDrillSolved n) status steps (record { source = source; sink = before; steps = old }) (record { source = source; sink = after; steps = new }) []
+    runs-told (Some (Drill n)) (IsDrilled n) status steps (record { source = source; sink = before; steps = old }) (record { source = source; sink = after; steps = new }) []
     (Consumes-nil source.bytes) (omega arith) refl counted tells (λ x h e. absurd (omega (arith, few x h, e))) (λ x none h. (none, h)) (λ input x h. h)
     (λ x none nothing. (none, nothing))
 

@@ -31,7 +31,7 @@ use Rattle.session_talk.specs.Sessions.{Opens, Replies, State, session}
 use Rattle.talk.specs.Talks.{EndsAt, RepliesTo, Reply, Spoken, TalkAnswers, TalkRun, followed, over_with, says}
 use Rattle.evac_top.specs.Accounts.{Account}
 use Rattle.evac_top.specs.Answers.{runs_of}
-use Rattle.evac_top.specs.Drill.{IsDrillSolved}
+use Rattle.evac_top.specs.Drill.{IsDrilled}
 use Rattle.evac_top.specs.Inputs.{Asked, input_of}
 use Rattle.evac_top.specs.Solve.{IsPlannedOrShort, SaysPlan, Solves, Where}
 use Rattle.evac_top.specs.Talking.{Talks, spoken}
@@ -312,15 +312,12 @@ session-solves-alike input asked x y e h g =
 
 -- ---- drills
 
-drill-same : (n : ℕ) (x y : Account) → IsDrillSolved n x → IsDrillSolved n y → (x.status ≡ y.status) × (x.status ≡ 0 → x.written ≡ y.written)
-drill-same n x y (inl h) (inl g) =
+drill-same : (n : ℕ) (x y : Account) → IsDrilled n x → IsDrilled n y → (x.status ≡ y.status) × (x.written ≡ y.written)
+drill-same n x y h g =
     let m = drill_model n in (
       h.ends.over ∙ sym g.ends.over,
-      λ e. h.ends.text_whole ∙ ap (drill_text n m) (figures-same m h.opening g.opening h.time g.time h.begins g.begins h.uncongested g.uncongested) ∙ sym g.ends.text_whole,
+      h.ends.text_whole ∙ ap (drill_text n m) (figures-same m h.opening g.opening h.time g.time h.begins g.begins h.uncongested g.uncongested) ∙ sym g.ends.text_whole,
     )
-drill-same n x y (inl h) (inr g) = absurd (g.barred (opening-clears (drill_model n) h.opening h.begins))
-drill-same n x y (inr h) (inl g) = absurd (h.barred (opening-clears (drill_model n) g.opening g.begins))
-drill-same n x y (inr h) (inr g) = (h.refused ∙ sym g.refused, λ e. absurd (omega (arith, e, h.refused)))
 
 pub drills-agree : DrillsAgree
 unfolding runs_of

@@ -4,7 +4,6 @@ use Rattle.std.specs.declared.option.Option.{Option}
 use Rattle.evac_law.specs.declared.code.Code.{Code}
 use Rattle.evac_law.specs.declared.code.Code.TheVariants.{UnknownWords}
 use Rattle.line_io.specs.Line.{Line, lines_of}
-use Rattle.drill_building.specs.Drill.{drill_model}
 use Rattle.model_text.specs.Readings.{model_of}
 use Rattle.certificate_text.specs.BlockText.{refusal_line}
 use Rattle.replan_talk.specs.ReplanTalks.{replan}
@@ -12,7 +11,7 @@ use Rattle.session_talk.specs.Sessions.{session}
 use Rattle.study_talk.specs.Studies.{study}
 use Rattle.evac_top.specs.Accounts.{Account, Ends, IsFront}
 use Rattle.evac_top.specs.Check.{Checks}
-use Rattle.evac_top.specs.Complete.{ChecksLines, PlansAll, SolvesAll, TalksAll, UpgradesAll}
+use Rattle.evac_top.specs.Complete.{ChecksLines, SolvesAll, TalksAll, UpgradesAll}
 use Rattle.evac_top.specs.Drill.{Drills}
 use Rattle.evac_top.specs.Inputs.{Claimed, IsClaimOf, IsOpenClaim, IsOpenInput, input_of}
 use Rattle.evac_top.specs.Solve.{Solves}
@@ -100,4 +99,4 @@ runs_of (Some Study) = holds_talk study (λ x. x.written ≡ [])
 runs_of (Some Replan) = holds_talk replan (λ x. TalksMemory replan x)
 runs_of (Some Upgrade) =
     reads_first IsOpenInput (λ input x. Upgrades input (input_of (lines_of input)) x) (λ input x. UpgradesAll (input_of (lines_of input)) x)
-runs_of (Some (Drill number)) = reads_nothing (Drills number) (λ x. PlansAll (drill_model number) 0 x)
+runs_of (Some (Drill number)) = reads_nothing (Drills number) (λ x. x.status ≡ 0)

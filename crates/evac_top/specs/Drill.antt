@@ -1,5 +1,5 @@
--- What a run in the mode `drill` does: the summary of a best plan of a drill's building, or the block of its shortfall.
-use Rattle.std.specs.Prelude.{◌≡◌, ℕ, ◌≤◌, List, [], Some, ◌⊎◌}
+-- What a run in the mode `drill` does: the summary of a best plan of a drill's building.
+use Rattle.std.specs.Prelude.{◌≡◌, ℕ, ◌≤◌, List, [], Some}
 use Rattle.evac_law.specs.declared.plan.Move.{Move}
 use Rattle.evac_law.specs.Plans.{IsFeasible, out_by}
 use Rattle.clearing_report.specs.Walks.{IsUncongested}
@@ -7,7 +7,6 @@ use Rattle.drill_building.specs.Drill.{drill_model}
 use Rattle.drill_building.specs.Summary.{drill_text, figures_of}
 use Rattle.edit_session.specs.Sessions.{Begins, SessionState}
 use Rattle.evac_top.specs.Accounts.{Account, Ends}
-use Rattle.evac_top.specs.Solve.{IsShort}
 
 -- a drill is answered by the summary of a plan that takes everybody out, with a cut for each period that is worth as many as are out by then; so
 -- no feasible plan has more people out by any period
@@ -19,10 +18,6 @@ pub record IsDrilled (n : ℕ) (x : Account) : Type 0 where
   pub uncongested : IsUncongested (drill_model n) (Some time)
   pub ends : let m = drill_model n in Ends x 0 (drill_text n m (figures_of m opening.plan opening.last time)) opening.work.pushes
 
--- the building of a drill, which has no lines, is planned, or refused at line 0
-abbrev pub IsDrillSolved : ℕ → Account → Type 0
-IsDrillSolved n x = IsDrilled n x ⊎ IsShort (drill_model n) 0 x
-
--- a drill reads nothing
+-- a drill reads nothing, and its building is planned
 abbrev pub Drills : ℕ → Account → Type 0
-Drills n x = (x.taken ≡ []) × IsDrillSolved n x
+Drills n x = (x.taken ≡ []) × IsDrilled n x

@@ -35,7 +35,6 @@ use Rattle.evac_top.specs.Check.{IsChecked, verdict_text}
 use Rattle.evac_top.specs.Headline.{IsBestPlan, KeepsTalk}
 use Rattle.evac_top.specs.Inputs.{Asked, Claimed, IsClaimOf, input_of}
 use Rattle.evac_top.specs.Runs.{OfInput, Runs, RunsKeep}
-use Rattle.evac_top.specs.Solve.{IsShort}
 use Rattle.evac_top.specs.Talking.{ReadsOn, spoken}
 use Rattle.evac_top.specs.declared.words.Mode.TheVariants.{Check, Drill, Study, Upgrade}
 
@@ -134,9 +133,9 @@ pub record KeepsSummary (n : ℕ) (x : Account) : Type 0 where
   pub uncongested : IsUncongested (drill_model n) (Some time)
   pub ends : let m = drill_model n in Ends x 0 (drill_text n m (figures_of m opening.plan opening.last time)) opening.work.pushes
 
--- nothing is read; the building is planned where it can be cleared, and refused where it can't
+-- nothing is read, and the summary of a best plan is written
 abbrev pub KeepsDrill : ℕ → Account → Type 0
-KeepsDrill n x = (x.taken ≡ []) × (IsClearable (drill_model n) → KeepsSummary n x) × (¬ IsClearable (drill_model n) → IsShort (drill_model n) 0 x)
+KeepsDrill n x = (x.taken ≡ []) × KeepsSummary n x
 
 -- each run of a drill keeps that
 abbrev pub DrillsKeepPromise : Type 0

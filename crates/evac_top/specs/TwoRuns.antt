@@ -83,4 +83,4 @@ SessionSolvesAlike =
 -- whatever best plan a drill has, its summary is the same
 abbrev pub DrillsAgree : Type 0
 DrillsAgree =
-    (n : ℕ) (i j : List ℕ) (x y : Account) → Answered (Drill n) i x → Answered (Drill n) j y → (x.status ≡ y.status) × (x.status ≡ 0 → x.written ≡ y.written)
+    (n : ℕ) (i j : List ℕ) (x y : Account) → Answered (Drill n) i x → Answered (Drill n) j y → (x.status ≡ y.status) × (x.written ≡ y.written)

@@ -7,7 +7,7 @@ ghost use Rattle.edit_session.specs.Sessions.{BeginEnds, Begins};
 ghost use Rattle.evac_law.specs.Building.{IsValid};
 ghost use Rattle.line_io.specs.Causes.{HasCause};
 ghost use Rattle.evac_top.specs.Accounts.{Side, side};
-ghost use Rattle.evac_top.specs.Drill.{IsDrillSolved, IsDrilled};
+ghost use Rattle.evac_top.specs.Drill.{IsDrilled};
 ghost use Rattle.evac_top.specs.Runs.{Runs};
 ghost use Rattle.evac_top.specs.Sends.{Sends};
 ghost use Rattle.evac_top.specs.Tells.{HasBegun, Tells};
@@ -95,7 +95,7 @@ fn answer_begun<K: Sink>(
     status
 }
 
-// Sends the summary of what a session begins with, or why there is none.
+// Sends the summary of what a session begins with. One does, but for want of memory.
 fn tell<K: Sink>(
     alloc: Global,
     out: &mut Out,
@@ -104,8 +104,9 @@ fn tell<K: Sink>(
     begun: Result<Session, BeginFault>,
 ) -> Status
     requires fresh { out.old ≡ [] }
+    requires storeys { number ≤ STOREY_LIMIT }
     requires begun { HasBegun (drill_model number) begun }
-    ensures { (steps : ℕ) → BeginEnds (drill_model number) begun steps → Tells (IsDrillSolved number) (status_number result) steps
+    ensures { (steps : ℕ) → BeginEnds (drill_model number) begun steps → Tells (IsDrilled number) (status_number result) steps
         (side (K.held sink.old) (K.faults sink.old)) (side (K.held sink.new) (K.faults sink.new)) }
 {
     match begun {

@@ -3,7 +3,7 @@ use Rattle.drill_building.specs.Drill.{drill_model}
 use Rattle.edit_session.specs.Sessions.{BeginEnds}
 use Rattle.evac_law.specs.declared.model.Model.{Model}
 use Rattle.evac_law.specs.Building.{IsValid}
-use Rattle.evac_top.specs.Drill.{IsDrillSolved}
+use Rattle.evac_top.specs.Drill.{IsDrilled}
 use Rattle.evac_top.proofs.SolveLemmas.{drilled-few}
 use Rattle.evac_top.proofs.TellLemmas.{drill-told, tells-nothing}
 use Rattle.talk.specs.Statuses.{status_number}
@@ -12,7 +12,7 @@ use Rattle.evac_top.proofs.drill.drill.Goals as goal
 pub returns-in_default : goal.returns-in_default
 returns-in_default g c = λ source.
     let n = c.args.number in
-    drill-told n 5 0 source _ _ c.args.steps.now c.args.steps.now (omega arith) (drilled-few n) (tells-nothing (IsDrillSolved n) 0 _)
+    drill-told n 5 0 source _ _ c.args.steps.now c.args.steps.now (omega arith) (drilled-few n) (tells-nothing (IsDrilled n) 0 _)
 
 pub tell-status-requires-clause-begun : goal.tell-status-requires-clause-begun
 tell-status-requires-clause-begun g c =

@@ -1,6 +1,6 @@
-use Rattle.std.proofs.Common.{inr}
 use Rattle.drill_building.specs.Drill.{drill_model}
-use Rattle.evac_top.specs.Drill.{IsDrillSolved}
+use Rattle.drill_building.proofs.WaysOut.{drill-clearable}
+use Rattle.evac_top.specs.Drill.{IsDrilled}
 use Rattle.evac_top.proofs.SolveLemmas.{begun-as, fault-as, told-drilled, told-short}
 use Rattle.talk.specs.Statuses.{status_number}
 use Rattle.evac_top.proofs.drill.tell.Goals as goal
@@ -23,5 +23,6 @@ returns-in-Ok g c = λ steps ends.
 pub returns-in-Err : goal.returns-in-Err
 returns-in-Err g c = λ steps ends.
     let m = drill_model c.args.number in
-    told-short (IsDrillSolved c.args.number) m 0 steps (status_number c.stop_short.result) _ _ (λ x h. inr h)
+    told-short (IsDrilled c.args.number) m 0 steps (status_number c.stop_short.result) _ _
+    (λ x h. absurd (h.barred (drill-clearable c.args.number c.requires.storeys)))
     (c.stop_short.ensures m steps (fault-as m steps c.args.begun c.in-Err.fault c.in-Err.is ends))
