@@ -8,9 +8,9 @@ every command once, and a ratio is the median over the rounds of two times of on
 both alike. `--ssp PATH` is a program that solves the same model: `PATH runs --path --block` writes each path out step by
 step, and `PATH runs --block` need not. It knows no windows and no entrants, so a building that has some gets a dash in
 place of its numbers. `--instructions` counts instructions with valgrind in place of these times, once each: they don't
-depend on how busy a machine is. `--edits` shuts each exit and opens it again in a session, and compares each edit's time
-with a fresh solve of the edited building. It is no part of any test: it prints a table in Markdown and fails for nothing
-but a run that fails, or two solvers that differ.
+depend on how busy a machine is. `--edits` makes edits of every kind in a session in place of all that, each undone again, and
+divides the instructions of each by those of a fresh solve: of the building before it or after it, whichever is dearer. It is no part of
+any test: it prints a table in Markdown and fails for nothing but a run that fails, or two solvers that differ.
 """
 import argparse
 import os
@@ -23,6 +23,7 @@ import tempfile
 import time
 
 import buildings
+import edits
 
 TOP = pathlib.Path(__file__).resolve().parent.parent
 KINDS = ("--path --block", "--block")
@@ -143,33 +144,49 @@ def counting(given, texts):
         print_row(given, name, [own], [(it, own / it) for it in others])
 
 
+def possible_edits(given, text):
+    """Returns edits of a building that a session can make after those before them, each with whether it accepts them."""
+    tried = []
+    for edit in edits.edits_of(text, given.each):
+        if not edit.before or edits.are_accepted(given.program, text, edit.before):
+            tried.append((edit, edits.are_accepted(given.program, text, [*edit.before, edit.command])))
+    return tried
+
+
+def ratios_of(given, text):
+    """Returns for each edit of a building, and for each undo, what it is and its instructions, divided by those of the dearer fresh plan."""
+    tried, commands, ratios, fresh = possible_edits(given, text), [], [], {}
+    for edit, accepted in tried:
+        commands += [*edit.before, edit.command, *["undo"] * (len(edit.before) + accepted)]
+    spent = iter(edits.spent_on(given.program, text, commands))
+    for edit, accepted in tried:
+        for made in (edit.stood, edit.made):
+            fresh[made] = fresh.get(made) or instructions_of([given.program, "solve"], made.encode())
+        own = [next(spent) for _ in range(2 * len(edit.before) + 1 + accepted)]
+        dearer, at = max(fresh[edit.stood], fresh[edit.made]), len(edit.before)
+        ratios.append((edit.kind if accepted else "refused", edit.command, own[at] / dearer))
+        if accepted:
+            ratios.append(("undo", f"undo of {edit.command}", own[at + 1] / dearer))
+    return ratios
+
+
 def editing(given, texts):
-    """Prints how long shutting an exit and opening it again take, as ratios to a fresh solve of the edited model."""
-    print("| building | exits | shut: median, most | open: median, most |")
-    print("|---|--:|--:|--:|")
+    """Prints what edits of every kind take, each with its undo, as ratios to the dearer fresh plan of the building before it and after."""
+    print("| building | edits: median, most | undone: median, most | refused: median, most | the dearest |")
+    print("|---|--:|--:|--:|---|")
+    kinds = {}
     for name, text in texts.items():
-        shut, opened, doors = [], [], buildings.exits_of(text.decode())
-        for door in doors[: given.exits]:
-            opening = text + b"quit\n"
-            once = text + f"shutexit {door}\nquit\n".encode()
-            twice = text + f"shutexit {door}\nopenexit {door}\nquit\n".encode()
-            session = [given.program, "session"]
-            _, answer, status = run(session, once)
-            if status != 0 or answer.startswith(b"refused") or b"\nrefused" in answer:
-                continue
-            solve, edited = [given.program, "solve"], buildings.without(text.decode(), door).encode()
-            times = rounds_of(
-                [(session, opening), (session, once), (session, twice), (solve, edited), (solve, text)],
-                given.rounds,
-            )
-            least = [min(it) for it in times]
-            shut.append((least[1] - least[0]) / least[3])
-            opened.append((least[2] - least[1]) / least[4])
-        if shut:
-            cells = [f"{statistics.median(it):.2f}, {max(it):.2f}" for it in (shut, opened)]
-            print(f"| {name} | {len(shut)} | " + " | ".join(cells) + " |", flush=True)
-        else:
-            print(f"| {name} | 0 | the program has no session, or nobody may be shut in | |", flush=True)
+        ratios = ratios_of(given, text.decode())
+        columns = {"edits": [], "undo": [], "refused": []}
+        for kind, _, it in ratios:
+            columns[kind if kind in columns else "edits"].append(it)
+            kinds.setdefault(kind, []).append(it)
+        cells = [f"{statistics.median(it):.2f}, {max(it):.2f}" if it else "-" for it in columns.values()]
+        _, dearest, most = max(ratios, key=lambda it: it[2])
+        print(f"| {name} | {' | '.join(cells)} | `{dearest}` {most:.2f} |", flush=True)
+    print("\n| kind | edits | median | most |\n|---|--:|--:|--:|")
+    for kind, all_of_it in kinds.items():
+        print(f"| {kind} | {len(all_of_it)} | {statistics.median(all_of_it):.2f} | {max(all_of_it):.2f} |")
 
 
 def main():
@@ -177,7 +194,7 @@ def main():
     parser.add_argument("--program", default=str(TOP / "crates/evacplan/out/evacplan"))
     parser.add_argument("--ssp")
     parser.add_argument("--rounds", type=int, default=9)
-    parser.add_argument("--exits", type=int, default=8)
+    parser.add_argument("--each", type=int, default=1, help="how many edits of each kind --edits tries")
     parser.add_argument("--only")
     parser.add_argument("--instructions", action="store_true")
     parser.add_argument("--edits", action="store_true")
@@ -186,14 +203,13 @@ def main():
     names = given.only.split(",") if given.only else list(buildings.ALL)
     texts = {name: buildings.ALL[name]().encode() for name in names if name in buildings.ALL}
     texts |= {file.stem: file.read_bytes() for file in given.files}
-    if given.instructions:
+    if given.edits:
+        editing(given, texts)
+    elif given.instructions:
         counting(given, texts)
     else:
         print(f"Measured on {machine()}; {given.rounds} rounds.\n")
         solving(given, texts)
-    if given.edits:
-        print()
-        editing(given, texts)
 
 
 if __name__ == "__main__":
