@@ -94,7 +94,7 @@ impl Search {
             return 0;
         }
         let incoming = residual.incoming(node, moment);
-        least_label(&incoming, &self.distances, incoming.ways.len()).0
+        least_label(&incoming, &self.distances, incoming.ways.len(), 0).0
     }
 
     // Puts these labels in order.

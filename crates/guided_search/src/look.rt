@@ -38,7 +38,7 @@ pub fn look_from(incoming: &Incoming<'_>, distances: &Distances, from: usize, la
             }
         }
     }
-    let before = least_label(incoming, distances, from);
+    let before = least_label(incoming, distances, from, label.saturating_add(1));
     if before.0 <= least {
         Look::Least {
             label: before.0,
@@ -52,8 +52,14 @@ pub fn look_from(incoming: &Incoming<'_>, distances: &Distances, from: usize, la
     }
 }
 
-/// The least distance label that the ways before a number allow, and the number of a way that gives it.
-pub fn least_label(incoming: &Incoming<'_>, distances: &Distances, end: usize) -> (u32, usize)
+/// The least distance label that the ways before a number allow, or the first one that is low enough, and the number of a way that gives
+/// it.
+pub fn least_label(
+    incoming: &Incoming<'_>,
+    distances: &Distances,
+    end: usize,
+    enough: u32,
+) -> (u32, usize)
     requires { distances.now.sizes ≡ incoming.now.sizes }
     ensures { result.0 ≤ 65535 }
 {
@@ -67,6 +73,9 @@ pub fn least_label(incoming: &Incoming<'_>, distances: &Distances, end: usize) -
             {
                 least = allowed;
                 at = number;
+                if least <= enough {
+                    return (least, at);
+                }
             }
         }
     }

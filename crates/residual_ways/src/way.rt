@@ -36,6 +36,8 @@ pub struct Way {
     pub first_pair: u32,
     /// From the moment at which the way ends to that at which it begins: back by its travel forwards, and on by it backwards.
     pub shift: i32,
+    /// Whether somebody may enter its row at some moment, by the limits of the net for which the ways were put in order.
+    pub(crate) may_enter: bool,
 }
 
 impl Way {
@@ -54,6 +56,7 @@ impl Way {
             node,
             first_pair: sizes.first_pair(node),
             shift: -(travel as i32),
+            may_enter: false,
         }
     }
 
