@@ -4,6 +4,7 @@ pub mod EditLemmas
 pub mod EntrantLemmas
 pub mod EntrantTable
 pub mod Entries
+pub mod FewerLemmas
 pub mod LabelLemmas
 pub mod MoveLemmas
 pub mod NameLemmas

@@ -11,6 +11,7 @@ use Rattle.evac_law.specs.Edits.{IsEditOf, applied}
 use Rattle.evac_law.specs.Entrants.{ComesBefore, entering, table_entrants}
 use Rattle.evac_law.specs.LabelTable.{LabelTable}
 use Rattle.evac_law.specs.Moves.{moves_of}
+use Rattle.evac_law.specs.Parts.{CanGetOut}
 use Rattle.evac_law.specs.Plans.{IsFeasible, NobodyIsLeft, moved, out_by, person_periods}
 use Rattle.evac_law.specs.Shapes.{HasSameShape}
 use Rattle.evac_law.specs.Stands.{IsOrdered}
@@ -37,6 +38,10 @@ CertifiedIsBest =
 -- where a cut is worth less than the people, no feasible plan takes everybody out
 abbrev pub ShortfallBarsClearing : Type 0
 ShortfallBarsClearing = (m : Model) (x : Cut) (v : ℕ) → IsValid m → IsShortfall m x v → ¬ IsClearable m
+
+-- no more people can get out than a cut is worth at the horizon, not even when the others aren't there
+abbrev pub PartsAreBounded : Type 0
+PartsAreBounded = (m : Model) (x : Cut) (v : ℕ) → CanGetOut m v → v ≤ cut_value m x m.horizon
 
 -- at every moment the cut that a block states of a certified plan is worth as many as are out by then; up to the horizon it is a cut
 abbrev pub StatedCutIsWorth : Type 0

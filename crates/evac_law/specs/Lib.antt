@@ -9,6 +9,7 @@ pub mod Laws
 pub mod Limits
 pub mod Moves
 pub mod Names
+pub mod Parts
 pub mod Plans
 pub mod Shapes
 pub mod Stands

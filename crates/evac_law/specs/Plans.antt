@@ -68,6 +68,10 @@ above (negsuc z) c = 0
 abbrev pub inside : Model → List Move → ℕ → ℕ → ℕ
 inside m p n t = above (held m p n t +ℤ pos (leaving m p n t)) 0
 
+-- the people who stay in a node from a moment to the next; nobody stays in an exit
+abbrev pub staying : Model → List Move → ℕ → ℕ → ℕ
+staying m p n t = if is_exit_at m n then 0 else above (held m p n t) 0
+
 -- the people above the rates, above the capacities and above the entries of the edited model m' in a plan of m
 unfoldable pub violation : Model → List Move → Model → ℕ
 violation m p m' =

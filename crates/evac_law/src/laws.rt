@@ -1,5 +1,5 @@
 //! The laws, each the contract of a function with nothing to do.
-ghost use Rattle.evac_law.specs.Laws.{AllOutIsClearable, AllOutLeavesNobody, CertifiedIsBest, CertifiedIsClearable, CertifiedIsQuickest, CertifiedPlansAgree, EditKeepsShape, EmptyCut, EntrantsOfTable, InverseUndoes, MovesOfTable, ShortfallBarsClearing, StatedCutIsWorth, TightIsEqual, WeakDuality};
+ghost use Rattle.evac_law.specs.Laws.{AllOutIsClearable, AllOutLeavesNobody, CertifiedIsBest, CertifiedIsClearable, CertifiedIsQuickest, CertifiedPlansAgree, EditKeepsShape, EmptyCut, EntrantsOfTable, InverseUndoes, MovesOfTable, PartsAreBounded, ShortfallBarsClearing, StatedCutIsWorth, TightIsEqual, WeakDuality};
 
 /// No feasible plan has more people out by a moment than a cut is worth there.
 pub fn weak_duality()
@@ -74,4 +74,9 @@ pub fn moves_of_table()
 /// Who comes into a node at a moment by the entrants of a table is whom the table says.
 pub fn entrants_of_table()
     ensures { EntrantsOfTable }
+{}
+
+/// However many of a building's people are left away, no more of the others get out than a cut is worth at the horizon.
+pub fn parts_are_bounded()
+    ensures { PartsAreBounded }
 {}

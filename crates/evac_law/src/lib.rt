@@ -27,8 +27,8 @@ pub use labels::Labels;
 pub use laws::{
     all_out_is_clearable, all_out_leaves_nobody, certified_is_best, certified_is_clearable,
     certified_is_quickest, certified_plans_agree, edit_keeps_shape, empty_cut, entrants_of_table,
-    inverse_undoes, moves_of_table, shortfall_bars_clearing, stated_cut_is_worth, tight_is_equal,
-    weak_duality,
+    inverse_undoes, moves_of_table, parts_are_bounded, shortfall_bars_clearing,
+    stated_cut_is_worth, tight_is_equal, weak_duality,
 };
 pub use model::{ArcRow, Model, NodeRow};
 pub use name::{Kind, NodeName};
