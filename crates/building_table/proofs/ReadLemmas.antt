@@ -24,7 +24,7 @@ use Rattle.building_table.specs.declared.read.ModelReader.{ModelReader}
 use Rattle.building_table.specs.Built.{IsBuilding}
 use Rattle.building_table.specs.Names.{NameTable, NamesFit, arc_ends, node_names}
 use Rattle.building_table.specs.Passes.{ReadsLines, ReadsModel}
-use Rattle.building_table.specs.Reads.{IsInState, HearsModel, Finishes, AnswersBy, ReadsBy, ConcludesModel}
+use Rattle.building_table.specs.Reads.{IsInState, HearsModel, Finishes, AnswersBy, ConcludesModel}
 use Rattle.model_text.specs.Grammar.{SaidPart}
 use Rattle.model_text.specs.Readings.{Line, Refused, ReadingState, AtStart, Step, Ended, Stopped, step_unless, end_step, step_at, after_step, reading_at, opening_of}
 use Rattle.model_text.specs.Taken.{Description, description_of}
@@ -49,6 +49,12 @@ goes-on s s' x n t is heard =
     (h.0, h.2, λ rest. line-step x n t rest ∙ ap (λ step. after_step step (n + 1) rest (λ y. reading_at y (n + 1) rest)) h.1)
 
 -- ---- the answer
+
+-- lines went by, and this is the answer
+pub record ReadsBy (result : Result Building ModelFault) (before after : Reader) (left left' : Option (List ℕ)) : Type 0 where
+  pub texts : List (List ℕ)
+  pub passes : Passes before after left left' texts
+  pub answer : AnswersBy before.number result after (lines_left before left) (lines_left after left') texts
 
 -- the lines that went by with the one answered last, by its step
 step-last : {ending : Ending Refusal} {from to : ModelReader} {a c : Reader} {l n : Option (List ℕ)} (h : Listens HearsModel ending from to a c l n) (w : Comes IsInState reading_at AtStart a.number h.texts h.at)

@@ -81,12 +81,6 @@ AnswersBy first (Err (Named code line)) r before after texts = RefusesAt first c
 AnswersBy first (Err ReadFault) r before after texts = opening_of first (text_lines texts) ≡ Refused MissingEnd (r.number + 1)
 AnswersBy first (Err Memory) r before after texts = ⊤
 
--- lines went by, and this is the answer
-pub record ReadsBy (result : Result Building ModelFault) (before after : Reader) (left left' : Option (List ℕ)) : Type 0 where
-  pub texts : List (List ℕ)
-  pub passes : Passes before after left left' texts
-  pub answer : AnswersBy before.number result after (lines_left before left) (lines_left after left') texts
-
 -- the answer of a reader that heard all, or behind which the lines ended, where so many went by
 abbrev pub ConcludesModel : Ending Refusal → ModelReader → ℕ → Result Building ModelFault → Type 0
 ConcludesModel endings.Finished reader number result = (taken : List SaidPart) → AreTaken taken → reader.builder ≡ built_of taken → Finishes result taken number

@@ -94,7 +94,3 @@ opening_of before lines = reading_at AtStart before lines
 -- the building that lines describe, with the line that ends it and the lines behind that; or the first fault
 abbrev pub model_of : List Line → Reading
 model_of lines = opening_of 0 lines
-
--- lines that end too early, and have no fault before
-abbrev pub IsUndecided : List Line → Type 0
-IsUndecided lines = model_of lines ≡ Refused MissingEnd (length lines + 1)

@@ -32,9 +32,13 @@ use Rattle.residual_net.specs.Site.{Site, IsSite, IsPlace, End_test, all_cells, 
 use Rattle.residual_net.specs.declared.end.End.TheVariants.{Pair, Door}
 use Rattle.residual_net.specs.Network.{Network, IsKept, IsStored, no_cell, flow_at, flow_into, flow_out, limit_at, supply_limits}
 use Rattle.residual_net.specs.OfModel.{IsNetOf, model_limit, site_of}
-use Rattle.residual_net.specs.Start.{IsOpening, StartsAs, cell_at, start_cells, emptied, is_kind, moment_of, place_of, row_cells, row_of, rows_cells}
+use Rattle.residual_net.specs.Start.{IsOpening, StartsAs, cell_at, emptied, is_kind, place_of, row_cells, row_of, rows_cells}
 use Rattle.residual_net.proofs.Places.{sum_places-same, sum_places-none}
 use Rattle.residual_net.proofs.Held.{arrival_is, exit_is, from_is, same_in}
+
+-- the cells of all places: those of the arcs, the holds and the supplies
+abbrev pub start_cells : Model → List Cell
+start_cells m = (rows_cells m kinds.Arc (length m.arcs) ++ rows_cells m kinds.Hold (length m.nodes)) ++ rows_cells m kinds.Supply (length m.nodes)
 
 -- ---- the network of a valid model
 
@@ -88,11 +92,17 @@ site_made m shape n ends exits travels e f g h i =
 
 -- ---- the places of a row at the moments so far
 
+-- the moment of a place
+abbrev place_moment : Place → ℕ
+place_moment (Arc n t) = t
+place_moment (Hold n t) = t
+place_moment (Supply n t) = t
+
 step_test : (a n s t : ℕ) → (eqb a n && ltb s (t + 1)) ≡ ((eqb n a && eqb t s) || (eqb a n && ltb s t))
 step_test a n s t = grind (arith, nat_tests)
 
 abbrev pub row_so_far : Kind → ℕ → ℕ → Place → Bool
-row_so_far k n t q = (is_kind k q && eqb (row_of q) n) && ltb (moment_of q) t
+row_so_far k n t q = (is_kind k q && eqb (row_of q) n) && ltb (place_moment q) t
 
 pub row_step : (k : Kind) (n t : ℕ) (q : Place) → row_so_far k n (t + 1) q ≡ (same_place (place_of k n t) q || row_so_far k n t q)
 row_step kinds.Arc n t (Arc a s) = step_test a n s t

@@ -31,12 +31,6 @@ row_of (places.Arc n t) = n
 row_of (places.Hold n t) = n
 row_of (places.Supply n t) = n
 
--- the moment of a place
-abbrev pub moment_of : Place → ℕ
-moment_of (places.Arc n t) = t
-moment_of (places.Hold n t) = t
-moment_of (places.Supply n t) = t
-
 -- the cells with no flow
 abbrev pub emptied : List Cell → List Cell
 emptied cells = map (λ c. record { flow = 0; limit = c.limit }) cells
@@ -63,10 +57,6 @@ row_cells m k n = map (cell_at m k n) (below (m.horizon + 1))
 abbrev pub rows_cells : Model → Kind → ℕ → List Cell
 rows_cells m k zero = []
 rows_cells m k (suc n) = rows_cells m k n ++ row_cells m k n
-
--- the cells of all places: those of the arcs, the holds and the supplies
-abbrev pub start_cells : Model → List Cell
-start_cells m = (rows_cells m kinds.Arc (length m.arcs) ++ rows_cells m kinds.Hold (length m.nodes)) ++ rows_cells m kinds.Supply (length m.nodes)
 
 -- no flow, the limits of a model, and saved as it is
 pub record StartsAs (m : Model) (w : Network) : Type 0 where
