@@ -31,7 +31,7 @@ use Rattle.residual_net.specs.declared.end.End.TheVariants.{Pair, Door}
 use Rattle.residual_net.specs.Network.{Network, IsNet, IsWithinLimits, flow_at, limit_at, flow_into, arrived_by}
 use Rattle.residual_net.specs.OfModel.{IsNetOf, plan_of}
 use Rattle.residual_net.specs.Closed.{IsClosed, reached}
-use Rattle.residual_net.specs.Sent.{restart, sent_model}
+use Rattle.residual_net.proofs.Sent.{restart, sent_model}
 use Rattle.residual_net.specs.NetLaws.{labelled}
 use Rattle.evac_law.proofs.MoveLemmas.{sum_moves, moved-moves_of, arcs-moves_of}
 use Rattle.residual_net.proofs.Held.{same_in, came_left, arcs_same, nodes_same, horizon_same, head_is, tail_is}
@@ -63,19 +63,19 @@ module _ (m : Model) (w : Network) (valid : IsValid m) (net : IsNet w) (of : IsN
   abbrev sent : Model
   sent = sent_model m w
 
-  exit_same : (n : ℕ) → is_exit_at sent n ≡ is_exit_at m n
+  pub exit_same : (n : ℕ) → is_exit_at sent n ≡ is_exit_at m n
   exit_same n = restart-keeps (λ (r : NodeRow). is_exit r.name.kind) (λ r s. refl) (λ n. flow_at w (Supply n 0)) 0 m.nodes n no_node
 
-  capacity_same : (n : ℕ) → capacity sent n ≡ capacity m n
+  pub capacity_same : (n : ℕ) → capacity sent n ≡ capacity m n
   capacity_same n = restart-keeps (λ (r : NodeRow). r.capacity) (λ r s. refl) (λ n. flow_at w (Supply n 0)) 0 m.nodes n no_node
 
   shut_same : (n : ℕ) → (node_at sent n).shut ≡ (node_at m n).shut
   shut_same n = restart-keeps (λ (r : NodeRow). r.shut) (λ r s. refl) (λ n. flow_at w (Supply n 0)) 0 m.nodes n no_node
 
-  rate_same : (a t : ℕ) → rate sent a t ≡ rate m a t
+  pub rate_same : (a t : ℕ) → rate sent a t ≡ rate m a t
   rate_same a t = ap (λ b. cond (((arc_at m a).shut || b) || is_closed_at (arc_at m a).windows.items t) 0 (arc_at m a).rate) (shut_same (head m a))
 
-  count_same : length sent.nodes ≡ length m.nodes
+  pub count_same : length sent.nodes ≡ length m.nodes
   count_same = length-restart (λ n. flow_at w (Supply n 0)) 0 m.nodes
 
   node_sent : (n : ℕ) (d : NodeRow) → n < length m.nodes → get_or sent.nodes n d ≡ record (get_or m.nodes n d) { start = flow_at w (Supply n 0) }
@@ -103,7 +103,7 @@ module _ (m : Model) (w : Network) (valid : IsValid m) (net : IsNet w) (of : IsN
       term true h r f = refl
       term false h r f = refl
 
-  out_same : (k : ℕ) → out_by sent plan k ≡ out_by m plan k
+  pub out_same : (k : ℕ) → out_by sent plan k ≡ out_by m plan k
   unfolding out_by
   out_same k = sum_by-same _ _ plan (λ v. ap (λ b. cond (b && leb (arrival m v.arc v.moment) k) v.people 0) (exit_same (head m v.arc)))
 
@@ -116,13 +116,13 @@ module _ (m : Model) (w : Network) (valid : IsValid m) (net : IsNet w) (of : IsN
     arc_in_site : (a t : ℕ) → a < length m.arcs → t ≤ m.horizon → IsPlace w.site (Arc a t)
     arc_in_site a t i l = (omega (arith, arcs_same m w net of valid, i), omega (arith, horizon_same m w net of valid, l))
 
-    supply_le : (n t : ℕ) → n < length m.nodes → t ≤ m.horizon → flow_at w (Supply n t) ≤ entry m n t
+    pub supply_le : (n t : ℕ) → n < length m.nodes → t ≤ m.horizon → flow_at w (Supply n t) ≤ entry m n t
     supply_le n t i l = let p = in_site n t i l in omega (arith, within (Supply n t) p, of.limits (Supply n t) p)
 
     start_le : (n : ℕ) → n < length m.nodes → flow_at w (Supply n 0) ≤ (node_at m n).start
     start_le n i = supply_le n 0 i (omega arith)
 
-    entry_sent : (n t : ℕ) → n < length m.nodes → t ≤ m.horizon → entry sent n t ≡ flow_at w (Supply n t)
+    pub entry_sent : (n t : ℕ) → n < length m.nodes → t ≤ m.horizon → entry sent n t ≡ flow_at w (Supply n t)
     entry_sent n zero i l = ap (λ (r : NodeRow). r.start) (node_sent n no_node i)
     entry_sent n (suc t) i l =
         cond-false (eqb (suc t) 0) (node_at sent n).start (entering sent.entrants n (suc t)) (ne_eqb (suc t) 0 (λ e. omega (arith, e)))
@@ -145,7 +145,7 @@ module _ (m : Model) (w : Network) (valid : IsValid m) (net : IsNet w) (of : IsN
           entered_le m m.horizon,
         )
 
-    valid_sent : IsValid sent
+    pub valid_sent : IsValid sent
     valid_sent = record {
       seconds = valid.seconds;
       horizon = valid.horizon;
@@ -209,7 +209,7 @@ module _ (m : Model) (w : Network) (valid : IsValid m) (net : IsNet w) (of : IsN
         moved-moves_of (arc_count w.site) w.site.shape.horizon (λ a t. flow_at w (Arc a t)) a t
         (omega (arith, arcs_same m w net of valid, i)) (omega (arith, horizon_same m w net of valid, l))
 
-    held_is : (n t : ℕ) → n < length m.nodes → is_exit_at m n ≡ false → t ≤ m.horizon → held sent plan n t ≡ pos (flow_at w (Hold n t))
+    pub held_is : (n t : ℕ) → n < length m.nodes → is_exit_at m n ≡ false → t ≤ m.horizon → held sent plan n t ≡ pos (flow_at w (Hold n t))
     unfolding held
     held_is n t i e l =
         let c = came_left m w net of valid sent.nodes sent.entrants n t i e l (λ s h. entry_sent n s i (omega arith)) in

@@ -16,4 +16,6 @@ pub mod Walks
 pub mod Taking
 pub mod Effects
 pub mod LegLemmas
+pub mod Sent
 pub mod SentLemmas
+pub mod PartLemmas

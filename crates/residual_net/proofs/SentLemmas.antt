@@ -35,7 +35,7 @@ one_missing w within n t i less =
         rw e (omega (arith, here))
     at_place p j (inr e) = rw e (omega (arith, within p j))
 
-arrived_is_sent : (w : Network) → IsNet w → arrived_by w w.site.shape.horizon ≡ flow_out w is_source
+pub arrived_is_sent : (w : Network) → IsNet w → arrived_by w w.site.shape.horizon ≡ flow_out w is_source
 arrived_is_sent w net = all_arrive w net ∙ net.conserved.sent
 
 pub few_arrive : (w : Network) → IsNet w → IsWithinLimits w → arrived_by w w.site.shape.horizon ≤ supply_limits w

@@ -16,6 +16,5 @@ pub mod Change
 pub mod Closed
 pub mod OfModel
 pub mod Start
-pub mod Sent
 pub mod NetLaws
 pub mod Labelled

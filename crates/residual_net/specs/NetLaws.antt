@@ -5,6 +5,7 @@ use Rattle.evac_law.specs.Building.{IsValid, entered_by, entry}
 use Rattle.evac_law.specs.Certificates.{label_cut, IsTableOf}
 use Rattle.evac_law.specs.Cuts.{Cut, cut_value}
 use Rattle.evac_law.specs.LabelTable.{LabelTable, label_at}
+use Rattle.evac_law.specs.Parts.{TakesPartOut}
 use Rattle.evac_law.specs.Plans.{IsFeasible, out_by}
 use Rattle.evac_law.specs.Stands.{Fits}
 use Rattle.residual_net.specs.declared.place.PathStep.{PathStep}
@@ -94,3 +95,8 @@ LastIsArrival =
 -- no moment has more arrivals than a later one
 abbrev pub ArrivedRises : Type 0
 ArrivedRises = (w : Network) (j k : ℕ) → j ≤ k → arrived_by w j ≤ arrived_by w k
+
+-- the plan of a net within its limits takes out whoever arrives, when the others aren't there
+abbrev pub ArrivedGetOut : Type 0
+ArrivedGetOut =
+    (m : Model) (w : Network) → IsValid m → IsNet w → IsNetOf m w → IsWithinLimits w → TakesPartOut m (plan_of w) (arrived_by w m.horizon)

@@ -1,5 +1,5 @@
 //! The laws of nets, each the contract of a function with nothing to do.
-ghost use Rattle.residual_net.specs.NetLaws.{ArrivedIsOut, ArrivedRises, ArrivedWithinCut, CancelLowersArrivals, ClosedGrows, ClosedIsCut, ClosedSurvivesPush, LastIsArrival, NetFits, NetIsFeasible, PushMovesArrivals, SentIsArrived, SuppliesBetween};
+ghost use Rattle.residual_net.specs.NetLaws.{ArrivedGetOut, ArrivedIsOut, ArrivedRises, ArrivedWithinCut, CancelLowersArrivals, ClosedGrows, ClosedIsCut, ClosedSurvivesPush, LastIsArrival, NetFits, NetIsFeasible, PushMovesArrivals, SentIsArrived, SuppliesBetween};
 
 /// The arrivals of a net are those of its plan.
 pub fn arrived_is_out()
@@ -64,4 +64,9 @@ pub fn last_is_arrival()
 /// No moment has more arrivals than a later one.
 pub fn arrived_rises()
     ensures { ArrivedRises }
+{}
+
+/// The plan of a net within its limits takes out whoever arrives, when the others are not there.
+pub fn arrived_get_out()
+    ensures { ArrivedGetOut }
 {}

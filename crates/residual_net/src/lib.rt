@@ -20,8 +20,8 @@ mod start;
 
 pub use end::End;
 pub use laws::{
-    arrived_is_out, arrived_rises, arrived_within_cut, cancel_lowers_arrivals, closed_grows,
-    closed_is_cut, closed_survives_push, last_is_arrival, net_fits, net_is_feasible,
+    arrived_get_out, arrived_is_out, arrived_rises, arrived_within_cut, cancel_lowers_arrivals,
+    closed_grows, closed_is_cut, closed_survives_push, last_is_arrival, net_fits, net_is_feasible,
     push_moves_arrivals, sent_is_arrived, supplies_between,
 };
 pub use legs::Leg;
