@@ -4,7 +4,10 @@ use Rattle.std.proofs.lemmas.Bool.{cases_lt}
 use Rattle.evac_law.specs.declared.model.Model.{Model}
 use Rattle.evac_law.specs.Building.{IsValid, people}
 use Rattle.evac_law.specs.Certificates.{IsCertified, IsShortfall, label_cut}
+use Rattle.evac_law.specs.Cuts.{Cut}
 use Rattle.evac_law.specs.LabelTable.{LabelTable, label_at, unset_from}
+use Rattle.evac_law.specs.Parts.{IsMost, TakesPartOut}
+use Rattle.evac_law.proofs.FewerLemmas.{parts_are_bounded}
 use Rattle.evac_law.proofs.LabelLemmas.{unset_at}
 use Rattle.evac_law.proofs.Optimal.{at_most_last, label_cut_is_cut, lawful_down}
 use Rattle.evac_law.proofs.SumLemmas as sums
@@ -18,6 +21,7 @@ use Rattle.residual_net.proofs.Fit.{feasible, fits}
 use Rattle.residual_net.proofs.Held.{horizon_same}
 use Rattle.residual_net.proofs.LastArrival.{arrived_by_last, arrived_rises, last_by_arrived, last_fits}
 use Rattle.residual_net.proofs.Law.{arrived_is_out, closed_is_cut}
+use Rattle.residual_net.proofs.PartLemmas.{arrived-get-out}
 use Rattle.residual_net.proofs.SentLemmas.{all_sent_arrive, arrived_all_sent, few_arrive}
 use Rattle.terminal_augment.proofs.ClosedLemmas.{closed_same}
 use Rattle.terminal_augment.proofs.KeptLemmas.{limits_stay, limits_then, net_of_kept, over_before}
@@ -127,6 +131,14 @@ shortfall m w l valid net of within unsent closed =
       below_people = omega (arith, few_arrive w net within, supplies_are_people m w valid of, ap (arrived_by w) (horizon_same m w net of valid), fewer);
     }
 
+-- those who arrive can get out, and a cut that is worth as many shows that no more can
+greatest : (m : Model) (w : Network) (x : Cut) (v : ℕ) → IsValid m → IsNet w → IsNetOf m w → IsWithinLimits w → arrived_by w m.horizon ≡ v → IsShortfall m x v
+    → IsMost m v
+greatest m w x v valid net of within arrived short = record {
+  reached = (plan_of w, subst (λ (n : ℕ). TakesPartOut m (plan_of w) n) arrived (arrived-get-out m w valid net of within));
+  bound = λ u h. omega (arith, parts_are_bounded m x u h, short.worth);
+}
+
 module _ (w v : Network) (l m : LabelTable) (from k p : ℕ) (h : IsSettledThrough w v l m from k p) where
   done : IsSettledTo w v l m from k p
   done = h.settled
@@ -163,7 +175,8 @@ module _ (w v : Network) (l m : LabelTable) (from k p : ℕ) (h : IsSettledThrou
       let horizon = horizon_same b v done.net of valid in
       let closed = closed_to (Short most pushes) outcome b.horizon (omega (arith, horizon)) in
       let most_is : arrived_by v b.horizon ≡ most = sym (outcome.1 ∙ ap (arrived_by v) horizon) in
-      (most_is, subst (λ x. IsShortfall b (label_cut b m b.horizon) x) most_is (shortfall b v m valid done.net of done.within outcome.0 closed))
+      let short = subst (λ x. IsShortfall b (label_cut b m b.horizon) x) most_is (shortfall b v m valid done.net of done.within outcome.0 closed) in
+      (most_is, short, greatest b v (label_cut b m b.horizon) most valid done.net of done.within most_is short)
 
   bounded_to : (o : Outcome) → IsOutcome v o → pushes_of o ≡ p → IsBounded w v o
   bounded_to o outcome same = elim (cases_lt from k) [

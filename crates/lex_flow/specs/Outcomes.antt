@@ -4,6 +4,7 @@ use Rattle.evac_law.specs.declared.model.Model.{Model}
 use Rattle.evac_law.specs.Building.{people}
 use Rattle.evac_law.specs.Certificates.{IsCertified, IsShortfall, label_cut}
 use Rattle.evac_law.specs.LabelTable.{LabelTable}
+use Rattle.evac_law.specs.Parts.{IsMost}
 use Rattle.evac_law.specs.Stands.{Fits}
 use Rattle.residual_net.specs.Network.{Network, IsAllSent, IsWithinLimits, arrived_by}
 use Rattle.residual_net.specs.OfModel.{last_move, plan_of, stand_of}
@@ -29,10 +30,11 @@ pub record IsCleared (m : Model) (w : Network) (l : LabelTable) (moment : ℕ) :
   pub fits : Fits m (stand_of w)
   pub certified : IsCertified m (plan_of w) l moment
 
--- everybody gets out and the plan is best at every period, or the labels show how many can
+-- everybody gets out and the plan is best at every period, or the labels show that not everybody can: `most` is how many can when the others aren't
+-- there
 abbrev pub IsAnswer : Model → Network → LabelTable → Outcome → Type 0
 IsAnswer m w l (Cleared moment pushes) = IsCleared m w l moment
-IsAnswer m w l (Short most pushes) = (arrived_by w m.horizon ≡ most) × IsShortfall m (label_cut m l m.horizon) most
+IsAnswer m w l (Short most pushes) = (arrived_by w m.horizon ≡ most) × IsShortfall m (label_cut m l m.horizon) most × IsMost m most
 
 -- the pushes are at most what the arrivals by the moments settled rose by, all together
 abbrev pub IsBounded : Network → Network → Outcome → Type 0
