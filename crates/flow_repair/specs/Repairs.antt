@@ -6,9 +6,9 @@ use Rattle.evac_law.specs.Building.{IsValid}
 use Rattle.evac_law.specs.LabelTable.{LabelTable}
 use Rattle.evac_law.specs.Plans.{violation}
 use Rattle.residual_net.specs.declared.place.Place.{Place}
-use Rattle.residual_net.specs.Network.{Network, IsAllSent, IsWithinLimits, arrived_by, flow_at}
+use Rattle.residual_net.specs.Network.{Network, IsAllSent, IsWithinLimits, arrived_by, flow_at, flow_out}
 use Rattle.residual_net.specs.OfModel.{IsNetOf, last_move, plan_of}
-use Rattle.residual_net.specs.Site.{IsPlace}
+use Rattle.residual_net.specs.Site.{IsPlace, is_source}
 use Rattle.flow_repair.specs.Opened.{IsClosedBelow, IsLabelsOf, IsLeastOpened}
 use Rattle.flow_repair.specs.Refit.{IsEditOfNet}
 
@@ -29,10 +29,12 @@ pub record IsReshaped (m : Model) (w v : Network) : Type 0 where
   pub within : IsWithinLimits v
   pub saved : v.saved ≡ w.saved
 
--- so many people are taken off: no more than the edit breaks, no flow rises, no arrivals fall by more, and where it is nobody no flow changes
+-- so many people are taken off, just so many fewer are sent: no more than the edit breaks, no flow rises, no arrivals fall by more, and where it is
+-- nobody no flow changes
 pub record IsTakenOff (m : Model) (w v : Network) (people : ℕ) : Type 0 where
   pub few : (b : Model) → IsValid b → IsNetOf b w → people ≤ violation b (plan_of w) m
   pub flows : (p : Place) → IsPlace w.site p → flow_at v p ≤ flow_at w p
+  pub exact : flow_out v is_source + people ≡ flow_out w is_source
   pub arrivals : (k : ℕ) → arrived_by w k ≤ arrived_by v k + people
   pub idle : people ≡ 0 → (p : Place) → IsPlace w.site p → flow_at v p ≡ flow_at w p
 

@@ -32,6 +32,7 @@ returns-clause-taken g c =
           let over = few_over m n w valid c.shape.ensures.net of c.requires.within c.requires.sent between.of_model in
           omega (arith, done.bounded, over);
       flows = done.flows;
+      exact = omega (arith, done.sent);
       arrivals = λ k. omega (arith, done.arrivals k);
       idle = done.idle;
     }
