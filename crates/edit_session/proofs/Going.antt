@@ -86,7 +86,7 @@ pub repairable : (m m' : Model) (e e' : Edit) (w : Network) (l : LabelTable) →
 repairable m m' e e' w l h in_range accepted = record { before = m; inverse = e'; in_range = in_range; edited = accepted; standing = h }
 
 pub session_edited : (m m' : Model) (e e' : Edit) (w v : Network) (l k refused : LabelTable) (ring : List Edit) (room : ℕ) (x y : Scratch) (work : Work)
-    → IsSession m w l refused ring room x → IsCarried m' w v k work → IsScratchOf v.site y → IsEditOf m e → applied m e ≡ Ok (m', e')
+    → IsSession m w l refused ring room x → IsCarried m' w v l k work → IsScratchOf v.site y → IsEditOf m e → applied m e ≡ Ok (m', e')
     → IsSession m' v k refused (take room (e' ∷ ring)) room y
 session_edited m m' e e' w v l k refused ring room x y work h done scratch in_range accepted = record {
   standing = done.standing;
@@ -97,7 +97,7 @@ session_edited m m' e e' w v l k refused ring room x y work h done scratch in_ra
 }
 
 pub ends_edited : (m m' : Model) (e e' : Edit) (w v : Network) (l k refused : LabelTable) (ring : List Edit) (room : ℕ) (x : Scratch) (old work : Work) (steps : ℕ)
-    → IsSession m w l refused ring room x → IsCarried m' w v k work → IsEditOf m e → applied m e ≡ Ok (m', e') → IsCounted work steps
+    → IsSession m w l refused ring room x → IsCarried m' w v l k work → IsEditOf m e → applied m e ≡ Ok (m', e') → IsCounted work steps
     → EditEnds (view_of m w l refused ring old) e (Ok work) (view_of m' v k refused (take room (e' ∷ ring)) work) steps
 ends_edited m m' e e' w v l k refused ring room x old work steps h done in_range accepted counted =
     let made = edited_by m m' e e' w v l k ring old work h.standing done in_range accepted in (
@@ -125,13 +125,13 @@ standing_back m n w v l h back same =
 -- ---- an edit is refused
 
 standing_refused : (m n : Model) (e : Edit) (w v : Network) (l refused cut y : LabelTable) (why : EditRefusal) (steps : ℕ) → IsStanding m w l
-    → IsMade m e w refused (Err why) n v cut y steps → IsStanding n v l × (n ≡ m)
+    → IsMade m e w l refused (Err why) n v cut y steps → IsStanding n v l × (n ≡ m)
 standing_refused m n e w v l refused cut y (Fault fault) steps h made =
     (subst (λ (z : Model). IsStanding z v l) (sym made.1) (subst (λ (z : Network). IsStanding m z l) (sym made.2) h), made.1)
 standing_refused m n e w v l refused cut y (NotCleared all most) steps h made = (standing_back m n w v l h made.back made.refused.net, made.back)
 
 pub session_refused : (m n : Model) (e : Edit) (w v : Network) (l refused cut : LabelTable) (ring : List Edit) (room : ℕ) (x y : Scratch) (why : EditRefusal) (steps : ℕ)
-    → IsSession m w l refused ring room x → IsMade m e w refused (Err why) n v cut y.labels steps → IsLabelsOf v.site cut → IsScratchOf v.site y
+    → IsSession m w l refused ring room x → IsMade m e w l refused (Err why) n v cut y.labels steps → IsLabelsOf v.site cut → IsScratchOf v.site y
     → IsSession n v l cut ring room y
 session_refused m n e w v l refused cut ring room x y why steps h made labels scratch =
     let stands = standing_refused m n e w v l refused cut y.labels why steps h.standing made in
@@ -144,7 +144,7 @@ session_refused m n e w v l refused cut ring room x y why steps h made labels sc
     }
 
 pub ends_refused : (m n : Model) (e : Edit) (w v : Network) (l refused cut y : LabelTable) (ring : List Edit) (old : Work) (why : EditRefusal) (steps : ℕ)
-    → IsMade m e w refused (Err why) n v cut y steps → EditEnds (view_of m w l refused ring old) e (Err why) (view_of n v l cut ring old) steps
+    → IsMade m e w l refused (Err why) n v cut y steps → EditEnds (view_of m w l refused ring old) e (Err why) (view_of n v l cut ring old) steps
 ends_refused m n e w v l refused cut y ring old (Fault fault) steps made = (
   made.0,
   ap (λ (z : Model). view_of z v l cut ring old) made.1
@@ -163,16 +163,16 @@ state_refused v v' e (NotCleared all most) steps h = h.1
 -- ---- an edit is tried
 
 -- what was saved is the net before
-restored : (m : Model) (w v u : Network) (l : LabelTable) (work : Work) → IsCarried m w v l work → u ≡ saved_of v → u ≡ with_saved w
-restored m w v u l work h is = is ∙ same_saved (with_saved w) v h.site h.saved
+restored : (m : Model) (w v u : Network) (old l : LabelTable) (work : Work) → IsCarried m w v old l work → u ≡ saved_of v → u ≡ with_saved w
+restored m w v u old l work h is = is ∙ same_saved (with_saved w) v h.site h.saved
 
 pub session_tried : (m m' n : Model) (w v u : Network) (l k refused cut : LabelTable) (ring : List Edit) (room : ℕ) (x y : Scratch) (work : Work)
-    → IsSession m w l refused ring room x → IsCarried m' w v k work → u ≡ saved_of v → n ≡ m → IsLabelsOf v.site cut → IsScratchOf v.site y
+    → IsSession m w l refused ring room x → IsCarried m' w v l k work → u ≡ saved_of v → n ≡ m → IsLabelsOf v.site cut → IsScratchOf v.site y
     → IsSession n u l cut ring room y
 session_tried m m' n w v u l k refused cut ring room x y work h done is back labels scratch =
     let same : u.site ≡ v.site = ap (λ (z : Network). z.site) is in
     record {
-      standing = standing_back m n w u l h.standing back (restored m' w v u k work done is);
+      standing = standing_back m n w u l h.standing back (restored m' w v u l k work done is);
       back = subst (λ (z : Model). LeadBack z ring) (sym back) h.back;
       refused_labels = subst (λ (s : Site). IsLabelsOf s cut) (sym same) labels;
       room = h.room;
@@ -180,7 +180,7 @@ session_tried m m' n w v u l k refused cut ring room x y work h done is back lab
     }
 
 pub ends_tried : (m m' n : Model) (e e' : Edit) (w v u : Network) (l k refused cut : LabelTable) (ring : List Edit) (old work : Work) (last steps : ℕ)
-    → IsStanding m w l → IsCarried m' w v k work → IsEditOf m e → applied m e ≡ Ok (m', e') → IsCounted work steps → last ≡ last_arrival_of v
+    → IsStanding m w l → IsCarried m' w v l k work → IsEditOf m e → applied m e ≡ Ok (m', e') → IsCounted work steps → last ≡ last_arrival_of v
     → u ≡ saved_of v → n ≡ m → cut ≡ refused
     → TrialEnds (view_of m w l refused ring old) e (Ok last) (view_of n u l cut ring old) steps
 ends_tried m m' n e e' w v u l k refused cut ring old work last steps h done in_range accepted counted is_last is back same = (
@@ -190,13 +190,13 @@ ends_tried m m' n e e' w v u l k refused cut ring old work last steps h done in_
     out = sym is_last;
     counted = counted;
   },
-  ap₂ (λ (s : SessionState) (c : LabelTable). record { state = s; refused = c }) (state_back m n w u l ring old back (restored m' w v u k work done is)) same,
+  ap₂ (λ (s : SessionState) (c : LabelTable). record { state = s; refused = c }) (state_back m n w u l ring old back (restored m' w v u l k work done is)) same,
 )
 
 -- ---- an edit is undone
 
 pub session_undone : (m : Model) (e : Edit) (w v : Network) (l k refused : LabelTable) (ring : List Edit) (room : ℕ) (x y : Scratch) (work : Work)
-    → IsSession m w l refused (e ∷ ring) room x → IsCarried (edited m e) w v k work → IsScratchOf v.site y
+    → IsSession m w l refused (e ∷ ring) room x → IsCarried (edited m e) w v l k work → IsScratchOf v.site y
     → IsSession (edited m e) v k refused ring room y
 session_undone m e w v l k refused ring room x y work h done scratch = record {
   standing = done.standing;
@@ -207,7 +207,7 @@ session_undone m e w v l k refused ring room x y work h done scratch = record {
 }
 
 pub ends_undone : (m : Model) (e : Edit) (w v : Network) (l k refused : LabelTable) (ring : List Edit) (room : ℕ) (x : Scratch) (old work : Work) (steps : ℕ)
-    → IsSession m w l refused (e ∷ ring) room x → IsCarried (edited m e) w v k work → IsCounted work steps
+    → IsSession m w l refused (e ∷ ring) room x → IsCarried (edited m e) w v l k work → IsCounted work steps
     → UndoEnds (view_of m w l refused (e ∷ ring) old) (Ok work) (view_of (edited m e) v k refused ring work) steps
 ends_undone m e w v l k refused ring room x old work steps h done counted =
     (undone_by m e w v l k ring old work h.standing done, refl, refl, counted)

@@ -4,9 +4,10 @@ use Rattle.evac_law.specs.declared.edit.Edit.{Edit}
 use Rattle.evac_law.specs.declared.model.Model.{Model}
 use Rattle.evac_law.specs.LabelTable.{LabelTable}
 use Rattle.residual_net.specs.declared.place.Place.{Place}
-use Rattle.residual_net.specs.Network.{Network, IsAllSent, IsWithinLimits, arrived_by, flow_at, flow_into, limit_at, with_saved}
+use Rattle.residual_net.specs.Network.{Network, IsAllSent, IsWithinLimits, arrived_by, flow_at, flow_into, flow_out, limit_at, with_saved}
 use Rattle.residual_net.specs.OfModel.{IsNetOf, plan_of}
 use Rattle.residual_net.specs.Labelled.{IsClosedBelow}
+use Rattle.residual_net.specs.Site.{is_source}
 use Rattle.flow_repair.specs.Refit.{IsEditOfNet}
 use Rattle.flow_repair.specs.Repairs.{IsReshapable}
 use Rattle.edit_session.specs.Mended.{IsRepairable, last_arrival_of}
@@ -44,6 +45,10 @@ arrived_saved w k = refl
 closed_saved : (w : Network) (l : LabelTable) → IsClosedBelow w l (last_arrival_of w + 1) → IsClosedBelow (with_saved w) l (last_arrival_of (with_saved w) + 1)
 unfolding flow_at limit_at
 closed_saved w l h = h
+
+pub sources_saved : (w : Network) → flow_out (with_saved w) is_source ≡ flow_out w is_source
+unfolding flow_out flow_at
+sources_saved w = refl
 
 -- a saved net may be reshaped
 pub reshapable_saved : (m : Model) (e : Edit) (w : Network) (l : LabelTable) (path_room : ℕ) → IsRepairable m e w l → w.site.shape.horizon + 2 ≤ path_room

@@ -9,6 +9,7 @@ use Rattle.evac_law.specs.Certificates.{IsClearable, IsShortfall, IsTableOf, lab
 use Rattle.evac_law.specs.Edits.{IsEditOf, applied, edited}
 use Rattle.evac_law.specs.LabelTable.{LabelTable}
 use Rattle.evac_law.specs.Stands.{Fits, IsOrdered}
+use Rattle.evac_law.specs.Parts.{IsMost}
 use Rattle.evac_law.proofs.Optimal.{certified_is_clearable, shortfall_bars_clearing}
 use Rattle.residual_net.specs.Labelled.{IsLabelsOf}
 use Rattle.residual_net.specs.Network.{Network, flow_at, flow_into, flow_out, limit_at, supply_limits, with_saved}
@@ -118,17 +119,19 @@ begun_by m w u l ring work h none idle bounded = record {
 }
 
 -- labels that show that not everybody gets out of a model
-pub not_cleared_by : (m : Model) (l : LabelTable) (most : ℕ) → IsValid m → IsShortfall m (label_cut m l m.horizon) most → IsNotCleared m l (people m) most
-not_cleared_by m l most valid short = record {
+pub not_cleared_by : (m : Model) (l : LabelTable) (most : ℕ) → IsValid m → IsShortfall m (label_cut m l m.horizon) most → IsMost m most
+    → IsNotCleared m l (people m) most
+not_cleared_by m l most valid short greatest = record {
   count = refl;
   shortfall = short;
   barred = shortfall_bars_clearing m (label_cut m l m.horizon) most valid short;
+  greatest = greatest;
 }
 
 -- ---- how a session goes on
 
 pub edited_by : (m m' : Model) (e e' : Edit) (w v : Network) (l k : LabelTable) (ring : List Edit) (old work : Work) → IsStanding m w l
-    → IsCarried m' w v k work → IsEditOf m e → applied m e ≡ Ok (m', e')
+    → IsCarried m' w v l k work → IsEditOf m e → applied m e ≡ Ok (m', e')
     → IsEdited (state_of m w l ring old) e (state_of m' v k (take kept_limit (e' ∷ ring)) work)
 edited_by m m' e e' w v l k ring old work h done in_range accepted = record {
   edited = m';
@@ -138,12 +141,13 @@ edited_by m m' e e' w v l k ring old work h done in_range accepted = record {
     gone = refl;
     solved = solved_by m' v k (take kept_limit (e' ∷ ring)) work done.standing;
     kept = former_more m m' e e' ring h.valid in_range accepted;
+    repaired = done.repaired m h;
     thrifty = done.thrifty m h.valid h.of;
   };
 }
 
 pub undone_by : (m : Model) (e : Edit) (w v : Network) (l k : LabelTable) (ring : List Edit) (old work : Work) → IsStanding m w l
-    → IsCarried (edited m e) w v k work → IsUndone (state_of m w l (e ∷ ring) old) (state_of (edited m e) v k ring work)
+    → IsCarried (edited m e) w v l k work → IsUndone (state_of m w l (e ∷ ring) old) (state_of (edited m e) v k ring work)
 undone_by m e w v l k ring old work h done = record {
   before = edited m e;
   earlier = former_of (edited m e) ring;
@@ -152,6 +156,7 @@ undone_by m e w v l k ring old work h done = record {
     gone = refl;
     solved = solved_by (edited m e) v k ring work done.standing;
     kept = refl;
+    repaired = done.repaired m h;
     thrifty = done.thrifty m h.valid h.of;
   };
 }
@@ -164,6 +169,6 @@ barred_by m m' e e' w v l cut ring old all most steps valid count short spent ac
   inverse = e';
   accepted = accepted;
   table = short.shown.table;
-  not_cleared = subst (λ (n : ℕ). IsNotCleared m' cut n most) (sym count) (not_cleared_by m' cut most valid short.shown.shortfall);
+  not_cleared = subst (λ (n : ℕ). IsNotCleared m' cut n most) (sym count) (not_cleared_by m' cut most valid short.shown.shortfall short.shown.greatest);
   spent = spent;
 }

@@ -8,6 +8,7 @@ pub use Rattle.residual_net.specs.Network
 pub use Rattle.residual_net.specs.OfModel
 pub use Rattle.flow_repair.specs.Refit
 pub use Rattle.lex_flow.specs.Outcomes
+pub mod Repairs
 pub mod Thrift
 pub mod Sessions
 pub mod Kept

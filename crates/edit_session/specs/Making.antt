@@ -24,10 +24,10 @@ pub record IsTakenBack (b m : Model) (e : Edit) (w v : Network) (cut : LabelTabl
   pub count : all ≡ people edited
   pub spent : IsSpent b (plan_of w) edited most steps
 
--- an edit takes model b with net w to model m with net v, whose labels are l, or all stays as before but the refused cut
-abbrev pub IsMade : Model → Edit → Network → LabelTable → Result Made EditRefusal → Model → Network → LabelTable → LabelTable → ℕ → Type 0
-IsMade b e w refused (Ok made) m v cut l steps =
-    (applied b e ≡ Ok (m, made.inverse)) × IsCarried m w v l made.work × (cut ≡ refused) × IsCounted made.work steps
-IsMade b e w refused (Err (Fault fault)) m v cut l steps =
+-- an edit takes model b with net w, whose labels are `old`, to model m with net v, whose labels are l, or all stays as before but the refused cut
+abbrev pub IsMade : Model → Edit → Network → LabelTable → LabelTable → Result Made EditRefusal → Model → Network → LabelTable → LabelTable → ℕ → Type 0
+IsMade b e w old refused (Ok made) m v cut l steps =
+    (applied b e ≡ Ok (m, made.inverse)) × IsCarried m w v old l made.work × (cut ≡ refused) × IsCounted made.work steps
+IsMade b e w old refused (Err (Fault fault)) m v cut l steps =
     (applied b e ≡ Err fault) × (m ≡ b) × (v ≡ w) × (cut ≡ refused) × (steps ≡ 0)
-IsMade b e w refused (Err (NotCleared all most)) m v cut l steps = IsTakenBack b m e w v cut all most steps
+IsMade b e w old refused (Err (NotCleared all most)) m v cut l steps = IsTakenBack b m e w v cut all most steps

@@ -6,6 +6,7 @@ use Rattle.evac_law.specs.Building.{IsValid}
 use Rattle.evac_law.specs.Certificates.{IsShortfall, IsTableOf, label_cut}
 use Rattle.evac_law.specs.Edits.{IsEditOf, applied}
 use Rattle.evac_law.specs.LabelTable.{LabelTable}
+use Rattle.evac_law.specs.Parts.{IsMost}
 use Rattle.residual_net.specs.Labelled.{IsClosedBelow, IsLabelsOf}
 use Rattle.residual_net.specs.Network.{Network, IsAllSent, IsNet, IsWithinLimits, with_saved}
 use Rattle.residual_net.specs.OfModel.{IsNetOf, last_move, plan_of}
@@ -16,6 +17,7 @@ use Rattle.edit_session.specs.declared.repaired.Repaired.{Repaired}
 use Rattle.edit_session.specs.declared.repaired.Repaired.TheVariants.{Cleared, Short}
 use Rattle.edit_session.specs.declared.scratch.Scratch.{Scratch}
 use Rattle.edit_session.specs.declared.work.Work.{Work}
+use Rattle.edit_session.specs.Repairs.{IsRepairOf}
 use Rattle.edit_session.specs.Thrift.{IsCounted, IsSpent, IsThrifty}
 
 -- the last moment at which somebody arrives
@@ -47,17 +49,21 @@ pub record IsScratchOf (s : Site) (x : Scratch) : Type 0 where
   pub search : IsSearchOf s x.search
   pub room : s.shape.horizon + 2 ≤ x.path.room
 
--- the net stands for a plan of the edited model, and came to it by thrifty work from its plan of any model before; what was saved is the net before
-pub record IsCarried (m : Model) (w v : Network) (l : LabelTable) (work : Work) : Type 0 where
+-- the net stands for a plan of the edited model, and came to it by a repair of the plan and the labels before, with thrifty work; what was saved is the
+-- net before
+pub record IsCarried (m : Model) (w v : Network) (old l : LabelTable) (work : Work) : Type 0 where
   pub site : v.site ≡ w.site
   pub saved : v.saved ≡ w.cells
   pub standing : IsStanding m v l
+  pub repaired : (b : Model) → IsStanding b w old → IsRepairOf b (plan_of w) old (last_arrival_of w) m l work.cancelled
   pub thrifty : (b : Model) → IsValid b → IsNetOf b w → IsThrifty b (plan_of w) m (plan_of v) (last_arrival_of v) work
 
--- the labels show that not everybody gets out of the model: their cut at the horizon is worth `most`, fewer than the people
+-- the labels show that not everybody gets out of the model: their cut at the horizon is worth `most`, fewer than the people, and so many can get out
+-- when the others aren't there
 pub record IsShown (m : Model) (cut : LabelTable) (most : ℕ) : Type 0 where
   pub table : IsTableOf m cut
   pub shortfall : IsShortfall m (label_cut m cut m.horizon) most
+  pub greatest : IsMost m most
 
 -- the net is as before, and labels show that not everybody gets out
 pub record IsRefused (m : Model) (w v : Network) (cut : LabelTable) (most : ℕ) : Type 0 where
@@ -65,9 +71,9 @@ pub record IsRefused (m : Model) (w v : Network) (cut : LabelTable) (most : ℕ)
   pub shown : IsShown m cut most
 
 -- with labels that prove the new plan best, or show that not everybody gets out
-abbrev pub IsMended : Model → Network → Network → LabelTable → Repaired → Type 0
-IsMended m w v l (Cleared work) = IsCarried m w v l work
-IsMended m w v l (Short most) = IsRefused m w v l most
+abbrev pub IsMended : Model → Network → Network → LabelTable → LabelTable → Repaired → Type 0
+IsMended m w v old l (Cleared work) = IsCarried m w v old l work
+IsMended m w v old l (Short most) = IsRefused m w v l most
 
 -- the steps that it took: those of its work, or what a refusal may spend
 abbrev pub IsWithinWork : Model → Network → ℕ → ℕ → Repaired → Type 0

@@ -17,6 +17,6 @@ mod session;
 mod work;
 
 pub use faults::{BeginFault, EditRefusal, Short, UndoRefusal};
-pub use laws::{goes_on_as_fresh, state_is_quickest};
+pub use laws::{cuts_stay, goes_on_as_fresh, state_is_quickest};
 pub use session::Session;
 pub use work::Work;

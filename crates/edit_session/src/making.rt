@@ -29,7 +29,7 @@ pub fn make_edit<L: Ledger>(
     requires in_range { IsEditOf model.old edit }
     requires refused { IsLabelsOf net.old.site refused.old }
     requires scratch { IsScratchOf net.old.site scratch.old }
-    ensures made { (n : ℕ) × (steps.new ≡ steps.old + n) × IsMade model.old edit net.old refused.old result model.new net.new refused.new scratch.new.labels n }
+    ensures made { (n : ℕ) × (steps.new ≡ steps.old + n) × IsMade model.old edit net.old labels.now refused.old result model.new net.new refused.new scratch.new.labels n }
     ensures refused { IsLabelsOf net.new.site refused.new }
     ensures scratch { IsScratchOf net.new.site scratch.new }
 {

@@ -25,13 +25,15 @@ pub fn repair_net<L: Ledger>(
 ) -> Repaired
     requires repairable { IsRepairable model.now edit net.old labels.now }
     requires scratch { IsScratchOf net.old.site scratch.old }
-    ensures mended { IsMended model.now net.old net.new scratch.new.labels result }
+    ensures mended { IsMended model.now net.old net.new labels.now scratch.new.labels result }
     ensures counted { IsWithinWork model.now net.old steps.old steps.new result }
     ensures scratch { IsScratchOf net.new.site scratch.new }
 {
     let _ = net.shape();
     net.save();
     let taken = reshape(net, model, edit, labels, &mut scratch.path, steps);
+    // a net keeps its flow in balance
+    let _ = net.shape();
     scratch.labels.copy_from(labels);
     match settle_all(
         net,

@@ -1,8 +1,8 @@
 use Rattle.std.proofs.Common.{◌≡◌, ℕ, ◌+◌, ◌-◌, ◌≤◌, ap, ap₂, subst, sym, arith, ◌∙◌}
 use Rattle.evac_law.specs.Plans.{violation}
-use Rattle.residual_net.specs.Network.{Network, arrived_by, flow_at, saved_of}
+use Rattle.residual_net.specs.Network.{Network, arrived_by, flow_at, flow_out, saved_of, with_saved}
 use Rattle.residual_net.specs.OfModel.{IsNetOf, last_move, plan_of}
-use Rattle.residual_net.specs.Site.{Site, IsPlace}
+use Rattle.residual_net.specs.Site.{Site, IsPlace, is_source}
 use Rattle.residual_net.proofs.SentLemmas.{arrived_all_sent}
 use Rattle.residual_net.proofs.Kept.{same_saved}
 use Rattle.residual_net.proofs.LastArrival.{last_fits}
@@ -10,12 +10,15 @@ use Rattle.terminal_augment.specs.Settled.{IsClosedBelow}
 use Rattle.lex_flow.specs.declared.outcome.Outcome.{Outcome}
 use Rattle.lex_flow.specs.declared.outcome.Outcome.TheVariants.{Cleared, Short}
 use Rattle.lex_flow.specs.Outcomes.{IsAnswer, IsBounded, IsCleared, last_settled, pushes_of}
-use Rattle.lex_flow.specs.Settling.{arrivals_below}
+use Rattle.lex_flow.specs.Settling.{IsRelabelled, arrivals_below}
+use Rattle.flow_repair.specs.Opened.{IsLeastOpened}
+use Rattle.evac_law.specs.LabelTable.{LabelTable}
 use Rattle.terminal_augment.proofs.KeptLemmas.{net_of_kept}
 use Rattle.flow_repair.proofs.Whole.{valid_now}
 use Rattle.edit_session.specs.declared.work.Work.{Work}
 use Rattle.edit_session.specs.Mended.{last_arrival_of}
-use Rattle.edit_session.proofs.Saved.{arrived_saved, edit_saved, flow_saved, of_saved, plan_saved, reshapable_saved}
+use Rattle.edit_session.proofs.Saved.{arrived_saved, edit_saved, flow_saved, of_saved, plan_saved, reshapable_saved, sources_saved}
+use Rattle.edit_session.proofs.Repaired.{IsBrought, least_saved, repair_of}
 use Rattle.edit_session.proofs.Thrifty.{spent, thrifty}
 use Rattle.edit_session.proofs.mend.repair_net.Goals as goal
 
@@ -89,6 +92,28 @@ returns-in-Cleared-clause-mended g c =
         };
         closed = subst (λ (k : ℕ). IsClosedBelow u l (k + 1)) last closed;
       };
+      repaired = λ b standing.
+          let brought : IsBrought b m w v c.args.labels.now = record {
+            standing = standing;
+            valid = valid;
+            net = c.shape-2.ensures.net;
+            of = taken.net.of;
+            within = taken.net.within;
+            site = taken.net.site ∙ same;
+            flows = λ p i.
+                omega (
+                  arith,
+                  taken.taken.flows p (subst (λ (z : Site). IsPlace z p) (sym same) i),
+                  ap (λ (z : Network). flow_at z p) c.save.ensures,
+                  flow_saved w p,
+                );
+          } in
+          let opened = least_saved c.args.labels.now w v (last_arrival_of (with_saved w) + 1) c.reshape-taken.result.least_label
+          (subst (λ (z : Network). IsLeastOpened c.args.labels.now z v (last_arrival_of z + 1) c.reshape-taken.result.least_label) c.save.ensures taken.labels.least) in
+          let relabelled = subst (λ (z : LabelTable). IsRelabelled z l c.reshape-taken.result.least_label (last_settled u.site.shape.horizon (Cleared moment pushes) + 1))
+          c.copy_from.ensures (subst (λ (o : Outcome). IsRelabelled c.copy_from.new.self l c.reshape-taken.result.least_label (last_settled u.site.shape.horizon o + 1)) c.in-Cleared.is done.labels.labels) in
+          repair_of b m w v c.args.labels.now l c.reshape-taken.result.cancelled (last_arrival_of (with_saved w) + 1) c.reshape-taken.result.least_label _ brought
+          (taken.taken.exact ∙ ap (λ (z : Network). flow_out z is_source) c.save.ensures ∙ sources_saved w) (ap (λ p. last_move w.site p + 1) (plan_saved w)) opened relabelled;
       thrifty = λ b valid_b of_b.
           let of_s : IsNetOf b s = rw c.save.ensures (of_saved b w of_b) in
           let work : Work = record { cancelled = c.reshape-taken.result.cancelled; pushes = pushes } in
@@ -128,6 +153,7 @@ returns-in-Short-clause-mended g c =
               ∙ ap (λ (z : Site). z.shape.horizon) of_w;
         };
         shortfall = answer.1;
+        greatest = answer.2;
       };
     }
 

@@ -113,7 +113,7 @@ returns-in-Short g c =
           nodes = done.labels.labels.nodes ∙ ap (λ (l : LabelTable). l.nodes) made.ensures' ∙ c.node_count-nodes.ensures.count;
           horizon = done.labels.labels.horizon ∙ ap (λ (l : LabelTable). l.horizon) made.ensures';
         },
-        not_cleared_by m c.settle_all.new.labels most c.requires answer.1,
+        not_cleared_by m c.settle_all.new.labels most c.requires answer.1 answer.2,
         spent_opening m made.net u pushes most answer.0 bound,
       ),
     )

@@ -46,7 +46,7 @@ returns-clause-ends g c =
     let model : c.apply.new.model ≡ edited s.model e =
     made s.model (edited s.model e) c.apply.new.model e (inverse_of s.model e) c.apply.result all.back.1 c.apply.ensures.ok c.apply.ensures.fault in
     let items : c.pop_front.new.self.items ≡ rest = ap (λ z. z.items) c.pop_front.ensures.items in
-    let done = subst (λ (z : Model). IsCarried z s.net v k work) model c.in-Cleared.ensures.mended in
+    let done = subst (λ (z : Model). IsCarried z s.net v s.labels k work) model c.in-Cleared.ensures.mended in
     let ends = ends_undone s.model e s.net v s.labels k s.refused rest s.ring.capacity s.scratch s.work work steps all done c.in-Cleared.ensures.counted.1 in
     let from_ring = subst (λ (z : List Edit). UndoEnds (view_of s.model s.net s.labels s.refused z s.work) (Ok work)
     (view_of (edited s.model e) v k s.refused rest work) steps) (sym kept) ends in

@@ -1,0 +1,5 @@
+use Rattle.edit_session.proofs.Repaired.{cuts-stay}
+use Rattle.edit_session.proofs.laws.cuts_stay.Goals as goal
+
+pub returns : goal.returns
+returns c = cuts-stay
