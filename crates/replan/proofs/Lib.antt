@@ -2,6 +2,7 @@ mod Again
 mod Carried
 mod Counted
 mod Goes
+mod KeptCurve
 mod Late
 mod LeftOver
 mod Parted

@@ -45,6 +45,13 @@ CertifiedRestIsBest =
     (m : Model) (p r : List Move) (s : ℕ) (l : LabelTable) (c : ℕ) → IsValid m → 1 ≤ s → s ≤ m.horizon → TakesAllOut m p
     → IsCertified (rest m p s) r l c → IsBestFrom m p s r
 
+-- where nothing is edited nobody gets out at another moment: those who are gone by the moves of a certified plan, and those who get out of what is left
+-- by a certified plan of that, are at each moment as many as are out by the plan
+abbrev pub AdvanceKeepsCurve : Type 0
+AdvanceKeepsCurve =
+    (m : Model) (p r : List Move) (s : ℕ) (l i : LabelTable) (c d : ℕ) → IsValid m → 1 ≤ s → s ≤ m.horizon → IsCertified m p l c
+    → IsCertified (rest m p s) r i d → (k : ℕ) → gone_by m p s k + out_by (rest m p s) r k ≡ out_by m p k
+
 -- a plan that is carried out, and then a plan of what is left, is one plan that is carried out
 pub record IsCarriedOutOnce (m : Model) (p : List Move) (s : ℕ) (r : List Move) (t : ℕ) : Type 0 where
   pub rest_same : rest (rest m p s) r t ≡ rest m (moves_before s p ++ r) t

@@ -13,5 +13,7 @@ mod replan;
 mod rest;
 
 pub use faults::{AdvanceFault, ReplanRefusal};
-pub use laws::{advances_add_up, certified_rest_is_best, rest_goes_on, rest_is_clearable};
+pub use laws::{
+    advance_keeps_curve, advances_add_up, certified_rest_is_best, rest_goes_on, rest_is_clearable,
+};
 pub use replan::Replan;
