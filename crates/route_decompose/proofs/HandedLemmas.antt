@@ -1,8 +1,8 @@
--- Routes that are handed out until nothing is left cover the plan.
-use Rattle.std.proofs.Common.{List, [], ◌∷◌, ◌++◌, sym, subst, append-nil, append_assoc}
+-- Routes that are handed out until nothing is left cover the plan, and are no more than its places.
+use Rattle.std.proofs.Common.{List, [], ◌∷◌, ◌++◌, sym, subst, append-nil, append_assoc, arith}
 use Rattle.evac_law.specs.declared.model.Model.{Model}
 use Rattle.evac_law.specs.declared.plan.Move.{Move}
-use Rattle.route_decompose.specs.Laws.{HandsOutAll, RoutesCover}
+use Rattle.route_decompose.specs.Laws.{HandsOutAll, RoutesAreFew, RoutesCover}
 use Rattle.route_decompose.specs.Routes.{RouteView, RoutesView}
 use Rattle.route_decompose.proofs.Given.{IsGiven, none_given, one_more, used_up_covers}
 
@@ -21,3 +21,6 @@ given_all m p given (r ∷ routes) w v h g =
 
 pub routes_cover : RoutesCover
 routes_cover m p routes w v all h used = used_up_covers m p routes v (given_all m p [] routes w v (none_given m p w all) h) used
+
+pub routes_few : RoutesAreFew
+routes_few m p routes w v all h = omega (arith, (given_all m p [] routes w v (none_given m p w all) h).few)

@@ -1,22 +1,23 @@
 -- The whole of a plan as routes see it, and the handing out of one route.
-use Rattle.std.proofs.Common.{◌≡◌, ℕ, zero, suc, ◌+◌, ◌<◌, ◌≤◌, ◌⊎◌, inl, inr, Bool, true, false, cond, ◌&&◌, eqb, List, [], ◌∷◌, length, get_or, ap, sym, ◌∙◌, arith, subst}
+use Rattle.std.proofs.Common.{◌≡◌, ℕ, zero, suc, ◌+◌, ◌<◌, ◌≤◌, ◌⊎◌, inl, inr, Bool, true, false, cond, ◌&&◌, eqb, List, [], ◌∷◌, length, get_or, ap, ap₂, sym, ◌∙◌, arith, subst, pos, ℤ}
 use Rattle.std.specs.List.{All}
-use Rattle.std.proofs.lemmas.Bool.{cases_lt}
+use Rattle.std.proofs.lemmas.Bool.{cases_Bool, cases_lt}
 use Rattle.std.proofs.lemmas.Bool.Decides.{nat_tests}
 use Rattle.evac_law.specs.declared.model.Model.{Model}
 use Rattle.evac_law.specs.declared.plan.Move.{Move}
 use Rattle.evac_law.specs.Building.{IsValid, entry, is_exit_at, people}
-use Rattle.evac_law.specs.Plans.{IsFeasible, moved, out_by}
+use Rattle.evac_law.specs.Plans.{IsFeasible, above, held, moved, out_by, staying}
 use Rattle.evac_law.specs.Stands.{Fits, Stand}
 use Rattle.evac_law.proofs.Entries.{none_late, none_past}
 use Rattle.evac_law.proofs.SumLemmas.{sum_by-le_all, sum_by-nothing}
 use Rattle.route_decompose.specs.declared.route.RouteStep.{RouteStep}
-use Rattle.route_decompose.specs.Routes.{HandsOut, IsAllLeft, LeadsOut, RouteView}
-use Rattle.route_decompose.specs.Tables.{IsLess, PeopleTable, people_at}
-use Rattle.route_decompose.specs.Stocks.{IsEmpty, IsLedOn, IsOpen, IsRoutes, IsStock, IsStockOf, Stock, TrailView, before}
+use Rattle.route_decompose.specs.Routes.{HandsOut, IsAllLeft, LeadsOut, RouteView, places_of}
+use Rattle.route_decompose.specs.Tables.{IsLess, PeopleTable, people_at, places_in, places_with}
+use Rattle.route_decompose.specs.Stocks.{Empties, IsEmpty, IsLedOn, IsOpen, IsRoutes, IsStock, IsStockOf, Stock, TrailView, before, used}
 use Rattle.route_decompose.proofs.Balance.{coming_all_none, going_none, wait_step}
 use Rattle.route_decompose.proofs.Begin.{IsTaken, whole_of}
 use Rattle.route_decompose.proofs.Leading.{closing_less, led_closing, stock_on}
+use Rattle.route_decompose.proofs.PlaceLemmas.{empties-waiting, places-same}
 use Rattle.tables.proofs.TableLemmas.{item_at-past_last, item_at-past_rows}
 
 nothing : (b : Bool) → ◌≡◌ {A = ℕ} (cond b 0 0) 0
@@ -86,6 +87,38 @@ module _ (m : Model) (f : Stand) (s : Stock) (valid : IsValid m) (fits : Fits m 
           item_at-past_last 0 s.waiting n t h ∙ sym (none_late m n t valid (omega (arith, h, stock.wait_last, ap (λ (w : Model). w.horizon) same)))
       split (inl l) (inr h) = of.starts n t l h ∙ ap (λ (w : Model). entry w n t) same
 
+  above_none : (x : ℕ) (z : ℤ) → pos x ≡ z → above z 0 ≡ x
+  above_none x z e = ap (λ y. above y 0) (sym e) ∙ omega arith
+
+  contents_are : (n t : ℕ) → n < length m.nodes → t ≤ m.horizon → f.contents n t ≡ staying m f.plan n t
+  contents_are n t l k = split (cases_Bool (is_exit_at m n))
+    where
+      l' : n < f.nodes
+      l' = omega (arith, l, fits.nodes_same)
+
+      k' : t ≤ f.horizon
+      k' = omega (arith, k, fits.horizon_same)
+
+      split : (is_exit_at m n ≡ true) ⊎ (is_exit_at m n ≡ false) → f.contents n t ≡ staying m f.plan n t
+      split (inl e) = fits.exits_hold_none n t l' k' e ∙ sym (ap (λ b. cond b 0 (above (held m f.plan n t) 0)) e)
+      split (inr e) =
+          sym (above_none (f.contents n t) (held m f.plan n t) (fits.inside n t l' k' e)) ∙ sym (ap (λ b. cond b 0 (above (held m f.plan n t) 0)) e)
+
+  all_places : used s ≡ places_of m f.plan
+  all_places =
+      let last : (k : ℕ) → k ≡ s.model.horizon → k ≡ m.horizon = λ k e. e ∙ ap (λ (w : Model). w.horizon) same in
+      let lefts : places_in s.left ≡ places_with (length m.arcs) m.horizon (moved f.plan) =
+      ap₂ (λ n k. places_with n k (people_at s.left)) arcs_same horizon_same
+      ∙ places-same (length m.arcs) m.horizon (people_at s.left) (moved f.plan) (λ a t l r. all_left a t) in
+      let stays : places_in s.holds ≡ places_with (length m.nodes) m.horizon (staying m f.plan) =
+      ap₂ (λ n k. places_with n k (people_at s.holds)) (stock.hold_rows ∙ nodes_same) (last s.holds.last stock.hold_last)
+      ∙ places-same (length m.nodes) m.horizon (people_at s.holds) (staying m f.plan)
+      (λ n t l r. of.stays n t (omega (arith, l, stock.hold_rows, nodes_same)) (omega (arith, r, last s.holds.last stock.hold_last)) ∙ contents_are n t l r) in
+      let waits : places_in s.waiting ≡ places_with (length m.nodes) m.horizon (entry m) =
+      ap₂ (λ n k. places_with n k (people_at s.waiting)) (stock.wait_rows ∙ nodes_same) (last s.waiting.last stock.wait_last)
+      ∙ places-same (length m.nodes) m.horizon (people_at s.waiting) (entry m) (λ n t l r. all_wait n t) in
+      omega (arith, lefts, stays, waits)
+
   taken : IsTaken m f s
   taken = record {
     valid = valid;
@@ -101,8 +134,8 @@ module _ (m : Model) (f : Stand) (s : Stock) (valid : IsValid m) (fits : Fits m 
   pub opens : IsOpen s
   opens = whole_of m f s taken stock
 
-  pub whole : (r : RouteView) → IsAllLeft m f.plan (record { model = s.model; left = s.left; waiting = s.waiting; route = r })
-  whole r = record { same_model = same; all_left = all_left; all_wait = all_wait }
+  pub whole : (r : RouteView) → IsAllLeft m f.plan (record { model = s.model; left = s.left; waiting = s.waiting; places = used s; route = r })
+  whole r = record { same_model = same; all_left = all_left; all_wait = all_wait; all_places = all_places }
 
 -- ---- one route
 
@@ -118,9 +151,16 @@ some_step m n t (x ∷ xs) leads e = omega arith
 
 module _ (s v w : Stock) (n k p : ℕ) (t u : TrailView) (before : IsRoutes s t) (l : n < length s.model.nodes) (some : 0 < people_at s.waiting n k)
     (on : IsLedOn s v n k p (record { steps = []; room = t.room }) u) (one : 1 ≤ p)
-    (same : w.model ≡ v.model) (left : w.left ≡ v.left) (holds : w.holds ≡ v.holds) (less : IsLess v.waiting w.waiting n k p) where
+    (same : w.model ≡ v.model) (left : w.left ≡ v.left) (holds : w.holds ≡ v.holds) (less : IsLess v.waiting w.waiting n k p) (emptied : Empties s v p (people_at s.waiting n k)) where
   trail_is : u ≡ record { steps = on.more; room = t.room }
   trail_is = on.trail
+
+  in_time : k ≤ s.model.horizon
+  in_time = split (cases_lt s.waiting.last k)
+    where
+      split : (s.waiting.last < k) ⊎ (k ≤ s.waiting.last) → k ≤ s.model.horizon
+      split (inl late) = absurd (omega (arith, item_at-past_last 0 s.waiting n k late, some))
+      split (inr h) = omega (arith, h, before.left.stock.wait_last)
 
   inside : is_exit_at s.model n ≡ false
   inside = before.left.closing.from_inside n k l some
@@ -128,17 +168,26 @@ module _ (s v w : Stock) (n k p : ℕ) (t u : TrailView) (before : IsRoutes s t)
   fewer_wait : (i j : ℕ) → people_at w.waiting i j + cond (eqb n i && eqb k j) p 0 ≡ people_at s.waiting i j
   fewer_wait i j = less.cells i j ∙ ap (λ (c : PeopleTable). people_at c i j) on.led.same_waiting
 
-  pub hands_out : (r : RouteView) → HandsOut (record { model = s.model; left = s.left; waiting = s.waiting; route = r })
-      (record { model = w.model; left = w.left; waiting = w.waiting; route = record { people = p; start = n; entered = k; steps = u.steps } })
+  fewer_places : used w + 1 ≤ used s
+  fewer_places =
+      let nodes : length v.model.nodes ≡ length s.model.nodes = ap (λ (x : Model). length x.nodes) on.led.same_model in
+      let horizon : v.model.horizon ≡ s.model.horizon = ap (λ (x : Model). x.horizon) on.led.same_model in
+      let stock = on.led.stock in
+      empties-waiting s v w n k p (people_at s.waiting n k) emptied less left holds (omega (arith, l, stock.wait_rows, nodes))
+      (omega (arith, in_time, stock.wait_last, horizon)) one (ap (λ (c : PeopleTable). people_at c n k) on.led.same_waiting)
+
+  pub hands_out : (r : RouteView) → HandsOut (record { model = s.model; left = s.left; waiting = s.waiting; places = used s; route = r })
+      (record { model = w.model; left = w.left; waiting = w.waiting; places = used w; route = record { people = p; start = n; entered = k; steps = u.steps } })
   hands_out r =
       let steps : u.steps ≡ on.more = ap (λ (x : TrailView). x.steps) trail_is in
-      subst (λ (x : List RouteStep). HandsOut (record { model = s.model; left = s.left; waiting = s.waiting; route = r })
-      (record { model = w.model; left = w.left; waiting = w.waiting; route = record { people = p; start = n; entered = k; steps = x } })) (sym steps)
+      subst (λ (x : List RouteStep). HandsOut (record { model = s.model; left = s.left; waiting = s.waiting; places = used s; route = r })
+      (record { model = w.model; left = w.left; waiting = w.waiting; places = used w; route = record { people = p; start = n; entered = k; steps = x } })) (sym steps)
       (record {
         same_model = same ∙ on.led.same_model;
         right = record { somebody = one; some_step = some_step s.model n k on.more on.led.leads inside; leads_out = on.led.leads };
         fewer = λ a j. let e = ap (λ (c : PeopleTable). people_at c a j) left in omega (arith, e, on.led.left a j);
         fewer_wait = fewer_wait;
+        fewer_places = fewer_places;
       })
 
   pub routes_on : IsRoutes w u

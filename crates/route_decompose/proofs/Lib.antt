@@ -1,4 +1,5 @@
 pub mod TableLemmas
+pub mod PlaceLemmas
 pub mod Given
 pub mod Balance
 pub mod Leading

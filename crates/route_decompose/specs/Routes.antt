@@ -5,10 +5,10 @@ use Rattle.evac_law.specs.declared.model.Model.{Model}
 use Rattle.evac_law.specs.declared.model.ArcRow.{ArcRow}
 use Rattle.evac_law.specs.declared.plan.Move.{Move}
 use Rattle.evac_law.specs.Building.{arrival, entry, head, is_exit_at, tail}
-use Rattle.evac_law.specs.Plans.{moved}
+use Rattle.evac_law.specs.Plans.{moved, staying}
 use Rattle.time_expansion.specs.declared.ends.Ends.{Ends}
 use Rattle.time_expansion.specs.Expansion.{Expansion}
-use Rattle.route_decompose.specs.Tables.{PeopleTable, people_at}
+use Rattle.route_decompose.specs.Tables.{PeopleTable, people_at, places_with}
 use Rattle.route_decompose.specs.declared.route.RouteStep.{RouteStep}
 
 -- some people, the node and the moment at which they come in, and the arcs that they enter, each with its moment
@@ -52,11 +52,19 @@ pub record Covers (m : Model) (p : List Move) (routes : List RouteView) : Type 0
   pub arcs : (a t : ℕ) → routed routes a t ≡ moved p a t
   pub starts : (n t : ℕ) → started routes n t ≡ entry m n t
 
--- what is left to hand out: by moves and by entries, of a model; and the route handed out last
+-- how many places a plan uses: arcs at the moments at which they are entered, nodes at those from which somebody stays, and nodes at those at which
+-- somebody comes in from nowhere
+abbrev pub places_of : Model → List Move → ℕ
+places_of m p =
+    places_with (length m.arcs) m.horizon (moved p) + places_with (length m.nodes) m.horizon (staying m p)
+    + places_with (length m.nodes) m.horizon (entry m)
+
+-- what is left to hand out: by moves and by entries, of a model; in how many places somebody is left; and the route handed out last
 pub record RoutesView : Type 0 where
   pub model : Model
   pub left : PeopleTable
   pub waiting : PeopleTable
+  pub places : ℕ
   pub route : RouteView
 
 -- the people of a move that are left, and those of an entry
@@ -71,13 +79,15 @@ pub record IsAllLeft (m : Model) (p : List Move) (w : RoutesView) : Type 0 where
   pub same_model : w.model ≡ m
   pub all_left : (a t : ℕ) → people_left w a t ≡ moved p a t
   pub all_wait : (n t : ℕ) → waiting_at w n t ≡ entry m n t
+  pub all_places : w.places ≡ places_of m p
 
--- a route is handed out: its people are left no more
+-- a route is handed out: its people are left no more, and in some place nobody is
 pub record HandsOut (w v : RoutesView) : Type 0 where
   pub same_model : v.model ≡ w.model
   pub right : IsRoute w.model v.route
   pub fewer : (a t : ℕ) → people_left v a t + (if enters v.route.steps a t then v.route.people else 0) ≡ people_left w a t
   pub fewer_wait : (n t : ℕ) → waiting_at v n t + (if begins v.route n t then v.route.people else 0) ≡ waiting_at w n t
+  pub fewer_places : v.places + 1 ≤ w.places
 
 -- nothing is left
 pub record IsUsedUp (w : RoutesView) : Type 0 where

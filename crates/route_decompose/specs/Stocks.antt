@@ -1,5 +1,5 @@
 -- What is left of a plan while it is handed out, and its balance.
-use Rattle.std.specs.Prelude.{◌≡◌, ℕ, zero, suc, ◌+◌, ◌-◌, ◌<◌, ◌≤◌, ◌&&◌, if◌then◌else◌, ◌==◌, nat_le, List, ◌++◌, length, IsFalse}
+use Rattle.std.specs.Prelude.{◌≡◌, ℕ, zero, suc, ◌+◌, ◌-◌, ◌<◌, ◌≤◌, ◌&&◌, if◌then◌else◌, ◌==◌, nat_le, List, ◌++◌, length, IsFalse, ◌⊎◌}
 use Rattle.std.specs.List.{sum_by}
 use Rattle.evac_law.specs.declared.model.Model.{Model}
 use Rattle.evac_law.specs.Building.{IsValid, arc_at, arrival, entry, head, is_exit_at, tail}
@@ -8,7 +8,7 @@ use Rattle.evac_law.specs.Stands.{Stand}
 use Rattle.evac_law.specs.Sums.{places}
 use Rattle.route_decompose.specs.declared.route.RouteStep.{RouteStep}
 use Rattle.route_decompose.specs.Routes.{LeadsOut, enters}
-use Rattle.route_decompose.specs.Tables.{IsLess, PeopleTable, people_at}
+use Rattle.route_decompose.specs.Tables.{IsLess, PeopleTable, people_at, places_in}
 
 -- of a model: the people left on each arc at each moment, those who stay in each node from a moment to the next, and those who come into
 -- each node at each moment from nowhere
@@ -17,6 +17,14 @@ pub record Stock : Type 0 where
   pub left : PeopleTable
   pub holds : PeopleTable
   pub waiting : PeopleTable
+
+-- in how many places somebody is left
+abbrev pub used : Stock → ℕ
+used s = places_in s.left + places_in s.holds + places_in s.waiting
+
+-- in one place more nobody is left; or all went who were to go, and nobody is in a new place
+abbrev pub Empties : Stock → Stock → ℕ → ℕ → Type 0
+Empties s v people most = (used v + 1 ≤ used s) ⊎ ((people ≡ most) × (used v ≤ used s))
 
 -- the model is valid, and the tables have its sizes
 pub record IsStock (s : Stock) : Type 0 where

@@ -1,5 +1,7 @@
 -- People by place and moment.
 use Rattle.std.specs.Prelude.{◌≡◌, ℕ, ◌+◌, ◌<◌, ◌≤◌, ◌&&◌, if◌then◌else◌, ◌==◌}
+use Rattle.std.specs.List.{sum_by}
+use Rattle.evac_law.specs.Sums.{below, moments_to}
 use Rattle.tables.specs.Tables.{TableView, item_at}
 
 -- a number for each row and each moment up to the last
@@ -9,6 +11,14 @@ PeopleTable = TableView ℕ
 -- the people of a row at a moment; nobody past the last row or moment
 abbrev pub people_at : PeopleTable → ℕ → ℕ → ℕ
 people_at = item_at 0
+
+-- in how many of some rows at the moments up to a last one somebody is
+unfoldable pub places_with : ℕ → ℕ → (ℕ → ℕ → ℕ) → ℕ
+places_with rows last people = sum_by (λ i. sum_by (λ k. if people i k == 0 then 0 else 1) (moments_to last)) (below rows)
+
+-- in how many places of a table somebody is
+abbrev pub places_in : PeopleTable → ℕ
+places_in c = places_with c.rows c.last (people_at c)
 
 -- the second table has fewer people in one place than the first, and the same elsewhere
 pub record IsLess (c d : PeopleTable) (n t p : ℕ) : Type 0 where

@@ -1,6 +1,6 @@
 //! How some people are led out.
 ghost use Rattle.std.specs.Prelude.{◌+◌, ◌≤◌, length};
-ghost use Rattle.route_decompose.specs.Stocks.{IsLeadable, IsLedOn};
+ghost use Rattle.route_decompose.specs.Stocks.{Empties, IsLeadable, IsLedOn};
 
 use crate::route::RouteStep;
 use crate::store::Store;
@@ -14,6 +14,7 @@ pub fn lead_out(store: &mut Store, trail: &mut Trail, node: u32, moment: u16, mo
     ensures some { 1 ≤ result }
     ensures most { result ≤ most }
     ensures led { IsLedOn store.old store.new node moment result trail.old trail.new }
+    ensures emptied { Empties store.old store.new result most }
 {
     let held = store.hold(node, moment);
     if held > 0 {

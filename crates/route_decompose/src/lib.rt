@@ -15,7 +15,7 @@ mod store;
 mod trail;
 
 pub use fill::fill_moves;
-pub use laws::routes_cover;
+pub use laws::{routes_are_few, routes_cover};
 pub use layout::Layout;
 pub use route::{Route, RouteStep};
 pub use routes::Routes;

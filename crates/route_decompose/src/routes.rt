@@ -25,7 +25,7 @@ pub struct Routes {
 
 impl Model for Routes {
     ghost use Rattle.route_decompose.specs.Routes.{RoutesView};
-    ghost use Rattle.route_decompose.specs.Stocks.{IsRoutes};
+    ghost use Rattle.route_decompose.specs.Stocks.{IsRoutes, used};
 
     ghost Value = { RoutesView };
 
@@ -33,6 +33,7 @@ impl Model for Routes {
       model = r.store.model;
       left = r.store.left;
       waiting = r.store.waiting;
+      places = used r.store;
       route = record { people = r.people; start = r.start; entered = r.entered; steps = r.trail.steps };
     } };
 

@@ -1,11 +1,13 @@
-use Rattle.std.proofs.Common.{rules, IsFalse, true, ◌++◌, [], ◌∷◌, ◌≡◌, ◌+◌, ◌<◌, ◌≤◌, ◌∙◌, length, ap, sym, arith, subst}
+use Rattle.std.proofs.Common.{rules, IsFalse, true, ◌++◌, [], ◌∷◌, ◌≡◌, ◌+◌, ◌<◌, ◌≤◌, ◌∙◌, length, ap, sym, arith, subst, refl, inr}
 use Rattle.std.proofs.lemmas.List.{length-append}
+use Rattle.evac_law.specs.declared.model.Model.{Model}
 use Rattle.evac_law.specs.Building.{arrival, head, is_exit_at}
 use Rattle.evac_law.specs.Limits.{horizon_limit, travel_limit}
 use Rattle.route_decompose.specs.Stocks.{TrailView, IsLeadable, IsLedOn}
 use Rattle.route_decompose.specs.Tables.{people_at}
 use Rattle.route_decompose.proofs.Going.{arc_of, comes, on_by_hold, on_by_move, on_to_exit, stays, still_left}
 use Rattle.route_decompose.proofs.Leading.{step_of}
+use Rattle.route_decompose.proofs.PlaceLemmas.{empties-hold, empties-left, least-is}
 use Rattle.route_decompose.proofs.lead.+lead_out.Goals as goal
 
 pub overflow_add-moment : goal.overflow_add-moment
@@ -89,3 +91,47 @@ returns-clause-led t c =
     subst (λ (x : TrailView). IsLedOn s v (head s.model a) (arrival s.model a m) p x u) c.add.ensures on in
     subst (λ n. IsLedOn s w n m p c.args.trail.now u) c.in-Some.ensures.some.1
     (on_by_move s v w a m p c.args.trail.now u c.requires.leadable.left.stock c.in-Some.ensures.some.0 from c.take_left-2.ensures)
+
+-- ---- some place is emptied
+
+pub returns-then-held-gt0-clause-emptied : goal.returns-then-held-gt0-clause-emptied
+returns-then-held-gt0-clause-emptied t c =
+    let s = c.args.store.now in
+    let v = c.lead_out-people.new.store in
+    let led = c.lead_out-people.ensures.led.led in
+    let n = c.args.node in
+    let k = c.args.moment in
+    let there = led.earlier_holds n k (omega arith) ∙ sym c.hold-held.ensures in
+    empties-hold s v c.take_hold.new.self n k c.lead_out-people.result c.hold-held.result c.args.most c.min.result c.lead_out-people.ensures.emptied
+    (least-is c.args.most c.hold-held.result c.min.result c.min.ensures) c.take_hold.ensures
+    (omega (arith, c.requires.leadable.node_in, led.stock.hold_rows, ap (λ (m : Model). length m.nodes) led.same_model))
+    (omega (arith, c.requires.leadable.moment_in, led.stock.hold_last, ap (λ (m : Model). m.horizon) led.same_model)) c.lead_out-people.ensures.some there
+
+pub returns-then-is_exit-clause-emptied : goal.returns-then-is_exit-clause-emptied
+returns-then-is_exit-clause-emptied t c =
+    let s = c.args.store.now in
+    let a = c.in-Some.arc in
+    let k = c.args.moment in
+    let p = c.min-people.result in
+    let stock = c.requires.leadable.left.stock in
+    let go : 1 ≤ p = omega (arith, c.min-people.ensures, c.requires.some, c.left-left.ensures, c.in-Some.ensures.some.2) in
+    empties-left s s c.take_left.new.self a k p c.left-left.result c.args.most p (inr (refl, omega arith))
+    (least-is c.args.most c.left-left.result p c.min-people.ensures) c.take_left.ensures (omega (arith, c.in-Some.ensures.some.0, stock.left_rows))
+    (omega (arith, c.requires.leadable.moment_in, stock.left_last)) go (sym c.left-left.ensures)
+
+pub returns-clause-emptied : goal.returns-clause-emptied
+returns-clause-emptied t c =
+    let s = c.args.store.now in
+    let a = c.in-Some.arc in
+    let k = c.args.moment in
+    let v = c.lead_out-people-2.new.store in
+    let p = c.lead_out-people-2.result in
+    let led = c.lead_out-people-2.ensures.led.led in
+    let on : IsLedOn s v (head s.model a) (arrival s.model a k) p c.add.new.self c.lead_out-people-2.new.trail =
+    rw (← c.head-next.ensures, ← c.travel-time.ensures) c.lead_out-people-2.ensures.led in
+    let still = still_left s v a k p c.add.new.self c.lead_out-people-2.new.trail c.requires.leadable.left.stock c.in-Some.ensures.some.0 on in
+    empties-left s v c.take_left-2.new.self a k p c.left-left.result c.args.most c.min-2.result c.lead_out-people-2.ensures.emptied
+    (least-is c.args.most c.left-left.result c.min-2.result c.min-2.ensures) c.take_left-2.ensures
+    (omega (arith, c.in-Some.ensures.some.0, led.stock.left_rows, ap (λ (m : Model). length m.arcs) led.same_model))
+    (omega (arith, c.requires.leadable.moment_in, led.stock.left_last, ap (λ (m : Model). m.horizon) led.same_model)) c.lead_out-people-2.ensures.some
+    (still ∙ sym c.left-left.ensures)
