@@ -6,3 +6,4 @@ pub mod PassLemmas
 pub mod Pieces
 pub mod ReaderLemmas
 pub mod TextLemmas
+pub mod WriterLemmas

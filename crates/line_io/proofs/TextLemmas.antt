@@ -85,7 +85,7 @@ text-failed (Err x) is h = record { ok = tt; err = h }
 
 -- ---- a text for each element of a list
 
-flat_map-more : {X : Type 0} (f : X → List ℕ) (xs : List X) (i : ℕ) (none : X) → i < length xs
+pub flat_map-more : {X : Type 0} (f : X → List ℕ) (xs : List X) (i : ℕ) (none : X) → i < length xs
     → flat_map f (take i xs) ++ f (get_or xs i none) ≡ flat_map f (take (i + 1) xs)
 flat_map-more f xs i none h =
     let x = get_or xs i none in

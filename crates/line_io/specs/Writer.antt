@@ -1,7 +1,10 @@
 -- What a buffered writer has written: the bytes that the sink holds, then the pending ones.
-use Rattle.std.specs.Prelude.{◌≡◌, ℕ, List, ◌++◌, Result, OnOk, OnErr}
+use Rattle.std.specs.Prelude.{◌≡◌, ℕ, Bool, true, false, List, ◌++◌, Result, Ok, Err, OnOk, OnErr}
 use Rattle.std.specs.declared.option.Option.{Option}
 use Rattle.std.specs.Io.KnownBytes.{Appends}
+use Rattle.line_io.specs.Causes.{Count, Rose}
+use Rattle.line_io.specs.declared.out.WriteFault.{WriteFault}
+use Rattle.line_io.specs.declared.writer.Writer.{Writer}
 
 -- the text was put behind the pending bytes: some bytes went over to the sink, in order, and the rest is pending
 pub record Puts (held : Option (List ℕ)) (pending text : List ℕ) (held' : Option (List ℕ)) (pending' : List ℕ) : Type 0 where
@@ -20,3 +23,18 @@ pub record PutsFront (held : Option (List ℕ)) (pending text : List ℕ) (held'
 pub record PutsText {T E : Type 0} (held : Option (List ℕ)) (pending text : List ℕ) (held' : Option (List ℕ)) (pending' : List ℕ) (result : Result T E) : Type 0 where
   pub ok : OnOk result (Puts held pending text held' pending')
   pub err : OnErr result (PutsFront held pending text held' pending')
+
+-- a writer wrote a text: all of it, or a front of it where its sink failed. Once its sink has failed it stays as it is
+pub record Writes {S : Type 0} (held : S → Option (List ℕ)) (faults : S → Count) (before : Writer S) (text : List ℕ) (after : Writer S) : Type 0 where
+  pub whole : before.failed ≡ false → after.failed ≡ false → Puts (held before.sink.now) before.out.now text (held after.sink.now) after.out.now
+  pub front : before.failed ≡ false → after.failed ≡ true → PutsFront (held before.sink.now) before.out.now text (held after.sink.now) after.out.now
+  pub same : after.failed ≡ false → faults after.sink.now ≡ faults before.sink.now
+  pub rose : before.failed ≡ false → after.failed ≡ true → Rose (faults before.sink.now) (faults after.sink.now)
+  pub stays : before.failed ≡ true → after ≡ before
+  pub same_out : after.out.ghost_name ≡ before.out.ghost_name
+  pub same_sink : after.sink.ghost_name ≡ before.sink.ghost_name
+
+-- the answer of a writer at its end, by whether its sink failed
+abbrev pub ended : Bool → Result (Unit {0}) WriteFault
+ended true = Err (record {})
+ended false = Ok tt

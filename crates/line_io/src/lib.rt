@@ -10,6 +10,8 @@
 //! - `Out` puts text into a buffer on its way to a sink. What the sink holds and what is pending grow by exactly the text that was put. A
 //!   flush offers the sink all that is pending each time.
 //! - `TextLine` makes one line of fields, which is then put with its end.
+//! - `Writer` is such a buffer with its sink. It remembers that the sink failed, and puts nothing from then on. So whoever puts many lines
+//!   asks once, at the end.
 #![tactic(auto)]
 
 mod adapters;
@@ -23,6 +25,7 @@ mod memory;
 mod out;
 mod outside;
 mod text_line;
+mod writer;
 
 pub use adapters::{StdSink, StdSource};
 pub use clean::{CleanSink, CleanSource};
@@ -33,3 +36,4 @@ pub use memory::{MemSink, MemSource};
 pub use out::{Out, WriteFault};
 pub use outside::{Failed, Sink, Source};
 pub use text_line::TextLine;
+pub use writer::Writer;
