@@ -14,9 +14,9 @@ mod lines;
 mod names;
 mod short;
 
-pub use answer::{write_answer, write_moves};
+pub use answer::{put_answer, put_moves, write_answer, write_moves};
 pub use block::Block;
 pub use entry::Entry;
 pub use laws::{block_is_small, block_reads_back};
-pub use lines::{put_name, write_end, write_refusal};
-pub use short::{write_ins, write_short};
+pub use lines::{put_end, put_name, put_refusal, write_end, write_refusal};
+pub use short::{put_ins, put_short, write_ins, write_short};

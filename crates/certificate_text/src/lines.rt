@@ -2,12 +2,12 @@
 ghost use Rattle.std.specs.Prelude.{◌≡◌, ◌+◌, ◌++◌, ◌≤◌, ◌<◌, ◌^◌, ◌∷◌, length};
 ghost use Rattle.evac_law.specs.Names.{IsName, name_text};
 ghost use Rattle.line_io.specs.Causes.{HasCause};
-ghost use Rattle.line_io.specs.Writer.{PutsText};
+ghost use Rattle.line_io.specs.Writer.{PutsText, Writes};
 ghost use Rattle.certificate_text.specs.BlockText.{answer_line, cleared_line, end_line, in_line, label_line, most_line, move_line, out_line, people_line, refusal_line};
 
 use crate::names::NameText;
 use evac_law::{Code, NodeName};
-use line_io::{Out, Sink, TextLine, WriteFault};
+use line_io::{Out, Sink, TextLine, WriteFault, Writer};
 
 /// Puts a space and a name behind.
 pub fn put_name(line: &mut TextLine, name: NodeName)
@@ -19,132 +19,118 @@ pub fn put_name(line: &mut TextLine, name: NodeName)
     line.field(NameText::new(name).bytes());
 }
 
-pub(crate) fn write_index<K: Sink>(
-    out: &mut Out,
-    sink: &mut K,
-    index: u32,
-) -> Result<(), WriteFault>
-    ensures text { PutsText (K.held sink.old) out.old (answer_line index) (K.held sink.new) out.new result }
-    ensures cause { HasCause (K.faults sink.old) (K.faults sink.new) result }
+pub(crate) fn put_index<K: Sink>(writer: &mut Writer<'_, K>, index: u32)
+    ensures { Writes K.held K.faults writer.old (answer_line index) writer.new }
 {
     let mut line = TextLine::new(b"answer");
     line.number(u64::from(index));
-    line.put(out, sink)
+    writer.put(line);
 }
 
-pub(crate) fn write_people<K: Sink>(
-    out: &mut Out,
-    sink: &mut K,
-    people: u32,
-) -> Result<(), WriteFault>
-    ensures text { PutsText (K.held sink.old) out.old (people_line people) (K.held sink.new) out.new result }
-    ensures cause { HasCause (K.faults sink.old) (K.faults sink.new) result }
+pub(crate) fn put_people<K: Sink>(writer: &mut Writer<'_, K>, people: u32)
+    ensures { Writes K.held K.faults writer.old (people_line people) writer.new }
 {
     let mut line = TextLine::new(b"people");
     line.number(u64::from(people));
-    line.put(out, sink)
+    writer.put(line);
 }
 
-pub(crate) fn write_cleared<K: Sink>(
-    out: &mut Out,
-    sink: &mut K,
-    moment: u16,
-) -> Result<(), WriteFault>
-    ensures text { PutsText (K.held sink.old) out.old (cleared_line moment) (K.held sink.new) out.new result }
-    ensures cause { HasCause (K.faults sink.old) (K.faults sink.new) result }
+pub(crate) fn put_cleared<K: Sink>(writer: &mut Writer<'_, K>, moment: u16)
+    ensures { Writes K.held K.faults writer.old (cleared_line moment) writer.new }
 {
     let mut line = TextLine::new(b"cleared");
     line.number(u64::from(moment));
-    line.put(out, sink)
+    writer.put(line);
 }
 
-pub(crate) fn write_out<K: Sink>(
-    out: &mut Out,
-    sink: &mut K,
-    period: u16,
-    people: u64,
-) -> Result<(), WriteFault>
-    ensures text { PutsText (K.held sink.old) out.old (out_line period people) (K.held sink.new) out.new result }
-    ensures cause { HasCause (K.faults sink.old) (K.faults sink.new) result }
+pub(crate) fn put_out<K: Sink>(writer: &mut Writer<'_, K>, period: u16, people: u64)
+    ensures { Writes K.held K.faults writer.old (out_line period people) writer.new }
 {
     let mut line = TextLine::new(b"out");
     line.number(u64::from(period));
     line.number(people);
-    line.put(out, sink)
+    writer.put(line);
 }
 
-pub(crate) fn write_label<K: Sink>(
-    out: &mut Out,
-    sink: &mut K,
+pub(crate) fn put_label<K: Sink>(
+    writer: &mut Writer<'_, K>,
     name: &NameText,
     moment: u16,
     label: u16,
-) -> Result<(), WriteFault>
-    ensures text { PutsText (K.held sink.old) out.old (label_line name.now moment label) (K.held sink.new) out.new result }
-    ensures cause { HasCause (K.faults sink.old) (K.faults sink.new) result }
+)
+    ensures { Writes K.held K.faults writer.old (label_line name.now moment label) writer.new }
 {
     let mut line = TextLine::new(b"label");
     line.field(name.bytes());
     line.number(u64::from(moment));
     line.number(u64::from(label));
-    line.put(out, sink)
+    writer.put(line);
 }
 
-pub(crate) fn write_move<K: Sink>(
-    out: &mut Out,
-    sink: &mut K,
+pub(crate) fn put_move<K: Sink>(
+    writer: &mut Writer<'_, K>,
     moment: u16,
     from: &NameText,
     to: &NameText,
     people: u32,
-) -> Result<(), WriteFault>
-    ensures text { PutsText (K.held sink.old) out.old (move_line moment from.now to.now people) (K.held sink.new) out.new result }
-    ensures cause { HasCause (K.faults sink.old) (K.faults sink.new) result }
+)
+    ensures { Writes K.held K.faults writer.old (move_line moment from.now to.now people) writer.new }
 {
     let mut line = TextLine::new(b"move");
     line.number(u64::from(moment));
     line.field(from.bytes());
     line.field(to.bytes());
     line.number(u64::from(people));
-    line.put(out, sink)
+    writer.put(line);
 }
 
-pub(crate) fn write_most<K: Sink>(out: &mut Out, sink: &mut K, most: u32) -> Result<(), WriteFault>
-    ensures text { PutsText (K.held sink.old) out.old (most_line most) (K.held sink.new) out.new result }
-    ensures cause { HasCause (K.faults sink.old) (K.faults sink.new) result }
+pub(crate) fn put_most<K: Sink>(writer: &mut Writer<'_, K>, most: u32)
+    ensures { Writes K.held K.faults writer.old (most_line most) writer.new }
 {
     let mut line = TextLine::new(b"most");
     line.number(u64::from(most));
-    line.put(out, sink)
+    writer.put(line);
 }
 
-pub(crate) fn write_in<K: Sink>(
-    out: &mut Out,
-    sink: &mut K,
-    name: NodeName,
-    first: u16,
-    last: u16,
-) -> Result<(), WriteFault>
+pub(crate) fn put_in<K: Sink>(writer: &mut Writer<'_, K>, name: NodeName, first: u16, last: u16)
     requires { IsName name }
-    ensures text { PutsText (K.held sink.old) out.old (in_line (name_text name) first last) (K.held sink.new) out.new result }
-    ensures cause { HasCause (K.faults sink.old) (K.faults sink.new) result }
+    ensures { Writes K.held K.faults writer.old (in_line (name_text name) first last) writer.new }
 {
     let mut line = TextLine::new(b"in");
     put_name(&mut line, name);
     line.number(u64::from(first));
     line.number(u64::from(last));
-    line.put(out, sink)
+    writer.put(line);
 }
 
 /// Puts the last line of a block.
+pub fn put_end<K: Sink>(writer: &mut Writer<'_, K>)
+    ensures { Writes K.held K.faults writer.old end_line writer.new }
+{
+    writer.put(TextLine::new(b"end"));
+}
+
+/// Puts a refusal by its code, at a line of the input.
+pub fn put_refusal<K: Sink>(writer: &mut Writer<'_, K>, code: Code, line: u32)
+    ensures { Writes K.held K.faults writer.old (refusal_line code line) writer.new }
+{
+    let mut text = TextLine::new(b"refused");
+    text.number(u64::from(code.number()));
+    text.number(u64::from(line));
+    writer.put(text);
+}
+
+/// Puts the last line of a block before a sink.
 pub fn write_end<K: Sink>(out: &mut Out, sink: &mut K) -> Result<(), WriteFault>
     ensures text { PutsText (K.held sink.old) out.old end_line (K.held sink.new) out.new result }
     ensures cause { HasCause (K.faults sink.old) (K.faults sink.new) result }
 {
-    TextLine::new(b"end").put(out, sink)
+    let mut writer = Writer::new(out, sink);
+    put_end(&mut writer);
+    if writer.has_failed() { Err(WriteFault) } else { Ok(()) }
 }
 
-/// Puts a refusal by its code, at a line of the input.
+/// Puts a refusal by its code before a sink, at a line of the input.
 pub fn write_refusal<K: Sink>(
     out: &mut Out,
     sink: &mut K,
@@ -154,8 +140,7 @@ pub fn write_refusal<K: Sink>(
     ensures text { PutsText (K.held sink.old) out.old (refusal_line code line) (K.held sink.new) out.new result }
     ensures cause { HasCause (K.faults sink.old) (K.faults sink.new) result }
 {
-    let mut text = TextLine::new(b"refused");
-    text.number(u64::from(code.number()));
-    text.number(u64::from(line));
-    text.put(out, sink)
+    let mut writer = Writer::new(out, sink);
+    put_refusal(&mut writer, code, line);
+    if writer.has_failed() { Err(WriteFault) } else { Ok(()) }
 }

@@ -1,9 +1,8 @@
 -- What a buffered writer has written: the bytes that the sink holds, then the pending ones.
-use Rattle.std.specs.Prelude.{◌≡◌, ℕ, Bool, true, false, List, ◌++◌, Result, Ok, Err, OnOk, OnErr}
+use Rattle.std.specs.Prelude.{◌≡◌, ℕ, Bool, true, false, List, ◌++◌, Result, OnOk, OnErr}
 use Rattle.std.specs.declared.option.Option.{Option}
 use Rattle.std.specs.Io.KnownBytes.{Appends}
 use Rattle.line_io.specs.Causes.{Count, Rose}
-use Rattle.line_io.specs.declared.out.WriteFault.{WriteFault}
 use Rattle.line_io.specs.declared.writer.Writer.{Writer}
 
 -- the text was put behind the pending bytes: some bytes went over to the sink, in order, and the rest is pending
@@ -33,8 +32,3 @@ pub record Writes {S : Type 0} (held : S → Option (List ℕ)) (faults : S → 
   pub stays : before.failed ≡ true → after ≡ before
   pub same_out : after.out.ghost_name ≡ before.out.ghost_name
   pub same_sink : after.sink.ghost_name ≡ before.sink.ghost_name
-
--- the answer of a writer at its end, by whether its sink failed
-abbrev pub ended : Bool → Result (Unit {0}) WriteFault
-ended true = Err (record {})
-ended false = Ok tt

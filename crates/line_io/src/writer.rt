@@ -1,7 +1,7 @@
 //! A writer: text on its way to a sink that it knows, and of which it remembers that it failed.
-ghost use Rattle.std.specs.Prelude.{◌≡◌, ◌++◌, ◌∷◌, [], false};
+ghost use Rattle.std.specs.Prelude.{◌≡◌, ◌++◌, ◌∷◌, [], true, false, OnOk, OnErr};
 ghost use Rattle.line_io.specs.Calls.{Offers};
-ghost use Rattle.line_io.specs.Writer.{Writes, ended};
+ghost use Rattle.line_io.specs.Writer.{Writes};
 
 use crate::out::{Out, WriteFault};
 use crate::outside::Sink;
@@ -54,21 +54,19 @@ impl<'a, K: Sink> Writer<'a, K> {
         }
     }
 
-    /// Brings all pending bytes to the sink, which is offered all of them each time.
-    pub fn flush(&mut self)
+    /// Brings all pending bytes to the sink, which is offered all of them each time. It fails where the sink failed, now or before.
+    pub fn flush(&mut self) -> Result<(), WriteFault>
         ensures text { Writes K.held K.faults self.old [] self.new }
-        ensures sent { self.new.failed ≡ false → self.new.out.now ≡ [] }
+        ensures ok { OnOk result (self.new.failed ≡ false) }
+        ensures sent { OnOk result (self.new.out.now ≡ []) }
+        ensures err { OnErr result (self.new.failed ≡ true) }
         ensures offers { Offers K.puts self.old.out.now self.old.sink.now self.new.out.now self.new.sink.now }
     {
-        if !self.failed {
-            self.failed = self.out.flush(self.sink).is_err();
+        if self.failed {
+            return Err(WriteFault);
         }
-    }
-
-    /// Whether all was put, or the sink failed.
-    pub fn finish(self) -> Result<(), WriteFault>
-        ensures { result ≡ ended self.entry.failed }
-    {
-        if self.failed { Err(WriteFault) } else { Ok(()) }
+        let flushed = self.out.flush(self.sink);
+        self.failed = flushed.is_err();
+        flushed
     }
 }

@@ -1,8 +1,6 @@
-use Rattle.std.proofs.Common.{[], refl}
-use Rattle.line_io.specs.Calls.{PutsAll}
+use Rattle.line_io.proofs.CallLemmas.{offers-none}
 use Rattle.line_io.proofs.writer.Writer.flush.Goals as goal
 
 -- a sink that failed is offered nothing more
-pub returns-else-not-self-clause-offers : goal.returns-else-not-self-clause-offers
-unfolding PutsAll
-returns-else-not-self-clause-offers g c = record { answers = []; all = (refl, refl) }
+pub returns-then-self-clause-offers : goal.returns-then-self-clause-offers
+returns-then-self-clause-offers g c = offers-none g.K.Sink.puts c.args.self.now.out.now c.args.self.now.sink.now

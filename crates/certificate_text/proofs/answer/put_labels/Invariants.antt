@@ -1,0 +1,10 @@
+-- The texts so far were put.
+use Rattle.std.proofs.Common.{◌≡◌}
+use Rattle.std.specs.List.{flat_map}
+use Rattle.evac_law.specs.Sums.{below}
+use Rattle.line_io.specs.Writer.{Writes}
+use Rattle.certificate_text.specs.BlockText.{node_labels}
+use Rattle.certificate_text.proofs.answer.put_labels.Given as goal
+
+abbrev pub invariant-loop-node : goal.invariant-loop-node
+invariant-loop-node g l = Writes g.K.Sink.held g.K.Sink.faults l.initial.writer (flat_map (node_labels l.model l.labels l.cleared) (below l.node)) l.writer

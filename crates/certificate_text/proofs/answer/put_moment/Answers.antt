@@ -1,0 +1,6 @@
+use Rattle.line_io.proofs.WriterLemmas.{writes_part}
+use Rattle.certificate_text.specs.BlockText.{move_part}
+use Rattle.certificate_text.proofs.answer.put_moment.Goals as goal
+
+pub loop-arc-preserved : goal.loop-arc-preserved
+loop-arc-preserved g c = writes_part (move_part c.args.model.now (g.F.Standing.stand c.args.standing.now).plan c.args.moment) c.loop-arc.arc c.loop-arc.invariant c.put_entering.ensures
