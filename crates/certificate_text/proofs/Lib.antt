@@ -11,4 +11,3 @@ pub mod RunLemmas
 pub mod SaidLemmas
 pub mod ShortLemmas
 pub mod Tables
-pub mod TextParts

@@ -310,22 +310,9 @@ pub fn write_answer<K: Sink, F: Standing>(
 {
     let mut writer = Writer::new(out, sink);
     put_answer(&mut writer, model, index, standing, labels);
-    if writer.has_failed() { Err(WriteFault) } else { Ok(()) }
-}
-
-/// Puts the moves of a plan before a sink, as `put_moves` does.
-pub fn write_moves<K: Sink, F: Standing>(
-    out: &mut Out,
-    sink: &mut K,
-    model: &Model,
-    standing: &F,
-) -> Result<(), WriteFault>
-    requires valid { IsValid model.now }
-    requires fits { Fits model.now (F.stand standing.now) }
-    ensures text { PutsText (K.held sink.old) out.old (move_lines model.now (F.stand standing.now).plan) (K.held sink.new) out.new result }
-    ensures cause { HasCause (K.faults sink.old) (K.faults sink.new) result }
-{
-    let mut writer = Writer::new(out, sink);
-    put_moves(&mut writer, model, standing);
-    if writer.has_failed() { Err(WriteFault) } else { Ok(()) }
+    if writer.has_failed() {
+        Err(WriteFault)
+    } else {
+        Ok(())
+    }
 }

@@ -1,13 +1,12 @@
 //! The lines of a block.
 ghost use Rattle.std.specs.Prelude.{◌≡◌, ◌+◌, ◌++◌, ◌≤◌, ◌<◌, ◌^◌, ◌∷◌, length};
 ghost use Rattle.evac_law.specs.Names.{IsName, name_text};
-ghost use Rattle.line_io.specs.Causes.{HasCause};
-ghost use Rattle.line_io.specs.Writer.{PutsText, Writes};
+ghost use Rattle.line_io.specs.Writer.{Writes};
 ghost use Rattle.certificate_text.specs.BlockText.{answer_line, cleared_line, end_line, in_line, label_line, most_line, move_line, out_line, people_line, refusal_line};
 
 use crate::names::NameText;
 use evac_law::{Code, NodeName};
-use line_io::{Out, Sink, TextLine, WriteFault, Writer};
+use line_io::{Sink, TextLine, Writer};
 
 /// Puts a space and a name behind.
 pub fn put_name(line: &mut TextLine, name: NodeName)
@@ -118,29 +117,4 @@ pub fn put_refusal<K: Sink>(writer: &mut Writer<'_, K>, code: Code, line: u32)
     text.number(u64::from(code.number()));
     text.number(u64::from(line));
     writer.put(text);
-}
-
-/// Puts the last line of a block before a sink.
-pub fn write_end<K: Sink>(out: &mut Out, sink: &mut K) -> Result<(), WriteFault>
-    ensures text { PutsText (K.held sink.old) out.old end_line (K.held sink.new) out.new result }
-    ensures cause { HasCause (K.faults sink.old) (K.faults sink.new) result }
-{
-    let mut writer = Writer::new(out, sink);
-    put_end(&mut writer);
-    if writer.has_failed() { Err(WriteFault) } else { Ok(()) }
-}
-
-/// Puts a refusal by its code before a sink, at a line of the input.
-pub fn write_refusal<K: Sink>(
-    out: &mut Out,
-    sink: &mut K,
-    code: Code,
-    line: u32,
-) -> Result<(), WriteFault>
-    ensures text { PutsText (K.held sink.old) out.old (refusal_line code line) (K.held sink.new) out.new result }
-    ensures cause { HasCause (K.faults sink.old) (K.faults sink.new) result }
-{
-    let mut writer = Writer::new(out, sink);
-    put_refusal(&mut writer, code, line);
-    if writer.has_failed() { Err(WriteFault) } else { Ok(()) }
 }

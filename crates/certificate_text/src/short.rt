@@ -148,23 +148,9 @@ pub fn write_short<K: Sink>(
 {
     let mut writer = Writer::new(out, sink);
     put_short(&mut writer, model, line, people, most, labels);
-    if writer.has_failed() { Err(WriteFault) } else { Ok(()) }
-}
-
-/// Puts the nodes in the cut of labels at a moment before a sink, as `put_ins` does.
-pub fn write_ins<K: Sink>(
-    out: &mut Out,
-    sink: &mut K,
-    model: &Model,
-    labels: &Labels,
-    k: u16,
-) -> Result<(), WriteFault>
-    requires valid { IsValid model.now }
-    requires table { IsTableOf model.now labels.now }
-    ensures text { PutsText (K.held sink.old) out.old (in_lines model.now (label_cut model.now labels.now k)) (K.held sink.new) out.new result }
-    ensures cause { HasCause (K.faults sink.old) (K.faults sink.new) result }
-{
-    let mut writer = Writer::new(out, sink);
-    put_ins(&mut writer, model, labels, k);
-    if writer.has_failed() { Err(WriteFault) } else { Ok(()) }
+    if writer.has_failed() {
+        Err(WriteFault)
+    } else {
+        Ok(())
+    }
 }
