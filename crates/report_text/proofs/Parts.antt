@@ -1,10 +1,7 @@
 -- Texts of parts: the same parts spelled otherwise, and parts of parts.
-use Rattle.std.proofs.Common.{◌≡◌, ℕ, zero, suc, ◌<◌, List, [], ◌∷◌, ◌++◌, refl, ap, sym, subst, ◌∙◌, arith, Result, Ok, Err, append-nil}
+use Rattle.std.proofs.Common.{◌≡◌, ℕ, zero, suc, ◌<◌, List, [], ◌∷◌, ◌++◌, refl, ap, sym, ◌∙◌, arith, append-nil}
 use Rattle.std.specs.List.{flat_map}
-use Rattle.std.specs.declared.option.Option.{Option}
 use Rattle.std.proofs.lemmas.Grind.{flat_map-append}
-use Rattle.line_io.specs.Writer.{Puts, PutsFront, PutsText}
-use Rattle.line_io.proofs.TextLemmas.{front-is, puts-is}
 use Rattle.evac_law.specs.Sums.{below}
 use Rattle.evac_law.proofs.PartLemmas.{flat_map-suc}
 
@@ -29,19 +26,3 @@ parts-nothing (x ∷ xs) = parts-nothing xs
 pub parts-flat : {X Y Z : Type 0} (f : Y → List Z) (g : X → List Y) (xs : List X) → flat_map f (flat_map g xs) ≡ flat_map (λ x. flat_map f (g x)) xs
 parts-flat f g [] = refl
 parts-flat f g (x ∷ xs) = flat_map-append f (g x) (flat_map g xs) ∙ ap (λ l. flat_map f (g x) ++ l) (parts-flat f g xs)
-
--- a text that was put, spelled as it is wanted
-pub puts-as : (u : List ℕ) {t : List ℕ} {a : Option (List ℕ)} {p : List ℕ} {b : Option (List ℕ)} {q : List ℕ} → t ≡ u → Puts a p t b q → Puts a p u b q
-puts-as u e h = puts-is e h
-
-pub front-as : (u : List ℕ) {t : List ℕ} {a : Option (List ℕ)} {p : List ℕ} {b : Option (List ℕ)} {q : List ℕ} → t ≡ u → PutsFront a p t b q → PutsFront a p u b q
-front-as u e h = front-is e h
-
--- what is known of an answer that is told apart
-pub text-ok : {T E : Type 0} (r : Result T E) (x : T) {a : Option (List ℕ)} {p t : List ℕ} {b : Option (List ℕ)} {q : List ℕ}
-    → r ≡ Ok x → PutsText a p t b q r → Puts a p t b q
-text-ok {T} {E} r x {a} {p} {t} {b} {q} e h = let g = subst (λ (z : Result T E). PutsText a p t b q z) e h in g.ok
-
-pub text-err : {T E : Type 0} (r : Result T E) (x : E) {a : Option (List ℕ)} {p t : List ℕ} {b : Option (List ℕ)} {q : List ℕ}
-    → r ≡ Err x → PutsText a p t b q r → PutsFront a p t b q
-text-err {T} {E} r x {a} {p} {t} {b} {q} e h = let g = subst (λ (z : Result T E). PutsText a p t b q z) e h in g.err

@@ -3,7 +3,6 @@ pub use Rattle.evac_law.specs.Certificates
 pub use Rattle.evac_law.specs.LabelTable
 pub use Rattle.evac_law.specs.Plans
 pub use Rattle.evac_law.specs.Stands
-pub use Rattle.line_io.specs.Causes
 pub use Rattle.line_io.specs.Writer
 pub use Rattle.floor_index.specs.Floors
 pub use Rattle.building_table.specs.Names

@@ -1,8 +1,6 @@
--- What the writers of the reports put one part of after another.
-use Rattle.std.specs.Prelude.{ℕ, ◌<◌, ◌==◌, false, if◌then◌else◌, List, [], ◌++◌, length, Result}
-use Rattle.std.specs.declared.option.Option.{Option}
+-- Parts of the reports.
+use Rattle.std.specs.Prelude.{ℕ, ◌<◌, ◌==◌, false, if◌then◌else◌, List, [], length}
 use Rattle.std.specs.List.{All}
-use Rattle.line_io.specs.Writer.{PutsText}
 use Rattle.evac_law.specs.declared.cut.CutItem.{CutItem}
 use Rattle.evac_law.specs.declared.cut.CutItem.TheVariants.{Arc, Entry, Hold}
 use Rattle.evac_law.specs.declared.model.Model.{Model}
@@ -30,8 +28,3 @@ pub record IsCardIn (m : Model) (c : CardView) : Type 0 where
 -- the line of the people who come into a node at a moment, where there are any
 abbrev pub entry_text : Model → ℕ → ℕ → List ℕ
 entry_text m n t = if entry m n t == 0 then [] else entry_line (name_of_node m n) (entry m n t)
-
--- whatever was put before, this text was put behind it, if that could be put
-abbrev pub PutsOn : {T E : Type 0} → Result T E → Option (List ℕ) → List ℕ → List ℕ → Option (List ℕ) → List ℕ → Result T E → Type 0
-PutsOn before held pending text held' pending' result =
-    (h : Option (List ℕ)) (p t : List ℕ) → PutsText h p t held pending before → PutsText h p (t ++ text) held' pending' result

@@ -4,112 +4,84 @@ ghost use Rattle.std.specs.List.{flat_map};
 ghost use Rattle.evac_law.specs.Building.{IsValid};
 ghost use Rattle.evac_law.specs.LabelTable.{LabelTable};
 ghost use Rattle.evac_law.specs.Sums.{places};
-ghost use Rattle.line_io.specs.Causes.{HasCause};
-ghost use Rattle.line_io.specs.Writer.{PutsText};
+ghost use Rattle.line_io.specs.Writer.{Writes};
 ghost use Rattle.bottleneck_report.specs.Crossings.{HasCounts, counts_of};
 ghost use Rattle.report_text.specs.ReportText.{arc_periods_part, bottlenecks_text, hold_periods_part};
 
-use crate::lines::{write_arc_periods, write_hold_periods, write_number};
+use crate::lines::{put_arc_periods, put_hold_periods, put_number};
 use bottleneck_report::Bottlenecks;
-use certificate_text::write_end;
+use certificate_text::put_end;
 use evac_law::Model;
-use line_io::{Out, Sink, WriteFault};
+use line_io::{Sink, Writer};
 
 // Puts an arc that is an item of some period.
-fn write_arc<K: Sink>(
-    out: &mut Out,
-    sink: &mut K,
-    model: &Model,
-    bottlenecks: &Bottlenecks,
-    arc: u32,
-) -> Result<(), WriteFault>
+fn put_arc<K: Sink>(writer: &mut Writer<'_, K>, model: &Model, bottlenecks: &Bottlenecks, arc: u32)
     requires valid { IsValid model.now }
     requires room { HasCounts model.now bottlenecks.now }
     requires arc_in { arc < length model.now.arcs }
-    ensures text { PutsText (K.held sink.old) out.old (arc_periods_part model.now (slice_index bottlenecks.now.arcs) arc) (K.held sink.new) out.new result }
-    ensures cause { HasCause (K.faults sink.old) (K.faults sink.new) result }
+    ensures { Writes K.held K.faults writer.old (arc_periods_part model.now (slice_index bottlenecks.now.arcs) arc) writer.new }
 {
     let periods = bottlenecks.arc_periods(arc);
-    if periods == 0 {
-        return Ok(());
+    if periods > 0 {
+        let row = model.arc(arc);
+        let from = model.node(row.from).name;
+        let to = model.node(row.to).name;
+        put_arc_periods(writer, from, to, periods);
     }
-    let row = model.arc(arc);
-    let from = model.node(row.from).name;
-    let to = model.node(row.to).name;
-    write_arc_periods(out, sink, from, to, periods)
 }
 
-fn write_arcs<K: Sink>(
-    out: &mut Out,
-    sink: &mut K,
-    model: &Model,
-    bottlenecks: &Bottlenecks,
-) -> Result<(), WriteFault>
+fn put_arcs<K: Sink>(writer: &mut Writer<'_, K>, model: &Model, bottlenecks: &Bottlenecks)
     requires valid { IsValid model.now }
     requires room { HasCounts model.now bottlenecks.now }
-    ensures text { PutsText (K.held sink.old) out.old (flat_map (arc_periods_part model.now (slice_index bottlenecks.now.arcs)) (places model.now.arcs)) (K.held sink.new) out.new result }
-    ensures cause { HasCause (K.faults sink.old) (K.faults sink.new) result }
+    ensures { Writes K.held K.faults writer.old (flat_map (arc_periods_part model.now (slice_index bottlenecks.now.arcs)) (places model.now.arcs)) writer.new }
 {
     for arc in 0..model.arc_count() {
-        write_arc(out, sink, model, bottlenecks, arc)?;
+        put_arc(writer, model, bottlenecks, arc);
     }
-    Ok(())
 }
 
 // Puts a node that is an item of some period.
-fn write_hold<K: Sink>(
-    out: &mut Out,
-    sink: &mut K,
+fn put_hold<K: Sink>(
+    writer: &mut Writer<'_, K>,
     model: &Model,
     bottlenecks: &Bottlenecks,
     node: u32,
-) -> Result<(), WriteFault>
+)
     requires valid { IsValid model.now }
     requires room { HasCounts model.now bottlenecks.now }
     requires node_in { node < length model.now.nodes }
-    ensures text { PutsText (K.held sink.old) out.old (hold_periods_part model.now (slice_index bottlenecks.now.holds) node) (K.held sink.new) out.new result }
-    ensures cause { HasCause (K.faults sink.old) (K.faults sink.new) result }
+    ensures { Writes K.held K.faults writer.old (hold_periods_part model.now (slice_index bottlenecks.now.holds) node) writer.new }
 {
     let periods = bottlenecks.hold_periods(node);
-    if periods == 0 {
-        return Ok(());
+    if periods > 0 {
+        put_hold_periods(writer, model.node(node).name, periods);
     }
-    write_hold_periods(out, sink, model.node(node).name, periods)
 }
 
-fn write_holds<K: Sink>(
-    out: &mut Out,
-    sink: &mut K,
-    model: &Model,
-    bottlenecks: &Bottlenecks,
-) -> Result<(), WriteFault>
+fn put_holds<K: Sink>(writer: &mut Writer<'_, K>, model: &Model, bottlenecks: &Bottlenecks)
     requires valid { IsValid model.now }
     requires room { HasCounts model.now bottlenecks.now }
-    ensures text { PutsText (K.held sink.old) out.old (flat_map (hold_periods_part model.now (slice_index bottlenecks.now.holds)) (places model.now.nodes)) (K.held sink.new) out.new result }
-    ensures cause { HasCause (K.faults sink.old) (K.faults sink.new) result }
+    ensures { Writes K.held K.faults writer.old (flat_map (hold_periods_part model.now (slice_index bottlenecks.now.holds)) (places model.now.nodes)) writer.new }
 {
     for node in 0..model.node_count() {
-        write_hold(out, sink, model, bottlenecks, node)?;
+        put_hold(writer, model, bottlenecks, node);
     }
-    Ok(())
 }
 
 /// Puts how long each arc and each node holds people up, by a report on labels. The index is that of the labels' answer.
-pub fn write_bottlenecks<K: Sink>(
-    out: &mut Out,
-    sink: &mut K,
+pub fn put_bottlenecks<K: Sink>(
+    writer: &mut Writer<'_, K>,
     model: &Model,
     index: u32,
     bottlenecks: &Bottlenecks,
-) -> Result<(), WriteFault>
+)
     requires valid { IsValid model.now }
     requires room { HasCounts model.now bottlenecks.now }
-    ensures text { (l : LabelTable) (c : ℕ) → bottlenecks.now ≡ counts_of model.now l c
-        → PutsText (K.held sink.old) out.old (bottlenecks_text index model.now l c) (K.held sink.new) out.new result }
-    ensures cause { HasCause (K.faults sink.old) (K.faults sink.new) result }
+    ensures { (l : LabelTable) (c : ℕ) → bottlenecks.now ≡ counts_of model.now l c
+        → Writes K.held K.faults writer.old (bottlenecks_text index model.now l c) writer.new }
 {
-    write_number(out, sink, b"bottlenecks", u64::from(index))?;
-    write_arcs(out, sink, model, bottlenecks)?;
-    write_holds(out, sink, model, bottlenecks)?;
-    write_end(out, sink)
+    put_number(writer, b"bottlenecks", u64::from(index));
+    put_arcs(writer, model, bottlenecks);
+    put_holds(writer, model, bottlenecks);
+    put_end(writer);
 }

@@ -5,141 +5,97 @@ ghost use Rattle.evac_law.specs.Building.{IsValid, entry};
 ghost use Rattle.evac_law.specs.Certificates.{IsTableOf, label_cut, stated_cut};
 ghost use Rattle.evac_law.specs.Cuts.{cut_items, cut_value};
 ghost use Rattle.evac_law.specs.Sums.{moments_to};
-ghost use Rattle.line_io.specs.Causes.{HasCause};
-ghost use Rattle.line_io.specs.Writer.{PutsText};
+ghost use Rattle.line_io.specs.Writer.{Writes};
 ghost use Rattle.report_text.specs.ReportText.{cut_text, item_line};
 ghost use Rattle.report_text.specs.Parts.{IsItemOf, entry_text, no_pair};
 
-use crate::lines::{write_arc, write_cut_line, write_entry, write_hold};
-use certificate_text::write_end;
+use crate::lines::{put_arc, put_cut_line, put_entry, put_hold};
+use certificate_text::put_end;
 use cut_witness::{Crossing, crossing, cut_value};
 use evac_law::{CutItem, Labels, Model};
-use line_io::{Out, Sink, WriteFault};
+use line_io::{Sink, Writer};
 
 // Puts an item.
-fn write_item<K: Sink>(
-    out: &mut Out,
-    sink: &mut K,
-    model: &Model,
-    item: CutItem,
-) -> Result<(), WriteFault>
+fn put_item<K: Sink>(writer: &mut Writer<'_, K>, model: &Model, item: CutItem)
     requires valid { IsValid model.now }
     requires item { IsItemOf model.now item }
-    ensures text { PutsText (K.held sink.old) out.old (item_line model.now item) (K.held sink.new) out.new result }
-    ensures cause { HasCause (K.faults sink.old) (K.faults sink.new) result }
+    ensures { Writes K.held K.faults writer.old (item_line model.now item) writer.new }
 {
     match item {
-        CutItem::Entry { node, people } => write_entry(out, sink, model.node(node).name, people),
+        CutItem::Entry { node, people } => put_entry(writer, model.node(node).name, people),
         CutItem::Hold {
             node,
             moment,
             capacity,
-        } => write_hold(out, sink, model.node(node).name, moment, capacity),
+        } => put_hold(writer, model.node(node).name, moment, capacity),
         CutItem::Arc { arc, moment, rate } => {
             let row = model.arc(arc);
             let from = model.node(row.from).name;
             let to = model.node(row.to).name;
-            write_arc(out, sink, moment, from, to, rate)
+            put_arc(writer, moment, from, to, rate)
         }
     }
 }
 
 // Puts the items that are still to come.
-fn write_items<K: Sink>(
-    out: &mut Out,
-    sink: &mut K,
-    model: &Model,
-    items: &mut Crossing<'_>,
-) -> Result<(), WriteFault>
+fn put_items<K: Sink>(writer: &mut Writer<'_, K>, model: &Model, items: &mut Crossing<'_>)
     requires valid { IsValid model.now }
     requires items { All (IsItemOf model.now) items.old }
-    ensures text { PutsText (K.held sink.old) out.old (flat_map (item_line model.now) items.old) (K.held sink.new) out.new result }
-    ensures cause { HasCause (K.faults sink.old) (K.faults sink.new) result }
+    ensures { Writes K.held K.faults writer.old (flat_map (item_line model.now) items.old) writer.new }
 {
     while let Some(item) = items.next() {
-        write_item(out, sink, model, item)?;
+        put_item(writer, model, item);
     }
-    Ok(())
 }
 
 // Puts the cut of labels at a period.
-fn write_label_cut<K: Sink>(
-    out: &mut Out,
-    sink: &mut K,
-    model: &Model,
-    labels: &Labels,
-    k: u16,
-) -> Result<(), WriteFault>
+fn put_label_cut<K: Sink>(writer: &mut Writer<'_, K>, model: &Model, labels: &Labels, k: u16)
     requires valid { IsValid model.now }
     requires table { IsTableOf model.now labels.now }
     requires k_in { k ≤ model.now.horizon }
-    ensures text { PutsText (K.held sink.old) out.old (cut_text model.now (label_cut model.now labels.now k) k) (K.held sink.new) out.new result }
-    ensures cause { HasCause (K.faults sink.old) (K.faults sink.new) result }
+    ensures { Writes K.held K.faults writer.old (cut_text model.now (label_cut model.now labels.now k) k) writer.new }
 {
-    write_cut_line(out, sink, k, cut_value(model, labels, k))?;
+    put_cut_line(writer, k, cut_value(model, labels, k));
     let mut items = crossing(model, labels, k);
-    write_items(out, sink, model, &mut items)?;
-    write_end(out, sink)
+    put_items(writer, model, &mut items);
+    put_end(writer);
 }
 
 // Puts the people who come into a node at a moment, where there are any.
-fn write_coming<K: Sink>(
-    out: &mut Out,
-    sink: &mut K,
-    model: &Model,
-    node: u32,
-    moment: u16,
-) -> Result<(), WriteFault>
+fn put_coming<K: Sink>(writer: &mut Writer<'_, K>, model: &Model, node: u32, moment: u16)
     requires valid { IsValid model.now }
     requires node_in { node < length model.now.nodes }
     requires moment_in { moment ≤ model.now.horizon }
-    ensures text { PutsText (K.held sink.old) out.old (entry_text model.now node moment) (K.held sink.new) out.new result }
-    ensures cause { HasCause (K.faults sink.old) (K.faults sink.new) result }
+    ensures { Writes K.held K.faults writer.old (entry_text model.now node moment) writer.new }
 {
     let people = model.entry(node, moment);
-    if people == 0 {
-        return Ok(());
+    if people > 0 {
+        put_entry(writer, model.node(node).name, people);
     }
-    write_entry(out, sink, model.node(node).name, people)
 }
 
 // Puts the people who come into a node by a period.
 #[tactic(auto, unfolding(evac_law::specs::Limits::horizon_limit))]
-fn write_node_coming<K: Sink>(
-    out: &mut Out,
-    sink: &mut K,
-    model: &Model,
-    node: u32,
-    k: u16,
-) -> Result<(), WriteFault>
+fn put_node_coming<K: Sink>(writer: &mut Writer<'_, K>, model: &Model, node: u32, k: u16)
     requires valid { IsValid model.now }
     requires node_in { node < length model.now.nodes }
     requires k_in { k ≤ model.now.horizon }
-    ensures text { PutsText (K.held sink.old) out.old (flat_map (entry_text model.now node) (moments_to k)) (K.held sink.new) out.new result }
-    ensures cause { HasCause (K.faults sink.old) (K.faults sink.new) result }
+    ensures { Writes K.held K.faults writer.old (flat_map (entry_text model.now node) (moments_to k)) writer.new }
 {
     for moment in 0..k + 1 {
-        write_coming(out, sink, model, node, moment)?;
+        put_coming(writer, model, node, moment);
     }
-    Ok(())
 }
 
 // Puts the people who come in by a period.
-fn write_all_coming<K: Sink>(
-    out: &mut Out,
-    sink: &mut K,
-    model: &Model,
-    k: u16,
-) -> Result<(), WriteFault>
+fn put_all_coming<K: Sink>(writer: &mut Writer<'_, K>, model: &Model, k: u16)
     requires valid { IsValid model.now }
     requires k_in { k ≤ model.now.horizon }
-    ensures text { PutsText (K.held sink.old) out.old (flat_map (item_line model.now) (cut_items model.now no_pair k)) (K.held sink.new) out.new result }
-    ensures cause { HasCause (K.faults sink.old) (K.faults sink.new) result }
+    ensures { Writes K.held K.faults writer.old (flat_map (item_line model.now) (cut_items model.now no_pair k)) writer.new }
 {
     for node in 0..model.node_count() {
-        write_node_coming(out, sink, model, node, k)?;
+        put_node_coming(writer, model, node, k);
     }
-    Ok(())
 }
 
 // The people who come into a node by a period.
@@ -173,40 +129,32 @@ fn all_entered(model: &Model, k: u16) -> u64
 }
 
 // Puts the cut of no pair at a period.
-fn write_empty_cut<K: Sink>(
-    out: &mut Out,
-    sink: &mut K,
-    model: &Model,
-    k: u16,
-) -> Result<(), WriteFault>
+fn put_empty_cut<K: Sink>(writer: &mut Writer<'_, K>, model: &Model, k: u16)
     requires valid { IsValid model.now }
     requires k_in { k ≤ model.now.horizon }
-    ensures text { PutsText (K.held sink.old) out.old (cut_text model.now no_pair k) (K.held sink.new) out.new result }
-    ensures cause { HasCause (K.faults sink.old) (K.faults sink.new) result }
+    ensures { Writes K.held K.faults writer.old (cut_text model.now no_pair k) writer.new }
 {
-    write_cut_line(out, sink, k, all_entered(model, k))?;
-    write_all_coming(out, sink, model, k)?;
-    write_end(out, sink)
+    put_cut_line(writer, k, all_entered(model, k));
+    put_all_coming(writer, model, k);
+    put_end(writer);
 }
 
 /// Puts the cut of a period, of the labels of a plan that has everybody out by `cleared`: from then on it is the cut of no pair.
-pub fn write_cut<K: Sink>(
-    out: &mut Out,
-    sink: &mut K,
+pub fn put_cut<K: Sink>(
+    writer: &mut Writer<'_, K>,
     model: &Model,
     labels: &Labels,
     cleared: u16,
     k: u16,
-) -> Result<(), WriteFault>
+)
     requires valid { IsValid model.now }
     requires table { IsTableOf model.now labels.now }
     requires k_in { k ≤ model.now.horizon }
-    ensures text { PutsText (K.held sink.old) out.old (cut_text model.now (stated_cut model.now labels.now cleared k) k) (K.held sink.new) out.new result }
-    ensures cause { HasCause (K.faults sink.old) (K.faults sink.new) result }
+    ensures { Writes K.held K.faults writer.old (cut_text model.now (stated_cut model.now labels.now cleared k) k) writer.new }
 {
     if k < cleared {
-        write_label_cut(out, sink, model, labels, k)
+        put_label_cut(writer, model, labels, k);
     } else {
-        write_empty_cut(out, sink, model, k)
+        put_empty_cut(writer, model, k);
     }
 }

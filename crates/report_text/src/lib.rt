@@ -1,7 +1,7 @@
 //! The texts of the reports on an answer: the cut of a period, routes, person cards, when rooms and floors are empty, what holds people up, a
 //! summary, and the work of an edit.
 //!
-//! What is written is the text that `specs/ReportText` defines from the model, the plan and the labels; a sink that fails has a front of it.
+//! What a writer puts is the text that `specs/ReportText` defines from the model, the plan and the labels.
 #![tactic(auto)]
 
 mod bottlenecks;
@@ -12,10 +12,10 @@ mod person_cards;
 mod routes;
 mod summary;
 
-pub use bottlenecks::write_bottlenecks;
-pub use clearing::write_clearing;
-pub use cut::write_cut;
-pub use lines::{write_cut_line, write_number, write_work};
-pub use person_cards::write_cards;
-pub use routes::write_routes;
-pub use summary::write_summary;
+pub use bottlenecks::put_bottlenecks;
+pub use clearing::put_clearing;
+pub use cut::put_cut;
+pub use lines::{put_cut_line, put_number, put_work};
+pub use person_cards::put_cards;
+pub use routes::put_routes;
+pub use summary::put_summary;

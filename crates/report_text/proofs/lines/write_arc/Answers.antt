@@ -1,9 +1,0 @@
-use Rattle.std.specs.Prelude.{[], ◌∷◌, codes, decimal}
-use Rattle.evac_law.specs.Names.{name_text}
-use Rattle.line_io.proofs.TextLemmas.{text-line}
-use Rattle.report_text.specs.ReportText.{arc_line}
-use Rattle.report_text.proofs.lines.write_arc.Goals as goal
-
-pub returns-clause-text : goal.returns-clause-text
-unfolding arc_line
-returns-clause-text g c = text-line (codes "arc" ∷ decimal c.args.moment ∷ name_text c.args.from ∷ name_text c.args.to ∷ decimal c.args.rate ∷ []) (cc) c.put.ensures.text

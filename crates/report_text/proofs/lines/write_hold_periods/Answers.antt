@@ -1,9 +1,0 @@
-use Rattle.std.specs.Prelude.{[], ◌∷◌, codes, decimal}
-use Rattle.evac_law.specs.Names.{name_text}
-use Rattle.line_io.proofs.TextLemmas.{text-line}
-use Rattle.report_text.specs.ReportText.{hold_periods_line}
-use Rattle.report_text.proofs.lines.write_hold_periods.Goals as goal
-
-pub returns-clause-text : goal.returns-clause-text
-unfolding hold_periods_line
-returns-clause-text g c = text-line (codes "hold" ∷ name_text c.args.name ∷ decimal c.args.periods ∷ []) (cc) c.put.ensures.text

@@ -1,0 +1,65 @@
+use Rattle.std.proofs.Common.{◌≡◌, ℕ, ◌∙◌, ◌++◌, List, [], ◌∷◌, ap, append_assoc, append-nil, arith, codes, refl, subst, sym}
+use Rattle.std.specs.List.{flat_map}
+use Rattle.line_io.proofs.WriterLemmas.{writes_is, writes_then}
+use Rattle.evac_law.specs.declared.model.Model.{Model}
+use Rattle.route_decompose.specs.Routes.{IsRoute, RouteView, RoutesView}
+use Rattle.route_decompose.proofs.Given.{none_given, one_more, used_up_covers}
+use Rattle.report_text.specs.ReportText.{number_line, route_lines, routes_text}
+use Rattle.report_text.proofs.Given.{fewer_waiting}
+use Rattle.report_text.proofs.Parts.{parts-one}
+use Rattle.report_text.proofs.routes.put_routes.Goals as goal
+
+pub loop-writer-init : goal.loop-writer-init
+loop-writer-init g c =
+    let head = number_line (codes "routes") c.args.index in (
+      [],
+      none_given c.args.model.now (g.F.Standing.stand c.args.standing.now).plan c.begin.new.self c.begin.ensures,
+      writes_is (ap (number_line (codes "routes")) c.from.ensures ∙ sym (append-nil head)) c.put_number.ensures,
+    )
+
+pub loop-writer-preserved : goal.loop-writer-preserved
+loop-writer-preserved g c =
+    let m = c.args.model.now in
+    let p = (g.F.Standing.stand c.args.standing.now).plan in
+    let h = c.loop-writer.invariant in
+    let w = c.loop-writer.routes in
+    let v = c.next.new.self in
+    let head = number_line (codes "routes") c.args.index in
+    let one = route_lines m v.route in
+    let line : head ++ flat_map (route_lines m) h.0 ++ route_lines m c.route.result ≡ head ++ flat_map (route_lines m) (h.0 ++ v.route ∷ []) =
+    ap (λ r. head ++ flat_map (route_lines m) h.0 ++ route_lines m r) c.route.ensures
+    ∙ append_assoc head (flat_map (route_lines m) h.0) one
+    ∙ ap (λ l. head ++ l) (sym (parts-one (route_lines m) h.0 v.route)) in (
+      h.0 ++ v.route ∷ [],
+      one_more m p h.0 w v h.1 (c.next.ensures.route c.loop-writer-test.true),
+      writes_is line (writes_then h.2 c.put_route.ensures),
+    )
+
+pub loop-writer-smaller : goal.loop-writer-smaller
+loop-writer-smaller g c =
+    let h = c.loop-writer.invariant in
+    let less = fewer_waiting c.args.model.now (g.F.Standing.stand c.args.standing.now).plan h.0 c.loop-writer.routes c.next.new.self c.requires.valid h.1 (c.next.ensures.route c.loop-writer-test.true) in
+    omega (arith, less)
+
+pub put_route-requires-clause-route : goal.put_route-requires-clause-route
+put_route-requires-clause-route g c =
+    let h = c.loop-writer.invariant in
+    let out = c.next.ensures.route c.loop-writer-test.true in
+    let right : IsRoute c.args.model.now c.next.new.self.route = subst (λ (m : Model). IsRoute m c.next.new.self.route) h.1.same_model out.right in
+    subst (λ (r : RouteView). IsRoute c.args.model.now r) (sym c.route.ensures) right
+
+pub returns-clause-text : goal.returns-clause-text
+unfolding routes_text
+returns-clause-text g c =
+    let m = c.args.model.now in
+    let p = (g.F.Standing.stand c.args.standing.now).plan in
+    let h = c.loop-writer.invariant in (
+      routes_text c.args.index m h.0,
+      record { routes = h.0; cover = used_up_covers m p h.0 c.loop-writer.routes h.1 (c.next.ensures.none c.loop-writer-test.false); says = refl },
+      writes_then h.2 c.put_end.ensures,
+    )
+
+pub returns-clause-model : goal.returns-clause-model
+returns-clause-model g c =
+    let h = c.loop-writer.invariant in
+    ap (λ (w : RoutesView). w.model) (c.next.ensures.same c.loop-writer-test.false) ∙ h.1.same_model
