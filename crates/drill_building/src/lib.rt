@@ -10,4 +10,4 @@ mod summary;
 pub use building::drill_model;
 pub use laws::{drills_are_clearable, drills_are_valid};
 pub use limits::STOREY_LIMIT;
-pub use summary::{Figures, write_drill};
+pub use summary::{Figures, put_drill};
