@@ -1,7 +1,6 @@
 pub use Rattle.evac_law.specs.Building
 pub use Rattle.evac_law.specs.Edits
 pub use Rattle.evac_law.specs.Shapes
-pub use Rattle.line_io.specs.Causes
 pub use Rattle.line_io.specs.Writer
 pub use Rattle.building_table.specs.Names
 pub use Rattle.certificate_text.specs.Short

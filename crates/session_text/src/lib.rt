@@ -10,7 +10,5 @@ mod texts;
 pub use laws::{
     begins_of_building, edit_keeps_building, edit_serves, shape_serves, undo_keeps_building,
 };
-pub use reports::{
-    ReportSpace, put_reports, write_bottlenecks, write_clearing, write_reports, write_summary,
-};
-pub use texts::{write_barred, write_block, write_cut, write_routes, write_work};
+pub use reports::{ReportSpace, put_bottlenecks, put_clearing, put_reports, put_summary};
+pub use texts::{put_barred, put_block, put_cut, put_routes, put_work};
