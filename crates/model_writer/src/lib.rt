@@ -12,4 +12,4 @@ pub use laws::{
     fine_parts_read_back, lines_read_back, statements_read_back, text_is_of_description,
     texts_describe_again,
 };
-pub use model::write_model;
+pub use model::put_model;

@@ -1,8 +1,7 @@
 //! Lines of statements, put with their ends.
 ghost use Rattle.std.specs.Prelude.{◌≡◌, ◌≤◌, ◌+◌, ◌++◌, ◌∷◌, decimal, length};
 ghost use Rattle.std.specs.Option.{option_copied};
-ghost use Rattle.line_io.specs.Causes.{HasCause};
-ghost use Rattle.line_io.specs.Writer.{PutsText};
+ghost use Rattle.line_io.specs.Writer.{Writes};
 ghost use Rattle.evac_law.specs.Names.{IsName, name_text};
 ghost use Rattle.model_text.specs.Reads.{said, said_part};
 ghost use Rattle.model_writer.specs.ModelText.{HasNames, SaysNames, ended, line_end, line_with, part_line, part_text, said_line, said_text};
@@ -10,7 +9,7 @@ ghost use Rattle.model_writer.specs.ModelText.{HasNames, SaysNames, ended, line_
 use crate::limits::WORD_LIMIT;
 use certificate_text::put_name;
 use evac_law::NodeName;
-use line_io::{Out, Sink, TextLine, WriteFault};
+use line_io::{Sink, TextLine, Writer};
 use model_text::{Part, Statement};
 
 // A line of a word and a number.
@@ -148,56 +147,39 @@ fn end_of(line: &[u8]) -> &'static [u8]
 }
 
 // Puts a line with its end.
-fn put_line<K: Sink>(out: &mut Out, sink: &mut K, line: &[u8]) -> Result<(), WriteFault>
-    ensures text { PutsText (K.held sink.old) out.old (ended line.now) (K.held sink.new) out.new result }
-    ensures cause { HasCause (K.faults sink.old) (K.faults sink.new) result }
+fn put_line<K: Sink>(writer: &mut Writer<'_, K>, line: &[u8])
+    ensures { Writes K.held K.faults writer.old (ended line.now) writer.new }
 {
-    out.put_all(sink, line)?;
-    out.put_all(sink, end_of(line))
+    writer.put_all(line);
+    writer.put_all(end_of(line));
 }
 
 // Puts a line of fields and of a text behind them, with its end.
-fn put_text_line<K: Sink>(
-    out: &mut Out,
-    sink: &mut K,
-    fields: &[u8],
-    text: &[u8],
-) -> Result<(), WriteFault>
-    ensures text { PutsText (K.held sink.old) out.old (ended (fields.now ++ (32 ∷ text.now))) (K.held sink.new) out.new result }
-    ensures cause { HasCause (K.faults sink.old) (K.faults sink.new) result }
+fn put_text_line<K: Sink>(writer: &mut Writer<'_, K>, fields: &[u8], text: &[u8])
+    ensures { Writes K.held K.faults writer.old (ended (fields.now ++ (32 ∷ text.now))) writer.new }
 {
-    out.put_all(sink, fields)?;
-    out.put_all(sink, b" ")?;
-    out.put_all(sink, text)?;
-    out.put_all(sink, end_of(text))
+    writer.put_all(fields);
+    writer.put_all(b" ");
+    writer.put_all(text);
+    writer.put_all(end_of(text));
 }
 
 /// Puts the line of a statement with its end.
-pub(crate) fn write_statement<K: Sink>(
-    out: &mut Out,
-    sink: &mut K,
-    statement: Statement<'_>,
-) -> Result<(), WriteFault>
+pub(crate) fn put_statement<K: Sink>(writer: &mut Writer<'_, K>, statement: Statement<'_>)
     requires { SaysNames (said statement) }
-    ensures text { PutsText (K.held sink.old) out.old (said_text (said statement.entry)) (K.held sink.new) out.new result }
-    ensures cause { HasCause (K.faults sink.old) (K.faults sink.new) result }
+    ensures { Writes K.held K.faults writer.old (said_text (said statement.entry)) writer.new }
 {
     let line = line_of(statement);
     match line.text {
-        None => put_line(out, sink, line.fields.bytes()),
-        Some(text) => put_text_line(out, sink, line.fields.bytes(), text),
+        None => put_line(writer, line.fields.bytes()),
+        Some(text) => put_text_line(writer, line.fields.bytes(), text),
     }
 }
 
 /// Puts the line of a part with its end.
-pub(crate) fn write_part<K: Sink>(
-    out: &mut Out,
-    sink: &mut K,
-    part: Part<'_>,
-) -> Result<(), WriteFault>
+pub(crate) fn put_part<K: Sink>(writer: &mut Writer<'_, K>, part: Part<'_>)
     requires { HasNames (said_part part) }
-    ensures text { PutsText (K.held sink.old) out.old (part_text (said_part part.entry)) (K.held sink.new) out.new result }
-    ensures cause { HasCause (K.faults sink.old) (K.faults sink.new) result }
+    ensures { Writes K.held K.faults writer.old (part_text (said_part part.entry)) writer.new }
 {
-    write_statement(out, sink, Statement::Part(part))
+    put_statement(writer, Statement::Part(part));
 }

@@ -3,51 +3,41 @@ ghost use Rattle.std.specs.Prelude.{◌≡◌, ◌<◌, length};
 ghost use Rattle.std.specs.List.{All, flat_map};
 ghost use Rattle.evac_law.specs.Building.{IsNode, IsValid};
 ghost use Rattle.evac_law.specs.Sums.{below};
-ghost use Rattle.line_io.specs.Causes.{HasCause};
-ghost use Rattle.line_io.specs.Writer.{PutsText};
+ghost use Rattle.line_io.specs.Writer.{Writes};
 ghost use Rattle.model_text.specs.Reads.{said_part};
 ghost use Rattle.model_writer.specs.ModelText.{HasNames, arc_text, building_text, entrant_said, entrant_text, floor_text, node_said, node_text, rows_text, settings_text, title_text, window_said, windows_text};
 
-use crate::line::{write_part, write_statement};
+use crate::line::{put_part, put_statement};
 use building_table::{Building, Names};
 use evac_law::{ArcRow, Entrant, Model, NodeRow, Window};
-use line_io::{Out, Sink, WriteFault};
+use line_io::{Sink, Writer};
 use model_text::{Part, Statement};
 
-fn write_title<K: Sink>(out: &mut Out, sink: &mut K, names: &Names) -> Result<(), WriteFault>
-    ensures text { PutsText (K.held sink.old) out.old (title_text names.now.title) (K.held sink.new) out.new result }
-    ensures cause { HasCause (K.faults sink.old) (K.faults sink.new) result }
+fn put_title<K: Sink>(writer: &mut Writer<'_, K>, names: &Names)
+    ensures { Writes K.held K.faults writer.old (title_text names.now.title) writer.new }
 {
     match names.title() {
-        None => Ok(()),
-        Some(text) => write_part(out, sink, Part::Title { text }),
+        None => {}
+        Some(text) => put_part(writer, Part::Title { text }),
     }
 }
 
 // The line of the floor at a place.
-fn write_floor<K: Sink>(
-    out: &mut Out,
-    sink: &mut K,
-    names: &Names,
-    place: usize,
-) -> Result<(), WriteFault>
+fn put_floor<K: Sink>(writer: &mut Writer<'_, K>, names: &Names, place: usize)
     requires { place < length names.now.floors }
-    ensures text { PutsText (K.held sink.old) out.old (floor_text names.now.floors names.now.texts place) (K.held sink.new) out.new result }
-    ensures cause { HasCause (K.faults sink.old) (K.faults sink.new) result }
+    ensures { Writes K.held K.faults writer.old (floor_text names.now.floors names.now.texts place) writer.new }
 {
     let floor = names.floors()[place];
     let text = names.floor_text(place);
-    write_part(out, sink, Part::Floor { floor, text })
+    put_part(writer, Part::Floor { floor, text });
 }
 
-fn write_floors<K: Sink>(out: &mut Out, sink: &mut K, names: &Names) -> Result<(), WriteFault>
-    ensures text { PutsText (K.held sink.old) out.old (flat_map (floor_text names.now.floors names.now.texts) (below (length names.now.floors))) (K.held sink.new) out.new result }
-    ensures cause { HasCause (K.faults sink.old) (K.faults sink.new) result }
+fn put_floors<K: Sink>(writer: &mut Writer<'_, K>, names: &Names)
+    ensures { Writes K.held K.faults writer.old (flat_map (floor_text names.now.floors names.now.texts) (below (length names.now.floors))) writer.new }
 {
     for place in 0..names.floors().len() {
-        write_floor(out, sink, names, place)?;
+        put_floor(writer, names, place);
     }
-    Ok(())
 }
 
 // What a line says of a node.
@@ -67,28 +57,20 @@ fn said_node<'a>(row: NodeRow) -> Part<'a>
     }
 }
 
-fn write_nodes<K: Sink>(out: &mut Out, sink: &mut K, nodes: &[NodeRow]) -> Result<(), WriteFault>
+fn put_nodes<K: Sink>(writer: &mut Writer<'_, K>, nodes: &[NodeRow])
     requires { All IsNode nodes.now }
-    ensures text { PutsText (K.held sink.old) out.old (flat_map node_text nodes.now) (K.held sink.new) out.new result }
-    ensures cause { HasCause (K.faults sink.old) (K.faults sink.new) result }
+    ensures { Writes K.held K.faults writer.old (flat_map node_text nodes.now) writer.new }
 {
     for row in nodes {
-        write_part(out, sink, said_node(*row))?;
+        put_part(writer, said_node(*row));
     }
-    Ok(())
 }
 
-fn write_arc<K: Sink>(
-    out: &mut Out,
-    sink: &mut K,
-    model: &Model,
-    row: &ArcRow,
-) -> Result<(), WriteFault>
+fn put_arc<K: Sink>(writer: &mut Writer<'_, K>, model: &Model, row: &ArcRow)
     requires valid { IsValid model.now }
     requires from_in { row.now.from < length model.now.nodes }
     requires to_in { row.now.to < length model.now.nodes }
-    ensures text { PutsText (K.held sink.old) out.old (arc_text model.now row.now) (K.held sink.new) out.new result }
-    ensures cause { HasCause (K.faults sink.old) (K.faults sink.new) result }
+    ensures { Writes K.held K.faults writer.old (arc_text model.now row.now) writer.new }
 {
     let said = Part::Arc {
         from: model.node(row.from).name,
@@ -96,18 +78,16 @@ fn write_arc<K: Sink>(
         travel: row.travel,
         rate: row.rate,
     };
-    write_part(out, sink, said)
+    put_part(writer, said);
 }
 
-fn write_arcs<K: Sink>(out: &mut Out, sink: &mut K, model: &Model) -> Result<(), WriteFault>
+fn put_arcs<K: Sink>(writer: &mut Writer<'_, K>, model: &Model)
     requires { IsValid model.now }
-    ensures text { PutsText (K.held sink.old) out.old (flat_map (arc_text model.now) model.now.arcs) (K.held sink.new) out.new result }
-    ensures cause { HasCause (K.faults sink.old) (K.faults sink.new) result }
+    ensures { Writes K.held K.faults writer.old (flat_map (arc_text model.now) model.now.arcs) writer.new }
 {
     for row in model.arcs.as_slice() {
-        write_arc(out, sink, model, row)?;
+        put_arc(writer, model, row);
     }
-    Ok(())
 }
 
 // What a line says of a window of an arc.
@@ -126,33 +106,24 @@ fn said_window<'a>(model: &Model, row: &ArcRow, window: Window) -> Part<'a>
     }
 }
 
-fn write_windows_of<K: Sink>(
-    out: &mut Out,
-    sink: &mut K,
-    model: &Model,
-    row: &ArcRow,
-) -> Result<(), WriteFault>
+fn put_windows_of<K: Sink>(writer: &mut Writer<'_, K>, model: &Model, row: &ArcRow)
     requires valid { IsValid model.now }
     requires from_in { row.now.from < length model.now.nodes }
     requires to_in { row.now.to < length model.now.nodes }
-    ensures text { PutsText (K.held sink.old) out.old (windows_text model.now row.now) (K.held sink.new) out.new result }
-    ensures cause { HasCause (K.faults sink.old) (K.faults sink.new) result }
+    ensures { Writes K.held K.faults writer.old (windows_text model.now row.now) writer.new }
 {
     for window in row.windows.as_slice() {
-        write_part(out, sink, said_window(model, row, *window))?;
+        put_part(writer, said_window(model, row, *window));
     }
-    Ok(())
 }
 
-fn write_windows<K: Sink>(out: &mut Out, sink: &mut K, model: &Model) -> Result<(), WriteFault>
+fn put_windows<K: Sink>(writer: &mut Writer<'_, K>, model: &Model)
     requires { IsValid model.now }
-    ensures text { PutsText (K.held sink.old) out.old (flat_map (windows_text model.now) model.now.arcs) (K.held sink.new) out.new result }
-    ensures cause { HasCause (K.faults sink.old) (K.faults sink.new) result }
+    ensures { Writes K.held K.faults writer.old (flat_map (windows_text model.now) model.now.arcs) writer.new }
 {
     for row in model.arcs.as_slice() {
-        write_windows_of(out, sink, model, row)?;
+        put_windows_of(writer, model, row);
     }
-    Ok(())
 }
 
 // What a line says of an entrant.
@@ -169,57 +140,44 @@ fn said_entrant<'a>(model: &Model, entrant: Entrant) -> Part<'a>
     }
 }
 
-fn write_entrants<K: Sink>(out: &mut Out, sink: &mut K, model: &Model) -> Result<(), WriteFault>
+fn put_entrants<K: Sink>(writer: &mut Writer<'_, K>, model: &Model)
     requires { IsValid model.now }
-    ensures text { PutsText (K.held sink.old) out.old (flat_map (entrant_text model.now) model.now.entrants) (K.held sink.new) out.new result }
-    ensures cause { HasCause (K.faults sink.old) (K.faults sink.new) result }
+    ensures { Writes K.held K.faults writer.old (flat_map (entrant_text model.now) model.now.entrants) writer.new }
 {
     for entrant in model.entrants.as_slice() {
-        write_part(out, sink, said_entrant(model, *entrant))?;
+        put_part(writer, said_entrant(model, *entrant));
     }
-    Ok(())
 }
 
-fn write_settings<K: Sink>(
-    out: &mut Out,
-    sink: &mut K,
-    building: &Building,
-) -> Result<(), WriteFault>
-    ensures text { PutsText (K.held sink.old) out.old (settings_text building.now) (K.held sink.new) out.new result }
-    ensures cause { HasCause (K.faults sink.old) (K.faults sink.new) result }
+fn put_settings<K: Sink>(writer: &mut Writer<'_, K>, building: &Building)
+    ensures { Writes K.held K.faults writer.old (settings_text building.now) writer.new }
 {
-    write_statement(out, sink, Statement::Header { version: 2 })?;
-    write_title(out, sink, &building.names)?;
+    put_statement(writer, Statement::Header { version: 2 });
+    put_title(writer, &building.names);
     let seconds = building.model.seconds;
-    write_part(out, sink, Part::Period { seconds })?;
+    put_part(writer, Part::Period { seconds });
     let moments = building.model.horizon;
-    write_part(out, sink, Part::Horizon { moments })
+    put_part(writer, Part::Horizon { moments });
 }
 
 // The nodes, the arcs, the windows and the entrants.
-fn write_rows<K: Sink>(out: &mut Out, sink: &mut K, model: &Model) -> Result<(), WriteFault>
+fn put_rows<K: Sink>(writer: &mut Writer<'_, K>, model: &Model)
     requires { IsValid model.now }
-    ensures text { PutsText (K.held sink.old) out.old (rows_text model.now) (K.held sink.new) out.new result }
-    ensures cause { HasCause (K.faults sink.old) (K.faults sink.new) result }
+    ensures { Writes K.held K.faults writer.old (rows_text model.now) writer.new }
 {
-    write_nodes(out, sink, model.nodes.as_slice())?;
-    write_arcs(out, sink, model)?;
-    write_windows(out, sink, model)?;
-    write_entrants(out, sink, model)
+    put_nodes(writer, model.nodes.as_slice());
+    put_arcs(writer, model);
+    put_windows(writer, model);
+    put_entrants(writer, model);
 }
 
-/// Writes a building as a text of version 2.
-pub fn write_model<K: Sink>(
-    out: &mut Out,
-    sink: &mut K,
-    building: &Building,
-) -> Result<(), WriteFault>
+/// Puts a building as a text of version 2.
+pub fn put_model<K: Sink>(writer: &mut Writer<'_, K>, building: &Building)
     requires { IsValid building.now.model }
-    ensures text { PutsText (K.held sink.old) out.old (building_text building.now) (K.held sink.new) out.new result }
-    ensures cause { HasCause (K.faults sink.old) (K.faults sink.new) result }
+    ensures { Writes K.held K.faults writer.old (building_text building.now) writer.new }
 {
-    write_settings(out, sink, building)?;
-    write_floors(out, sink, &building.names)?;
-    write_rows(out, sink, &building.model)?;
-    write_statement(out, sink, Statement::End)
+    put_settings(writer, building);
+    put_floors(writer, &building.names);
+    put_rows(writer, &building.model);
+    put_statement(writer, Statement::End);
 }
