@@ -1,73 +1,50 @@
 -- The lines that were heard got their replies, one after another.
-use Rattle.std.proofs.Common.{◌≡◌, ℕ, ◌+◌, List, [], ◌∷◌, length, Result, Ok, Err, refl, sym, ap, subst, ◌∙◌, arith, append-nil}
+use Rattle.std.proofs.Common.{◌≡◌, ℕ, ◌+◌, true, false, List, [], ◌∷◌, length, Result, Ok, Err, refl, sym, ap, subst, ◌∙◌, arith, append-nil}
 use Rattle.std.proofs.Math.Nat.{add-zero}
 use Rattle.std.specs.declared.option.Option.{Option}
-use Rattle.line_io.specs.Causes.{Count, HasCause, Rose}
+use Rattle.line_io.specs.Causes.{Count}
 use Rattle.line_io.specs.Hearing.{EndsBy, Hearing, HearsAll, Listens}
 use Rattle.line_io.specs.Line.{Line}
 use Rattle.line_io.specs.View.{Reader}
-use Rattle.line_io.specs.Writer.{Puts, PutsText}
+use Rattle.line_io.specs.Writer.{Puts, Writes}
 use Rattle.line_io.specs.declared.hearing.Ending.{Ending}
 use Rattle.line_io.specs.declared.hearing.Ending.TheVariants.{Finished, Failed, InputEnded, Fault}
 use Rattle.line_io.specs.declared.hearing.Heard.{Heard}
 use Rattle.line_io.specs.declared.hearing.Heard.TheVariants.{More}
 use Rattle.line_io.specs.declared.lines.LineFault.TheVariants.{ReadFault, LineTooLong, InputTooLong}
 use Rattle.line_io.specs.declared.out.WriteFault.{WriteFault}
+use Rattle.line_io.specs.declared.writer.Writer.{Writer}
 use Rattle.line_io.proofs.TextLemmas.{puts-none, puts-then}
+use Rattle.line_io.proofs.WriterLemmas.{writes_is, writes_none, writes_then}
 use Rattle.talk.specs.declared.fault.AnswerFault.{AnswerFault}
 use Rattle.talk.specs.declared.fault.AnswerFault.TheVariants.{Write}
-use Rattle.talk.specs.Speaking.{AnswersLine, HearsLine, HearsText, Says, SaysBy, SaysSome, Shown, shown}
+use Rattle.talk.specs.Speaking.{HearsLine, HearsText, PutsReply, PutsSome, Says, SaysFront, Shown, Speaking, shown}
 use Rattle.talk.specs.Talks.{RepliesTo, Reply, Replying, Wanting, followed, says}
 
--- ---- a text that is flushed
+-- ---- a reply that is put and flushed
 
-pub puts-flushed : (a b c : Option (List ℕ)) (p q r x : List ℕ) → Puts a p x b q → Puts b q [] c r → Puts a p x c r
-puts-flushed a b c p q r x f g = subst (λ (z : List ℕ). Puts a p z c r) (append-nil x) (puts-then f g)
+module _ {N S X : Type 0} (held : X → Option (List ℕ)) (faults : X → Count) where
+  pub reply_said : (x y : Speaking N S X) (r : Reply S) (w : Writer X) {s : X} {p : List ℕ} → x.writer.failed ≡ false → x.writer.sink.now ≡ s → x.writer.out.now ≡ p → PutsReply held faults x r y
+      → Writes held faults y.writer [] w → w.failed ≡ false → Says (shown x.kept x.state (held s) p (faults s) x.steps) r (shown y.kept y.state (held w.sink.now) w.out.now (faults w.sink.now) y.steps)
+  reply_said x y r w {s} {p} fresh e f puts flush fine =
+      let all = writes_is (append-nil r.text) (writes_then puts.put flush) in
+      rw (← e, ← f) (record { kept = puts.kept; state = puts.state; put = all.whole fresh fine; faults = all.same fine; steps = puts.steps })
 
--- ---- a reply that is flushed
+  pub reply_unsaid : (x y : Speaking N S X) (r : Reply S) (w : Writer X) {s : X} {p : List ℕ} → x.writer.failed ≡ false → x.writer.sink.now ≡ s → x.writer.out.now ≡ p → PutsReply held faults x r y
+      → Writes held faults y.writer [] w → w.failed ≡ true → SaysFront (shown x.kept x.state (held s) p (faults s) x.steps) r (shown y.kept y.state (held w.sink.now) w.out.now (faults w.sink.now) y.steps)
+  reply_unsaid x y r w {s} {p} fresh e f puts flush failed =
+      let all = writes_is (append-nil r.text) (writes_then puts.put flush) in
+      rw (← e, ← f) (record { put = all.front fresh failed; rose = all.rose fresh failed; steps = puts.steps })
 
-module _ {N S : Type 0} where
-  pub reply_flushed : {T : Type 0} (result : Result T WriteFault) (x : Shown N S) (r : Reply S) (i : N) (s : S) (b c : Option (List ℕ)) (q t : List ℕ) (g h : Count) (k : ℕ)
-      → Says x r (shown i s b q g k) → Puts b q [] c t → HasCause g h result → SaysBy result x r (shown i s c t h k)
-  reply_flushed (Ok done) x r i s b c q t g h k says put cause =
-      record { kept = says.kept; state = says.state; put = puts-flushed x.held b c x.pending q t r.text says.put put; faults = cause.same ∙ says.faults; steps = says.steps }
-  reply_flushed (Err fault) x r i s b c q t g h k says put cause = record {
-    put = record { front = r.text; rest = []; parts = sym (append-nil r.text); put = puts-flushed x.held b c x.pending q t r.text says.put put };
-    rose = subst (λ (z : Count). Rose z h) says.faults cause.failed;
-    steps = says.steps;
-  }
+  -- nothing is put to a line that gets nothing
+  pub put_nothing : (Gets : Reply S → Type 0) (x : Speaking N S X) → Gets (says x.state []) → PutsSome held faults Gets x x
+  put_nothing Gets x gets = (says x.state [], gets, record { kept = refl; state = refl; put = writes_none x.writer; steps = sym (add-zero x.steps) })
 
-  -- ---- a text that was put is a reply
-
-  pub said : {T : Type 0} (result : Result T WriteFault) (i j : N) (s t : S) (r : Reply S) (a b : Option (List ℕ)) (p q : List ℕ) (f g : Count) (n k : ℕ) → j ≡ i
-      → t ≡ r.after → PutsText a p r.text b q result → HasCause f g result → k ≡ n + r.steps → SaysBy result (shown i s a p f n) r (shown j t b q g k)
-  said (Ok done) i j s t r a b p q f g n k kept state put cause steps = record { kept = kept; state = state; put = put.ok; faults = cause.same; steps = steps }
-  said (Err fault) i j s t r a b p q f g n k kept state put cause steps = record { put = put.err; rose = cause.failed; steps = steps }
-
-  -- nothing is said to a line that says nothing
-  pub said_nothing : {T : Type 0} (Gets : Reply S → Type 0) (done : T) (x : Shown N S) → Gets (says x.state []) → SaysSome Gets (Ok done) x x
-  said_nothing Gets done x gets =
-      (says x.state [], gets, record { kept = refl; state = refl; put = puts-none x.held x.pending; faults = refl; steps = sym (add-zero x.steps) })
-
--- ---- what is done at a line
-
-module _ {N S : Type 0} (gets : N → Replying S) (Quits : List ℕ → Type 0) (Wants : Wanting S) (Behind : ℕ → S → Type 0) where
-  -- a line that was answered is heard, once the reply is flushed
-  pub heard_more : (x : Shown N S) (line : ℕ) (text : List ℕ) (i : N) (s : S) (held held' : Option (List ℕ)) (p p' : List ℕ) (f f' : Count) (k : ℕ) (done : Unit {0})
-      → AnswersLine gets Quits Wants Behind x line text (Ok More) (shown i s held p f k) → Puts held p [] held' p' → HasCause {T = Unit {0}} {E = WriteFault} f f' (Ok done) → p' ≡ []
-      → HearsText gets Quits Wants Behind x line text (Ok More) (shown i s held' p' f' k)
-  heard_more x line text i s held held' p p' f f' k done h put cause flushed =
-      (h.0, h.1, reply_flushed {T = Unit {0}} (Ok done) x h.0 i s held held' p p' f f' k h.2 put cause, h.3, flushed)
-
-  pub heard_unflushed : (x : Shown N S) (line : ℕ) (text : List ℕ) (fault : WriteFault) (i : N) (s : S) (held held' : Option (List ℕ)) (p p' : List ℕ) (f f' : Count) (k : ℕ)
-      → AnswersLine gets Quits Wants Behind x line text (Ok More) (shown i s held p f k) → Puts held p [] held' p' → HasCause {T = Unit {0}} f f' (Err fault)
-      → HearsText gets Quits Wants Behind x line text (Err (Write fault)) (shown i s held' p' f' k)
-  heard_unflushed x line text fault i s held held' p p' f f' k h put cause =
-      (h.0, h.1, reply_flushed {T = Unit {0}} (Err fault) x h.0 i s held held' p p' f f' k h.2 put cause)
-
-  pub hears_fault : (r : Result Heard AnswerFault) (x z : Shown N S) (line : ℕ) (text : List ℕ) (fault : WriteFault) → r ≡ Err (Write fault)
-      → HearsText gets Quits Wants Behind x line text (Err (Write fault)) z → HearsText gets Quits Wants Behind x line text r z
-  hears_fault r x z line text fault is h = let P : Result Heard AnswerFault → Type 0 = λ y. HearsText gets Quits Wants Behind x line text y z in subst P (sym is) h
+-- what is heard where the sink failed, by an equal result
+pub hears_fault : {N S : Type 0} (gets : N → Replying S) (Quits : List ℕ → Type 0) (Wants : Wanting S) (Behind : ℕ → S → Type 0) (r : Result Heard AnswerFault) (x z : Shown N S) (line : ℕ) (text : List ℕ)
+    (fault : WriteFault) → r ≡ Err (Write fault) → HearsText gets Quits Wants Behind x line text (Err (Write fault)) z → HearsText gets Quits Wants Behind x line text r z
+hears_fault gets Quits Wants Behind r x z line text fault is h =
+    let P : Result Heard AnswerFault → Type 0 = λ y. HearsText gets Quits Wants Behind x line text y z in subst P (sym is) h
 
 -- ---- a listener that shows what it is
 

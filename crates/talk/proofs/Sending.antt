@@ -1,13 +1,14 @@
 -- A text that is put and flushed, and the refusal of a model that can't be cleared.
-use Rattle.std.specs.Prelude.{OnOk}
-use Rattle.std.proofs.Common.{◌≡◌, ℕ, ◌+◌, List, [], Result, Ok, Err, refl, sym, subst, ◌∙◌, append-nil}
+use Rattle.std.proofs.Common.{◌≡◌, ℕ, ◌+◌, true, false, List, [], Result, Ok, Err, OnOk, OnErr, refl, sym, subst, append-nil}
 use Rattle.std.specs.declared.option.Option.{Option}
 use Rattle.evac_law.specs.declared.model.Model.{Model}
 use Rattle.evac_law.specs.Certificates.{label_cut}
-use Rattle.line_io.specs.Causes.{Count, HasCause, Rose}
+use Rattle.line_io.specs.Causes.{Count, HasCause}
 use Rattle.line_io.specs.View.{Reader}
-use Rattle.line_io.specs.Writer.{Puts, PutsText}
+use Rattle.line_io.specs.Writer.{Writes}
 use Rattle.line_io.specs.declared.out.WriteFault.{WriteFault}
+use Rattle.line_io.specs.declared.writer.Writer.{Writer}
+use Rattle.line_io.proofs.WriterLemmas.{writes_is, writes_then}
 use Rattle.certificate_text.specs.BlockText.{shortfall_text}
 use Rattle.edit_session.specs.declared.faults.BeginFault.{BeginFault}
 use Rattle.edit_session.specs.declared.faults.BeginFault.TheVariants.{NotCleared}
@@ -17,24 +18,27 @@ use Rattle.talk.specs.Held.{HoldsTalk, RefusesBy, SendsBy, around, status_after}
 use Rattle.talk.specs.Short.{OpensShort}
 use Rattle.talk.specs.Talks.{Spoken, Talk}
 use Rattle.talk.proofs.Holding.{held_as, held_refused}
-use Rattle.talk.proofs.Answering.{puts-flushed}
 
-pub unsent : {T : Type 0} (fault : WriteFault) (text : List ℕ) (a b : Option (List ℕ)) (p q : List ℕ) (f g : Count) → PutsText {T = T} a p text b q (Err fault) → HasCause {T = T} f g (Err fault)
-    → SendsBy {T = T} (Err fault) text a p f b q g
-unsent fault text a b p q f g put cause = record { put = put; flushed = tt; cause = cause }
+-- a text that was put and flushed by a writer before a sink
+pub sent : {X : Type 0} {H : X → Option (List ℕ)} {F : X → Count} (result : Result (Unit {0}) WriteFault) (a b c : Writer X) (text : List ℕ) {s s' : X} {p p' : List ℕ} → a.failed ≡ false → a.sink.now ≡ s
+    → a.out.now ≡ p → c.sink.now ≡ s' → c.out.now ≡ p' → Writes H F a text b → Writes H F b [] c → OnOk result (c.failed ≡ false) → OnOk result (c.out.now ≡ []) → OnErr result (c.failed ≡ true)
+    → SendsBy result text (H s) p (F s) (H s') p' (F s')
+sent {X} {H} {F} result a b c text {s} {s'} {p} {p'} fresh e f i j put flush fine gone failed = rw (← e, ← f, ← i, ← j) (by_result result fine gone failed)
+  where
+    all : Writes H F a text c
+    all = writes_is (append-nil text) (writes_then put flush)
 
-pub sent : {T U : Type 0} (result : Result T WriteFault) (done : U) (text : List ℕ) (a b c : Option (List ℕ)) (p q r : List ℕ) (f g h : Count) → PutsText {E = WriteFault} a p text b q (Ok done)
-    → HasCause {E = WriteFault} f g (Ok done) → Puts b q [] c r → OnOk result (r ≡ []) → HasCause g h result → SendsBy result text a p f c r h
-sent (Ok done) first text a b c p q r f g h put quiet flush gone cause = record {
-  put = record { ok = puts-flushed a b c p q r text put.ok flush; err = tt };
-  flushed = gone;
-  cause = record { same = cause.same ∙ quiet.same; failed = tt };
-}
-sent (Err fault) first text a b c p q r f g h put quiet flush gone cause = record {
-  put = record { ok = tt; err = record { front = text; rest = []; parts = sym (append-nil text); put = puts-flushed a b c p q r text put.ok flush } };
-  flushed = tt;
-  cause = record { same = tt; failed = subst (λ (x : Count). Rose x h) quiet.same cause.failed };
-}
+    by_result : (r : Result (Unit {0}) WriteFault) → OnOk r (c.failed ≡ false) → OnOk r (c.out.now ≡ []) → OnErr r (c.failed ≡ true)
+        → SendsBy r text (H a.sink.now) a.out.now (F a.sink.now) (H c.sink.now) c.out.now (F c.sink.now)
+    by_result (Ok done) fine gone failed = record { put = record { ok = all.whole fresh fine; err = tt }; flushed = gone; cause = record { same = all.same fine; failed = tt } }
+    by_result (Err fault) fine gone failed =
+        record { put = record { ok = tt; err = all.front fresh failed }; flushed = tt; cause = record { same = tt; failed = all.rose fresh failed } }
+
+-- where the sink failed its count rose
+pub caused : {X : Type 0} {H : X → Option (List ℕ)} {F : X → Count} (result : Result (Unit {0}) WriteFault) (a b c : Writer X) (text : List ℕ) {s s' : X} → a.failed ≡ false → a.sink.now ≡ s
+    → c.sink.now ≡ s' → Writes H F a text b → Writes H F b [] c → OnOk result (c.failed ≡ false) → OnOk result (c.out.now ≡ []) → OnErr result (c.failed ≡ true) → HasCause (F s) (F s') result
+caused {X} {H} {F} result a b c text {s} {s'} fresh e i put flush fine gone failed =
+    let sends : SendsBy result text (H s) a.out.now (F s) (H s') c.out.now (F s') = sent result a b c text fresh e refl i refl put flush fine gone failed in sends.cause
 
 -- ---- the refusal of a model that can't be cleared
 

@@ -2,10 +2,10 @@
 use Rattle.std.specs.Prelude.{◌≡◌, ℕ, ◌+◌, ◌≤◌, List, [], Result, Ok, Err}
 use Rattle.std.specs.declared.option.Option.{Option}
 use Rattle.line_io.specs.Causes.{Count, Rose}
-use Rattle.line_io.specs.Writer.{Puts, PutsFront}
+use Rattle.line_io.specs.Writer.{Puts, PutsFront, Writes}
 use Rattle.line_io.specs.declared.hearing.Heard.{Heard}
 use Rattle.line_io.specs.declared.hearing.Heard.TheVariants.{More, Last}
-use Rattle.line_io.specs.declared.out.WriteFault.{WriteFault}
+use Rattle.line_io.specs.declared.writer.Writer.{Writer}
 use Rattle.talk.specs.Talks.{Reply, Replying, Talk, Wanting}
 use Rattle.talk.specs.declared.fault.AnswerFault.{AnswerFault}
 use Rattle.talk.specs.declared.fault.AnswerFault.TheVariants.{Write, Memory}
@@ -46,29 +46,48 @@ pub record SaysNothing {N S : Type 0} (s s' : Shown N S) : Type 0 where
   pub faults : s'.faults ≡ s.faults
   pub steps : s.steps ≤ s'.steps
 
--- a reply was said, whole at `Ok`, and a front of it at `Err`
-abbrev pub SaysBy : {N S T : Type 0} → Result T WriteFault → Shown N S → Reply S → Shown N S → Type 0
-SaysBy (Ok done) s r s' = Says s r s'
-SaysBy (Err fault) s r s' = SaysFront s r s'
+-- where who answers is: what no line changes, the state of the talk, what was written, and the steps counted
+pub record Speaking (N S X : Type 0) : Type 0 where
+  pub kept : N
+  pub state : S
+  pub writer : Writer X
+  pub steps : ℕ
 
--- one of these replies was said
-abbrev pub SaysSome : {N S T : Type 0} → (Reply S → Type 0) → Result T WriteFault → Shown N S → Shown N S → Type 0
-SaysSome Gets result s s' = (r : Reply _) × Gets r × SaysBy result s r s'
+abbrev pub speaking : {N S X : Type 0} → N → S → Writer X → ℕ → Speaking N S X
+speaking kept state writer steps = record { kept = kept; state = state; writer = writer; steps = steps }
 
--- how a line is answered: a reply is said, and what stands then can stand behind the line; or the line quits; or a front of a reply is said, since
--- the sink failed; or nothing is said, since the line wanted memory that wasn't there
-abbrev pub AnswersLine : {N S : Type 0} → (N → Replying S) → (List ℕ → Type 0) → Wanting S → (ℕ → S → Type 0) → Shown N S → ℕ → List ℕ → Result Heard AnswerFault → Shown N S → Type 0
-AnswersLine gets Quits Wants Behind s line text (Ok More) s' = (r : Reply _) × gets s.kept line s.state text r × Says s r s' × Behind line s'.state
-AnswersLine gets Quits Wants Behind s line text (Ok Last) s' = Quits text × (s' ≡ s)
-AnswersLine gets Quits Wants Behind s line text (Err (Write fault)) s' = (r : Reply _) × gets s.kept line s.state text r × SaysFront s r s'
-AnswersLine gets Quits Wants Behind s line text (Err Memory) s' = Wants line s.state text × SaysNothing s s'
+-- a writer keeps its buffer and its sink
+abbrev pub KeepsSink : {X : Type 0} → Writer X → Writer X → Type 0
+KeepsSink w w' = (w'.out.ghost_name ≡ w.out.ghost_name) × (w'.sink.ghost_name ≡ w.sink.ghost_name)
 
--- what a line comes to that was answered by a text
-abbrev pub answered : Result (Unit {0}) WriteFault → Result Heard AnswerFault
-answered (Ok done) = Ok More
-answered (Err fault) = Err (Write fault)
+-- a reply was put
+pub record PutsReply {N S X : Type 0} (held : X → Option (List ℕ)) (faults : X → Count) (s : Speaking N S X) (r : Reply S) (s' : Speaking N S X) : Type 0 where
+  pub kept : s'.kept ≡ s.kept
+  pub state : s'.state ≡ r.after
+  pub put : Writes held faults s.writer r.text s'.writer
+  pub steps : s'.steps ≡ s.steps + r.steps
 
--- the same, where nothing is left pending behind a reply
+-- nothing was put; some steps may have been taken
+pub record PutsNothing {N S X : Type 0} (s s' : Speaking N S X) : Type 0 where
+  pub kept : s'.kept ≡ s.kept
+  pub writer : s'.writer ≡ s.writer
+  pub steps : s.steps ≤ s'.steps
+
+-- one of these replies was put
+abbrev pub PutsSome : {N S X : Type 0} → (X → Option (List ℕ)) → (X → Count) → (Reply S → Type 0) → Speaking N S X → Speaking N S X → Type 0
+PutsSome held faults Gets s s' = (r : Reply _) × Gets r × PutsReply held faults s r s'
+
+-- how a line is answered: a reply is put, and what stands then can stand after the line; or the line quits; or nothing is put, since the line wanted
+-- memory that wasn't there
+abbrev pub AnswersLine : {N S X E : Type 0} → (X → Option (List ℕ)) → (X → Count) → (N → Replying S) → (List ℕ → Type 0) → Wanting S → (ℕ → S → Type 0) → Speaking N S X → ℕ → List ℕ → Result Heard E
+    → Speaking N S X → Type 0
+AnswersLine held faults gets Quits Wants Behind s line text (Ok More) s' =
+    (r : Reply _) × gets s.kept line s.state text r × PutsReply held faults s r s' × Behind line s'.state
+AnswersLine held faults gets Quits Wants Behind s line text (Ok Last) s' = Quits text × (s' ≡ s)
+AnswersLine held faults gets Quits Wants Behind s line text (Err fault) s' = Wants line s.state text × PutsNothing s s'
+
+-- how a line is heard: a reply is said, and nothing is left pending; or the line quits; or a front of a reply is said, since the sink failed; or
+-- nothing is said, since the line wanted memory that wasn't there
 abbrev pub HearsText : {N S : Type 0} → (N → Replying S) → (List ℕ → Type 0) → Wanting S → (ℕ → S → Type 0) → Shown N S → ℕ → List ℕ → Result Heard AnswerFault → Shown N S → Type 0
 HearsText gets Quits Wants Behind s line text (Ok More) s' =
     (r : Reply _) × gets s.kept line s.state text r × Says s r s' × Behind line s'.state × (s'.pending ≡ [])

@@ -14,7 +14,7 @@ use crate::speaker::Speaker;
 use crate::status::{Status, status_after};
 use crate::talker::converse;
 use evac_law::{Code, Steps};
-use line_io::{Ending, LineFault, Lines, Out, Sink, Source, WriteFault};
+use line_io::{Ending, LineFault, Lines, Out, Sink, Source, WriteFault, Writer};
 use std::sync::ledger::Ledger;
 
 // Sends the text that opens a talk.
@@ -26,8 +26,9 @@ fn send_opening<K: Sink, T: Speaker>(
     ensures { SendsBy result (T.opening speaker.now)
         (K.held sink.old) out.old (K.faults sink.old) (K.held sink.new) out.new (K.faults sink.new) }
 {
-    speaker.open(out, sink)?;
-    out.flush(sink)
+    let mut writer = Writer::new(out, sink);
+    speaker.open(&mut writer);
+    writer.flush()
 }
 
 // Refuses a line for good.

@@ -13,9 +13,8 @@ mod speaker;
 mod status;
 mod talker;
 
-pub use fault::AnswerFault;
 pub use hold::hold_talk;
 pub use send::{send_refusal, send_short};
 pub use short::refuse_building;
-pub use speaker::{Speaker, answered};
+pub use speaker::Speaker;
 pub use status::{Status, status_after};

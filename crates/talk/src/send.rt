@@ -5,10 +5,10 @@ ghost use Rattle.evac_law.specs.Certificates.{IsTableOf, label_cut};
 ghost use Rattle.certificate_text.specs.BlockText.{refusal_line, shortfall_text};
 ghost use Rattle.talk.specs.Held.{SendsBy};
 
-use certificate_text::{write_refusal, write_short};
+use certificate_text::{put_refusal, put_short};
 use edit_session::Short;
 use evac_law::Code;
-use line_io::{Out, Sink, WriteFault};
+use line_io::{Out, Sink, WriteFault, Writer};
 
 /// Sends the refusal of a line.
 pub fn send_refusal<K: Sink>(
@@ -20,8 +20,9 @@ pub fn send_refusal<K: Sink>(
     ensures { SendsBy result (refusal_line code line)
         (K.held sink.old) out.old (K.faults sink.old) (K.held sink.new) out.new (K.faults sink.new) }
 {
-    write_refusal(out, sink, code, line)?;
-    out.flush(sink)
+    let mut writer = Writer::new(out, sink);
+    put_refusal(&mut writer, code, line);
+    writer.flush()
 }
 
 /// Sends the refusal of a model that can't be cleared, at a line, with the cut that its labels make at the horizon.
@@ -37,14 +38,8 @@ pub fn send_short<K: Sink>(
         (K.held sink.old) out.old (K.faults sink.old) (K.held sink.new) out.new (K.faults sink.new) }
 {
     let model = &short.model;
-    write_short(
-        out,
-        sink,
-        model,
-        line,
-        model.people(),
-        short.most,
-        &short.labels,
-    )?;
-    out.flush(sink)
+    let people = model.people();
+    let mut writer = Writer::new(out, sink);
+    put_short(&mut writer, model, line, people, short.most, &short.labels);
+    writer.flush()
 }

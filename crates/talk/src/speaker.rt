@@ -1,14 +1,13 @@
 //! Who answers the lines of a talk.
 ghost use Rattle.std.specs.Prelude.{◌≡◌, ◌≤◌, ◌+◌, ℕ, List, length, Ok};
-ghost use Rattle.line_io.specs.Causes.{HasCause};
 ghost use Rattle.line_io.specs.Line.{input_limit, line_limit};
-ghost use Rattle.line_io.specs.Writer.{PutsText};
-ghost use Rattle.talk.specs.Speaking.{AnswersLine, answered, shown};
+ghost use Rattle.line_io.specs.Writer.{Writes};
+ghost use Rattle.talk.specs.Speaking.{AnswersLine, KeepsSink, speaking};
 ghost use Rattle.talk.specs.Talks.{Replying, Wanting};
 
-use crate::fault::AnswerFault;
 use evac_law::Steps;
-use line_io::{Heard, Out, Sink, WriteFault};
+use line_io::{Heard, Sink, Writer};
+use std::alloc::AllocError;
 use std::sync::ledger::Ledger;
 
 /// Who answers the lines of a talk.
@@ -42,34 +41,23 @@ pub trait Speaker {
     ghost ready: { Self → Type 0 };
 
     /// Puts the text that opens a talk.
-    fn open<K: Sink>(&self, out: &mut Out, sink: &mut K) -> Result<(), WriteFault>
-        ensures text { PutsText (K.held sink.old) out.old (opening self.now) (K.held sink.new) out.new result }
-        ensures cause { HasCause (K.faults sink.old) (K.faults sink.new) result };
+    fn open<K: Sink>(&self, writer: &mut Writer<'_, K>)
+        ensures { Writes K.held K.faults writer.old (opening self.now) writer.new };
 
     /// Puts what a line gets, unless it ends the talk. Where a line wants memory that isn't there nothing is put.
     fn answer<K: Sink, L: Ledger>(
         &mut self,
-        out: &mut Out,
-        sink: &mut K,
+        writer: &mut Writer<'_, K>,
         steps: &mut Steps<L>,
         text: &[u8],
         line: u32,
-    ) -> Result<Heard, AnswerFault>
+    ) -> Result<Heard, AllocError>
         requires ready { ready self.old }
         requires line { line ≤ input_limit }
         requires short { length text.now ≤ line_limit }
-        ensures answers { (before : ℕ) → line ≡ before + 1 → Behind before (state self.old) → AnswersLine gets Quits Wants Behind
-            (shown (kept self.old) (state self.old) (K.held sink.old) out.old (K.faults sink.old) steps.old) line text.now result
-            (shown (kept self.new) (state self.new) (K.held sink.new) out.new (K.faults sink.new) steps.new) }
+        ensures answers { (before : ℕ) → line ≡ before + 1 → Behind before (state self.old) → AnswersLine K.held K.faults gets Quits Wants Behind
+            (speaking (kept self.old) (state self.old) writer.old steps.old) line text.now result
+            (speaking (kept self.new) (state self.new) writer.new steps.new) }
+        ensures same { KeepsSink writer.old writer.new }
         ensures more { result ≡ Ok Heard.More → ready self.new };
-}
-
-/// What a line comes to that was answered by a text: the talk goes on, unless the sink failed.
-pub fn answered(put: Result<(), WriteFault>) -> Result<Heard, AnswerFault>
-    ensures { result ≡ answered put }
-{
-    match put {
-        Ok(()) => Ok(Heard::More),
-        Err(fault) => Err(AnswerFault::Write(fault)),
-    }
 }

@@ -8,7 +8,7 @@ ghost use Rattle.talk.specs.Speaking.{HearsLine, shown};
 use crate::fault::AnswerFault;
 use crate::speaker::Speaker;
 use evac_law::Steps;
-use line_io::{Ending, Heard, Lines, Listener, Out, Sink, Source, listen};
+use line_io::{Ending, Heard, Lines, Listener, Out, Sink, Source, Writer, listen};
 use std::sync::ledger::Ledger;
 
 // Who answers, and where the replies go.
@@ -37,15 +37,14 @@ impl<'a, 'b, T: Speaker, K: Sink, L: Ledger> Listener for Talker<'a, 'b, T, K, L
         (shown (T.kept s'.speaker.now) (T.state s'.speaker.now) (K.held s'.sink.now) s'.out.now (K.faults s'.sink.now) s'.steps.now) };
 
     fn hear(&mut self, text: &[u8], line: u32) -> Result<Heard, AnswerFault> {
-        match self
-            .speaker
-            .answer(self.out, self.sink, self.steps, text, line)?
-        {
-            Heard::More => {
-                self.out.flush(self.sink)?;
+        let mut writer = Writer::new(self.out, self.sink);
+        match self.speaker.answer(&mut writer, self.steps, text, line) {
+            Ok(Heard::More) => {
+                writer.flush()?;
                 Ok(Heard::More)
             }
-            Heard::Last => Ok(Heard::Last),
+            Ok(Heard::Last) => Ok(Heard::Last),
+            Err(_) => Err(AnswerFault::Memory),
         }
     }
 }
