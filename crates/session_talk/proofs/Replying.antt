@@ -1,11 +1,11 @@
 -- No line gets more than one block, and a line that is replied to is answered.
 use Rattle.std.proofs.Common.{◌≡◌, ℕ, ◌+◌, ◌≤◌, List, [], ◌∷◌, Result, Ok, Err, sym, ap, subst, ◌∙◌, arith, inl, inr}
+use Rattle.std.specs.declared.option.Option.{Option}
 use Rattle.evac_law.specs.declared.edit.Edit.{Edit}
 use Rattle.evac_law.specs.declared.edit.EditFault.{EditFault}
 use Rattle.evac_law.specs.declared.model.Model.{Model}
 use Rattle.evac_law.specs.Edits.{applied}
-use Rattle.line_io.specs.declared.hearing.Heard.{Heard}
-use Rattle.line_io.specs.declared.out.WriteFault.{WriteFault}
+use Rattle.line_io.specs.Causes.{Count}
 use Rattle.model_text.specs.declared.command.Command.{Command}
 use Rattle.model_text.specs.declared.command.Command.TheVariants as commands
 use Rattle.model_text.specs.declared.command.Report.{Report}
@@ -15,12 +15,11 @@ use Rattle.model_text.specs.Commands.{command_of}
 use Rattle.building_table.specs.declared.faults.NameFault.{NameFault}
 use Rattle.building_table.specs.EditNames.{edit_named}
 use Rattle.building_table.specs.Names.{NameTable}
-use Rattle.session_talk.specs.Desks.{Behind, Quits, gets}
+use Rattle.session_talk.specs.Desks.{Behind, gets}
 use Rattle.session_talk.specs.Sessions.{AsksEdit, Edits, Replies, Reports, State, Undoes}
 use Rattle.session_talk.proofs.Same.{cut_stays}
-use Rattle.talk.specs.Speaking.{AnswersLine, SaysSome, Shown, answered}
-use Rattle.talk.specs.declared.fault.AnswerFault.{AnswerFault}
-use Rattle.talk.specs.Talks.{Reply, WantsNone, says}
+use Rattle.talk.specs.Speaking.{PutsReply, PutsSome, Speaking}
+use Rattle.talk.specs.Talks.{Reply, says}
 
 -- ---- no line gets more than one block
 
@@ -61,18 +60,9 @@ reply-index names line s (Ok commands.Quit) r h = absurd h
 
 -- ---- a line that is replied to is answered
 
-answers-by : (x y : Shown NameTable State) (before line : ℕ) (text : List ℕ) (c : Result Command TextFault) (put : Result (Unit {0}) WriteFault) → c ≡ command_of text
-    → line ≡ before + 1 → Behind before x.state → SaysSome (Replies x.kept line x.state c) put x y → AnswersLine gets Quits WantsNone Behind x line text (answered put) y
-answers-by x y before line text c (Ok done) is at few h =
+pub answers : {X : Type 0} {H : X → Option (List ℕ)} {F : X → Count} (x y : Speaking NameTable State X) (before line : ℕ) (text : List ℕ) (c : Result Command TextFault) → c ≡ command_of text
+    → line ≡ before + 1 → Behind before x.state → PutsSome H F (Replies x.kept line x.state c) x y → (r : Reply State) × gets x.kept line x.state text r × PutsReply H F x r y × Behind line y.state
+answers x y before line text c is at few h =
     let P : Result Command TextFault → Type 0 = λ z. Replies x.kept line x.state z h.0 in
     let e = ap (λ (s : State). s.index) h.2.state in
     (h.0, subst P is h.1, h.2, omega (arith, reply-index x.kept line x.state c h.0 h.1, e, few, at))
-answers-by x y before line text c (Err fault) is at few h =
-    let P : Result Command TextFault → Type 0 = λ z. Replies x.kept line x.state z h.0 in (h.0, subst P is h.1, h.2)
-
-pub answers : (x y : Shown NameTable State) (before line : ℕ) (text : List ℕ) (c : Result Command TextFault) (put : Result (Unit {0}) WriteFault) (result : Result Heard AnswerFault)
-    → c ≡ command_of text → result ≡ answered put → line ≡ before + 1 → Behind before x.state → SaysSome (Replies x.kept line x.state c) put x y
-    → AnswersLine gets Quits WantsNone Behind x line text result y
-answers x y before line text c put result is made at few h =
-    let P : Result Heard AnswerFault → Type 0 = λ z. AnswersLine gets Quits WantsNone Behind x line text z y in
-    subst P (sym made) (answers-by x y before line text c put is at few h)

@@ -1,8 +1,7 @@
 -- What replies about a session are made in, and what a session does at a line.
 use Rattle.std.specs.Prelude.{◌≡◌, ℕ, ◌≤◌, List, Ok}
-use Rattle.std.specs.declared.option.Option.{Option}
 use Rattle.evac_law.specs.declared.model.Model.{Model}
-use Rattle.line_io.specs.Causes.{Count}
+use Rattle.line_io.specs.declared.writer.Writer.{Writer}
 use Rattle.model_text.specs.declared.command.Command.TheVariants.{Quit}
 use Rattle.model_text.specs.Commands.{command_of}
 use Rattle.building_table.specs.Names.{NameTable, NamesFit}
@@ -11,7 +10,7 @@ use Rattle.route_decompose.specs.Routes.{IsSameSite, RoutesView}
 use Rattle.session_text.specs.Laws.{IsOfBuilding}
 use Rattle.session_text.specs.Spaces.{IsSpace, SpaceView}
 use Rattle.session_talk.specs.Sessions.{Replies, State}
-use Rattle.talk.specs.Speaking.{Shown, shown}
+use Rattle.talk.specs.Speaking.{Speaking, speaking}
 use Rattle.talk.specs.Talks.{Replying}
 
 -- a desk as contracts see it: the names of a building, the index of the block written last, and what routes and reports are made in
@@ -44,8 +43,8 @@ abbrev pub desk_state : DeskView → SessionView → State
 desk_state d v = record { index = d.index; standing = v.state }
 
 -- what is shown of a desk and a session
-abbrev pub shown_of : DeskView → SessionView → Option (List ℕ) → List ℕ → Count → ℕ → Shown NameTable State
-shown_of d v held pending faults steps = shown d.names (desk_state d v) held pending faults steps
+abbrev pub shown_of : {X : Type 0} → DeskView → SessionView → Writer X → ℕ → Speaking NameTable State X
+shown_of d v writer steps = speaking d.names (desk_state d v) writer steps
 
 -- what a line gets in a session with these names, and which line quits
 abbrev pub gets : NameTable → Replying State

@@ -3,8 +3,7 @@ ghost use Rattle.std.specs.Prelude.{◌≡◌, ◌<◌, ◌+◌, ◌^◌, ℕ, L
 ghost use Rattle.evac_law.specs.Building.{IsValid};
 ghost use Rattle.evac_law.specs.Edits.{IsEditOf};
 ghost use Rattle.evac_law.specs.declared.model.Model.{Model as ModelValue};
-ghost use Rattle.line_io.specs.Causes.{HasCause};
-ghost use Rattle.line_io.specs.Writer.{PutsText};
+ghost use Rattle.line_io.specs.Writer.{Writes};
 ghost use Rattle.building_table.specs.EditNames.{edit_named};
 ghost use Rattle.building_table.specs.Names.{NamesFit};
 ghost use Rattle.session_text.specs.Spaces.{IsSpace};
@@ -14,11 +13,11 @@ ghost use Rattle.session_talk.specs.Desks.{HasTables, IsDesk, IsSameDesk};
 use building_table::{NameFault, Names, edit_of};
 use edit_session::Session;
 use evac_law::Edit;
-use line_io::{Out, Sink, WriteFault};
+use line_io::{Sink, Writer};
 use model_text::NamedEdit;
 use route_decompose::Routes;
 use session_text::{
-    ReportSpace, write_block, write_bottlenecks, write_clearing, write_routes, write_summary,
+    ReportSpace, put_block, put_bottlenecks, put_clearing, put_routes, put_summary,
 };
 use std::alloc::{AllocError, Global};
 use std::marker::Model;
@@ -106,79 +105,49 @@ impl Desk {
     }
 
     /// Puts the block of a session's plan.
-    pub fn write_block<K: Sink>(
-        &self,
-        out: &mut Out,
-        sink: &mut K,
-        session: &Session,
-    ) -> Result<(), WriteFault>
-        ensures text { PutsText (K.held sink.old) out.old (block_text self.now.index session.now.state) (K.held sink.new) out.new result }
-        ensures cause { HasCause (K.faults sink.old) (K.faults sink.new) result }
+    pub fn put_block<K: Sink>(&self, writer: &mut Writer<'_, K>, session: &Session)
+        ensures { Writes K.held K.faults writer.old (block_text self.now.index session.now.state) writer.new }
     {
-        write_block(out, sink, session, self.index)
+        put_block(writer, session, self.index);
     }
 
     /// Puts routes that make up the plan.
-    pub(crate) fn write_routes<K: Sink>(
-        &mut self,
-        out: &mut Out,
-        sink: &mut K,
-        session: &Session,
-    ) -> Result<(), WriteFault>
+    pub(crate) fn put_routes<K: Sink>(&mut self, writer: &mut Writer<'_, K>, session: &Session)
         requires { IsDesk self.old session.now }
-        ensures text { (text : List ℕ) × SaysRoutesOf self.old.index session.now.state text × PutsText (K.held sink.old) out.old text (K.held sink.new) out.new result }
-        ensures cause { HasCause (K.faults sink.old) (K.faults sink.new) result }
+        ensures text { (text : List ℕ) × SaysRoutesOf self.old.index session.now.state text × Writes K.held K.faults writer.old text writer.new }
         ensures same { IsSameDesk self.old self.new }
         ensures desk { IsDesk self.new session.now }
     {
-        write_routes(out, sink, session, self.index, &mut self.routes)
+        put_routes(writer, session, self.index, &mut self.routes);
     }
 
     /// Puts when each node and each floor is empty.
-    pub(crate) fn write_clearing<K: Sink>(
-        &mut self,
-        out: &mut Out,
-        sink: &mut K,
-        session: &Session,
-    ) -> Result<(), WriteFault>
+    pub(crate) fn put_clearing<K: Sink>(&mut self, writer: &mut Writer<'_, K>, session: &Session)
         requires { IsDesk self.old session.now }
-        ensures text { PutsText (K.held sink.old) out.old (clearing_of self.old.names self.old.index session.now.state) (K.held sink.new) out.new result }
-        ensures cause { HasCause (K.faults sink.old) (K.faults sink.new) result }
+        ensures text { Writes K.held K.faults writer.old (clearing_of self.old.names self.old.index session.now.state) writer.new }
         ensures same { IsSameDesk self.old self.new }
         ensures desk { IsDesk self.new session.now }
     {
-        write_clearing(out, sink, session, self.index, &self.names, &mut self.space)
+        put_clearing(writer, session, self.index, &self.names, &mut self.space);
     }
 
     /// Puts what holds people up, and in how many periods.
-    pub(crate) fn write_bottlenecks<K: Sink>(
-        &mut self,
-        out: &mut Out,
-        sink: &mut K,
-        session: &Session,
-    ) -> Result<(), WriteFault>
+    pub(crate) fn put_bottlenecks<K: Sink>(&mut self, writer: &mut Writer<'_, K>, session: &Session)
         requires { IsDesk self.old session.now }
-        ensures text { PutsText (K.held sink.old) out.old (bottlenecks_of self.old.index session.now.state) (K.held sink.new) out.new result }
-        ensures cause { HasCause (K.faults sink.old) (K.faults sink.new) result }
+        ensures text { Writes K.held K.faults writer.old (bottlenecks_of self.old.index session.now.state) writer.new }
         ensures same { IsSameDesk self.old self.new }
         ensures desk { IsDesk self.new session.now }
     {
-        write_bottlenecks(out, sink, session, self.index, &mut self.space)
+        put_bottlenecks(writer, session, self.index, &mut self.space);
     }
 
     /// Puts the summary of the plan.
-    pub(crate) fn write_summary<K: Sink>(
-        &mut self,
-        out: &mut Out,
-        sink: &mut K,
-        session: &Session,
-    ) -> Result<(), WriteFault>
+    pub(crate) fn put_summary<K: Sink>(&mut self, writer: &mut Writer<'_, K>, session: &Session)
         requires { IsDesk self.old session.now }
-        ensures text { (text : List ℕ) × SaysSummary self.old.names self.old.index session.now.state text × PutsText (K.held sink.old) out.old text (K.held sink.new) out.new result }
-        ensures cause { HasCause (K.faults sink.old) (K.faults sink.new) result }
+        ensures text { (text : List ℕ) × SaysSummary self.old.names self.old.index session.now.state text × Writes K.held K.faults writer.old text writer.new }
         ensures same { IsSameDesk self.old self.new }
         ensures desk { IsDesk self.new session.now }
     {
-        write_summary(out, sink, session, self.index, &self.names, &mut self.space)
+        put_summary(writer, session, self.index, &self.names, &mut self.space);
     }
 }

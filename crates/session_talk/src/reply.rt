@@ -2,37 +2,30 @@
 ghost use Rattle.std.specs.Prelude.{◌≡◌, ◌<◌, ◌≤◌, ◌+◌, ℕ, Err};
 ghost use Rattle.evac_law.specs.Edits.{applied};
 ghost use Rattle.evac_law.specs.declared.edit.Edit.{Edit as EditValue};
-ghost use Rattle.line_io.specs.Causes.{HasCause};
 ghost use Rattle.line_io.specs.Line.{input_limit};
-ghost use Rattle.line_io.specs.Writer.{PutsText};
+ghost use Rattle.line_io.specs.Writer.{Writes};
 ghost use Rattle.edit_session.specs.Sessions.{EditEnds, SessionView, UndoEnds};
 ghost use Rattle.session_talk.specs.Desks.{DeskView, IsDesk, desk_state, shown_of};
 ghost use Rattle.session_talk.specs.Sessions.{Edits, Reports, State, Undoes, cut_reply};
-ghost use Rattle.talk.specs.Speaking.{SaysSome};
+ghost use Rattle.talk.specs.Speaking.{KeepsSink, PutsSome};
 
 use crate::desk::Desk;
-use certificate_text::write_refusal;
+use certificate_text::put_refusal;
 use edit_session::{EditRefusal, Session, UndoRefusal, Work};
 use evac_law::Code;
-use line_io::{Out, Sink, WriteFault};
+use line_io::{Sink, Writer};
 use model_text::Report;
-use session_text::{write_barred, write_cut};
+use session_text::{put_barred, put_cut};
 
 /// Puts the cut of a period, where there is the period.
-pub fn reply_cut<K: Sink>(
-    out: &mut Out,
-    sink: &mut K,
-    session: &Session,
-    period: u32,
-    line: u32,
-) -> Result<(), WriteFault>
-    ensures text { (s : State) → s.standing ≡ session.now.state → PutsText (K.held sink.old) out.old (cut_reply line s period).text (K.held sink.new) out.new result }
-    ensures cause { HasCause (K.faults sink.old) (K.faults sink.new) result }
+pub fn reply_cut<K: Sink>(writer: &mut Writer<'_, K>, session: &Session, period: u32, line: u32)
+    ensures says { (s : State) → s.standing ≡ session.now.state → Writes K.held K.faults writer.old (cut_reply line s period).text writer.new }
+    ensures same { KeepsSink writer.old writer.new }
 {
     if period > u32::from(session.model().horizon) {
-        write_refusal(out, sink, Code::NoPeriod, line)
+        put_refusal(writer, Code::NoPeriod, line);
     } else {
-        write_cut(out, sink, session, period as u16)
+        put_cut(writer, session, period as u16);
     }
 }
 
@@ -40,41 +33,41 @@ pub fn reply_cut<K: Sink>(
 pub fn reply_report<K: Sink>(
     desk: &mut Desk,
     session: &Session,
-    out: &mut Out,
-    sink: &mut K,
+    writer: &mut Writer<'_, K>,
     report: Report,
-) -> Result<(), WriteFault>
+)
     requires { IsDesk desk.old session.now }
-    ensures says { (steps : ℕ) → SaysSome (Reports desk.old.names (desk_state desk.old session.now) report) result
-        (shown_of desk.old session.now (K.held sink.old) out.old (K.faults sink.old) steps)
-        (shown_of desk.new session.now (K.held sink.new) out.new (K.faults sink.new) steps) }
+    ensures says { (steps : ℕ) → PutsSome K.held K.faults (Reports desk.old.names (desk_state desk.old session.now) report)
+        (shown_of desk.old session.now writer.old steps)
+        (shown_of desk.new session.now writer.new steps) }
+    ensures same { KeepsSink writer.old writer.new }
     ensures desk { IsDesk desk.new session.now }
 {
     match report {
-        Report::Routes => desk.write_routes(out, sink, session),
-        Report::Clearing => desk.write_clearing(out, sink, session),
-        Report::Bottlenecks => desk.write_bottlenecks(out, sink, session),
-        Report::Summary => desk.write_summary(out, sink, session),
+        Report::Routes => desk.put_routes(writer, session),
+        Report::Clearing => desk.put_clearing(writer, session),
+        Report::Bottlenecks => desk.put_bottlenecks(writer, session),
+        Report::Summary => desk.put_summary(writer, session),
     }
 }
 
 // Puts the refusal of an edit by a session.
 fn reply_refused<K: Sink>(
-    out: &mut Out,
-    sink: &mut K,
+    writer: &mut Writer<'_, K>,
     session: &Session,
     refusal: EditRefusal,
     line: u32,
-) -> Result<(), WriteFault>
-    ensures { (d : DeskView) (v : SessionView) (e : EditValue) (n k : ℕ) → EditEnds v e (Err refusal) session.now n
-        → SaysSome (Edits line (desk_state d v) (applied v.state.model e)) result
-        (shown_of d v (K.held sink.old) out.old (K.faults sink.old) k)
-        (shown_of d session.now (K.held sink.new) out.new (K.faults sink.new) (k + n)) }
+)
+    ensures says { (d : DeskView) (v : SessionView) (e : EditValue) (n k : ℕ) → EditEnds v e (Err refusal) session.now n
+        → PutsSome K.held K.faults (Edits line (desk_state d v) (applied v.state.model e))
+        (shown_of d v writer.old k)
+        (shown_of d session.now writer.new (k + n)) }
+    ensures same { KeepsSink writer.old writer.new }
 {
     match refusal {
-        EditRefusal::Fault(fault) => write_refusal(out, sink, fault.code(), line),
+        EditRefusal::Fault(fault) => put_refusal(writer, fault.code(), line),
         EditRefusal::NotCleared { people, most } => {
-            write_barred(out, sink, session, line, people, most)
+            put_barred(writer, session, line, people, most);
         }
     }
 }
@@ -83,24 +76,24 @@ fn reply_refused<K: Sink>(
 pub fn reply_edited<K: Sink>(
     desk: &mut Desk,
     session: &Session,
-    out: &mut Out,
-    sink: &mut K,
+    writer: &mut Writer<'_, K>,
     edited: Result<Work, EditRefusal>,
     line: u32,
-) -> Result<(), WriteFault>
+)
     requires { line ≤ input_limit }
     ensures says { (v : SessionView) (e : EditValue) (n k : ℕ) → EditEnds v e edited session.now n → desk.old.index < line
-        → SaysSome (Edits line (desk_state desk.old v) (applied v.state.model e)) result
-        (shown_of desk.old v (K.held sink.old) out.old (K.faults sink.old) k)
-        (shown_of desk.new session.now (K.held sink.new) out.new (K.faults sink.new) (k + n)) }
+        → PutsSome K.held K.faults (Edits line (desk_state desk.old v) (applied v.state.model e))
+        (shown_of desk.old v writer.old k)
+        (shown_of desk.new session.now writer.new (k + n)) }
+    ensures same { KeepsSink writer.old writer.new }
     ensures desk { (v : SessionView) (e : EditValue) (n : ℕ) → EditEnds v e edited session.now n → IsDesk desk.old v → IsDesk desk.new session.now }
 {
     match edited {
         Ok(_) => {
             desk.count_block();
-            desk.write_block(out, sink, session)
+            desk.put_block(writer, session);
         }
-        Err(refusal) => reply_refused(out, sink, session, refusal, line),
+        Err(refusal) => reply_refused(writer, session, refusal, line),
     }
 }
 
@@ -108,23 +101,23 @@ pub fn reply_edited<K: Sink>(
 pub fn reply_undone<K: Sink>(
     desk: &mut Desk,
     session: &Session,
-    out: &mut Out,
-    sink: &mut K,
+    writer: &mut Writer<'_, K>,
     undone: Result<Work, UndoRefusal>,
     line: u32,
-) -> Result<(), WriteFault>
+)
     requires { line ≤ input_limit }
     ensures says { (v : SessionView) (n k : ℕ) → UndoEnds v undone session.now n → desk.old.index < line
-        → SaysSome (Undoes line (desk_state desk.old v) v.state.former) result
-        (shown_of desk.old v (K.held sink.old) out.old (K.faults sink.old) k)
-        (shown_of desk.new session.now (K.held sink.new) out.new (K.faults sink.new) (k + n)) }
+        → PutsSome K.held K.faults (Undoes line (desk_state desk.old v) v.state.former)
+        (shown_of desk.old v writer.old k)
+        (shown_of desk.new session.now writer.new (k + n)) }
+    ensures same { KeepsSink writer.old writer.new }
     ensures desk { (v : SessionView) (n : ℕ) → UndoEnds v undone session.now n → IsDesk desk.old v → IsDesk desk.new session.now }
 {
     match undone {
         Ok(_) => {
             desk.count_block();
-            desk.write_block(out, sink, session)
+            desk.put_block(writer, session);
         }
-        Err(UndoRefusal::NothingToUndo) => write_refusal(out, sink, Code::NothingToUndo, line),
+        Err(UndoRefusal::NothingToUndo) => put_refusal(writer, Code::NothingToUndo, line),
     }
 }

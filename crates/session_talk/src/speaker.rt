@@ -6,20 +6,20 @@ ghost use Rattle.building_table.specs.Names.{NamesFit};
 ghost use Rattle.line_io.specs.Line.{input_limit};
 ghost use Rattle.session_talk.specs.Desks.{IsDesk, desk_state, shown_of};
 ghost use Rattle.session_talk.specs.Sessions.{AsksEdit, Undoes};
-ghost use Rattle.talk.specs.Speaking.{SaysSome};
+ghost use Rattle.talk.specs.Speaking.{KeepsSink, PutsSome};
 
 use crate::desk::Desk;
 use crate::reply::{reply_cut, reply_edited, reply_report, reply_undone};
 use building_table::Building;
-use certificate_text::write_refusal;
+use certificate_text::put_refusal;
 use edit_session::{BeginFault, Session};
 use evac_law::Steps;
-use line_io::{Heard, Out, Sink, WriteFault};
+use line_io::{Heard, Sink, Writer};
 use model_text::{Command, NamedEdit, read_command};
-use session_text::write_work;
-use std::alloc::Global;
+use session_text::put_work;
+use std::alloc::{AllocError, Global};
 use std::sync::ledger::Ledger;
-use talk::{AnswerFault, Speaker, answered};
+use talk::Speaker;
 
 /// A session with the desk at which its replies are made.
 #[derive(Drop)]
@@ -59,47 +59,47 @@ impl SessionTalk {
 // An edit gets the next block, or a refusal with all as it was.
 fn reply_edit<K: Sink, L: Ledger>(
     talk: &mut SessionTalk,
-    out: &mut Out,
-    sink: &mut K,
+    writer: &mut Writer<'_, K>,
     steps: &mut Steps<L>,
     named: NamedEdit,
     line: u32,
-) -> Result<(), WriteFault>
+)
     requires desk { IsDesk talk.old.desk talk.old.session }
     requires line { line ≤ input_limit }
     ensures says { talk.old.desk.index < line
-        → SaysSome (AsksEdit line (desk_state talk.old.desk talk.old.session) (edit_named talk.old.desk.names named)) result
-        (shown_of talk.old.desk talk.old.session (K.held sink.old) out.old (K.faults sink.old) steps.old)
-        (shown_of talk.new.desk talk.new.session (K.held sink.new) out.new (K.faults sink.new) steps.new) }
+        → PutsSome K.held K.faults (AsksEdit line (desk_state talk.old.desk talk.old.session) (edit_named talk.old.desk.names named))
+        (shown_of talk.old.desk talk.old.session writer.old steps.old)
+        (shown_of talk.new.desk talk.new.session writer.new steps.new) }
+    ensures same { KeepsSink writer.old writer.new }
     ensures desk { IsDesk talk.new.desk talk.new.session }
 {
     match talk.desk.edit_of(named) {
         Ok(edit) => {
             let edited = talk.session.edit(edit, steps);
-            reply_edited(&mut talk.desk, &talk.session, out, sink, edited, line)
+            reply_edited(&mut talk.desk, &talk.session, writer, edited, line)
         }
-        Err(fault) => write_refusal(out, sink, fault.code(), line),
+        Err(fault) => put_refusal(writer, fault.code(), line),
     }
 }
 
 // An undo gets the next block, where an edit is kept.
 fn reply_undo<K: Sink, L: Ledger>(
     talk: &mut SessionTalk,
-    out: &mut Out,
-    sink: &mut K,
+    writer: &mut Writer<'_, K>,
     steps: &mut Steps<L>,
     line: u32,
-) -> Result<(), WriteFault>
+)
     requires desk { IsDesk talk.old.desk talk.old.session }
     requires line { line ≤ input_limit }
     ensures says { talk.old.desk.index < line
-        → SaysSome (Undoes line (desk_state talk.old.desk talk.old.session) talk.old.session.state.former) result
-        (shown_of talk.old.desk talk.old.session (K.held sink.old) out.old (K.faults sink.old) steps.old)
-        (shown_of talk.new.desk talk.new.session (K.held sink.new) out.new (K.faults sink.new) steps.new) }
+        → PutsSome K.held K.faults (Undoes line (desk_state talk.old.desk talk.old.session) talk.old.session.state.former)
+        (shown_of talk.old.desk talk.old.session writer.old steps.old)
+        (shown_of talk.new.desk talk.new.session writer.new steps.new) }
+    ensures same { KeepsSink writer.old writer.new }
     ensures desk { IsDesk talk.new.desk talk.new.session }
 {
     let undone = talk.session.undo(steps);
-    reply_undone(&mut talk.desk, &talk.session, out, sink, undone, line)
+    reply_undone(&mut talk.desk, &talk.session, writer, undone, line);
 }
 
 impl Speaker for SessionTalk {
@@ -129,35 +129,44 @@ impl Speaker for SessionTalk {
 
     ghost ready = { λ t. IsDesk t.desk t.session };
 
-    fn open<K: Sink>(&self, out: &mut Out, sink: &mut K) -> Result<(), WriteFault> {
-        self.desk.write_block(out, sink, &self.session)
+    fn open<K: Sink>(&self, writer: &mut Writer<'_, K>) {
+        self.desk.put_block(writer, &self.session);
     }
 
     fn answer<K: Sink, L: Ledger>(
         &mut self,
-        out: &mut Out,
-        sink: &mut K,
+        writer: &mut Writer<'_, K>,
         steps: &mut Steps<L>,
         text: &[u8],
         line: u32,
-    ) -> Result<Heard, AnswerFault> {
+    ) -> Result<Heard, AllocError> {
         match read_command(text) {
             Ok(Command::Blank) => Ok(Heard::More),
-            Ok(Command::Edit(named)) => answered(reply_edit(self, out, sink, steps, named, line)),
-            Ok(Command::Undo) => answered(reply_undo(self, out, sink, steps, line)),
-            Ok(Command::Cut { period }) => {
-                answered(reply_cut(out, sink, &self.session, period, line))
+            Ok(Command::Edit(named)) => {
+                reply_edit(self, writer, steps, named, line);
+                Ok(Heard::More)
             }
-            Ok(Command::Report(report)) => answered(reply_report(
-                &mut self.desk,
-                &self.session,
-                out,
-                sink,
-                report,
-            )),
-            Ok(Command::Work) => answered(write_work(out, sink, &self.session)),
+            Ok(Command::Undo) => {
+                reply_undo(self, writer, steps, line);
+                Ok(Heard::More)
+            }
+            Ok(Command::Cut { period }) => {
+                reply_cut(writer, &self.session, period, line);
+                Ok(Heard::More)
+            }
+            Ok(Command::Report(report)) => {
+                reply_report(&mut self.desk, &self.session, writer, report);
+                Ok(Heard::More)
+            }
+            Ok(Command::Work) => {
+                put_work(writer, &self.session);
+                Ok(Heard::More)
+            }
             Ok(Command::Quit) => Ok(Heard::Last),
-            Err(fault) => answered(write_refusal(out, sink, fault.code(), line)),
+            Err(fault) => {
+                put_refusal(writer, fault.code(), line);
+                Ok(Heard::More)
+            }
         }
     }
 }

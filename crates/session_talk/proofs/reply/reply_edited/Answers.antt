@@ -14,8 +14,8 @@ by-result v v' e n made result is h = let P : Result Work EditRefusal → Type 0
 
 pub returns-in-Ok-clause-says : goal.returns-in-Ok-clause-says
 returns-in-Ok-clause-says g c = λ v e n k ends before.
-    edit_made back c.write_block.result c.args.line n k c.args.desk.now c.count_block.new.self v c.args.session.now e c.in-Ok.field-0 _ _ _ _ _ _ before c.requires c.count_block.ensures.next
-    c.count_block.ensures.same (by-result v c.args.session.now e n c.args.edited (Ok c.in-Ok.field-0) c.in-Ok.is ends) c.write_block.ensures.text c.write_block.ensures.cause
+    edit_made back c.args.line n k c.args.desk.now c.count_block.new.self v c.args.session.now e c.in-Ok.field-0 _ _ before c.requires c.count_block.ensures.next
+    c.count_block.ensures.same (by-result v c.args.session.now e n c.args.edited (Ok c.in-Ok.field-0) c.in-Ok.is ends) c.put_block.ensures
 
 pub returns-in-Ok-clause-desk : goal.returns-in-Ok-clause-desk
 returns-in-Ok-clause-desk g c = λ v e n ends h.
@@ -23,7 +23,7 @@ returns-in-Ok-clause-desk g c = λ v e n ends h.
 
 pub returns-in-Err-clause-says : goal.returns-in-Err-clause-says
 returns-in-Err-clause-says g c = λ v e n k ends before.
-    c.reply_refused.ensures c.args.desk.now v e n k (by-result v c.args.session.now e n c.args.edited (Err c.in-Err.refusal) c.in-Err.is ends)
+    c.reply_refused.ensures.says c.args.desk.now v e n k (by-result v c.args.session.now e n c.args.edited (Err c.in-Err.refusal) c.in-Err.is ends)
 
 pub returns-in-Err-clause-desk : goal.returns-in-Err-clause-desk
 returns-in-Err-clause-desk g c = λ v e n ends h. with_edited c.args.desk.now v c.args.session.now e c.args.edited n h ends

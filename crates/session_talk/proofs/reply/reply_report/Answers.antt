@@ -11,31 +11,31 @@ returns-in-Routes-clause-says g c =
     let d = c.args.desk.now in
     let v = c.args.session.now in
     let s = desk_state d v in
-    let t = c.write_routes.ensures.text in
-    λ steps. as_made c.write_routes.result d.names s Routes _ _ _ c.in-Routes.is
-    (text_said c.write_routes.result (λ r. Reports d.names s Routes r) t.0 steps d c.write_routes.new.self v _ _ _ _ _ _ c.write_routes.ensures.same (t.0, t.1, refl) t.2 c.write_routes.ensures.cause)
+    let t = c.put_routes.ensures.text in
+    λ steps. as_made d.names s Routes _ _ _ c.in-Routes.is
+    (text_said (λ r. Reports d.names s Routes r) t.0 steps d c.put_routes.new.self v _ _ c.put_routes.ensures.same (t.0, t.1, refl) t.2)
 
 pub returns-in-Clearing-clause-says : goal.returns-in-Clearing-clause-says
 returns-in-Clearing-clause-says g c =
     let d = c.args.desk.now in
     let v = c.args.session.now in
     let s = desk_state d v in
-    λ steps. as_made c.write_clearing.result d.names s Clearing _ _ _ c.in-Clearing.is
-    (text_said c.write_clearing.result (λ r. Reports d.names s Clearing r) (clearing_of d.names d.index v.state) steps d c.write_clearing.new.self v _ _ _ _ _ _ c.write_clearing.ensures.same refl c.write_clearing.ensures.text c.write_clearing.ensures.cause)
+    λ steps. as_made d.names s Clearing _ _ _ c.in-Clearing.is
+    (text_said (λ r. Reports d.names s Clearing r) (clearing_of d.names d.index v.state) steps d c.put_clearing.new.self v _ _ c.put_clearing.ensures.same refl c.put_clearing.ensures.text)
 
 pub returns-in-Bottlenecks-clause-says : goal.returns-in-Bottlenecks-clause-says
 returns-in-Bottlenecks-clause-says g c =
     let d = c.args.desk.now in
     let v = c.args.session.now in
     let s = desk_state d v in
-    λ steps. as_made c.write_bottlenecks.result d.names s Bottlenecks _ _ _ c.in-Bottlenecks.is
-    (text_said c.write_bottlenecks.result (λ r. Reports d.names s Bottlenecks r) (bottlenecks_of d.index v.state) steps d c.write_bottlenecks.new.self v _ _ _ _ _ _ c.write_bottlenecks.ensures.same refl c.write_bottlenecks.ensures.text c.write_bottlenecks.ensures.cause)
+    λ steps. as_made d.names s Bottlenecks _ _ _ c.in-Bottlenecks.is
+    (text_said (λ r. Reports d.names s Bottlenecks r) (bottlenecks_of d.index v.state) steps d c.put_bottlenecks.new.self v _ _ c.put_bottlenecks.ensures.same refl c.put_bottlenecks.ensures.text)
 
 pub returns-in-Summary-clause-says : goal.returns-in-Summary-clause-says
 returns-in-Summary-clause-says g c =
     let d = c.args.desk.now in
     let v = c.args.session.now in
     let s = desk_state d v in
-    let t = c.write_summary.ensures.text in
-    λ steps. as_made c.write_summary.result d.names s Summary _ _ _ c.in-Summary.is
-    (text_said c.write_summary.result (λ r. Reports d.names s Summary r) t.0 steps d c.write_summary.new.self v _ _ _ _ _ _ c.write_summary.ensures.same (t.0, t.1, refl) t.2 c.write_summary.ensures.cause)
+    let t = c.put_summary.ensures.text in
+    λ steps. as_made d.names s Summary _ _ _ c.in-Summary.is
+    (text_said (λ r. Reports d.names s Summary r) t.0 steps d c.put_summary.new.self v _ _ c.put_summary.ensures.same (t.0, t.1, refl) t.2)

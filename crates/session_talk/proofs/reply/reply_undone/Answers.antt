@@ -13,8 +13,8 @@ by-result v v' n made result is h = let P : Result Work UndoRefusal → Type 0 =
 
 pub returns-in-Ok-clause-says : goal.returns-in-Ok-clause-says
 returns-in-Ok-clause-says g c = λ v n k ends before.
-    undo_made back c.write_block.result c.args.line n k c.args.desk.now c.count_block.new.self v c.args.session.now c.in-Ok.field-0 _ _ _ _ _ _ before c.requires c.count_block.ensures.next
-    c.count_block.ensures.same (by-result v c.args.session.now n c.args.undone (Ok c.in-Ok.field-0) c.in-Ok.is ends) c.write_block.ensures.text c.write_block.ensures.cause
+    undo_made back c.args.line n k c.args.desk.now c.count_block.new.self v c.args.session.now c.in-Ok.field-0 _ _ before c.requires c.count_block.ensures.next
+    c.count_block.ensures.same (by-result v c.args.session.now n c.args.undone (Ok c.in-Ok.field-0) c.in-Ok.is ends) c.put_block.ensures
 
 pub returns-in-Ok-clause-desk : goal.returns-in-Ok-clause-desk
 returns-in-Ok-clause-desk g c = λ v n ends h.
@@ -22,8 +22,8 @@ returns-in-Ok-clause-desk g c = λ v n ends h.
 
 pub returns-in-Err-NothingToUndo-clause-says : goal.returns-in-Err-NothingToUndo-clause-says
 returns-in-Err-NothingToUndo-clause-says g c = λ v n k ends before.
-    undo_none c.write_refusal.result c.in-Err-NothingToUndo.field-0 c.args.line n k c.args.desk.now v c.args.session.now _ _ _ _ _ _
-    (by-result v c.args.session.now n c.args.undone (Err c.in-Err-NothingToUndo.field-0) c.in-Err-NothingToUndo.is ends) c.write_refusal.ensures.text c.write_refusal.ensures.cause
+    undo_none c.in-Err-NothingToUndo.field-0 c.args.line n k c.args.desk.now v c.args.session.now _ _
+    (by-result v c.args.session.now n c.args.undone (Err c.in-Err-NothingToUndo.field-0) c.in-Err-NothingToUndo.is ends) c.put_refusal.ensures
 
 pub returns-in-Err-NothingToUndo-clause-desk : goal.returns-in-Err-NothingToUndo-clause-desk
 returns-in-Err-NothingToUndo-clause-desk g c = λ v n ends h. with_undone c.args.desk.now v c.args.session.now c.args.undone n h ends

@@ -13,8 +13,8 @@ returns-in-Ok-clause-says g c =
     let t = c.args.talk.now in
     let s = desk_state t.desk t.session in
     let e = c.edit-edited.ensures.ends in
-    λ before. asks_named c.reply_edited.result c.args.line s (Ok c.in-Ok.edit) _ _ _ c.in-Ok.ensures.edit
-    (with_steps c.reply_edited.result (λ r. AsksEdit c.args.line s (Ok c.in-Ok.edit) r) _ c.reply_edited.new.desk c.edit-edited.new.self _ _ _ _ _ e.1 (c.reply_edited.ensures.says t.session c.in-Ok.edit e.0 c.args.steps.now e.2 before))
+    λ before. asks_named c.args.line s (Ok c.in-Ok.edit) _ _ _ c.in-Ok.ensures.edit
+    (with_steps (λ r. AsksEdit c.args.line s (Ok c.in-Ok.edit) r) _ c.reply_edited.new.desk c.edit-edited.new.self _ _ _ e.1 (c.reply_edited.ensures.says t.session c.in-Ok.edit e.0 c.args.steps.now e.2 before))
 
 pub returns-in-Ok-clause-desk : goal.returns-in-Ok-clause-desk
 returns-in-Ok-clause-desk g c = let e = c.edit-edited.ensures.ends in c.reply_edited.ensures.desk _ _ e.0 e.2 c.requires.desk
@@ -23,6 +23,6 @@ pub returns-in-Err-clause-says : goal.returns-in-Err-clause-says
 returns-in-Err-clause-says g c =
     let t = c.args.talk.now in
     let s = desk_state t.desk t.session in
-    λ before. asks_named c.write_refusal.result c.args.line s (Err c.in-Err.fault) _ _ _ c.in-Err.ensures.edit
-    (code_said c.write_refusal.result (λ r. AsksEdit c.args.line s (Err c.in-Err.fault) r) c.args.line _ _ t.desk t.session _ _ _ _ _ _ _ c.code.ensures refl
-    c.write_refusal.ensures.text c.write_refusal.ensures.cause)
+    λ before. asks_named c.args.line s (Err c.in-Err.fault) _ _ _ c.in-Err.ensures.edit
+    (code_said (λ r. AsksEdit c.args.line s (Err c.in-Err.fault) r) c.args.line _ _ t.desk t.session _ _ _ c.code.ensures refl
+    c.put_refusal.ensures)

@@ -1,74 +1,63 @@
 use Rattle.std.proofs.Common.{Ok, Err, Result, refl, sym, ap, ◌∙◌, arith}
-use Rattle.line_io.specs.declared.out.WriteFault.{WriteFault}
 use Rattle.model_text.specs.declared.command.Command.TheVariants.{Blank, Edit, Undo, Cut, Report, Work}
 use Rattle.session_text.specs.StateTexts.{work_of}
 use Rattle.session_talk.specs.Desks.{desk_state, shown_of}
 use Rattle.session_talk.specs.Sessions.{Replies, cut_reply}
 use Rattle.session_talk.proofs.Replying.{answers}
 use Rattle.session_talk.proofs.Saying.{code_said, cut_is, same_desk, text_said}
-use Rattle.talk.proofs.Answering.{said_nothing}
+use Rattle.talk.proofs.Answering.{put_nothing}
 use Rattle.session_talk.proofs.speaker.SessionTalkSpeaker.answer.Goals as goal
 
 pub returns-in-Ok-Blank-clause-answers : goal.returns-in-Ok-Blank-clause-answers
 returns-in-Ok-Blank-clause-answers g c =
     let h = c.in-Ok-Blank in
     let t = c.args.self.now in
-    let none : Unit {0} = tt in
-    let done : Result (Unit {0}) WriteFault = Ok none in
-    let x = shown_of t.desk t.session (g.K.Sink.held c.args.sink.now) c.args.out.now (g.K.Sink.faults c.args.sink.now) c.args.steps.now in
-    λ before at few. answers x x before c.args.line c.args.text.now (Ok Blank) done _ (sym (ap Ok h.field-0-is) ∙ h.ensures.exact) refl at few
-    (said_nothing (λ r. Replies t.desk.names c.args.line (desk_state t.desk t.session) (Ok Blank) r) none x refl)
+    let x = shown_of t.desk t.session c.args.writer.now c.args.steps.now in
+    λ before at few. answers x x before c.args.line c.args.text.now (Ok Blank) (sym (ap Ok h.field-0-is) ∙ h.ensures.exact) at few
+    (put_nothing g.K.Sink.held g.K.Sink.faults (λ r. Replies t.desk.names c.args.line (desk_state t.desk t.session) (Ok Blank) r) x refl)
 
 pub returns-in-Ok-Edit-clause-answers : goal.returns-in-Ok-Edit-clause-answers
 returns-in-Ok-Edit-clause-answers g c =
     let h = c.in-Ok-Edit in
-    λ before at few. (let says = c.reply_edit.ensures.says (omega (arith, at, few)) in
-    answers _ _ before c.args.line c.args.text.now (Ok (Edit h.named)) c.reply_edit.result c.answered.result (sym (ap Ok h.field-0-is) ∙ h.ensures.exact) c.answered.ensures at few
-    (says.0, says.1, says.2))
+    λ before at few. answers _ _ before c.args.line c.args.text.now (Ok (Edit h.named)) (sym (ap Ok h.field-0-is) ∙ h.ensures.exact) at few
+    (c.reply_edit.ensures.says (omega (arith, at, few)))
 
 pub returns-in-Ok-Undo-clause-answers : goal.returns-in-Ok-Undo-clause-answers
 returns-in-Ok-Undo-clause-answers g c =
     let h = c.in-Ok-Undo in
-    let made = c.answered-in-Ok-Undo in
-    λ before at few. (let says = c.reply_undo.ensures.says (omega (arith, at, few)) in
-    answers _ _ before c.args.line c.args.text.now (Ok Undo) c.reply_undo.result made.result (sym (ap Ok h.field-0-is) ∙ h.ensures.exact) made.ensures at few
-    (says.0, says.1, says.2))
+    λ before at few. answers _ _ before c.args.line c.args.text.now (Ok Undo) (sym (ap Ok h.field-0-is) ∙ h.ensures.exact) at few
+    (c.reply_undo.ensures.says (omega (arith, at, few)))
 
 pub returns-in-Ok-Cut-clause-answers : goal.returns-in-Ok-Cut-clause-answers
 returns-in-Ok-Cut-clause-answers g c =
     let h = c.in-Ok-Cut in
-    let made = c.answered-in-Ok-Cut in
     let t = c.args.self.now in
     let s = desk_state t.desk t.session in
     let k = h.period in
-    λ before at few. answers _ _ before c.args.line c.args.text.now (Ok (Cut k)) c.reply_cut.result made.result (sym (ap Ok h.field-0-is) ∙ h.ensures.exact) made.ensures at few
-    (text_said c.reply_cut.result (λ r. Replies t.desk.names c.args.line s (Ok (Cut k)) r) (cut_reply c.args.line s k).text c.args.steps.now t.desk t.desk t.session _ _ _ _ _ _ (same_desk t.desk)
-    (cut_is c.args.line s k) (c.reply_cut.ensures.text s refl) c.reply_cut.ensures.cause)
+    λ before at few. answers _ _ before c.args.line c.args.text.now (Ok (Cut k)) (sym (ap Ok h.field-0-is) ∙ h.ensures.exact) at few
+    (text_said (λ r. Replies t.desk.names c.args.line s (Ok (Cut k)) r) (cut_reply c.args.line s k).text c.args.steps.now t.desk t.desk t.session _ _ (same_desk t.desk)
+    (cut_is c.args.line s k) (c.reply_cut.ensures.says s refl))
 
 pub returns-in-Ok-Report-clause-answers : goal.returns-in-Ok-Report-clause-answers
 returns-in-Ok-Report-clause-answers g c =
     let h = c.in-Ok-Report in
-    let made = c.answered-in-Ok-Report in
-    let says = c.reply_report.ensures.says c.args.steps.now in
-    λ before at few. answers _ _ before c.args.line c.args.text.now (Ok (Report h.report)) c.reply_report.result made.result (sym (ap Ok h.field-0-is) ∙ h.ensures.exact) made.ensures at few
-    (says.0, says.1, says.2)
+    λ before at few. answers _ _ before c.args.line c.args.text.now (Ok (Report h.report)) (sym (ap Ok h.field-0-is) ∙ h.ensures.exact) at few
+    (c.reply_report.ensures.says c.args.steps.now)
 
 pub returns-in-Ok-Work-clause-answers : goal.returns-in-Ok-Work-clause-answers
 returns-in-Ok-Work-clause-answers g c =
     let h = c.in-Ok-Work in
-    let made = c.answered-in-Ok-Work in
     let t = c.args.self.now in
     let s = desk_state t.desk t.session in
-    λ before at few. answers _ _ before c.args.line c.args.text.now (Ok Work) c.write_work.result made.result (sym (ap Ok h.field-0-is) ∙ h.ensures.exact) made.ensures at few
-    (text_said c.write_work.result (λ r. Replies t.desk.names c.args.line s (Ok Work) r) (work_of t.session.state) c.args.steps.now t.desk t.desk t.session _ _ _ _ _ _ (same_desk t.desk)
-    refl c.write_work.ensures.text c.write_work.ensures.cause)
+    λ before at few. answers _ _ before c.args.line c.args.text.now (Ok Work) (sym (ap Ok h.field-0-is) ∙ h.ensures.exact) at few
+    (text_said (λ r. Replies t.desk.names c.args.line s (Ok Work) r) (work_of t.session.state) c.args.steps.now t.desk t.desk t.session _ _ (same_desk t.desk)
+    refl c.put_work.ensures)
 
 pub returns-in-Err-clause-answers : goal.returns-in-Err-clause-answers
 returns-in-Err-clause-answers g c =
     let h = c.in-Err in
-    let made = c.answered-in-Err in
     let t = c.args.self.now in
     let s = desk_state t.desk t.session in
-    λ before at few. answers _ _ before c.args.line c.args.text.now (Err h.fault) c.write_refusal.result made.result h.ensures.exact made.ensures at few
-    (code_said c.write_refusal.result (λ r. Replies t.desk.names c.args.line s (Err h.fault) r) c.args.line _ _ t.desk t.session _ _ _ _ _ _ _ c.code.ensures refl
-    c.write_refusal.ensures.text c.write_refusal.ensures.cause)
+    λ before at few. answers _ _ before c.args.line c.args.text.now (Err h.fault) h.ensures.exact at few
+    (code_said (λ r. Replies t.desk.names c.args.line s (Err h.fault) r) c.args.line _ _ t.desk t.session _ _ _ c.code.ensures refl
+    c.put_refusal.ensures)
