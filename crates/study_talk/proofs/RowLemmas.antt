@@ -1,5 +1,5 @@
 -- The rows of the exits, one after another.
-use Rattle.std.proofs.Common.{◌≡◌, ℕ, ◌+◌, Bool, true, false, List, [], ◌∷◌, ◌++◌, length, refl, set, ap, ap₂, sym, ◌∙◌, subst, arith, Result, length-append, append_assoc, codes}
+use Rattle.std.proofs.Common.{◌≡◌, ℕ, ◌+◌, Bool, true, false, List, [], ◌∷◌, ◌++◌, length, refl, set, ap, ap₂, sym, ◌∙◌, subst, arith, length-append, append_assoc, codes}
 use Rattle.std.specs.List.{All, filter, flat_map}
 use Rattle.std.proofs.lemmas.List.{map-append, set-get_or}
 use Rattle.std.proofs.lemmas.List.Elements.{All-append, All-cons, All-nil}
@@ -22,9 +22,10 @@ use Rattle.exit_study.specs.Exits.{IsClearedAt, IsExitRow, without_exit}
 use Rattle.std.specs.declared.option.Option.{Option}
 use Rattle.exit_study.specs.declared.exits.ExitRow.{ExitRow}
 use Rattle.exit_study.specs.declared.exits.ExitRow.TheVariants.{Short}
-use Rattle.line_io.specs.Writer.{PutsText}
-use Rattle.line_io.proofs.TextLemmas.{text-is}
-use Rattle.report_text.specs.Parts.{PutsOn}
+use Rattle.line_io.specs.Causes.{Count}
+use Rattle.line_io.specs.Writer.{Writes}
+use Rattle.line_io.specs.declared.writer.Writer.{Writer}
+use Rattle.line_io.proofs.WriterLemmas.{writes_is, writes_then}
 use Rattle.report_text.proofs.Parts.{parts-one}
 use Rattle.report_text.specs.ReportText.{number_line}
 use Rattle.study_talk.specs.StudyTexts.{AreRows, Row, SaysExits, exit_short_line, exits_of, outcome_text, row_text}
@@ -59,9 +60,9 @@ cleared_already s x h e =
     subst (λ (m : Model). IsClearedAt m s.last) (sym (shut_already s.model x e)) (record { plan = s.plan; labels = s.labels; certified = h.certified })
 
 -- the row of a model is that of an equal one
-pub row_as : {T E : Type 0} (m n : Model) (node : ℕ) (l : LabelTable) (row : ExitRow) (before result : Result T E) (a b : Option (List ℕ)) (p q : List ℕ) → n ≡ m
-    → PutsOn before a p (outcome_text n node l row) b q result → PutsOn before a p (outcome_text m node l row) b q result
-row_as m n node l row before result a b p q e h = subst (λ (z : Model). PutsOn before a p (outcome_text z node l row) b q result) e h
+pub row_as : {X : Type 0} {H : X → Option (List ℕ)} {F : X → Count} (m n : Model) (node : ℕ) (l : LabelTable) (row : ExitRow) (a b : Writer X) → n ≡ m
+    → Writes H F a (outcome_text n node l row) b → Writes H F a (outcome_text m node l row) b
+row_as m n node l row a b e h = writes_is (ap (λ (z : Model). outcome_text z node l row) e) h
 
 -- ---- one more node
 
@@ -89,17 +90,17 @@ pub rows_same : (m : Model) (n : ℕ) (rows : List Row) → AreRows m (filter (i
 rows_same m n rows h e = subst (λ (l : List ℕ). AreRows m l rows) (sym (filter_no (is_exit_at m) n e)) h
 
 -- the row of one more exit was put behind those before it
-pub rows_put : {T E : Type 0} (m of : Model) (n : ℕ) (head : List ℕ) (rows : List Row) (before result : Result T E) (h a b : Option (List ℕ)) (t p q : List ℕ)
+pub rows_put : {X : Type 0} {H : X → Option (List ℕ)} {F : X → Count} (m of : Model) (n : ℕ) (head : List ℕ) (rows : List Row) (w a b : Writer X)
     → AreRows m (filter (is_exit_at m) (below n)) rows → is_exit_at m n ≡ true → of ≡ m
-    → (row : Row) × (row.exit ≡ n) × IsExitRow of row.exit row.cut row.outcome × PutsOn before a p (row_text of row) b q result
-    → PutsText h t (head ++ flat_map (row_text m) rows) a p before
-    → (more : List Row) × AreRows m (filter (is_exit_at m) (below (n + 1))) more × PutsText h t (head ++ flat_map (row_text m) more) b q result
-rows_put m of n head rows before result h a b t p q are exit is (row, place, right, puts) put =
+    → (row : Row) × (row.exit ≡ n) × IsExitRow of row.exit row.cut row.outcome × Writes H F a (row_text of row) b
+    → Writes H F w (head ++ flat_map (row_text m) rows) a
+    → (more : List Row) × AreRows m (filter (is_exit_at m) (below (n + 1))) more × Writes H F w (head ++ flat_map (row_text m) more) b
+rows_put m of n head rows w a b are exit is (row, place, right, puts) put =
     let here = subst (λ (z : Model). IsExitRow z row.exit row.cut row.outcome) is right in
-    let texts = subst (λ (z : Model). PutsOn before a p (row_text z row) b q result) is puts in
+    let texts = writes_is (ap (λ (z : Model). row_text z row) is) puts in
     let line : head ++ flat_map (row_text m) rows ++ row_text m row ≡ head ++ flat_map (row_text m) (rows ++ row ∷ []) =
     append_assoc head (flat_map (row_text m) rows) (row_text m row) ∙ ap (λ (l : List ℕ). head ++ l) (sym (parts-one (row_text m) rows row)) in
-    (rows ++ row ∷ [], rows_more m n rows row are exit place here, text-is line (texts h t _ put))
+    (rows ++ row ∷ [], rows_more m n rows row are exit place here, writes_is line (writes_then put texts))
 
 -- ---- all exits
 

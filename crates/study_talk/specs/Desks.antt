@@ -1,15 +1,14 @@
 -- What a study works with.
 use Rattle.std.specs.Prelude.{◌≡◌, ℕ, List, [], Result, Ok, Err, ⊤}
-use Rattle.std.specs.declared.option.Option.{Option}
 use Rattle.evac_law.specs.declared.model.Model.{Model}
-use Rattle.line_io.specs.Causes.{Count}
+use Rattle.line_io.specs.declared.writer.Writer.{Writer}
 use Rattle.model_text.specs.declared.study.StudyCommand.TheVariants.{Quit}
 use Rattle.model_text.specs.StudyCommands.{study_command_of}
 use Rattle.building_table.specs.Names.{NameTable, NamesFit}
 use Rattle.edit_session.specs.declared.faults.BeginFault.{BeginFault}
 use Rattle.edit_session.specs.Sessions.{BeginEnds, SessionView}
 use Rattle.study_talk.specs.Studies.{StudyReplies}
-use Rattle.talk.specs.Speaking.{Shown, shown}
+use Rattle.talk.specs.Speaking.{Speaking, speaking}
 use Rattle.talk.specs.Talks.{Replying}
 
 -- a desk of a study as contracts see it: the names of a building, and a session on its model
@@ -35,8 +34,8 @@ abbrev pub kept_of : StudyView → Kept
 kept_of d = (d.names, d.session.state.model)
 
 -- what is shown of a desk
-abbrev pub shown_study : StudyView → Option (List ℕ) → List ℕ → Count → ℕ → Shown Kept (Unit {0})
-shown_study d held pending faults steps = shown (kept_of d) tt held pending faults steps
+abbrev pub shown_study : {X : Type 0} → StudyView → Writer X → ℕ → Speaking Kept (Unit {0}) X
+shown_study d writer steps = speaking (kept_of d) tt writer steps
 
 -- what a line gets in a study, and which line quits
 abbrev pub gets : Kept → Replying (Unit {0})

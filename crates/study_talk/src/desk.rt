@@ -1,20 +1,19 @@
 //! What a study works with.
 ghost use Rattle.std.specs.Prelude.{◌≡◌, ◌+◌, ◌<◌, ◌≤◌, ℕ, List, IfOk, length};
 ghost use Rattle.evac_law.specs.Building.{IsValid};
-ghost use Rattle.line_io.specs.Causes.{HasCause};
-ghost use Rattle.line_io.specs.Writer.{PutsText};
+ghost use Rattle.line_io.specs.Writer.{Writes};
 ghost use Rattle.building_table.specs.EditNames.{named_arc};
 ghost use Rattle.building_table.specs.Names.{NamesFit};
 ghost use Rattle.exit_study.specs.declared.rates.Least.{Least};
 ghost use Rattle.study_talk.specs.Desks.{StudyBegins, kept_of};
 ghost use Rattle.study_talk.specs.StudyTexts.{SaysExits, SaysLeast};
 
-use crate::exits::write_exits;
-use crate::least::write_least_rate;
+use crate::exits::put_exits;
+use crate::least::put_least_rate;
 use building_table::{Building, NameFault, Names, arc_of};
 use edit_session::{BeginFault, Session};
 use evac_law::{NodeName, Steps};
-use line_io::{Out, Sink, WriteFault};
+use line_io::{Sink, Writer};
 use std::alloc::Global;
 use std::marker::Model;
 use std::sync::ledger::Ledger;
@@ -74,37 +73,33 @@ impl StudyDesk {
 
     /// Puts what the model comes to without each of its exits.
     #[tactic(auto, unfolding(edit_session::specs::Sessions::kept_limit))]
-    pub(crate) fn write_exits<K: Sink, L: Ledger>(
+    pub(crate) fn put_exits<K: Sink, L: Ledger>(
         &mut self,
-        out: &mut Out,
-        sink: &mut K,
+        writer: &mut Writer<'_, K>,
         steps: &mut Steps<L>,
-    ) -> Result<(), WriteFault>
-        ensures text { (text : List ℕ) × SaysExits self.old.session.state.model text × PutsText (K.held sink.old) out.old text (K.held sink.new) out.new result }
-        ensures cause { HasCause (K.faults sink.old) (K.faults sink.new) result }
+    )
+        ensures text { (text : List ℕ) × SaysExits self.old.session.state.model text × Writes K.held K.faults writer.old text writer.new }
         ensures kept { kept_of self.new ≡ kept_of self.old }
         ensures counted { (n : ℕ) × (steps.new ≡ steps.old + n) }
     {
-        write_exits(&mut self.session, out, sink, steps)
+        put_exits(&mut self.session, writer, steps);
     }
 
     /// Puts the least rate of an arc at which everybody is out by a moment.
     #[tactic(auto, unfolding(edit_session::specs::Sessions::kept_limit))]
-    pub(crate) fn write_least<K: Sink, L: Ledger>(
+    pub(crate) fn put_least<K: Sink, L: Ledger>(
         &mut self,
-        out: &mut Out,
-        sink: &mut K,
+        writer: &mut Writer<'_, K>,
         steps: &mut Steps<L>,
         arc: u32,
         by: u16,
-    ) -> Result<(), WriteFault>
+    )
         requires arc { arc < length self.old.session.state.model.arcs }
         requires by { by ≤ self.old.session.state.model.horizon }
-        ensures text { (least : Least) × ((text : List ℕ) × SaysLeast self.old.session.state.model arc by least text × PutsText (K.held sink.old) out.old text (K.held sink.new) out.new result) }
-        ensures cause { HasCause (K.faults sink.old) (K.faults sink.new) result }
+        ensures text { (least : Least) × ((text : List ℕ) × SaysLeast self.old.session.state.model arc by least text × Writes K.held K.faults writer.old text writer.new) }
         ensures kept { kept_of self.new ≡ kept_of self.old }
         ensures counted { (n : ℕ) × (steps.new ≡ steps.old + n) }
     {
-        write_least_rate(&mut self.session, out, sink, steps, arc, by)
+        put_least_rate(&mut self.session, writer, steps, arc, by);
     }
 }

@@ -3,8 +3,7 @@ ghost use Rattle.std.specs.Prelude.{◌≡◌, ◌+◌, ◌<◌, ◌≤◌, ℕ,
 ghost use Rattle.evac_law.specs.Building.{IsValid, head, tail};
 ghost use Rattle.evac_law.specs.Certificates.{IsTableOf, label_cut};
 ghost use Rattle.evac_law.specs.Limits.{rate_limit};
-ghost use Rattle.line_io.specs.Causes.{HasCause};
-ghost use Rattle.line_io.specs.Writer.{PutsText};
+ghost use Rattle.line_io.specs.Writer.{Writes};
 ghost use Rattle.certificate_text.specs.BlockText.{in_lines, name_of_node};
 ghost use Rattle.report_text.specs.ReportText.{cut_line};
 ghost use Rattle.edit_session.specs.Sessions.{kept_limit};
@@ -14,34 +13,32 @@ ghost use Rattle.study_talk.specs.Stays.{StaysSolved};
 ghost use Rattle.study_talk.specs.StudyTexts.{SaysCut, SaysCutBelow, SaysLeast, SaysMoves, SaysNever, SaysRate, least_line, never_line};
 
 use crate::going_back::go_back;
-use crate::lines::{write_least, write_never};
-use certificate_text::{write_end, write_ins, write_moves};
+use crate::lines::{put_least, put_never};
+use certificate_text::{put_end, put_ins, put_moves};
 use cut_witness::cut_value;
 use edit_session::{EditRefusal, Session};
 use evac_law::limits::RATE_LIMIT;
 use evac_law::{Edit, Labels, Model, Steps};
 use exit_study::{Least, least_rate};
-use line_io::{Out, Sink, WriteFault};
-use report_text::write_cut_line;
+use line_io::{Sink, Writer};
+use report_text::put_cut_line;
 use std::sync::ledger::Ledger;
 
 // Puts the moves of a best plan at a rate that is enough.
-fn write_moves_at<K: Sink, L: Ledger>(
+fn put_moves_at<K: Sink, L: Ledger>(
     session: &mut Session,
-    out: &mut Out,
-    sink: &mut K,
+    writer: &mut Writer<'_, K>,
     steps: &mut Steps<L>,
     arc: u32,
     rate: u32,
     by: u16,
-) -> Result<(), WriteFault>
+)
     requires arc { arc < length session.old.state.model.arcs }
     requires rate { rate ≤ rate_limit }
     requires by { by ≤ session.old.state.model.horizon }
     requires room { length session.old.state.former < kept_limit }
     requires enough { IsEnough session.old.state.model arc by rate }
-    ensures text { (text : List ℕ) × SaysMoves (at_rate session.old.state.model arc rate) by text × PutsText (K.held sink.old) out.old text (K.held sink.new) out.new result }
-    ensures cause { HasCause (K.faults sink.old) (K.faults sink.new) result }
+    ensures text { (text : List ℕ) × SaysMoves (at_rate session.old.state.model arc rate) by text × Writes K.held K.faults writer.old text writer.new }
     ensures stays { StaysSolved session.old.state session.new.state }
     ensures counted { (n : ℕ) × (steps.new ≡ steps.old + n) }
 {
@@ -49,9 +46,8 @@ fn write_moves_at<K: Sink, L: Ledger>(
     let _ = session.model();
     match session.edit(Edit::Rate { arc, rate }, steps) {
         Ok(_) => {
-            let sent = write_moves(out, sink, session.model(), session);
+            put_moves(writer, session.model(), session);
             go_back(session, steps);
-            sent
         }
         // a rate within the limit can be set, and at one that is enough everybody can get out
         Err(_) => unreachable!(),
@@ -59,40 +55,36 @@ fn write_moves_at<K: Sink, L: Ledger>(
 }
 
 // Puts the cut of labels at a moment, with its value.
-fn write_cut<K: Sink>(
-    out: &mut Out,
-    sink: &mut K,
+fn put_cut<K: Sink>(
+    writer: &mut Writer<'_, K>,
     model: &Model,
     labels: &Labels,
     moment: u16,
     value: u64,
-) -> Result<(), WriteFault>
+)
     requires valid { IsValid model.now }
     requires table { IsTableOf model.now labels.now }
-    ensures text { PutsText (K.held sink.old) out.old (cut_line moment value ++ in_lines model.now (label_cut model.now labels.now moment)) (K.held sink.new) out.new result }
-    ensures cause { HasCause (K.faults sink.old) (K.faults sink.new) result }
+    ensures { Writes K.held K.faults writer.old (cut_line moment value ++ in_lines model.now (label_cut model.now labels.now moment)) writer.new }
 {
-    write_cut_line(out, sink, moment, value)?;
-    write_ins(out, sink, model, labels, moment)
+    put_cut_line(writer, moment, value);
+    put_ins(writer, model, labels, moment);
 }
 
 // Puts a cut that shows that a rate isn't enough.
-fn write_cut_at<K: Sink, L: Ledger>(
+fn put_cut_at<K: Sink, L: Ledger>(
     session: &mut Session,
-    out: &mut Out,
-    sink: &mut K,
+    writer: &mut Writer<'_, K>,
     steps: &mut Steps<L>,
     arc: u32,
     rate: u32,
     by: u16,
-) -> Result<(), WriteFault>
+)
     requires arc { arc < length session.old.state.model.arcs }
     requires rate { rate ≤ rate_limit }
     requires by { by ≤ session.old.state.model.horizon }
     requires room { length session.old.state.former < kept_limit }
     requires slow { ¬ IsEnough session.old.state.model arc by rate }
-    ensures text { (text : List ℕ) × SaysCut (at_rate session.old.state.model arc rate) by text × PutsText (K.held sink.old) out.old text (K.held sink.new) out.new result }
-    ensures cause { HasCause (K.faults sink.old) (K.faults sink.new) result }
+    ensures text { (text : List ℕ) × SaysCut (at_rate session.old.state.model arc rate) by text × Writes K.held K.faults writer.old text writer.new }
     ensures stays { StaysSolved session.old.state session.new.state }
     ensures counted { (n : ℕ) × (steps.new ≡ steps.old + n) }
 {
@@ -102,14 +94,13 @@ fn write_cut_at<K: Sink, L: Ledger>(
         Ok(_) => {
             let model = session.model();
             let value = cut_value(model, session.labels(), by);
-            let sent = write_cut(out, sink, model, session.labels(), by, value);
+            put_cut(writer, model, session.labels(), by, value);
             go_back(session, steps);
-            sent
         }
         Err(EditRefusal::NotCleared { most, .. }) => {
             let model = session.model();
             let labels = session.refused_cut();
-            write_cut(out, sink, model, labels, model.horizon, u64::from(most))
+            put_cut(writer, model, labels, model.horizon, u64::from(most));
         }
         // a rate within the limit can be set
         Err(EditRefusal::Fault(_)) => unreachable!(),
@@ -117,141 +108,117 @@ fn write_cut_at<K: Sink, L: Ledger>(
 }
 
 // Puts the cut of the rate below one, where there is a rate below it.
-fn write_cut_below<K: Sink, L: Ledger>(
+fn put_cut_below<K: Sink, L: Ledger>(
     session: &mut Session,
-    out: &mut Out,
-    sink: &mut K,
+    writer: &mut Writer<'_, K>,
     steps: &mut Steps<L>,
     arc: u32,
     rate: u32,
     by: u16,
-) -> Result<(), WriteFault>
+)
     requires arc { arc < length session.old.state.model.arcs }
     requires by { by ≤ session.old.state.model.horizon }
     requires room { length session.old.state.former < kept_limit }
     requires least { IsLeastRate session.old.state.model arc by rate }
-    ensures text { (text : List ℕ) × SaysCutBelow session.old.state.model arc by rate text × PutsText (K.held sink.old) out.old text (K.held sink.new) out.new result }
-    ensures cause { HasCause (K.faults sink.old) (K.faults sink.new) result }
+    ensures text { (text : List ℕ) × SaysCutBelow session.old.state.model arc by rate text × Writes K.held K.faults writer.old text writer.new }
     ensures stays { StaysSolved session.old.state session.new.state }
     ensures counted { (n : ℕ) × (steps.new ≡ steps.old + n) }
 {
     // a session has a plan that is solved
     let _ = session.model();
-    if rate == 0 {
-        return Ok(());
-    }
-    write_cut_at(session, out, sink, steps, arc, rate - 1, by)
+    if rate > 0 {
+        put_cut_at(session, writer, steps, arc, rate - 1, by);
+    };
 }
 
 // Puts the line of the least rate of an arc.
-fn write_rate_line<K: Sink>(
-    out: &mut Out,
-    sink: &mut K,
-    model: &Model,
-    arc: u32,
-    by: u16,
-    rate: u32,
-) -> Result<(), WriteFault>
+fn put_rate_line<K: Sink>(writer: &mut Writer<'_, K>, model: &Model, arc: u32, by: u16, rate: u32)
     requires valid { IsValid model.now }
     requires arc { arc < length model.now.arcs }
-    ensures text { let m = model.now in
-        PutsText (K.held sink.old) out.old (least_line (name_of_node m (tail m arc)) (name_of_node m (head m arc)) by rate) (K.held sink.new) out.new result }
-    ensures cause { HasCause (K.faults sink.old) (K.faults sink.new) result }
+    ensures { let m = model.now in
+        Writes K.held K.faults writer.old (least_line (name_of_node m (tail m arc)) (name_of_node m (head m arc)) by rate) writer.new }
 {
     let row = model.arc(arc);
     let from = model.node(row.from).name;
     let to = model.node(row.to).name;
-    write_least(out, sink, from, to, by, rate)
+    put_least(writer, from, to, by, rate);
 }
 
 // Puts the line that an arc has no rate that is enough.
-fn write_never_line<K: Sink>(
-    out: &mut Out,
-    sink: &mut K,
-    model: &Model,
-    arc: u32,
-    by: u16,
-) -> Result<(), WriteFault>
+fn put_never_line<K: Sink>(writer: &mut Writer<'_, K>, model: &Model, arc: u32, by: u16)
     requires valid { IsValid model.now }
     requires arc { arc < length model.now.arcs }
-    ensures text { let m = model.now in
-        PutsText (K.held sink.old) out.old (never_line (name_of_node m (tail m arc)) (name_of_node m (head m arc)) by) (K.held sink.new) out.new result }
-    ensures cause { HasCause (K.faults sink.old) (K.faults sink.new) result }
+    ensures { let m = model.now in
+        Writes K.held K.faults writer.old (never_line (name_of_node m (tail m arc)) (name_of_node m (head m arc)) by) writer.new }
 {
     let row = model.arc(arc);
     let from = model.node(row.from).name;
     let to = model.node(row.to).name;
-    write_never(out, sink, from, to, by)
+    put_never(writer, from, to, by);
 }
 
 // Puts the least rate of an arc.
-fn write_rate<K: Sink, L: Ledger>(
+fn put_rate<K: Sink, L: Ledger>(
     session: &mut Session,
-    out: &mut Out,
-    sink: &mut K,
+    writer: &mut Writer<'_, K>,
     steps: &mut Steps<L>,
     arc: u32,
     rate: u32,
     by: u16,
-) -> Result<(), WriteFault>
+)
     requires arc { arc < length session.old.state.model.arcs }
     requires by { by ≤ session.old.state.model.horizon }
     requires room { length session.old.state.former < kept_limit }
     requires least { IsLeastRate session.old.state.model arc by rate }
-    ensures text { (text : List ℕ) × SaysRate session.old.state.model arc by rate text × PutsText (K.held sink.old) out.old text (K.held sink.new) out.new result }
-    ensures cause { HasCause (K.faults sink.old) (K.faults sink.new) result }
+    ensures text { (text : List ℕ) × SaysRate session.old.state.model arc by rate text × Writes K.held K.faults writer.old text writer.new }
     ensures stays { StaysSolved session.old.state session.new.state }
     ensures counted { (n : ℕ) × (steps.new ≡ steps.old + n) }
 {
-    write_rate_line(out, sink, session.model(), arc, by, rate)?;
-    write_moves_at(session, out, sink, steps, arc, rate, by)?;
-    write_cut_below(session, out, sink, steps, arc, rate, by)?;
-    write_end(out, sink)
+    put_rate_line(writer, session.model(), arc, by, rate);
+    put_moves_at(session, writer, steps, arc, rate, by);
+    put_cut_below(session, writer, steps, arc, rate, by);
+    put_end(writer);
 }
 
 // Puts that no rate of an arc is enough.
 #[tactic(auto, unfolding(evac_law::specs::Limits::rate_limit))]
-fn write_no_rate<K: Sink, L: Ledger>(
+fn put_no_rate<K: Sink, L: Ledger>(
     session: &mut Session,
-    out: &mut Out,
-    sink: &mut K,
+    writer: &mut Writer<'_, K>,
     steps: &mut Steps<L>,
     arc: u32,
     by: u16,
-) -> Result<(), WriteFault>
+)
     requires arc { arc < length session.old.state.model.arcs }
     requires by { by ≤ session.old.state.model.horizon }
     requires room { length session.old.state.former < kept_limit }
     requires none { IsNoRate session.old.state.model arc by }
-    ensures text { (text : List ℕ) × SaysNever session.old.state.model arc by text × PutsText (K.held sink.old) out.old text (K.held sink.new) out.new result }
-    ensures cause { HasCause (K.faults sink.old) (K.faults sink.new) result }
+    ensures text { (text : List ℕ) × SaysNever session.old.state.model arc by text × Writes K.held K.faults writer.old text writer.new }
     ensures stays { StaysSolved session.old.state session.new.state }
     ensures counted { (n : ℕ) × (steps.new ≡ steps.old + n) }
 {
-    write_never_line(out, sink, session.model(), arc, by)?;
-    write_cut_at(session, out, sink, steps, arc, RATE_LIMIT, by)?;
-    write_end(out, sink)
+    put_never_line(writer, session.model(), arc, by);
+    put_cut_at(session, writer, steps, arc, RATE_LIMIT, by);
+    put_end(writer);
 }
 
 /// Puts the least rate of an arc at which everybody is out of the session's model by a moment, with what proves it.
-pub(crate) fn write_least_rate<K: Sink, L: Ledger>(
+pub(crate) fn put_least_rate<K: Sink, L: Ledger>(
     session: &mut Session,
-    out: &mut Out,
-    sink: &mut K,
+    writer: &mut Writer<'_, K>,
     steps: &mut Steps<L>,
     arc: u32,
     by: u16,
-) -> Result<(), WriteFault>
+)
     requires arc { arc < length session.old.state.model.arcs }
     requires by { by ≤ session.old.state.model.horizon }
     requires room { length session.old.state.former < kept_limit }
-    ensures text { (least : LeastValue) × ((text : List ℕ) × SaysLeast session.old.state.model arc by least text × PutsText (K.held sink.old) out.old text (K.held sink.new) out.new result) }
-    ensures cause { HasCause (K.faults sink.old) (K.faults sink.new) result }
+    ensures text { (least : LeastValue) × ((text : List ℕ) × SaysLeast session.old.state.model arc by least text × Writes K.held K.faults writer.old text writer.new) }
     ensures stays { StaysSolved session.old.state session.new.state }
     ensures counted { (n : ℕ) × (steps.new ≡ steps.old + n) }
 {
     match least_rate(session, arc, by, steps) {
-        Least::Rate { rate } => write_rate(session, out, sink, steps, arc, rate, by),
-        Least::Never => write_no_rate(session, out, sink, steps, arc, by),
+        Least::Rate { rate } => put_rate(session, writer, steps, arc, rate, by),
+        Least::Never => put_no_rate(session, writer, steps, arc, by),
     }
 }

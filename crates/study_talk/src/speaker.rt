@@ -3,12 +3,13 @@ ghost use Rattle.std.specs.Prelude.{◌≡◌};
 
 use crate::desk::StudyDesk;
 use crate::reply::{reply_exits, reply_least};
-use certificate_text::write_refusal;
+use certificate_text::put_refusal;
 use evac_law::Steps;
-use line_io::{Heard, Out, Sink, WriteFault};
+use line_io::{Heard, Sink, Writer};
 use model_text::{StudyCommand, read_study_command};
+use std::alloc::AllocError;
 use std::sync::ledger::Ledger;
-use talk::{AnswerFault, Speaker, answered};
+use talk::Speaker;
 
 impl Speaker for StudyDesk {
     ghost use Rattle.std.specs.Prelude.{[], ⊤};
@@ -35,26 +36,30 @@ impl Speaker for StudyDesk {
 
     ghost ready = { λ _. ⊤ };
 
-    fn open<K: Sink>(&self, _out: &mut Out, _sink: &mut K) -> Result<(), WriteFault> {
-        Ok(())
-    }
+    fn open<K: Sink>(&self, _writer: &mut Writer<'_, K>) {}
 
     fn answer<K: Sink, L: Ledger>(
         &mut self,
-        out: &mut Out,
-        sink: &mut K,
+        writer: &mut Writer<'_, K>,
         steps: &mut Steps<L>,
         text: &[u8],
         line: u32,
-    ) -> Result<Heard, AnswerFault> {
+    ) -> Result<Heard, AllocError> {
         match read_study_command(text) {
             Ok(StudyCommand::Blank) => Ok(Heard::More),
-            Ok(StudyCommand::Exits) => answered(reply_exits(self, out, sink, steps)),
+            Ok(StudyCommand::Exits) => {
+                reply_exits(self, writer, steps);
+                Ok(Heard::More)
+            }
             Ok(StudyCommand::Least { from, to, by }) => {
-                answered(reply_least(self, out, sink, steps, from, to, by, line))
+                reply_least(self, writer, steps, from, to, by, line);
+                Ok(Heard::More)
             }
             Ok(StudyCommand::Quit) => Ok(Heard::Last),
-            Err(fault) => answered(write_refusal(out, sink, fault.code(), line)),
+            Err(fault) => {
+                put_refusal(writer, fault.code(), line);
+                Ok(Heard::More)
+            }
         }
     }
 }

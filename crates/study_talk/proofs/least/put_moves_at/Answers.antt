@@ -1,7 +1,7 @@
 use Rattle.std.proofs.Common.{◌+◌, arith, refl}
 use Rattle.certificate_text.specs.BlockText.{move_lines}
 use Rattle.study_talk.proofs.CertLemmas.{moves_said, never_refused}
-use Rattle.study_talk.proofs.least.write_moves_at.Goals as goal
+use Rattle.study_talk.proofs.least.put_moves_at.Goals as goal
 
 pub unreachable-requires : goal.unreachable-requires
 unreachable-requires g c =
@@ -13,7 +13,7 @@ returns-clause-text g c =
     let t = c.edit.new.self.state in (
       move_lines t.model t.plan,
       moves_said c.args.session.now.state t c.args.arc c.args.by c.args.rate (move_lines t.model t.plan) c.in-Ok.ensures.ends.2.0 c.requires.enough refl,
-      rw c.model-in-Ok.ensures.model at c.write_moves-sent.ensures.text,
+      rw c.model-in-Ok.ensures.model at c.put_moves.ensures,
     )
 
 pub returns-clause-counted : goal.returns-clause-counted

@@ -3,7 +3,7 @@ use Rattle.evac_law.specs.Certificates.{label_cut}
 use Rattle.certificate_text.specs.BlockText.{in_lines}
 use Rattle.report_text.specs.ReportText.{cut_line}
 use Rattle.study_talk.proofs.CertLemmas.{barred_said_by, cut_said}
-use Rattle.study_talk.proofs.least.write_cut_at.Goals as goal
+use Rattle.study_talk.proofs.least.put_cut_at.Goals as goal
 
 pub returns-in-Ok-clause-text : goal.returns-in-Ok-clause-text
 returns-in-Ok-clause-text g c =
@@ -13,7 +13,7 @@ returns-in-Ok-clause-text g c =
       text,
       cut_said s t c.args.arc c.args.by c.args.rate c.cut_value-value.result text c.model.ensures.solved c.requires.arc c.requires.rate c.requires.by c.in-Ok.ensures.ends.2.0 c.requires.slow
           (rw (c.model-model.ensures.model, c.labels.ensures) at c.cut_value-value.ensures.value) refl,
-      rw (c.model-model.ensures.model, c.labels-in-Ok.ensures) at c.write_cut-sent.ensures.text,
+      rw (c.model-model.ensures.model, c.labels-in-Ok.ensures) at c.put_cut.ensures,
     )
 
 pub returns-in-Ok-clause-counted : goal.returns-in-Ok-clause-counted
@@ -29,5 +29,5 @@ returns-in-Err-NotCleared-clause-text g c =
     let text = cut_line s.state.model.horizon f.most ++ in_lines s.state.model (label_cut s.state.model t.refused s.state.model.horizon) in (
       text,
       barred_said_by s t f.field-0 c.args.arc c.args.by c.args.rate f.field-0-0 f.most f.ensures.ends.0 text f.field-0-is f.ensures.ends.2 refl,
-      rw (c.model-model-in-Err-NotCleared.ensures.model, c.refused_cut-labels.ensures.labels, c.from.ensures, f.ensures.unchanged) at c.write_cut.ensures.text,
+      rw (c.model-model-in-Err-NotCleared.ensures.model, c.refused_cut-labels.ensures.labels, c.from.ensures, f.ensures.unchanged) at c.put_cut-in-Err-NotCleared.ensures,
     )

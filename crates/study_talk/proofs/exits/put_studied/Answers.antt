@@ -2,7 +2,7 @@ use Rattle.std.proofs.Common.{ap, refl}
 use Rattle.edit_session.specs.Sessions.{SessionState}
 use Rattle.study_talk.specs.StudyTexts.{Row}
 use Rattle.study_talk.proofs.RowLemmas.{row_as}
-use Rattle.study_talk.proofs.exits.write_studied.Goals as goal
+use Rattle.study_talk.proofs.exits.put_studied.Goals as goal
 
 pub returns-clause-text : goal.returns-clause-text
 returns-clause-text g c =
@@ -12,5 +12,5 @@ returns-clause-text g c =
       row,
       refl,
       c.row_of-row.ensures.row,
-      row_as m s.state.model c.args.node s.refused c.row_of-row.result c.args.so_far c.write_next.result _ _ _ _ (ap (λ (z : SessionState). z.model) c.row_of-row.ensures.unchanged) c.write_next.ensures.text,
+      row_as m s.state.model c.args.node s.refused c.row_of-row.result _ _ (ap (λ (z : SessionState). z.model) c.row_of-row.ensures.unchanged) c.put_row.ensures,
     )
