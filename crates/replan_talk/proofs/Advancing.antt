@@ -4,10 +4,10 @@ use Rattle.std.specs.declared.option.Option.{Option}
 use Rattle.evac_law.specs.declared.code.Code.{Code}
 use Rattle.evac_law.specs.declared.code.Code.TheVariants as codes
 use Rattle.evac_law.specs.declared.model.Model.{Model}
-use Rattle.line_io.specs.Causes.{Count, HasCause}
+use Rattle.line_io.specs.Causes.{Count}
 use Rattle.line_io.specs.Line.{input_limit}
-use Rattle.line_io.specs.Writer.{PutsText}
-use Rattle.line_io.specs.declared.out.WriteFault.{WriteFault}
+use Rattle.line_io.specs.Writer.{Writes}
+use Rattle.line_io.specs.declared.writer.Writer.{Writer}
 use Rattle.model_text.specs.declared.fault.TextFault.{TextFault}
 use Rattle.model_text.specs.Codes.{text_fault_code}
 use Rattle.certificate_text.specs.Block.{number_field_limit}
@@ -23,11 +23,8 @@ use Rattle.replan_talk.specs.Desks.{AnswersSome, replanned, shown_replan}
 use Rattle.replan_talk.specs.ReplanTalks.{AdvancesTo, AsksAdvance, CarriesOut, IsLastGone, Replanned, WantsMemory, asks_advance, gone_text, bars_moment, asked_moment}
 use Rattle.replan_talk.specs.Talking.{GoesUpTo}
 use Rattle.replan_talk.proofs.Carrying.{code_said}
-use Rattle.talk.specs.declared.fault.AnswerFault.{AnswerFault}
-use Rattle.talk.specs.declared.fault.AnswerFault.TheVariants.{Write, Memory}
-use Rattle.talk.specs.Speaking.{SaysSome, Shown}
+use Rattle.talk.specs.Speaking.{PutsSome, Speaking}
 use Rattle.talk.specs.Talks.{Reply, refuses}
-use Rattle.talk.proofs.Answering as answering
 
 few_numbers : (index line : ℕ) → index < line → line ≤ input_limit → index + 1 < 2 ^ 32
 unfolding input_limit
@@ -37,12 +34,12 @@ few_numbers index line before short = omega (arith, before, short)
 free-moment : (line : ℕ) (s : Replanned) (p : ℕ) (barred : Bool) (r : Reply Replanned) → barred ≡ false → CarriesOut s p r → AdvancesTo line s p barred r
 free-moment line s p barred r free h = let P : Bool → Type 0 = λ b. AdvancesTo line s p b r in subst P (sym free) h
 
-pub advance_said : BlockReadsBack → {T : Type 0} (result : Result T WriteFault) (line p last steps n k : ℕ) (t t' : ReplanTalk) (a b : Option (List ℕ)) (u w : List ℕ) (f g : Count)
+pub advance_said : BlockReadsBack → {X : Type 0} {H : X → Option (List ℕ)} {F : X → Count} (line p last steps n k : ℕ) (t t' : ReplanTalk) (a b : Writer X)
     → t.desk.index < line → line ≤ input_limit → bars_moment (replanned t.desk t.replan) p ≡ false → GoesUpTo t p t' → steps ≡ t'.replan.session.state.work.pushes → k ≡ n + steps
     → IsLastGone t'.replan.gone t'.replan.session.state.model.horizon last
-    → PutsText a u (gone_text t'.replan.moment t'.replan.gone last ++ block_text t'.desk.index t'.replan.session.state) b w result → HasCause f g result
-    → SaysSome (AdvancesTo line (replanned t.desk t.replan) p (bars_moment (replanned t.desk t.replan) p)) result (shown_replan t.desk t.replan a u f n) (shown_replan t'.desk t'.replan b w g k)
-advance_said back result line p last steps n k t t' a b u w f g before short free goes counted all last_gone put cause =
+    → Writes H F a (gone_text t'.replan.moment t'.replan.gone last ++ block_text t'.desk.index t'.replan.session.state) b
+    → PutsSome H F (AdvancesTo line (replanned t.desk t.replan) p (bars_moment (replanned t.desk t.replan) p)) (shown_replan t.desk t.replan a n) (shown_replan t'.desk t'.replan b k)
+advance_said back {X} {H} {F} line p last steps n k t t' a b before short free goes counted all last_gone put =
     let s = replanned t.desk t.replan in
     let s' = replanned t'.desk t'.replan in
     let v = t.replan in
@@ -67,42 +64,41 @@ advance_said back result line p last steps n k t t' a b u w f g before short fre
       text = refl;
       counted = counted;
     } in
-    let said = subst (λ (i : ℕ). PutsText a u (gone_text i v'.gone last ++ block) b w result) goes.advanced.moment put in (
+    let said = subst (λ (i : ℕ). Writes H F a (gone_text i v'.gone last ++ block) b) goes.advanced.moment put in (
       r,
       free-moment line s p (bars_moment s p) r free out,
-      answering.said result t.desk.names t'.desk.names s s' r a b u w f g n k goes.names_same refl said cause all,
+      record { kept = goes.names_same; state = refl; put = said; steps = all },
     )
 
 -- a moment that is barred
-pub barred_said : {T : Type 0} (result : Result T WriteFault) (line : ℕ) (code : Code) (p steps n k : ℕ) (t t' : ReplanTalk) (a b : Option (List ℕ)) (u w : List ℕ) (f g : Count)
+pub barred_said : {X : Type 0} {H : X → Option (List ℕ)} {F : X → Count} (line : ℕ) (code : Code) (p steps n k : ℕ) (t t' : ReplanTalk) (a b : Writer X)
     → bars_moment (replanned t.desk t.replan) p ≡ true → t'.desk ≡ t.desk → t'.replan ≡ t.replan → steps ≡ 0 → k ≡ n + steps → code ≡ codes.BadMoment
-    → PutsText a u (refusal_line code line) b w result → HasCause f g result
-    → SaysSome (AdvancesTo line (replanned t.desk t.replan) p (bars_moment (replanned t.desk t.replan) p)) result (shown_replan t.desk t.replan a u f n) (shown_replan t'.desk t'.replan b w g k)
-barred_said result line code p steps n k t t' a b u w f g barred desk replan none counted is put cause =
+    → Writes H F a (refusal_line code line) b
+    → PutsSome H F (AdvancesTo line (replanned t.desk t.replan) p (bars_moment (replanned t.desk t.replan) p)) (shown_replan t.desk t.replan a n) (shown_replan t'.desk t'.replan b k)
+barred_said {X} {H} {F} line code p steps n k t t' a b barred desk replan none counted is put =
     let s = replanned t.desk t.replan in
     let Gets = AdvancesTo line s p (bars_moment s p) in
     let gets : Gets (refuses s codes.BadMoment line) = (let P : Bool → Type 0 = λ b. AdvancesTo line s p b (refuses s codes.BadMoment line) in subst P (sym barred) refl) in
-    let D : DeskView → Type 0 = λ x. SaysSome Gets result (shown_replan t.desk t.replan a u f n) (shown_replan x t'.replan b w g k) in
-    let V : ReplanView → Type 0 = λ x. SaysSome Gets result (shown_replan t.desk t.replan a u f n) (shown_replan t.desk x b w g k) in
-    let K : ℕ → Type 0 = λ i. SaysSome Gets result (shown_replan t.desk t.replan a u f n) (shown_replan t.desk t.replan b w g i) in
+    let D : DeskView → Type 0 = λ x. PutsSome H F Gets (shown_replan t.desk t.replan a n) (shown_replan x t'.replan b k) in
+    let V : ReplanView → Type 0 = λ x. PutsSome H F Gets (shown_replan t.desk t.replan a n) (shown_replan t.desk x b k) in
+    let K : ℕ → Type 0 = λ i. PutsSome H F Gets (shown_replan t.desk t.replan a n) (shown_replan t.desk t.replan b i) in
     let same : k ≡ n = omega (arith, counted, none) in
-    subst D (sym desk) (subst V (sym replan) (subst K (sym same) (code_said result Gets line code n t.desk t.replan codes.BadMoment a b u w f g is gets put cause)))
+    subst D (sym desk) (subst V (sym replan) (subst K (sym same) (code_said Gets line code n t.desk t.replan codes.BadMoment a b is gets put)))
 
 -- ---- what a line asks for
 
-pub asks_moment : (line : ℕ) (s : Replanned) (text : List ℕ) (p : ℕ) (named : Result ℕ TextFault) (result : Result (Unit {0}) AnswerFault) {N : Type 0} (x y : Shown N Replanned)
-    → asks_advance text ≡ true → named ≡ Ok p → named ≡ asked_moment text → AnswersSome (AdvancesTo line s p (bars_moment s p)) (bars_moment s p ≡ false) result x y
-    → AnswersSome (AsksAdvance line s (asked_moment text)) (WantsMemory s text) result x y
-asks_moment line s text p named result x y asks ok is h =
+pub asks_moment : {N X E : Type 0} {H : X → Option (List ℕ)} {F : X → Count} (line : ℕ) (s : Replanned) (text : List ℕ) (p : ℕ) (named : Result ℕ TextFault) (result : Result (Unit {0}) E) (x y : Speaking N Replanned X)
+    → asks_advance text ≡ true → named ≡ Ok p → named ≡ asked_moment text → AnswersSome H F (AdvancesTo line s p (bars_moment s p)) (bars_moment s p ≡ false) result x y
+    → AnswersSome H F (AsksAdvance line s (asked_moment text)) (WantsMemory s text) result x y
+asks_moment {N} {X} {E} {H} {F} line s text p named result x y asks ok is h =
     let e : asked_moment text ≡ Ok p = sym is ∙ ok in
-    let P : Result ℕ TextFault → Type 0 = λ m. AnswersSome (AsksAdvance line s m) (WantsMemory s text) result x y in
+    let P : Result ℕ TextFault → Type 0 = λ m. AnswersSome H F (AsksAdvance line s m) (WantsMemory s text) result x y in
     subst P (sym e) (by_result result h)
   where
-    by_result : (result : Result (Unit {0}) AnswerFault) → AnswersSome (AdvancesTo line s p (bars_moment s p)) (bars_moment s p ≡ false) result x y
-        → AnswersSome (AdvancesTo line s p (bars_moment s p)) (WantsMemory s text) result x y
+    by_result : (result : Result (Unit {0}) E) → AnswersSome H F (AdvancesTo line s p (bars_moment s p)) (bars_moment s p ≡ false) result x y
+        → AnswersSome H F (AdvancesTo line s p (bars_moment s p)) (WantsMemory s text) result x y
     by_result (Ok done) h = h
-    by_result (Err (Write fault)) h = h
-    by_result (Err Memory) h = (record { moment = p; asks = asks; named = sym is ∙ ok; free = h.0 }, h.1)
+    by_result (Err fault) h = (record { moment = p; asks = asks; named = sym is ∙ ok; free = h.0 }, h.1)
 
 -- a line that asks for it and has a fault
 pub asks_fault : (line : ℕ) (s : Replanned) (text : List ℕ) (fault : TextFault) (named : Result ℕ TextFault) → named ≡ Err fault → named ≡ asked_moment text

@@ -1,18 +1,15 @@
 -- No line gets more than one block, and a line that is replied to is answered.
 use Rattle.std.proofs.Common.{◌≡◌, ℕ, ◌+◌, ◌≤◌, Bool, true, false, ◌&&◌, nat_lt, List, Result, Ok, Err, sym, ap, subst, arith}
-use Rattle.line_io.specs.declared.hearing.Heard.{Heard}
-use Rattle.line_io.specs.declared.hearing.Heard.TheVariants.{More}
-use Rattle.line_io.specs.declared.out.WriteFault.{WriteFault}
+use Rattle.std.specs.declared.option.Option.{Option}
+use Rattle.line_io.specs.Causes.{Count}
 use Rattle.model_text.specs.declared.command.Command.{Command}
 use Rattle.model_text.specs.declared.fault.TextFault.{TextFault}
 use Rattle.model_text.specs.Commands.{command_of}
 use Rattle.building_table.specs.Names.{NameTable}
 use Rattle.session_talk.proofs.Replying.{reply-index}
-use Rattle.replan_talk.specs.Desks.{AnswersSome, Behind, Quits, Wants, gets}
-use Rattle.replan_talk.specs.ReplanTalks.{AdvancesTo, AsksAdvance, AsksSession, Replanned, RowOf, SessionRow, WantsMemory, asks_advance, asks_of_people, bars_moment, asked_moment}
-use Rattle.talk.specs.declared.fault.AnswerFault.{AnswerFault}
-use Rattle.talk.specs.declared.fault.AnswerFault.TheVariants.{Write, Memory}
-use Rattle.talk.specs.Speaking.{AnswersLine, SaysSome, Shown, answered}
+use Rattle.replan_talk.specs.Desks.{Behind, gets}
+use Rattle.replan_talk.specs.ReplanTalks.{AdvancesTo, AsksAdvance, AsksSession, Replanned, RowOf, SessionRow, asks_advance, asks_of_people, bars_moment, asked_moment}
+use Rattle.talk.specs.Speaking.{PutsReply, PutsSome, Speaking}
 use Rattle.talk.specs.Talks.{Reply, says}
 
 -- ---- no line gets more than one block
@@ -47,28 +44,16 @@ session-row names line s text c r asks is h =
 
 -- ---- a line that is replied to is answered
 
-pub advance_more : (x y : Shown NameTable Replanned) (before line : ℕ) (text : List ℕ) (done : Unit {0}) → asks_advance text ≡ true → line ≡ before + 1 → Behind before x.state
-    → AnswersSome (AsksAdvance line x.state (asked_moment text)) (WantsMemory x.state text) (Ok done) x y → AnswersLine gets Quits Wants Behind x line text (Ok More) y
-advance_more x y before line text done asks at few h =
-    let e = ap (λ (s : Replanned). s.session.index) h.2.state in
-    (h.0, advance-row x.kept line x.state text h.0 asks h.1, h.2, omega (arith, asks-index line x.state (asked_moment text) h.0 h.1, e, few, at))
+module _ {X : Type 0} {H : X → Option (List ℕ)} {F : X → Count} (x y : Speaking NameTable Replanned X) where
+  pub advance_more : (before line : ℕ) (text : List ℕ) → asks_advance text ≡ true → line ≡ before + 1 → Behind before x.state
+      → PutsSome H F (AsksAdvance line x.state (asked_moment text)) x y → (r : Reply Replanned) × gets x.kept line x.state text r × PutsReply H F x r y × Behind line y.state
+  advance_more before line text asks at few h =
+      let e = ap (λ (s : Replanned). s.session.index) h.2.state in
+      (h.0, advance-row x.kept line x.state text h.0 asks h.1, h.2, omega (arith, asks-index line x.state (asked_moment text) h.0 h.1, e, few, at))
 
-pub advance_err : (x y : Shown NameTable Replanned) (line : ℕ) (text : List ℕ) (fault : AnswerFault) → asks_advance text ≡ true
-    → AnswersSome (AsksAdvance line x.state (asked_moment text)) (WantsMemory x.state text) (Err fault) x y → AnswersLine gets Quits Wants Behind x line text (Err fault) y
-advance_err x y line text (Write fault) asks h = (h.0, advance-row x.kept line x.state text h.0 asks h.1, h.2)
-advance_err x y line text Memory asks h = h
-
-session-by : (x y : Shown NameTable Replanned) (before line : ℕ) (text : List ℕ) (c : Result Command TextFault) (put : Result (Unit {0}) WriteFault) → asks_advance text ≡ false → c ≡ command_of text
-    → line ≡ before + 1 → Behind before x.state → SaysSome (SessionRow x.kept line x.state c) put x y → AnswersLine gets Quits Wants Behind x line text (answered put) y
-session-by x y before line text c (Ok done) asks is at few h =
-    let e = ap (λ (s : Replanned). s.session.index) h.2.state in
-    let late = nat_lt 0 x.state.moment && asks_of_people x.kept c in
-    (h.0, session-row x.kept line x.state text c h.0 asks is h.1, h.2, omega (arith, session-index x.kept line x.state c late h.0 h.1, e, few, at))
-session-by x y before line text c (Err fault) asks is at few h = (h.0, session-row x.kept line x.state text c h.0 asks is h.1, h.2)
-
-pub session_answers : (x y : Shown NameTable Replanned) (before line : ℕ) (text : List ℕ) (c : Result Command TextFault) (put : Result (Unit {0}) WriteFault) (result : Result Heard AnswerFault)
-    → asks_advance text ≡ false → c ≡ command_of text → result ≡ answered put → line ≡ before + 1 → Behind before x.state → SaysSome (SessionRow x.kept line x.state c) put x y
-    → AnswersLine gets Quits Wants Behind x line text result y
-session_answers x y before line text c put result asks is made at few h =
-    let P : Result Heard AnswerFault → Type 0 = λ z. AnswersLine gets Quits Wants Behind x line text z y in
-    subst P (sym made) (session-by x y before line text c put asks is at few h)
+  pub session_answers : (before line : ℕ) (text : List ℕ) (c : Result Command TextFault) → asks_advance text ≡ false → c ≡ command_of text → line ≡ before + 1 → Behind before x.state
+      → PutsSome H F (SessionRow x.kept line x.state c) x y → (r : Reply Replanned) × gets x.kept line x.state text r × PutsReply H F x r y × Behind line y.state
+  session_answers before line text c asks is at few h =
+      let e = ap (λ (s : Replanned). s.session.index) h.2.state in
+      let late = nat_lt 0 x.state.moment && asks_of_people x.kept c in
+      (h.0, session-row x.kept line x.state text c h.0 asks is h.1, h.2, omega (arith, session-index x.kept line x.state c late h.0 h.1, e, few, at))

@@ -5,7 +5,7 @@ use Rattle.evac_law.specs.declared.code.Code.TheVariants.{Committed}
 use Rattle.evac_law.specs.declared.edit.Edit.{Edit}
 use Rattle.evac_law.specs.Edits.{applied}
 use Rattle.line_io.specs.Causes.{Count}
-use Rattle.line_io.specs.declared.out.WriteFault.{WriteFault}
+use Rattle.line_io.specs.declared.writer.Writer.{Writer}
 use Rattle.model_text.specs.declared.command.Command.TheVariants.{Quit}
 use Rattle.model_text.specs.Commands.{command_of}
 use Rattle.building_table.specs.Names.{NameTable}
@@ -13,18 +13,16 @@ use Rattle.replan.specs.Replans.{ReplanView}
 use Rattle.session_talk.specs.Desks.{DeskView, desk_state}
 use Rattle.session_talk.specs.Sessions.{Edits, State}
 use Rattle.replan_talk.specs.ReplanTalks.{ReplanReplies, Replanned, WantsMemory, carried_on}
-use Rattle.talk.specs.Speaking.{Says, SaysFront, SaysNothing, Shown, shown}
+use Rattle.talk.specs.Speaking.{PutsNothing, PutsSome, Speaking, speaking}
 use Rattle.talk.specs.Talks.{Reply, Replying, Wanting, refuses}
-use Rattle.talk.specs.declared.fault.AnswerFault.{AnswerFault}
-use Rattle.talk.specs.declared.fault.AnswerFault.TheVariants.{Write, Memory}
 
 -- where a replan is whose replies are made on a desk
 abbrev pub replanned : DeskView → ReplanView → Replanned
 replanned d v = record { session = desk_state d v.session; moment = v.moment; gone = v.gone }
 
 -- what is shown of a desk and a replan
-abbrev pub shown_replan : DeskView → ReplanView → Option (List ℕ) → List ℕ → Count → ℕ → Shown NameTable Replanned
-shown_replan d v held pending faults steps = shown d.names (replanned d v) held pending faults steps
+abbrev pub shown_replan : {X : Type 0} → DeskView → ReplanView → Writer X → ℕ → Speaking NameTable Replanned X
+shown_replan d v writer steps = speaking d.names (replanned d v) writer steps
 
 -- what a line gets in a replan with these names, which line quits, and which may want memory
 abbrev pub gets : NameTable → Replying Replanned
@@ -47,13 +45,7 @@ abbrev pub EditsUnless : ℕ → Replanned → Edit → Bool → Reply Replanned
 EditsUnless line s e true r = r ≡ refuses s Committed line
 EditsUnless line s e false r = (q : Reply State) × Edits line s.session (applied s.session.standing.model e) q × (r ≡ carried_on s q)
 
--- the answer where a text was put
-abbrev pub by_write : Result (Unit {0}) WriteFault → Result (Unit {0}) AnswerFault
-by_write (Ok done) = Ok done
-by_write (Err fault) = Err (Write fault)
-
--- one of these replies was said, whole at `Ok` and a front of it where the sink failed; or there was no memory, and nothing was said
-abbrev pub AnswersSome : {N S : Type 0} → (Reply S → Type 0) → Type 0 → Result (Unit {0}) AnswerFault → Shown N S → Shown N S → Type 0
-AnswersSome Gets Lacks (Ok done) s s' = (r : Reply _) × Gets r × Says s r s'
-AnswersSome Gets Lacks (Err (Write fault)) s s' = (r : Reply _) × Gets r × SaysFront s r s'
-AnswersSome Gets Lacks (Err Memory) s s' = Lacks × SaysNothing s s'
+-- one of these replies was put; or there was no memory, and nothing was put
+abbrev pub AnswersSome : {N S X E : Type 0} → (X → Option (List ℕ)) → (X → Count) → (Reply S → Type 0) → Type 0 → Result (Unit {0}) E → Speaking N S X → Speaking N S X → Type 0
+AnswersSome held faults Gets Lacks (Ok done) s s' = PutsSome held faults Gets s s'
+AnswersSome held faults Gets Lacks (Err fault) s s' = Lacks × PutsNothing s s'

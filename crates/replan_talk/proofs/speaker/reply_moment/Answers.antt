@@ -4,7 +4,6 @@ use Rattle.session_talk.proofs.Back.{back}
 use Rattle.replan_talk.specs.declared.speaker.ReplanTalk.{ReplanTalk}
 use Rattle.replan_talk.specs.Talking.{TalkAdvances}
 use Rattle.replan_talk.proofs.Advancing.{advance_said, barred_said}
-use Rattle.replan_talk.proofs.Carrying.{answered_by, on_ok}
 use Rattle.replan_talk.proofs.Going.{served_same}
 use Rattle.replan_talk.proofs.speaker.reply_moment.Goals as goal
 
@@ -15,30 +14,24 @@ by-fault t t' p n why named is h = let P : AdvanceFault → Type 0 = λ f. TalkA
 pub returns-in-Ok-clause-says : goal.returns-in-Ok-clause-says
 returns-in-Ok-clause-says g c =
     let e = c.in-Ok.ensures in
-    let text = c.write_advanced.ensures.text in
-    λ before. answered_by c.write_advanced.result c.by_write.result _ _ _ _ c.by_write.ensures
-    (advance_said back c.write_advanced.result c.args.line c.args.moment text.0 e.0 c.args.steps.now _ c.args.talk.now c.advance.new.self _ _ _ _ _ _ before c.requires.line e.2.0 e.2.1 e.2.2 e.1
-    text.1 text.2 c.write_advanced.ensures.cause)
-
-pub returns-in-Ok-clause-desk : goal.returns-in-Ok-clause-desk
-returns-in-Ok-clause-desk g c = on_ok c.by_write.result _ c.in-Ok.ensures.2.1.serves
+    let text = c.put_advanced.ensures in
+    λ before. advance_said back c.args.line c.args.moment text.0 e.0 c.args.steps.now _ c.args.talk.now c.advance.new.self _ _ before c.requires.line e.2.0 e.2.1 e.2.2 e.1
+    text.1 text.2
 
 pub returns-in-Err-BadMoment-clause-says : goal.returns-in-Err-BadMoment-clause-says
 returns-in-Err-BadMoment-clause-says g c =
     let e = c.in-Err-BadMoment.ensures in
     let h = by-fault c.args.talk.now c.advance.new.self c.args.moment e.0 c.in-Err-BadMoment.field-0 _ c.in-Err-BadMoment.field-0-is e.2 in
-    λ before. answered_by c.write_refusal.result c.by_write-in-Err-BadMoment.result _ _ _ _ c.by_write-in-Err-BadMoment.ensures
-    (barred_said c.write_refusal.result c.args.line _ c.args.moment e.0 c.args.steps.now _ c.args.talk.now c.advance.new.self _ _ _ _ _ _ h.0 h.1 h.2 h.3 e.1 refl c.write_refusal.ensures.text
-    c.write_refusal.ensures.cause)
+    λ before. barred_said c.args.line _ c.args.moment e.0 c.args.steps.now _ c.args.talk.now c.advance.new.self _ _ h.0 h.1 h.2 h.3 e.1 refl c.put_refusal.ensures
 
 pub returns-in-Err-BadMoment-clause-desk : goal.returns-in-Err-BadMoment-clause-desk
 returns-in-Err-BadMoment-clause-desk g c =
     let e = c.in-Err-BadMoment.ensures in
     let h = by-fault c.args.talk.now c.advance.new.self c.args.moment e.0 c.in-Err-BadMoment.field-0 _ c.in-Err-BadMoment.field-0-is e.2 in
-    on_ok c.by_write-in-Err-BadMoment.result _ (served_same c.args.talk.now c.advance.new.self h.1 h.2 c.requires.desk)
+    served_same c.args.talk.now c.advance.new.self h.1 h.2 c.requires.desk
 
 pub returns-in-Err-Memory-clause-says : goal.returns-in-Err-Memory-clause-says
 returns-in-Err-Memory-clause-says g c =
     let e = c.in-Err-Memory.ensures in
     let h = by-fault c.args.talk.now c.advance.new.self c.args.moment e.0 c.in-Err-Memory.field-0 _ c.in-Err-Memory.field-0-is e.2 in
-    λ before. (h.0, record { kept = h.1; held = refl; pending = refl; faults = refl; steps = omega (arith, e.1) })
+    λ before. (h.0, record { kept = h.1; writer = refl; steps = omega (arith, e.1) })

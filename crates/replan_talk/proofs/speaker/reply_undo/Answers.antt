@@ -5,7 +5,7 @@ pub returns-clause-says : goal.returns-clause-says
 returns-clause-says g c =
     let t = c.args.talk.now in
     let e = c.undo-undone.ensures in
-    λ before. undone_said c.reply_undone.result c.args.line e.0 _ c.args.steps.now t.desk c.reply_undone.new.desk t.replan c.undo-undone.new.self c.session-session.result.now _ _ _ _ _ _ t.desk.names
+    λ before. undone_said c.args.line e.0 _ c.args.steps.now t.desk c.reply_undone.new.desk t.replan c.undo-undone.new.self c.session-session.result.now _ _ t.desk.names
     c.undo-undone.result e.2 c.session-session.ensures e.1 (λ ends. c.reply_undone.ensures.says t.replan.session e.0 c.args.steps.now ends before)
 
 pub returns-clause-desk : goal.returns-clause-desk

@@ -1,7 +1,6 @@
 use Rattle.std.proofs.Common.{[], Ok, Err, Result, refl, sym, ap, ◌∙◌, arith}
 use Rattle.edit_session.specs.Sessions.{SessionView}
-use Rattle.line_io.specs.declared.out.WriteFault.{WriteFault}
-use Rattle.line_io.proofs.TextLemmas.{text-is}
+use Rattle.line_io.proofs.WriterLemmas.{writes_is}
 use Rattle.model_text.specs.declared.command.Command.TheVariants.{Blank, Edit, Undo, Cut, Report, Work}
 use Rattle.session_text.specs.StateTexts.{work_of}
 use Rattle.session_talk.specs.Desks.{desk_state}
@@ -13,7 +12,7 @@ use Rattle.replan_talk.proofs.Carrying.{code_said}
 use Rattle.replan_talk.proofs.Editing.{desk_stands, report_said, text_said}
 use Rattle.replan_talk.proofs.Replying.{session_answers}
 use Rattle.replan_talk.proofs.Rows.{fault_row, session_row}
-use Rattle.talk.proofs.Answering.{said_nothing}
+use Rattle.talk.proofs.Answering.{put_nothing}
 use Rattle.talk.specs.Talks.{says}
 use Rattle.replan_talk.proofs.speaker.ReplanTalkSpeaker.answer.Goals as goal
 
@@ -22,46 +21,41 @@ returns-in-Ok-Blank-clause-answers g c =
     let h = c.in-Ok-Blank in
     let t = c.args.self.now in
     let s = replanned t.desk t.replan in
-    let none : Unit {0} = tt in
-    let done : Result (Unit {0}) WriteFault = Ok none in
-    let x = shown_replan t.desk t.replan (g.K.Sink.held c.args.sink.now) c.args.out.now (g.K.Sink.faults c.args.sink.now) c.args.steps.now in
-    λ before at few. session_answers x x before c.args.line c.args.text.now (Ok Blank) done _ (sym c.asks_advance.ensures ∙ c.if-asks_advance.false) (sym (ap Ok h.field-0-is) ∙ h.ensures.exact) refl at few
-    (said_nothing (λ r. SessionRow t.desk.names c.args.line s (Ok Blank) r) none x
+    let x = shown_replan t.desk t.replan c.args.writer.now c.args.steps.now in
+    λ before at few. session_answers x x before c.args.line c.args.text.now (Ok Blank) (sym c.asks_advance.ensures ∙ c.if-asks_advance.false) (sym (ap Ok h.field-0-is) ∙ h.ensures.exact) at few
+    (put_nothing g.K.Sink.held g.K.Sink.faults (λ r. SessionRow t.desk.names c.args.line s (Ok Blank) r) x
     (session_row t.desk.names c.args.line s (Ok Blank) refl (says s []) (says (desk_state t.desk t.replan.session) [], refl, refl)))
 
 pub returns-in-Ok-Edit-clause-answers : goal.returns-in-Ok-Edit-clause-answers
 returns-in-Ok-Edit-clause-answers g c =
     let h = c.in-Ok-Edit in
-    λ before at few. session_answers _ _ before c.args.line c.args.text.now (Ok (Edit h.named)) c.reply_named.result c.answered.result (sym c.asks_advance.ensures ∙ c.if-asks_advance.false)
-    (sym (ap Ok h.field-0-is) ∙ h.ensures.exact) c.answered.ensures at few (c.reply_named.ensures.says (omega (arith, at, few)))
+    λ before at few. session_answers _ _ before c.args.line c.args.text.now (Ok (Edit h.named)) (sym c.asks_advance.ensures ∙ c.if-asks_advance.false)
+    (sym (ap Ok h.field-0-is) ∙ h.ensures.exact) at few (c.reply_named.ensures.says (omega (arith, at, few)))
 
 pub returns-in-Ok-Undo-clause-answers : goal.returns-in-Ok-Undo-clause-answers
 returns-in-Ok-Undo-clause-answers g c =
     let h = c.in-Ok-Undo in
-    let made = c.answered-in-Ok-Undo in
-    λ before at few. session_answers _ _ before c.args.line c.args.text.now (Ok Undo) c.reply_undo.result made.result (sym c.asks_advance.ensures ∙ c.if-asks_advance.false)
-    (sym (ap Ok h.field-0-is) ∙ h.ensures.exact) made.ensures at few (c.reply_undo.ensures.says (omega (arith, at, few)))
+    λ before at few. session_answers _ _ before c.args.line c.args.text.now (Ok Undo) (sym c.asks_advance.ensures ∙ c.if-asks_advance.false)
+    (sym (ap Ok h.field-0-is) ∙ h.ensures.exact) at few (c.reply_undo.ensures.says (omega (arith, at, few)))
 
 pub returns-in-Ok-Cut-clause-answers : goal.returns-in-Ok-Cut-clause-answers
 returns-in-Ok-Cut-clause-answers g c =
     let h = c.in-Ok-Cut in
-    let made = c.answered-in-Ok-Cut in
     let t = c.args.self.now in
     let s = desk_state t.desk t.replan.session in
     let k = h.period in
-    let put = c.reply_cut.ensures.text s (sym (ap (λ (v : SessionView). v.state) c.session-session.ensures)) in
-    λ before at few. session_answers _ _ before c.args.line c.args.text.now (Ok (Cut k)) c.reply_cut.result made.result (sym c.asks_advance.ensures ∙ c.if-asks_advance.false)
-    (sym (ap Ok h.field-0-is) ∙ h.ensures.exact) made.ensures at few
-    (text_said c.reply_cut.result t.desk.names c.args.line c.args.steps.now (Ok (Cut k)) (cut_reply c.args.line s k).text t.desk t.replan _ _ _ _ _ _ refl (cut_is c.args.line s k) put c.reply_cut.ensures.cause)
+    let put = c.reply_cut.ensures.says s (sym (ap (λ (v : SessionView). v.state) c.session-session.ensures)) in
+    λ before at few. session_answers _ _ before c.args.line c.args.text.now (Ok (Cut k)) (sym c.asks_advance.ensures ∙ c.if-asks_advance.false)
+    (sym (ap Ok h.field-0-is) ∙ h.ensures.exact) at few
+    (text_said t.desk.names c.args.line c.args.steps.now (Ok (Cut k)) (cut_reply c.args.line s k).text t.desk t.replan _ _ refl (cut_is c.args.line s k) put)
 
 pub returns-in-Ok-Report-clause-answers : goal.returns-in-Ok-Report-clause-answers
 returns-in-Ok-Report-clause-answers g c =
     let h = c.in-Ok-Report in
-    let made = c.answered-in-Ok-Report in
     let t = c.args.self.now in
-    λ before at few. session_answers _ _ before c.args.line c.args.text.now (Ok (Report h.report)) c.reply_report.result made.result (sym c.asks_advance.ensures ∙ c.if-asks_advance.false)
-    (sym (ap Ok h.field-0-is) ∙ h.ensures.exact) made.ensures at few
-    (report_said c.reply_report.result t.desk.names c.args.line c.args.steps.now h.report t.desk c.reply_report.new.desk t.replan c.session-session.result.now _ _ _ _ _ _ c.session-session.ensures
+    λ before at few. session_answers _ _ before c.args.line c.args.text.now (Ok (Report h.report)) (sym c.asks_advance.ensures ∙ c.if-asks_advance.false)
+    (sym (ap Ok h.field-0-is) ∙ h.ensures.exact) at few
+    (report_said t.desk.names c.args.line c.args.steps.now h.report t.desk c.reply_report.new.desk t.replan c.session-session.result.now _ _ c.session-session.ensures
     (c.reply_report.ensures.says c.args.steps.now))
 
 pub returns-in-Ok-Report-clause-more : goal.returns-in-Ok-Report-clause-more
@@ -70,19 +64,17 @@ returns-in-Ok-Report-clause-more g c = λ more. desk_stands _ _ _ c.session-sess
 pub returns-in-Ok-Work-clause-answers : goal.returns-in-Ok-Work-clause-answers
 returns-in-Ok-Work-clause-answers g c =
     let h = c.in-Ok-Work in
-    let made = c.answered-in-Ok-Work in
     let t = c.args.self.now in
-    let put = text-is (ap (λ (v : SessionView). work_of v.state) c.session-session.ensures) c.write_work.ensures.text in
-    λ before at few. session_answers _ _ before c.args.line c.args.text.now (Ok Work) c.write_work.result made.result (sym c.asks_advance.ensures ∙ c.if-asks_advance.false)
-    (sym (ap Ok h.field-0-is) ∙ h.ensures.exact) made.ensures at few
-    (text_said c.write_work.result t.desk.names c.args.line c.args.steps.now (Ok Work) (work_of t.replan.session.state) t.desk t.replan _ _ _ _ _ _ refl refl put c.write_work.ensures.cause)
+    let put = writes_is (ap (λ (v : SessionView). work_of v.state) c.session-session.ensures) c.put_work.ensures in
+    λ before at few. session_answers _ _ before c.args.line c.args.text.now (Ok Work) (sym c.asks_advance.ensures ∙ c.if-asks_advance.false)
+    (sym (ap Ok h.field-0-is) ∙ h.ensures.exact) at few
+    (text_said t.desk.names c.args.line c.args.steps.now (Ok Work) (work_of t.replan.session.state) t.desk t.replan _ _ refl refl put)
 
 pub returns-in-Err-clause-answers : goal.returns-in-Err-clause-answers
 returns-in-Err-clause-answers g c =
     let h = c.in-Err in
-    let made = c.answered-in-Err in
     let t = c.args.self.now in
     let s = replanned t.desk t.replan in
-    λ before at few. session_answers _ _ before c.args.line c.args.text.now (Err h.fault) c.write_refusal.result made.result (sym c.asks_advance.ensures ∙ c.if-asks_advance.false) h.ensures.exact made.ensures at few
-    (code_said c.write_refusal.result (λ r. SessionRow t.desk.names c.args.line s (Err h.fault) r) c.args.line _ _ t.desk t.replan _ _ _ _ _ _ _ c.code.ensures
-    (fault_row t.desk.names c.args.line s h.fault) c.write_refusal.ensures.text c.write_refusal.ensures.cause)
+    λ before at few. session_answers _ _ before c.args.line c.args.text.now (Err h.fault) (sym c.asks_advance.ensures ∙ c.if-asks_advance.false) h.ensures.exact at few
+    (code_said (λ r. SessionRow t.desk.names c.args.line s (Err h.fault) r) c.args.line _ _ t.desk t.replan _ _ _ c.code.ensures
+    (fault_row t.desk.names c.args.line s h.fault) c.put_refusal.ensures)
