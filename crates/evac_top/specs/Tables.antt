@@ -1,25 +1,17 @@
 -- The tables of what is asked for behind a block.
 use Rattle.std.specs.Prelude.{◌≡◌, is_some, IfSome}
-use Rattle.bottleneck_report.specs.Crossings.{counts_of}
 use Rattle.building_table.specs.Names.{NameTable}
-use Rattle.clearing_report.specs.Clearing.{IsReport}
 use Rattle.edit_session.specs.Sessions.{SessionState}
 use Rattle.route_decompose.specs.Routes.{IsSameSite}
-use Rattle.session_text.specs.Spaces.{IsSpace, SpaceView}
+use Rattle.session_text.specs.Spaces.{IsSpace}
 use Rattle.evac_top.specs.declared.report_tables.Tables.{Tables}
 use Rattle.evac_top.specs.declared.words.Flags.{Flags}
 
--- the reports on where a session stands are made
-pub record HasReports (names : NameTable) (s : SessionState) (t : SpaceView) : Type 0 where
-  pub space : IsSpace s.model names t
-  pub plan : IsReport s.model s.plan t.clearing
-  pub labels : t.bottlenecks ≡ counts_of s.model s.labels s.last
-
--- there are tables exactly for what is asked for: room for the routes of a session's plan and for its cards, and the reports on it
+-- there are tables exactly for what is asked for: room for the routes of a session's plan, for its cards and for the reports on it
 pub record HasTablesAsked (flags : Flags) (names : NameTable) (s : SessionState) (t : Tables) : Type 0 where
   pub routes_asked : is_some t.routes ≡ flags.routes
   pub site : IfSome t.routes (λ r. IsSameSite s.model r.model)
   pub cards_asked : is_some t.cards ≡ flags.cards
   pub cards_site : IfSome t.cards (λ c. IsSameSite s.model c.model)
   pub reports_asked : is_some t.reports ≡ flags.reports
-  pub made : IfSome t.reports (HasReports names s)
+  pub space : IfSome t.reports (IsSpace s.model names)

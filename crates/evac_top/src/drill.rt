@@ -14,14 +14,13 @@ ghost use Rattle.evac_top.specs.Tells.{HasBegun, Tells};
 ghost use Rattle.evac_top.specs.declared.words.Mode.TheVariants.{Drill};
 ghost use Rattle.talk.specs.Statuses.{status_number};
 
-use crate::reply::flush_behind;
 use crate::stop::stop_short;
 use building_table::Building;
 use clearing_report::Clearing;
-use drill_building::{Figures, STOREY_LIMIT, drill_model, write_drill};
+use drill_building::{Figures, STOREY_LIMIT, drill_model, put_drill};
 use edit_session::{BeginFault, Session};
 use evac_law::{Model, Standing, Steps};
-use line_io::{Out, Sink, WriteFault};
+use line_io::{Out, Sink, WriteFault, Writer};
 use std::alloc::{AllocError, Global};
 use std::sync::ledger::Ledger;
 use talk::{Status, status_after};
@@ -53,8 +52,9 @@ fn send_drill<K: Sink>(
     ensures text { Sends (K.held sink.old) (K.held sink.new) (drill_text number model.now figures) result }
     ensures cause { HasCause (K.faults sink.old) (K.faults sink.new) result }
 {
-    let put = write_drill(out, sink, number, model, figures);
-    flush_behind(put, out, sink)
+    let mut writer = Writer::new(out, sink);
+    put_drill(&mut writer, number, model, figures);
+    writer.flush()
 }
 
 // Sends the summary of the plan with which a session on a drill's building begins.

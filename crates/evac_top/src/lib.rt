@@ -6,13 +6,11 @@
 
 mod check;
 mod claim;
-mod deal;
 mod drill;
 mod laws;
 mod plan;
 mod read;
 mod replanning;
-mod reply;
 mod report_tables;
 mod room;
 mod session;

@@ -1,7 +1,8 @@
 //! The tables of what is asked for behind a block.
 ghost use Rattle.std.specs.Prelude.{◌≡◌, IfOk, IfSome, is_some};
 ghost use Rattle.route_decompose.specs.Routes.{IsSameSite};
-ghost use Rattle.evac_top.specs.Tables.{HasTablesAsked, HasReports};
+ghost use Rattle.session_text.specs.Spaces.{IsSpace};
+ghost use Rattle.evac_top.specs.Tables.{HasTablesAsked};
 
 use crate::words::Flags;
 use building_table::Names;
@@ -11,22 +12,12 @@ use route_decompose::Routes;
 use session_text::ReportSpace;
 use std::alloc::{AllocError, Global};
 
-/// What is asked for: room for the routes of a session's plan and for its cards, and the reports on it.
+/// Room for what is asked for: for the routes of a session's plan, its cards, and the reports on it.
 #[derive(Drop)]
 pub struct Tables {
     pub routes: Option<Routes>,
     pub cards: Option<Cards>,
     pub reports: Option<ReportSpace>,
-}
-
-// Makes the reports on where a session stands.
-fn make_reports(alloc: Global, session: &Session, names: &Names) -> Result<ReportSpace, AllocError>
-    ensures { IfOk result (HasReports names.now session.now.state) }
-{
-    let mut space = ReportSpace::new(alloc, session.model(), names)?;
-    space.report_plan(session);
-    space.report_labels(session);
-    Ok(space)
 }
 
 // Room for the routes of a session's plan, where they are asked for.
@@ -62,18 +53,18 @@ fn room_for_cards(
     }
 }
 
-// The reports on where a session stands, where they are asked for.
-fn reports_asked(
+// Room for the reports on where a session stands, where they are asked for.
+fn room_for_reports(
     alloc: Global,
     asked: bool,
     session: &Session,
     names: &Names,
 ) -> Result<Option<ReportSpace>, AllocError>
     ensures asked { IfOk result (λ r. is_some r ≡ asked) }
-    ensures made { IfOk result (λ r. IfSome r (HasReports names.now session.now.state)) }
+    ensures space { IfOk result (λ r. IfSome r (IsSpace session.now.state.model names.now)) }
 {
     if asked {
-        Ok(Some(make_reports(alloc, session, names)?))
+        Ok(Some(ReportSpace::new(alloc, session.model(), names)?))
     } else {
         Ok(None)
     }
@@ -94,7 +85,7 @@ fn with_reports(
     requires cards_site { IfSome cards (λ c. IsSameSite session.now.state.model c.model) }
     ensures { IfOk result (HasTablesAsked flags names.now session.now.state) }
 {
-    match reports_asked(alloc, flags.reports, session, names) {
+    match room_for_reports(alloc, flags.reports, session, names) {
         Ok(reports) => Ok(Tables {
             routes,
             cards,
@@ -130,7 +121,7 @@ fn with_cards(
 }
 
 impl Tables {
-    /// Takes all memory that what is asked for needs, and makes the reports.
+    /// Takes all memory that what is asked for needs.
     pub(crate) fn new(
         alloc: Global,
         flags: Flags,

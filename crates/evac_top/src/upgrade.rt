@@ -12,12 +12,11 @@ ghost use Rattle.evac_top.specs.declared.words.Mode.TheVariants.{Upgrade};
 ghost use Rattle.talk.specs.Statuses.{status_number};
 
 use crate::read::read_input;
-use crate::reply::flush_behind;
 use crate::room::take_room;
 use crate::stop::stop;
 use building_table::Building;
-use line_io::{Out, Sink, Source, WriteFault};
-use model_writer::write_model;
+use line_io::{Out, Sink, Source, WriteFault, Writer};
+use model_writer::put_model;
 use std::alloc::Global;
 use talk::{Status, status_after};
 
@@ -28,8 +27,9 @@ fn send_model<K: Sink>(out: &mut Out, sink: &mut K, building: &Building) -> Resu
     ensures text { Sends (K.held sink.old) (K.held sink.new) (building_text building.now) result }
     ensures cause { HasCause (K.faults sink.old) (K.faults sink.new) result }
 {
-    let put = write_model(out, sink, building);
-    flush_behind(put, out, sink)
+    let mut writer = Writer::new(out, sink);
+    put_model(&mut writer, building);
+    writer.flush()
 }
 
 // Sends the same, and drops the building.

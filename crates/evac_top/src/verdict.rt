@@ -6,10 +6,9 @@ ghost use Rattle.line_io.specs.Text.{fields};
 ghost use Rattle.evac_top.specs.Check.{IsVerdictOf, no_fields, verdict_fields, verdict_text};
 ghost use Rattle.evac_top.specs.Sends.{Sends};
 
-use crate::reply::flush_behind;
 use certificate_text::put_name;
 use evac_law::{Code, Model};
-use line_io::{Out, Sink, TextLine, WriteFault};
+use line_io::{Out, Sink, TextLine, WriteFault, Writer};
 use plan_checker::Verdict;
 
 // A line that says no, with a code.
@@ -72,6 +71,7 @@ pub(crate) fn send_verdict<K: Sink>(
     ensures text { Sends (K.held sink.old) (K.held sink.new) (verdict_text model.now verdict) result }
     ensures cause { HasCause (K.faults sink.old) (K.faults sink.new) result }
 {
-    let put = line_of(model, verdict).put(out, sink);
-    flush_behind(put, out, sink)
+    let mut writer = Writer::new(out, sink);
+    writer.put(line_of(model, verdict));
+    writer.flush()
 }

@@ -1,11 +1,15 @@
-use Rattle.std.proofs.Common.{List, ℕ, subst}
-use Rattle.line_io.specs.Writer.{PutsText}
-use Rattle.model_writer.specs.ModelText.{building_text}
+use Rattle.std.proofs.Common.{rules}
+use Rattle.talk.proofs.Sending.{caused, sent}
+use Rattle.evac_top.proofs.SendLemmas.{sends-by}
 use Rattle.evac_top.proofs.upgrade.send_model.Goals as goal
 
 pub returns-clause-text : goal.returns-clause-text
 returns-clause-text g c =
-    let held = g.K.Sink.held in
-    let text = building_text c.args.building.now in
-    let put = subst (λ (p : List ℕ). PutsText (held c.args.sink.now) p text (held c.write_model-put.new.sink) c.write_model-put.new.out c.write_model-put.result) c.requires.fresh c.write_model-put.ensures.text in
-    c.flush_behind.ensures.text (held c.args.sink.now) text put
+    sends-by c.flush.result _ _ _ _ _ _ _ c.requires.fresh
+    (sent c.flush.result c.new-writer.result c.put_model.new.writer c.flush.new.self _ c.new-writer.ensures.failed (search rules) (search rules) (search rules) (search rules)
+    c.put_model.ensures c.flush.ensures.text c.flush.ensures.ok c.flush.ensures.sent c.flush.ensures.err)
+
+pub returns-clause-cause : goal.returns-clause-cause
+returns-clause-cause g c =
+    caused c.flush.result c.new-writer.result c.put_model.new.writer c.flush.new.self _ c.new-writer.ensures.failed (search rules) (search rules)
+    c.put_model.ensures c.flush.ensures.text c.flush.ensures.ok c.flush.ensures.sent c.flush.ensures.err
