@@ -1,5 +1,5 @@
 -- The block of a plan, put into a sink, read back and right.
-use Rattle.std.proofs.Common.{◌≡◌, ℕ, ◌+◌, ◌≤◌, List, [], ◌++◌, Result, Ok, Err, OnOk, IfOk, Some, slice_index, map, arith, refl, sym, ap, ◌∙◌, subst, append-nil}
+use Rattle.std.proofs.Common.{◌≡◌, ℕ, ◌+◌, ◌≤◌, false, List, [], ◌++◌, Result, Ok, Err, OnOk, IfOk, Some, slice_index, map, arith, refl, sym, ap, ◌∙◌, subst, append-nil}
 use Rattle.std.specs.Prelude.{◌↔◌}
 use Rattle.std.specs.declared.option.Option.{Option}
 use Rattle.std.specs.Io.KnownBytes.{Appends}
@@ -11,8 +11,10 @@ use Rattle.evac_law.specs.LabelTable.{LabelTable}
 use Rattle.evac_law.specs.Plans.{out_by}
 use Rattle.evac_law.specs.Sums.{moments_to}
 use Rattle.line_io.specs.Line.{Line, input_limit, lines_of}
-use Rattle.line_io.specs.Writer.{Puts}
-use Rattle.line_io.proofs.TextLemmas.{puts-then}
+use Rattle.line_io.specs.Causes.{Count}
+use Rattle.line_io.specs.Writer.{Writes}
+use Rattle.line_io.specs.declared.writer.Writer.{Writer}
+use Rattle.line_io.proofs.WriterLemmas.{writes_then}
 use Rattle.certificate_text.specs.declared.block.Block.{Block}
 use Rattle.certificate_text.specs.Block.{number_field_limit}
 use Rattle.certificate_text.specs.BlockLaws.{IsAnswerBlock, block_limit}
@@ -26,14 +28,15 @@ use Rattle.plan_checker.specs.Verdicts.{IsRight}
 use Rattle.edit_session.specs.Sessions.{IsSolved, SessionState}
 use Rattle.session_text.specs.StateTexts.{block_text}
 
--- a text that was put into an empty buffer is over once that is flushed
-pub flushed : {T E : Type 0} (r : Result T E) (a b c : Option (List ℕ)) (text p q pending : List ℕ) → pending ≡ [] → Puts a pending text b p → Puts b p [] c q
-    → OnOk r (q ≡ []) → OnOk r (Appends a c text)
-flushed (Err e) a b c text p q pending empty first second all = tt
-flushed (Ok x) a b c text p q pending empty first second all =
-    let both = puts-then (subst (λ (l : List ℕ). Puts a l text b p) empty first) second in
-    let whole : both.sent ≡ text = sym (append-nil both.sent) ∙ ap (λ (l : List ℕ). both.sent ++ l) (sym all) ∙ sym both.order ∙ append-nil text in
-    subst (λ (l : List ℕ). Appends a c l) whole both.over
+-- a text that a writer put into an empty buffer is over once that is flushed
+pub flushed : {X E : Type 0} {H : X → Option (List ℕ)} {F : X → Count} (r : Result (Unit {0}) E) (a b c : Writer X) (text : List ℕ) {s s' : X} {p : List ℕ} → a.failed ≡ false → a.sink.now ≡ s
+    → c.sink.now ≡ s' → a.out.now ≡ p → p ≡ [] → Writes H F a text b → Writes H F b [] c → OnOk r (c.failed ≡ false) → OnOk r (c.out.now ≡ []) → OnOk r (Appends (H s) (H s') text)
+flushed (Err e) a b c text fresh is to from empty put flush fine gone = tt
+flushed {X} {E} {H} {F} (Ok x) a b c text fresh is to from empty put flush fine gone =
+    let both = (writes_then put flush).whole fresh fine in
+    let whole : both.sent ≡ text =
+    sym (append-nil both.sent) ∙ ap (λ (l : List ℕ). both.sent ++ l) (sym gone) ∙ sym both.order ∙ ap (λ (l : List ℕ). l ++ (text ++ [])) (from ∙ empty) ∙ append-nil text in
+    rw (← is, ← to) (subst (λ (l : List ℕ). Appends (H a.sink.now) (H c.sink.now) l) whole both.over)
 
 -- the block of a certified plan is right
 outs-right : (m : Model) (p q : List Move) (c d : ℕ) (outs : List ℕ) → outs ≡ map (out_by m p) (moments_to c) → q ≡ p → d ≡ c → OutsRight m q d outs

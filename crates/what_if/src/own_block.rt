@@ -11,9 +11,9 @@ use block_reader::{BlockFault, read_block};
 use building_table::Names;
 use certificate_text::Block;
 use edit_session::Session;
-use line_io::{CleanSource, Failed, Lines, Out, Sink, WriteFault};
+use line_io::{CleanSource, Failed, Lines, Out, Sink, WriteFault, Writer};
 use plan_checker::{Verdict, check};
-use session_text::write_block;
+use session_text::put_block;
 use std::alloc::{AllocError, Global};
 
 // A sink that keeps what is written, as long as there is memory for it. It fails where there is none.
@@ -60,8 +60,9 @@ fn send_block<K: Sink>(out: &mut Out, sink: &mut K, session: &Session) -> Result
     requires { out.old ≡ [] }
     ensures { OnOk result (Appends (K.held sink.old) (K.held sink.new) (block_text 0 session.now.state)) }
 {
-    write_block(out, sink, session, 0)?;
-    out.flush(sink)
+    let mut writer = Writer::new(out, sink);
+    put_block(&mut writer, session, 0);
+    writer.flush()
 }
 
 // The text of the block.
