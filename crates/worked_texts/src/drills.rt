@@ -3,9 +3,9 @@ ghost use Rattle.std.specs.Prelude.{◌≤◌};
 ghost use Rattle.evac_law.specs.Building.{IsValid};
 
 use building_table::Names;
-use drill_building::{Figures, STOREY_LIMIT, drill_model, write_drill};
+use drill_building::{Figures, STOREY_LIMIT, drill_model, put_drill};
 use evac_law::{Kind, Model, NodeName};
-use line_io::{MemSink, Out};
+use line_io::{MemSink, Out, Writer};
 use std::alloc::{AllocError, Global};
 use std::process::Abort;
 use std::test::Fail;
@@ -64,8 +64,9 @@ fn put_summary(sink: &mut MemSink, alloc: Global, model: &Model) -> Result<(), F
     requires { IsValid model.now }
 {
     let mut out = Out::new(alloc)?;
-    write_drill(&mut out, sink, 12, model, FIGURES)?;
-    out.flush(sink)?;
+    let mut writer = Writer::new(&mut out, sink);
+    put_drill(&mut writer, 12, model, FIGURES);
+    writer.flush()?;
     Ok(())
 }
 

@@ -3,7 +3,7 @@ ghost use Rattle.std.specs.Prelude.{◌<◌};
 
 use line_io::{
     CleanSink, CleanSource, Found, LineFault, Lines, MemSink, MemSource, Out, Source, StdSink,
-    StdSource, TextLine, WriteFault,
+    StdSource, TextLine, WriteFault, Writer,
 };
 use std::alloc::{AllocError, Global};
 use std::io::{Error, ErrorKind, Read, Write};
@@ -150,6 +150,35 @@ fn puts_lines(rt: HostRuntime) -> Result<(), Fail> {
         sink.bytes(),
         b"move 18446744073709551615 WP1.0\nend\n".as_slice()
     );
+    Ok(())
+}
+
+// Puts lines by a writer whose sink fails at its second call.
+fn put_past_a_failure(
+    rt: &impl Abort,
+    out: &mut Out,
+    sink: &mut MemSink,
+) -> Result<(), WriteFault> {
+    let mut writer = Writer::new(out, sink);
+    writer.put(TextLine::new(b"one"));
+    writer.flush()?;
+    assert!(rt; !writer.has_failed());
+    writer.put_all(b"two\n");
+    assert!(rt; writer.flush().is_err());
+    assert!(rt; writer.has_failed());
+    writer.put(TextLine::new(b"three"));
+    writer.put_all(b"four\n");
+    writer.flush()
+}
+
+#[test]
+fn a_writer_puts_nothing_after_a_failure(rt: HostRuntime) -> Result<(), Fail> {
+    let mut sink = MemSink::new(rt.alloc(), 100, 100, &[2])?;
+    let mut out = Out::new(rt.alloc())?;
+    assert!(rt; put_past_a_failure(&rt, &mut out, &mut sink).is_err());
+    assert_eq!(rt; sink.bytes(), b"one\n".as_slice());
+    out.flush(&mut sink)?;
+    assert_eq!(rt; sink.bytes(), b"one\ntwo\n".as_slice());
     Ok(())
 }
 
