@@ -34,9 +34,6 @@ one_more f g w (suc n) i l h e = elim (cases_lt i n) [
       omega (arith, sum_below-suc f n, sum_below-suc g n, here, termwise f g n (λ t s. h t (omega (arith, s))))
 ]
 
-pub alike : (f g : ℕ → ℕ) (n : ℕ) → ((i : ℕ) → i < n → f i ≡ g i) → sum_by f (below n) ≡ sum_by g (below n)
-alike f g n h = omega (arith, termwise f g n (λ i l. omega (arith, h i l)), termwise g f n (λ i l. omega (arith, h i l)))
-
 -- ---- counts
 
 -- the number of moments below n at which a test holds

@@ -11,13 +11,13 @@ use Rattle.evac_law.specs.Names.{is_exit}
 use Rattle.evac_law.specs.Plans.{IsFeasible, out_by}
 use Rattle.evac_law.specs.Sums.{below, moments_to}
 use Rattle.evac_law.proofs.Optimal.{out_le_people}
-use Rattle.evac_law.proofs.SumLemmas.{sum_moments-le}
+use Rattle.evac_law.proofs.SumLemmas.{sum_below-same, sum_moments-le}
 use Rattle.evac_law.proofs.Thinned.{all_out_is_clearable}
 use Rattle.evac_law.proofs.WeakDuality.{out_le_value}
 use Rattle.building_laws.specs.Delays.{DelaysBy, DifferInRates, IsDisturbed}
 use Rattle.building_laws.specs.Duality.{IsBestAt}
 use Rattle.building_laws.specs.Rooms.{HasRoomForEntries, HasSteadyRates}
-use Rattle.building_laws.proofs.Counts.{added, alike, count, hits_and_misses, termwise}
+use Rattle.building_laws.proofs.Counts.{added, count, hits_and_misses, termwise}
 use Rattle.building_laws.proofs.Duality.{best_of, cut_of, staying}
 use Rattle.building_laws.proofs.Gaps.{arc_shrinks, arc_worth, few_fewer, fewer, gap, gap_closes, gap_is, node_shrinks}
 use Rattle.building_laws.proofs.WaitingCut.{arc_le, from_moments, moments_outside, nodes_and_arcs, of_arc, of_node, rate_times, waiting_arc, waiting_node}
@@ -44,7 +44,7 @@ module _ (m m' : Model) (d : DifferInRates m m') where
         arith,
         room n (omega (arith, i, ap length d.nodes)),
         ap (λ h. sum_by (entry m n) (moments_to h)) d.horizon,
-        alike (entry m n) (entry m' n) (m'.horizon + 1) (λ t _. entry_same n t),
+        sum_below-same (entry m n) (entry m' n) (m'.horizon + 1) (λ t _. entry_same n t),
         capacity_same n,
       )
 
@@ -56,9 +56,9 @@ module _ (m m' : Model) (d : DifferInRates m m') where
   pub node_same : (x : Cut) (k n : ℕ) → of_node m k x n ≡ of_node m' k x n
   node_same x k n =
       ap₂ (λ a b. a + b)
-      (alike (λ t. cond (x n t || eqb (entry m n t) 0) 0 (entry m n t)) (λ t. cond (x n t || eqb (entry m' n t) 0) 0 (entry m' n t)) (k + 1)
+      (sum_below-same (λ t. cond (x n t || eqb (entry m n t) 0) 0 (entry m n t)) (λ t. cond (x n t || eqb (entry m' n t) 0) 0 (entry m' n t)) (k + 1)
       (λ t _. ap (λ e. cond (x n t || eqb e 0) 0 e) (entry_same n t)))
-      (alike (λ t. cond (x n t && not (x n (t + 1))) (capacity m n) 0) (λ t. cond (x n t && not (x n (t + 1))) (capacity m' n) 0) k
+      (sum_below-same (λ t. cond (x n t && not (x n (t + 1))) (capacity m n) 0) (λ t. cond (x n t && not (x n (t + 1))) (capacity m' n) 0) k
       (λ t _. ap (λ c. cond (x n t && not (x n (t + 1))) c 0) (capacity_same n)))
 
   -- w moments later a cut of the second model takes at least what one takes of the first that leaves out moments from c on
@@ -145,7 +145,7 @@ module _ (m m' : Model) (a w : ℕ) (d : IsDisturbed m m' a w) (steady : HasStea
         arith,
         arc_shrinks m k w (outside (tail m a)) outside few l steady b i,
         waiting_arc m x (k + w) l steady room b i,
-        alike (λ t. cond (leaves_cut m x (k + w) t b) (rate m b t) 0) (λ t. cond (leaves_cut m' x (k + w) t b) (rate m' b t) 0) ((k + w) + 1)
+        sum_below-same (λ t. cond (leaves_cut m x (k + w) t b) (rate m b t) 0) (λ t. cond (leaves_cut m' x (k + w) t b) (rate m' b t) 0) ((k + w) + 1)
             (λ t s. ap₂ (λ y r. cond y r 0) (leaves_same m m' d.alike x (k + w) t b) (d.others b t i apart (omega (arith, s, l)))),
       )
 

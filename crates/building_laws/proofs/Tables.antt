@@ -1,8 +1,6 @@
 -- What goes out of a node and comes into it at each moment, by tables of who enters each arc and of who stays in each node.
-use Rattle.std.proofs.Common.{◌≡◌, ℕ, zero, suc, ◌+◌, ◌-◌, ◌<◌, ◌≤◌, Bool, true, false, cond, ◌&&◌, eqb, ltb, leb, List, [], ◌∷◌, length, refl, ap, ap₂, sym, ◌∙◌, arith, inl, inr, IsFalse}
+use Rattle.std.proofs.Common.{◌≡◌, ℕ, zero, suc, ◌+◌, ◌-◌, ◌<◌, ◌≤◌, Bool, true, false, cond, ◌&&◌, eqb, ltb, leb, List, length, refl, ap, ap₂, sym, ◌∙◌, arith, inl, inr, IsFalse}
 use Rattle.std.specs.List.{sum_by, All}
-use Rattle.std.proofs.lemmas.List.Sums.{sum_by-cons}
-use Rattle.std.proofs.lemmas.List.Elements.{All-head, All-tail}
 use Rattle.std.proofs.lemmas.Bool.{cases_Bool, eq-eqb, eqb-true, le-leb, lt-ltb}
 use Rattle.std.proofs.lemmas.Bool.Decides.{nat_tests}
 use Rattle.std.proofs.lemmas.Int.{ints}
@@ -12,35 +10,10 @@ use Rattle.evac_law.specs.Building.{arc_at, arrival, capacity, entry, head, is_e
 use Rattle.evac_law.specs.Moves.{moves_of}
 use Rattle.evac_law.specs.Plans.{IsFeasible, came, coming, held, leaving, left, moved, out_by}
 use Rattle.evac_law.specs.Sums.{below, places}
+use Rattle.evac_law.proofs.Curve.{by_arc}
 use Rattle.evac_law.proofs.MoveLemmas.{arcs-moves_of, moved-moves_of}
-use Rattle.evac_law.proofs.SumLemmas.{cond_nothing, gather, gather_one, pick_le, split_cond, sum_below-pick, sum_by-add, sum_by-nothing, sum_by-same, sum2, sum2-add, sum2-same}
+use Rattle.evac_law.proofs.SumLemmas.{gather, gather_one, pick_le, split_cond, sum2, sum2-add, sum2-same, sum_below-pick, sum_below-same, sum_by-add, sum_by-nothing, sum_by-same}
 use Rattle.evac_law.proofs.WeakDuality.{came-suc, came-zero, left-suc, left-zero, within}
-use Rattle.building_laws.proofs.Counts.{alike}
-
--- ---- sums over the arcs
-
-regroup : (b s t : Bool) (w : ℕ) → cond b (cond (s && t) w 0) 0 ≡ cond s (cond (b && t) w 0) 0
-regroup b s t w = grind arith
-
-one_arc : (b : ℕ → Bool) (s : ℕ → ℕ) (p t w n : ℕ) → p < n
-    → sum_by (λ a. cond (b a) (cond (eqb p a && eqb t (s a)) w 0) 0) (below n) ≡ cond (b p && eqb t (s p)) w 0
-one_arc b s p t w n l =
-    sum_by-same _ (λ a. cond (eqb p a) (cond (b a && eqb t (s a)) w 0) 0) (below n) (λ a. regroup (b a) (eqb p a) (eqb t (s a)) w)
-    ∙ sum_below-pick (λ a. cond (b a && eqb t (s a)) w 0) n p
-    ∙ ap (λ z. cond z (cond (b p && eqb t (s p)) w 0) 0) (lt-ltb p n l)
-
--- moves gathered by arc, each arc at one moment
-by_arc : (b : ℕ → Bool) (s : ℕ → ℕ) (n : ℕ) (xs : List Move) → All (λ v. v.arc < n) xs
-    → sum_by (λ a. cond (b a) (sum_by (λ (v : Move). cond (eqb v.arc a && eqb v.moment (s a)) v.people 0) xs) 0) (below n)
-    ≡ sum_by (λ (v : Move). cond (b v.arc && eqb v.moment (s v.arc)) v.people 0) xs
-by_arc b s n [] h = sum_by-same _ (λ _. 0) (below n) (λ a. cond_nothing (b a)) ∙ sum_by-nothing (below n)
-by_arc b s n (x ∷ xs) h =
-    let f = λ (a : ℕ) (v : Move). cond (eqb v.arc a && eqb v.moment (s a)) v.people 0 in
-    sum_by-same _ (λ a. cond (b a) (f a x) 0 + cond (b a) (sum_by (f a) xs) 0) (below n)
-    (λ a. ap (λ z. cond (b a) z 0) (sum_by-cons (f a) x xs) ∙ split_cond (b a) (f a x) (sum_by (f a) xs))
-    ∙ sum_by-add (λ a. cond (b a) (f a x) 0) (λ a. cond (b a) (sum_by (f a) xs) 0) (below n)
-    ∙ ap₂ (λ u v. u + v) (one_arc b s x.arc x.moment x.people n (All-head (λ v. v.arc < n) x xs h)) (by_arc b s n xs (All-tail (λ v. v.arc < n) x xs h))
-    ∙ sym (sum_by-cons (λ v. cond (b v.arc && eqb v.moment (s v.arc)) v.people 0) x xs)
 
 -- ---- tables
 
@@ -139,13 +112,13 @@ module _ (m : Model) (k : ℕ) (f h : ℕ → ℕ → ℕ) (flow : IsFlow m k f 
   goes_same : (n t : ℕ) → t ≤ k → goes m (moved plan) n t ≡ goes m f n t
   unfolding goes
   goes_same n t l =
-      alike (λ a. cond (eqb (tail m a) n) (moved plan a t) 0) (λ a. cond (eqb (tail m a) n) (f a t) 0) (length m.arcs)
+      sum_below-same (λ a. cond (eqb (tail m a) n) (moved plan a t) 0) (λ a. cond (eqb (tail m a) n) (f a t) 0) (length m.arcs)
       (λ a i. ap (λ w. cond (eqb (tail m a) n) w 0) (same a t i l))
 
   comes_same : (n t : ℕ) → t ≤ k → comes m (moved plan) n t ≡ comes m f n t
   unfolding comes
   comes_same n t l =
-      alike (λ a. cond (eqb (head m a) n && leb (arc_at m a).travel t) (moved plan a (t - (arc_at m a).travel)) 0)
+      sum_below-same (λ a. cond (eqb (head m a) n && leb (arc_at m a).travel t) (moved plan a (t - (arc_at m a).travel)) 0)
       (λ a. cond (eqb (head m a) n && leb (arc_at m a).travel t) (f a (t - (arc_at m a).travel)) 0) (length m.arcs)
       (λ a i. ap (λ w. cond (eqb (head m a) n && leb (arc_at m a).travel t) w 0) (same a (t - (arc_at m a).travel) i (omega (arith, l))))
 
@@ -153,8 +126,8 @@ module _ (m : Model) (k : ℕ) (f h : ℕ → ℕ → ℕ) (flow : IsFlow m k f 
   unfolding gone
   gone_same c s =
       let at = λ (g : ℕ → ℕ → ℕ) (a t : ℕ). cond (is_exit_at m (head m a) && leb (arrival m a t) c) (g a t) 0 in
-      alike (λ a. sum_by (at (moved plan) a) (below (c + 1))) (λ a. sum_by (at f a) (below (c + 1))) (length m.arcs)
-      (λ a i. alike (at (moved plan) a) (at f a) (c + 1)
+      sum_below-same (λ a. sum_by (at (moved plan) a) (below (c + 1))) (λ a. sum_by (at f a) (below (c + 1))) (length m.arcs)
+      (λ a i. sum_below-same (at (moved plan) a) (at f a) (c + 1)
       (λ t l. ap (λ w. cond (is_exit_at m (head m a) && leb (arrival m a t) c) w 0) (same a t i (omega (arith, l, s)))))
 
   pub out_is : (c : ℕ) → c ≤ k → out_by m plan c ≡ gone m c f
@@ -291,7 +264,7 @@ comes_least m f a t l =
 pub goes_none : (m : Model) (f : ℕ → ℕ → ℕ) (n t : ℕ) → ((a : ℕ) → a < length m.arcs → tail m a ≡ n → f a t ≡ 0) → goes m f n t ≡ 0
 unfolding goes
 goes_none m f n t h =
-    alike (λ a. cond (eqb (tail m a) n) (f a t) 0) (λ _. 0) (length m.arcs) (λ a i. each a i) ∙ sum_by-nothing (below (length m.arcs))
+    sum_below-same (λ a. cond (eqb (tail m a) n) (f a t) 0) (λ _. 0) (length m.arcs) (λ a i. each a i) ∙ sum_by-nothing (below (length m.arcs))
   where
     each : (a : ℕ) → a < length m.arcs → cond (eqb (tail m a) n) (f a t) 0 ≡ 0
     each a i = elim (cases_Bool (eqb (tail m a) n)) [

@@ -8,10 +8,10 @@ use Rattle.evac_law.specs.declared.model.Model.{Model}
 use Rattle.evac_law.specs.Building.{arc_at, capacity, entry, head, is_exit_at, rate, tail}
 use Rattle.evac_law.specs.Cuts.{Cut, cut_value, leaves_cut}
 use Rattle.evac_law.specs.Sums.{below, moments_to, places}
-use Rattle.evac_law.proofs.SumLemmas.{sum_below-more, sum_below-suc, sum_by-add, sum_by-exchange, sum_by-nothing, sum_by-same, sum_by-times, sum_moments-le}
+use Rattle.evac_law.proofs.SumLemmas.{sum_below-more, sum_below-same, sum_below-suc, sum_by-add, sum_by-exchange, sum_by-nothing, sum_by-same, sum_by-times, sum_moments-le}
 use Rattle.evac_law.proofs.WeakDuality.{value_is}
 use Rattle.building_laws.specs.Rooms.{HasRoomForEntries, HasSteadyRates}
-use Rattle.building_laws.proofs.Counts.{added, alike, arrivals_count, count, hits_and_misses, in_time_count, misses, run_count, termwise}
+use Rattle.building_laws.proofs.Counts.{added, arrivals_count, count, hits_and_misses, in_time_count, misses, run_count, termwise}
 
 -- the number of moments up to k at which a node isn't in a cut
 abbrev pub moments_outside : Cut → ℕ → ℕ → ℕ
@@ -161,7 +161,7 @@ arc_le u v false d k =
 -- the same rate at each of the moments
 pub at_rate : (b : ℕ → Bool) (r : ℕ → ℕ) (n : ℕ) → ((t : ℕ) → t < n → r t ≡ r 0) → sum_by (λ t. cond (b t) (r t) 0) (below n) ≡ r 0 * count b n
 at_rate b r n steady =
-    alike (λ t. cond (b t) (r t) 0) (λ t. r 0 * cond (b t) 1 0) n (λ t l. times (b t) (r t) (r 0) (steady t l))
+    sum_below-same (λ t. cond (b t) (r t) 0) (λ t. r 0 * cond (b t) 1 0) n (λ t l. times (b t) (r t) (r 0) (steady t l))
     ∙ sum_by-times (r 0) (λ t. cond (b t) 1 0) (below n)
   where
     times : (x : Bool) (w c : ℕ) → w ≡ c → cond x w 0 ≡ c * cond x 1 0

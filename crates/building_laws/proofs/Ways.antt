@@ -11,13 +11,13 @@ use Rattle.evac_law.specs.Cuts.{Cut, cut_value}
 use Rattle.evac_law.specs.Plans.{IsFeasible, out_by}
 use Rattle.evac_law.specs.Sums.{below}
 use Rattle.evac_law.proofs.Optimal.{out_le_people}
-use Rattle.evac_law.proofs.SumLemmas.{sum_by-nothing}
+use Rattle.evac_law.proofs.SumLemmas.{sum_below-same, sum_by-nothing}
 use Rattle.evac_law.proofs.ValidLemmas.{arc_is, node_is}
 use Rattle.evac_law.proofs.WeakDuality.{out_le_value}
 use Rattle.building_laws.specs.Duality.{IsBestAt}
 use Rattle.building_laws.specs.Rooms.{HasRoomForEntries}
 use Rattle.building_laws.specs.Ways.{HasWays, KeepsPace, Way, way_time}
-use Rattle.building_laws.proofs.Counts.{alike, found, hits_and_misses, one_more, termwise}
+use Rattle.building_laws.proofs.Counts.{found, hits_and_misses, one_more, termwise}
 use Rattle.building_laws.proofs.Duality.{best_of, cut_of, staying}
 use Rattle.building_laws.proofs.Gaps.{all_paid, arc_shrinks, arc_worth, few_fewer, fewer, gap, gap_closes, node_shrinks, people_start}
 use Rattle.building_laws.proofs.Plain.{nobody_later_has_room}
@@ -143,7 +143,7 @@ module _ (m : Model) (r u : ℕ) (valid : IsValid m) (is : HasWays m r u) where
   in_time zero q l best = elim (cases_lt 0 u) [
     | inl later ↦ let none : 0 + 1 - u ≡ 0 = omega (arith, later) in inr (omega (arith, ap (λ i. r * i) none))
     | inr at_once ↦
-        let nobody = alike (start m) (λ _. 0) (length m.nodes) (no_walk (omega (arith, at_once))) in
+        let nobody = sum_below-same (start m) (λ _. 0) (length m.nodes) (no_walk (omega (arith, at_once))) in
         inl (omega (arith, out_le_people m q 0 valid best.feasible, people_start m is.nobody_later, nobody, sum_by-nothing (below (length m.nodes))))
   ]
   in_time (suc j) q l best = elim (cases_lt (j + 1) u) [

@@ -20,12 +20,12 @@ use Rattle.evac_law.specs.Windows.{is_closed_at, is_within, window_of, with_wind
 use Rattle.evac_law.proofs.EditLemmas.{at-set, unless-Ok, valid_edited}
 use Rattle.evac_law.proofs.Entries.{entries_le, exit_entry}
 use Rattle.evac_law.proofs.Optimal.{out_le_people}
-use Rattle.evac_law.proofs.SumLemmas.{pick_le, sum_by-nothing, sum_by-same}
+use Rattle.evac_law.proofs.SumLemmas.{pick_le, sum_below-same, sum_by-nothing, sum_by-same}
 use Rattle.evac_law.proofs.ValidLemmas.{arc_is, head_in, tail_in}
 use Rattle.evac_law.proofs.WeakDuality.{out_le_value}
 use Rattle.building_laws.specs.Delays.{DelaysBy, IsClosedBetween, IsDisturbed, HasRoomForAll}
 use Rattle.building_laws.specs.Rooms.{HasRoomForEntries, HasSteadyRates}
-use Rattle.building_laws.proofs.Counts.{added, alike, count, found, run_count, termwise}
+use Rattle.building_laws.proofs.Counts.{added, count, found, run_count, termwise}
 use Rattle.building_laws.proofs.Delays.{delayed, delayed_cut, f, few_f, few_g, g, leaves_same, node_same, one_arc_delays_little}
 use Rattle.building_laws.proofs.Gaps.{arc_worth, gap, gap_is, without_moments}
 use Rattle.building_laws.proofs.WaitingCut.{Settled, drop, drops, from_moments, leaves, nodes_and_arcs, of_arc, of_node, rate_times}
@@ -232,7 +232,7 @@ module _ (m m' : Model) (from until : ℕ) (d : IsClosedBetween m m' from until)
             gap_without e k from w t (outside (tail m a)) (outside (head m a)),
             gap_is e (k + w) t (outside (tail m a)) (outside (head m a)) (few (head m a)),
             lost_in e (outside (tail m a)) (outside (head m a)) t (k + w) from until,
-            alike (λ s. cond (of_moments a s) 1 0) (λ s. cond (kept a s) 1 0 + cond (of_moments a s && in_window s) 1 0) all
+            sum_below-same (λ s. cond (of_moments a s) 1 0) (λ s. cond (kept a s) 1 0 + cond (of_moments a s && in_window s) 1 0) all
                 (λ s _. in_or_out (of_moments a s) (in_window s)),
             added (λ s. cond (kept a s) 1 0) (λ s. cond (of_moments a s && in_window s) 1 0) all,
           ) in

@@ -11,25 +11,22 @@ use Rattle.evac_law.specs.Certificates.{IsCertified, label_cut}
 use Rattle.evac_law.specs.Cuts.{Cut, cut_value, leaves_cut}
 use Rattle.evac_law.specs.LabelTable.{LabelTable, label_at}
 use Rattle.evac_law.specs.Sums.{below, moments_to, places}
-use Rattle.evac_law.proofs.SumLemmas.{All-below, sum_by-same, sum_by-same_all}
+use Rattle.evac_law.proofs.SumLemmas.{sum_below-same, sum_by-same}
 use Rattle.evac_law.proofs.ValidLemmas.{head_in, tail_in}
 use Rattle.evac_law.proofs.WeakDuality.{value_is}
 use Rattle.certificate_text.specs.BlockText.{shown_label}
 
-sum-same : (f g : ℕ → ℕ) (n : ℕ) → ((i : ℕ) → i < n → f i ≡ g i) → sum_by f (below n) ≡ sum_by g (below n)
-sum-same f g n h = sum_by-same_all f g (below n) (All-below (λ i. f i ≡ g i) n h)
-
 -- the value of a cut goes by the model's nodes alone
 value-same : (m : Model) (x y : Cut) (k : ℕ) → IsValid m → ((n t : ℕ) → n < length m.nodes → x n t ≡ y n t) → cut_value m x k ≡ cut_value m y k
 value-same m x y k valid same =
-    let entries = sum-same (λ n. sum_by (λ t. cond (x n t || nat_eq (entry m n t) 0) 0 (entry m n t)) (moments_to k)) (λ n. sum_by (λ t. cond (y n t || nat_eq (entry m n t) 0) 0 (entry m n t)) (moments_to k)) (length m.nodes)
+    let entries = sum_below-same (λ n. sum_by (λ t. cond (x n t || nat_eq (entry m n t) 0) 0 (entry m n t)) (moments_to k)) (λ n. sum_by (λ t. cond (y n t || nat_eq (entry m n t) 0) 0 (entry m n t)) (moments_to k)) (length m.nodes)
     (λ n h. sum_by-same (λ t. cond (x n t || nat_eq (entry m n t) 0) 0 (entry m n t)) (λ t. cond (y n t || nat_eq (entry m n t) 0) 0 (entry m n t)) (moments_to k)
     (λ t. ap (λ b. cond (b || nat_eq (entry m n t) 0) 0 (entry m n t)) (same n t h))) in
-    let holds = sum-same (λ n. sum_by (λ t. cond (x n t && not (x n (t + 1))) (capacity m n) 0) (below k)) (λ n. sum_by (λ t. cond (y n t && not (y n (t + 1))) (capacity m n) 0) (below k)) (length m.nodes)
+    let holds = sum_below-same (λ n. sum_by (λ t. cond (x n t && not (x n (t + 1))) (capacity m n) 0) (below k)) (λ n. sum_by (λ t. cond (y n t && not (y n (t + 1))) (capacity m n) 0) (below k)) (length m.nodes)
     (λ n h. sum_by-same (λ t. cond (x n t && not (x n (t + 1))) (capacity m n) 0) (λ t. cond (y n t && not (y n (t + 1))) (capacity m n) 0) (below k)
     (λ t. ap₂ (λ b d. cond (b && not d) (capacity m n) 0) (same n t h) (same n (t + 1) h))) in
     let arcs = sum_by-same (λ t. sum_by (λ a. cond (leaves_cut m x k t a) (rate m a t) 0) (places m.arcs)) (λ t. sum_by (λ a. cond (leaves_cut m y k t a) (rate m a t) 0) (places m.arcs)) (moments_to k)
-    (λ t. sum-same (λ a. cond (leaves_cut m x k t a) (rate m a t) 0) (λ a. cond (leaves_cut m y k t a) (rate m a t) 0) (length m.arcs)
+    (λ t. sum_below-same (λ a. cond (leaves_cut m x k t a) (rate m a t) 0) (λ a. cond (leaves_cut m y k t a) (rate m a t) 0) (length m.arcs)
     (λ a h. ap₂ (λ b d. cond (b && (nat_le (arrival m a t) k && (is_exit_at m (head m a) || not d))) (rate m a t) 0) (same (tail m a) t (tail_in m a valid h)) (same (head m a) (arrival m a t) (head_in m a valid h)))) in
     value_is m x k ∙ ap₂ (λ u v. u + v) entries (ap₂ (λ u v. u + v) holds arcs) ∙ sym (value_is m y k)
 

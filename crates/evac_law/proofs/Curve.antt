@@ -42,7 +42,7 @@ one_arc b s p t w n l =
     ∙ ap (λ z. cond z (cond (b p && eqb t (s p)) w 0) 0) (lt-ltb p n l)
 
 -- moves gathered by arc, each arc at one moment
-by_arc : (b : ℕ → Bool) (s : ℕ → ℕ) (n : ℕ) (xs : List Move) → All (λ v. v.arc < n) xs
+pub by_arc : (b : ℕ → Bool) (s : ℕ → ℕ) (n : ℕ) (xs : List Move) → All (λ v. v.arc < n) xs
     → sum_by (λ a. cond (b a) (sum_by (λ (v : Move). cond (eqb v.arc a && eqb v.moment (s a)) v.people 0) xs) 0) (below n)
     ≡ sum_by (λ (v : Move). cond (b v.arc && eqb v.moment (s v.arc)) v.people 0) xs
 by_arc b s n [] h = sum_by-same _ (λ _. 0) (below n) (λ a. cond_nothing (b a)) ∙ sum_by-nothing (below n)

@@ -1,10 +1,9 @@
 -- Cuts of a building with some of the people.
-use Rattle.std.proofs.Common.{◌≡◌, ℕ, ◌+◌, ◌≤◌, Bool, true, false, cond, not, ◌&&◌, ◌||◌, eqb, leb, List, length, refl, ap, ap₂, sym, ◌∙◌, arith, subst}
+use Rattle.std.proofs.Common.{◌≡◌, ℕ, ◌+◌, ◌≤◌, Bool, cond, not, ◌&&◌, ◌||◌, eqb, leb, length, ap, ◌∙◌, arith, subst}
 use Rattle.std.specs.List.{sum_by}
 use Rattle.std.proofs.lemmas.Bool.Decides.{nat_tests}
 use Rattle.evac_law.specs.declared.model.Model.{Model}
-use Rattle.evac_law.specs.declared.plan.Move.{Move}
-use Rattle.evac_law.specs.Building.{IsValid, arc_at, arrival, capacity, entry, head, is_exit_at, people, rate, tail}
+use Rattle.evac_law.specs.Building.{arrival, capacity, entry, head, is_exit_at, people, rate, tail}
 use Rattle.evac_law.specs.Cuts.{Cut, cut_value, leaves_cut}
 use Rattle.evac_law.specs.Laws.{PartsAreBounded}
 use Rattle.evac_law.specs.Parts.{IsPart}

@@ -10,12 +10,12 @@ use Rattle.evac_law.specs.declared.name.Kind.{Kind}
 use Rattle.evac_law.specs.declared.name.Kind.TheVariants.{Work, Hall, Stair, Lobby, Exit}
 use Rattle.evac_law.specs.declared.name.NodeName.{NodeName}
 
--- a text of n bytes stands in front, and behind it what stood there before
+-- a text of n bytes is in front, and after it what was there before
 pub record IsFront (old text s : List ℕ) (n : ℕ) : Type 0 where
   pub bytes : s ≡ text ++ drop (length text) old
   pub count : n ≡ length text
 
--- more text behind what stands in front
+-- more text after what is in front
 pub front_more : (old text more s s' : List ℕ) (n m : ℕ) → IsFront old text s n → m ≡ n + length more → s' ≡ take n s ++ more ++ drop m s
     → IsFront old (text ++ more) s' m
 front_more old text more s s' n m front e w =
@@ -35,7 +35,7 @@ pub behind_front : (old text s : List ℕ) (n : ℕ) → IsFront old text s n �
 behind_front old text s n front =
     ap₂ (λ i z. drop i z) front.count front.bytes ∙ drop-append_seam text (drop (length text) old) ∙ ap (λ i. drop i old) (sym front.count)
 
--- the four pieces of a name, one behind the other
+-- the four pieces of a name, one after the other
 pub named_front : (name : NodeName) (old s1 s2 s3 s4 k d f : List ℕ) (n1 n2 n3 n4 : ℕ)
     → k ≡ kind_text name.kind → d ≡ decimal name.number → f ≡ decimal name.floor
     → n1 ≡ 0 + length k → s1 ≡ k ++ drop n1 old

@@ -44,7 +44,7 @@ same_itself w = and_from _ _ (eq-eqb w.from w.from refl) (eq-eqb w.until w.until
 
 -- ---- one window more
 
--- it stands behind another, with those that stand behind that one
+-- it comes after another, and after those that come after that one
 behind_with : (u w : Window) (ws : List Window) → EndsBefore u w → All (EndsBefore u) ws → All (EndsBefore u) (with_window ws w)
 behind_with u w [] e h = All-cons (EndsBefore u) w [] e h
 behind_with u w (v ∷ vs) e h = elim (cases_Bool (ltb w.from v.from)) [

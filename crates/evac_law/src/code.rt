@@ -49,7 +49,7 @@ pub enum Code {
     MissingEnd,
     /// Not everybody can be out by the horizon.
     NotCleared,
-    /// Something stands behind the end.
+    /// There is something after the end.
     TextAfterEnd,
     /// The window doesn't begin before it ends.
     BadWindow,
@@ -81,7 +81,7 @@ pub enum Code {
     TooFew,
     /// There is nothing to undo.
     NothingToUndo,
-    /// The words behind the program's name are unknown.
+    /// The words after the program's name are unknown.
     UnknownWords,
     /// The plan can't be carried out up to this moment.
     BadMoment,

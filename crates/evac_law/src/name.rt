@@ -44,7 +44,7 @@ pub struct NodeName {
     pub floor: u16,
 }
 
-// Writes bytes at a place, and answers the place behind them.
+// Writes bytes at a place, and answers the place after them.
 fn put(into: &mut [u8], at: usize, bytes: &[u8]) -> usize
     requires { at + length bytes.now ≤ length into.old }
     ensures end { result ≡ at + length bytes.now }
