@@ -1,4 +1,4 @@
--- How much of a line stands before a part of it, and that the part has no LF where the line has none.
+-- How much of a line comes before a part of it, and that the part has no LF where the line has none.
 use Rattle.std.proofs.Common.{◌≡◌, ℕ, ◌+◌, ◌<◌, ◌≤◌, Bool, true, false, cond, ◌==◌, List, [], ◌∷◌, length, Ok, refl, sym, ap, subst, ◌∙◌, arith}
 use Rattle.std.specs.List.{list_any}
 use Rattle.std.proofs.lemmas.Bool.{cond_both, or_parts}
@@ -9,7 +9,7 @@ use Rattle.model_text.proofs.FieldLemmas.{fields-none, fields-skipped, fields-so
 abbrev is_lf : ℕ → Bool
 is_lf b = b == 10
 
--- bytes have a part behind at least so many others of them
+-- bytes have a part after at least so many others of them
 pub record HasBehind (before : ℕ) (bytes part : List ℕ) : Type 0 where
   pub fits : before + length part ≤ length bytes
   pub one_line : list_any is_lf bytes ≡ false → list_any is_lf part ≡ false
@@ -44,7 +44,7 @@ skipped-behind (b ∷ bs) =
     cond_both (is_blank b) (skipped bs) (b ∷ bs) (HasBehind 0 (b ∷ bs))
     (λ _. less-behind 0 1 (b ∷ bs) (skipped bs) (omega arith) (front-behind 0 b bs (skipped bs) (skipped-behind bs))) (λ _. all-behind (b ∷ bs))
 
--- what stands behind a word
+-- what comes after a word
 word-behind : (xs : List ℕ) → HasBehind (length (word xs)) xs (behind_word xs)
 unfolding word behind_word
 word-behind [] = all-behind []
@@ -58,7 +58,7 @@ skipped-blank : (b : ℕ) (bs : List ℕ) → is_blank b ≡ true → skipped (b
 unfolding skipped
 skipped-blank b bs e = ap (λ t. cond t (skipped bs) (b ∷ bs)) e
 
--- a blank stands between a word and what isn't blank behind it
+-- a blank is between a word and what isn't blank after it
 gap-behind : (xs : List ℕ) → 0 < length (skipped (behind_word xs)) → HasBehind 1 (behind_word xs) (skipped (behind_word xs))
 unfolding skipped behind_word
 gap-behind [] some = absurd (omega arith)
@@ -85,7 +85,7 @@ first-word xs w more e = by-word (word (skipped xs)) refl
     by-word [] is = let none = fields-none xs is in cc
     by-word (b ∷ bs) is = let some = fields-some xs (λ none. cc) in cc
 
--- what stands behind the first field, where the blanks in front are passed over, and where they aren't
+-- what comes after the first field, where the blanks in front are passed over, and where they aren't
 pub field-behind : (xs w : List ℕ) (more : List (List ℕ)) → fields_of xs ≡ w ∷ more → HasBehind (length w) (skipped xs) (behind_field xs)
 field-behind xs w more e = let P : List ℕ → Type 0 = λ v. HasBehind (length v) (skipped xs) (behind_field xs) in subst P (first-word xs w more e) (word-behind (skipped xs))
 
@@ -94,7 +94,7 @@ line-behind xs w more e =
     less-behind (length w) (0 + length w) xs (behind_field xs) (omega arith)
     (further-behind 0 (length w) xs (skipped xs) (behind_field xs) (skipped-behind xs) (field-behind xs w more e))
 
--- fields behind a word stand behind a blank
+-- fields after a word come after a blank
 pub fields-behind : (ys f : List ℕ) (more : List (List ℕ)) → fields_of (behind_word ys) ≡ f ∷ more → HasBehind 1 (behind_word ys) (skipped (behind_word ys))
 unfolding fields_of
 fields-behind ys f more e = gap-behind ys (some (skipped (behind_word ys)) refl)
@@ -105,7 +105,7 @@ fields-behind ys f more e = gap-behind ys (some (skipped (behind_word ys)) refl)
 
 -- ---- texts
 
--- no blank stands in front of a text, nor at its end
+-- no blank is in front of a text, nor at its end
 skipped-kept : (xs ys : List ℕ) → skipped xs ≡ ys → skipped (trimmed ys) ≡ trimmed ys
 unfolding skipped trimmed
 skipped-kept xs [] is = refl
@@ -134,7 +134,7 @@ text-whole xs = ap trimmed (skipped-kept xs (skipped xs) refl) ∙ trimmed-twice
 pub less-text : (limit j k : ℕ) (text : List ℕ) → j ≤ k → IsTextBehind limit k text → IsTextBehind limit j text
 less-text limit j k text less is = record { some = is.some; whole = is.whole; one_line = is.one_line; fits = let f = is.fits in omega arith }
 
--- the text behind a word, with so many bytes before it, the blank behind the word not counted
+-- the text after a word, with so many bytes before it, the blank after the word not counted
 pub text-behind : (limit before : ℕ) (line ys : List ℕ) → IsContentWithin limit (Ok line) → HasBehind before line (behind_word ys) → 0 < length (text_of (behind_word ys))
     → IsTextBehind limit (before + 1) (text_of (behind_word ys))
 text-behind limit before line ys content has some =

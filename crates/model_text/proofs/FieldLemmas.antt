@@ -66,7 +66,7 @@ by_next b d ds true f ih =
 by_next b d ds false f ih =
     ap (λ s. cond s ((b ∷ []) ∷ fields_of (d ∷ ds)) (onto_first b (fields_of (d ∷ ds)))) f ∙ ap (onto_first b) (ih f)
 
--- a line that begins with no blank: its word, and the fields behind it
+-- a line that begins with no blank: its word, and the fields after it
 pub fields-word : (b : ℕ) (bs : List ℕ) → is_blank b ≡ false → fields_of (b ∷ bs) ≡ word (b ∷ bs) ∷ fields_of (behind_word (b ∷ bs))
 unfolding fields_of word behind_word
 fields-word b [] e = fields-begun b [] e ∙ ap (λ w. w ∷ []) (sym (word-begun b [] e)) ∙ ap (λ r. word (b ∷ []) ∷ fields_of r) (sym (behind-begun b [] e))

@@ -226,7 +226,7 @@ pub good-statement : (line : List ℕ) → GoodSaid (statement_of line)
 unfolding statement_of
 good-statement line = good-fields (fields_of line) (behind_field line)
 
--- the same behind the header of a version
+-- the same after the header of a version
 pub good-later_word : (version : ℕ) (word rest : List ℕ) → GoodSaid (cond (is_unknown version word) (Err UnknownWord) (by_word word rest))
 good-later_word version word rest = word-by (is_unknown version word) (Err UnknownWord) (by_word word rest) (λ e. cc) (good-word word rest)
 

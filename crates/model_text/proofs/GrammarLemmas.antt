@@ -1,4 +1,4 @@
--- What a line says or commands, by its first field and what stands behind it.
+-- What a line says or commands, by its first field and what comes after it.
 use Rattle.std.proofs.Common.{◌≡◌, ℕ, cond, List, [], ◌∷◌, Ok, Err, ap, ◌∙◌}
 use Rattle.model_text.specs.declared.command.Command.TheVariants as commands
 use Rattle.model_text.specs.declared.fault.TextFault.TheVariants.{UnknownWord}
@@ -15,7 +15,7 @@ pub statement-some : (line word rest : List ℕ) (more : List (List ℕ)) → fi
 unfolding statement_of
 statement-some line word rest more some e = rw e (ap (λ fs. of_fields fs (behind_field line)) some)
 
--- the same behind the header of a version
+-- the same after the header of a version
 pub later-none : (version : ℕ) (line : List ℕ) → fields_of line ≡ [] → later_statement version line ≡ Ok Blank
 unfolding later_statement
 later-none version line none = ap (λ fs. cond (begins_unknown version fs) (Err UnknownWord) (statement_of line)) none ∙ statement-none line none

@@ -34,7 +34,7 @@ sum-put {X} f before (x ∷ xs) y =
     cond_both (before y x) (y ∷ x ∷ xs) (x ∷ put-in before xs y) P (λ _. omega (arith, sum_by-cons f y (x ∷ xs)))
     (λ _. omega (arith, sum_by-cons f x xs, sum_by-cons f x (put-in before xs y)))
 
--- where a new element goes before each that it is put before, and behind each other, a list stays in order
+-- where a new element goes before each that it is put before, and after each other, a list stays in order
 pub record Fits {X : Type 0} (R : X → X → Type 0) (before : X → X → Bool) (y x : X) : Type 0 where
   pub front : before y x ≡ true → R y x
   pub back : before y x ≡ false → R x y

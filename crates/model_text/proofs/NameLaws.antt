@@ -145,7 +145,7 @@ within-reads low high n above below few small =
 
 -- ---- dots
 
--- bytes with something behind a dot are what stands before it, the dot, and what stands behind it
+-- bytes with something after a dot are what comes before it, the dot, and what comes after it
 dotted : (bs : List ℕ) → 0 < length (after_first is_dot bs) → bs ≡ before_first is_dot bs ++ (46 ∷ after_first is_dot bs)
 dotted bs some =
     let at : position_or_len is_dot bs < length bs = omega (arith, length-drop (position_or_len is_dot bs + 1) bs) in
@@ -155,7 +155,7 @@ dotted bs some =
 digit-first : (d : ℕ) (ds : List ℕ) → all_ascii_digits (d ∷ ds) ≡ true → (is_dot d ≡ false) × (all_ascii_digits ds ≡ true)
 digit-first d ds h = let p = tells_all_ascii_digits.parts d ds h in (ne_eqb d 46 (λ e. omega (arith, p.0)), p.1)
 
--- the place of a dot behind digits is their number
+-- the place of a dot after digits is their number
 dot-place : (ds more : List ℕ) → all_ascii_digits ds ≡ true → position_or_len is_dot (ds ++ (46 ∷ more)) ≡ length ds
 dot-place [] more h = refl
 dot-place (d ∷ ds) more h =

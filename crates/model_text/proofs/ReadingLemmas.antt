@@ -104,7 +104,7 @@ opening-valid lines before d last rest h =
     let by = reading-said (λ s. Unit {0}) AtStart lines before d last rest (λ k line within s said. tt) tt h in
     let P : Description → Type 0 = λ x. IsValid x.model in subst P by.is (taken-valid by.taken by.are by.may_end)
 
--- what lines described they describe with further lines behind them
+-- what lines described they describe with further lines after them
 pub reading-further : (state : ReadingState) (before : ℕ) (xs ys : List Line) (d : Description) (last : ℕ) (rest : List Line)
     → reading_at state before xs ≡ Described d last rest → reading_at state before (xs ++ ys) ≡ Described d last (rest ++ ys)
 unfolding reading_at

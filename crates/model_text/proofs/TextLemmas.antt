@@ -17,7 +17,7 @@ use Rattle.model_text.proofs.BehindLemmas.{field-behind, fields-behind, further-
 use Rattle.model_text.proofs.GoodLemmas.{Good}
 use Rattle.model_text.proofs.NumberLemmas.{length-decimal_field}
 
--- the text of a part that has one fits behind the word and the number of its line
+-- the text of a part that has one fits after the word and the number of its line
 abbrev pub HasText : ℕ → SaidPart → Type 0
 HasText limit (Title text) = IsTextBehind limit 6 text
 HasText limit (Floor floor text) = IsTextBehind limit (7 + length (decimal floor)) text

@@ -1,4 +1,4 @@
--- The fields of a line, its longest runs of bytes that aren't blanks, and the text behind some of them.
+-- The fields of a line, its longest runs of bytes that aren't blanks, and the text after some of them.
 use Rattle.std.specs.Prelude.{ℕ, Bool, ◌||◌, ◌==◌, if◌then◌else◌, List, [], ◌∷◌}
 
 -- a blank is a space or a tab
@@ -20,7 +20,7 @@ unfoldable pub fields_of : List ℕ → List (List ℕ)
 fields_of [] = []
 fields_of (b ∷ bs) = if is_blank b then fields_of bs else joined b bs (fields_of bs)
 
--- what stands behind the blanks in front
+-- what comes after the blanks in front
 unfoldable pub skipped : List ℕ → List ℕ
 skipped [] = []
 skipped (b ∷ bs) = if is_blank b then skipped bs else (b ∷ bs)
@@ -44,7 +44,7 @@ unfoldable pub trimmed : List ℕ → List ℕ
 trimmed [] = []
 trimmed (b ∷ bs) = onto_trimmed b (trimmed bs)
 
--- what stands behind the first field
+-- what comes after the first field
 abbrev pub behind_field : List ℕ → List ℕ
 behind_field bytes = behind_word (skipped bytes)
 

@@ -89,12 +89,12 @@ period fields = one_field fields >>= λ f. ranged 1 seconds_limit f >>= λ s. Ok
 abbrev pub horizon : List (List ℕ) → Result SaidPart TextFault
 horizon fields = one_field fields >>= λ f. ranged 0 horizon_limit f >>= λ h. Ok (Horizon h)
 
--- `floor`, its number, and a text, which stands behind the number
+-- `floor`, its number, and a text, which comes after the number
 abbrev pub floor : List (List ℕ) → List ℕ → Result SaidPart TextFault
 floor [] text = Err FieldCount
 floor (number ∷ more) text = text_field text >>= λ t. ranged 0 floor_number_limit number >>= λ f. Ok (Floor f t)
 
--- `node` and a name; behind an exit's name nothing stands, behind another the capacity and the start
+-- `node` and a name; after an exit's name nothing comes, after another the capacity and the start
 abbrev pub exit_fields : NodeName → List (List ℕ) → Result SaidPart TextFault
 exit_fields name fields = no_field (Exit name) fields
 
@@ -122,7 +122,7 @@ abbrev pub entrant : List (List ℕ) → Result SaidPart TextFault
 entrant fields =
     three_fields fields >>= λ f. name_field f.0 >>= λ a. ranged 1 horizon_limit f.1 >>= λ t. ranged 1 people_limit f.2 >>= λ n. Ok (Entrant a t n)
 
--- a part by its first word and the bytes behind it
+-- a part by its first word and the bytes after it
 abbrev pub part_by_word : List ℕ → List ℕ → Result SaidPart TextFault
 part_by_word word rest =
     if bytes_eq word (codes "title") then title (text_of rest)
@@ -152,7 +152,7 @@ abbrev pub is_comment : List ℕ → Bool
 is_comment [] = true
 is_comment (b ∷ bs) = b == 35
 
--- what a line says by its first word and the bytes behind it
+-- what a line says by its first word and the bytes after it
 abbrev pub by_word : List ℕ → List ℕ → Result Said TextFault
 by_word word rest =
     if is_comment word then Ok Blank

@@ -37,7 +37,7 @@ name_of_parts letters number floor =
     kind_of letters >>= λ k. plain_within 1 number_limit number >>= λ n. plain_within 0 floor_number_limit floor
     >>= λ f. Some (record { kind = k; number = n; floor = f })
 
--- what stands between the letters and the first dot, and behind that dot; where there is no dot, nothing stands behind it
+-- what comes between the letters and the first dot, and after that dot; where there is no dot, nothing comes after it
 abbrev pub number_part : List ℕ → List ℕ
 number_part field = before_first is_dot (drop 2 field)
 

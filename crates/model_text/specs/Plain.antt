@@ -13,15 +13,15 @@ abbrev pub IsContentWithin : ℕ → Line → Type 0
 IsContentWithin limit (Ok content) = (length content ≤ limit) × (list_any (λ b. b == 10) content ≡ false)
 IsContentWithin limit (Err code) = ⊤
 
--- a text that a line of at most so many bytes may say behind so many others: some bytes, none of them an LF, and no blank in front or at its end
+-- a text that a line of at most so many bytes may say after so many others: some bytes, none of them an LF, and no blank in front or at its end
 pub record IsTextBehind (limit before : ℕ) (text : List ℕ) : Type 0 where
   pub some : 0 < length text
   pub whole : text_of text ≡ text
   pub one_line : list_any (λ b. b == 10) text ≡ false
   pub fits : before + length text ≤ limit
 
--- a valid building in which nothing is shut, with an exit, and with a floor listed once for each floor on which a node stands; its texts fit
--- behind the word and the number of their lines
+-- a valid building in which nothing is shut, with an exit, and with a floor listed once for each floor on which there is a node; its texts fit
+-- after the word and the number of their lines
 pub record IsPlain (limit : ℕ) (d : Description) : Type 0 where
   pub valid : IsValid d.model
   pub nodes_open : All (λ n. n.shut ≡ false) d.model.nodes

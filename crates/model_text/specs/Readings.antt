@@ -1,5 +1,5 @@
 -- The building that lines describe, or the first fault of the lines.
-use Rattle.std.specs.Prelude.{◌≡◌, ℕ, ◌+◌, Bool, false, ◌&&◌, ◌||◌, ◌==◌, if◌then◌else◌, List, [], ◌∷◌, length, Result, Ok, Err, Some, None, codes}
+use Rattle.std.specs.Prelude.{ℕ, ◌+◌, Bool, false, ◌&&◌, ◌||◌, ◌==◌, if◌then◌else◌, List, [], ◌∷◌, Result, Ok, Err, Some, None, codes}
 use Rattle.std.specs.declared.option.Option.{Option}
 use Rattle.std.specs.Str.{bytes_eq}
 use Rattle.evac_law.specs.declared.code.Code.{Code}
@@ -15,12 +15,12 @@ use Rattle.model_text.specs.Taken.{Description, description_of, part_fault, end_
 abbrev pub Line : Type 0
 Line = Result (List ℕ) Code
 
--- lines describe a building and end it at the line `last`, with `rest` behind it; or they are refused, with a code and a line
+-- lines describe a building and end it at the line `last`, with `rest` after it; or they are refused, with a code and a line
 pub data Reading : Type 0 where
   Described : (building : Description) → (last : ℕ) → (rest : List Line) → Reading
   Refused : (code : Code) → (line : ℕ) → Reading
 
--- the state of a reading: before the header, or behind that of a version with some parts, the last one first
+-- the state of a reading: before the header, or after that of a version with some parts, the last one first
 pub data ReadingState : Type 0 where
   AtStart : ReadingState
   InModel : (version : ℕ) → (taken : List SaidPart) → ReadingState
@@ -46,7 +46,7 @@ first_said _ = Stopped FirstLine
 abbrev pub end_step : List SaidPart → Step
 end_step taken = step_unless (end_fault taken) (Ended (description_of taken))
 
--- a line behind the header says one more part, or ends the model
+-- a line after the header says one more part, or ends the model
 abbrev pub later_said : ℕ → List SaidPart → Result Said TextFault → Step
 later_said version taken (Ok Blank) = Moved (InModel version taken)
 later_said version taken (Ok (Header other)) = Stopped (text_fault_code UnknownWord)
@@ -54,7 +54,7 @@ later_said version taken (Ok (Part part)) = step_unless (part_fault taken part) 
 later_said version taken (Ok End) = end_step taken
 later_said version taken (Err fault) = Stopped (text_fault_code fault)
 
--- whether a first word is unknown behind the header: the header's own word, and in version 1 the words that only version 2 has
+-- whether a first word is unknown after the header: the header's own word, and in version 1 the words that only version 2 has
 abbrev pub is_unknown : ℕ → List ℕ → Bool
 is_unknown version word =
     bytes_eq word (codes "evacplan") || (version == 1 && (bytes_eq word (codes "window") || bytes_eq word (codes "entrant")))
@@ -63,7 +63,7 @@ abbrev pub begins_unknown : ℕ → List (List ℕ) → Bool
 begins_unknown version [] = false
 begins_unknown version (word ∷ more) = is_unknown version word
 
--- what a line behind the header of a version says; an unknown word is refused before the fields behind it are looked at
+-- what a line after the header of a version says; an unknown word is refused before the fields after it are looked at
 unfoldable pub later_statement : ℕ → List ℕ → Result Said TextFault
 later_statement version line = if begins_unknown version (fields_of line) then Err UnknownWord else statement_of line
 
@@ -82,15 +82,15 @@ after_step (Moved state) number rest more = more state
 after_step (Ended building) number rest more = Described building number rest
 after_step (Stopped code) number rest more = Refused code number
 
--- the reading of lines from a state on, behind `before` lines
+-- the reading of lines from a state on, after `before` lines
 unfoldable pub reading_at : ReadingState → ℕ → List Line → Reading
 reading_at state before [] = Refused MissingEnd (before + 1)
 reading_at state before (line ∷ rest) = after_step (step_at state line) (before + 1) rest (λ next. reading_at next (before + 1) rest)
 
--- the reading of lines behind `before` lines that said nothing
+-- the reading of lines after `before` lines that said nothing
 abbrev pub opening_of : ℕ → List Line → Reading
 opening_of before lines = reading_at AtStart before lines
 
--- the building that lines describe, with the line that ends it and the lines behind that; or the first fault
+-- the building that lines describe, with the line that ends it and the lines after that; or the first fault
 abbrev pub model_of : List Line → Reading
 model_of lines = opening_of 0 lines

@@ -9,8 +9,8 @@ use crate::fields::{Fields, is_word};
 use crate::named_edit::{NamedEdit, read_edit};
 use crate::statement::is_comment;
 
-/// A report on the plan that stands.
-#[derive(Clone, Copy, PartialEq, Eq, Debug)]
+/// A report on the session's plan.
+#[derive(Clone, Copy)]
 pub enum Report {
     Routes,
     Clearing,
@@ -19,7 +19,7 @@ pub enum Report {
 }
 
 /// What a line of a session commands.
-#[derive(Clone, Copy, PartialEq, Eq, Debug)]
+#[derive(Clone, Copy)]
 pub enum Command {
     Blank,
     Edit(NamedEdit),

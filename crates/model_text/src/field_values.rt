@@ -95,7 +95,7 @@ pub(crate) fn name(field: &[u8]) -> Result<NodeName, TextFault>
     }
 }
 
-/// The text behind the fields that were given.
+/// The text after the fields that were given.
 pub(crate) fn text<'a>(fields: Fields<'a>) -> Result<&'a [u8], TextFault>
     ensures { MatchResult result (λ t. text_field (text_of fields.entry) ≡ Ok t.now) (λ e. text_field (text_of fields.entry) ≡ Err e) }
 {

@@ -82,7 +82,7 @@ impl<'a> Fields<'a> {
         Fields { rest: line }
     }
 
-    /// The next field, or none behind the last.
+    /// The next field, or none after the last.
     pub fn next(&mut self) -> Option<&'a [u8]>
         ensures field { MatchOption result (fields_of self.old ≡ []) (λ field. fields_of self.old ≡ field.now ∷ fields_of self.new) }
         ensures rest { self.new ≡ behind_word (skipped self.old) }
@@ -92,7 +92,7 @@ impl<'a> Fields<'a> {
         if field.is_empty() { None } else { Some(field) }
     }
 
-    /// What stands behind the fields that were given, without the blanks around it.
+    /// What comes after the fields that were given, without the blanks around it.
     pub(crate) fn text(self) -> &'a [u8]
         ensures { result.now ≡ text_of self.entry }
     {

@@ -59,7 +59,7 @@ fn dot_place(bytes: &[u8]) -> usize
     bytes.iter().take_while(|b| **b != b'.').count()
 }
 
-// What stands before the first dot and behind it.
+// What comes before the first dot and after it.
 fn parted(bytes: &[u8]) -> (&[u8], &[u8])
     ensures front { result.0.now ≡ before_first is_dot bytes.now }
     ensures back { result.1.now ≡ after_first is_dot bytes.now }
@@ -84,7 +84,7 @@ fn name_of_parts(letters: &[u8], number: &[u8], floor: &[u8]) -> Option<NodeName
     })
 }
 
-// The first two bytes, and what stands behind them.
+// The first two bytes, and what comes after them.
 fn letters(field: &[u8]) -> (&[u8], &[u8])
     ensures front { result.0.now ≡ take 2 field.now }
     ensures back { result.1.now ≡ drop 2 field.now }

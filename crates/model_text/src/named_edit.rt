@@ -9,7 +9,7 @@ use crate::fields::{Fields, is_word};
 use evac_law::NodeName;
 
 /// An edit of a model, by names.
-#[derive(Clone, Copy, PartialEq, Eq, Debug)]
+#[derive(Clone, Copy)]
 pub enum NamedEdit {
     Shut {
         from: NodeName,
@@ -189,7 +189,7 @@ fn unwindow<'a>(fields: Fields<'a>) -> Result<NamedEdit, TextFault>
     })
 }
 
-/// The edit that a word and the fields behind it say, or their first fault.
+/// The edit that a word and the fields after it say, or their first fault.
 pub(crate) fn read_edit<'a>(word: &[u8], fields: Fields<'a>) -> Result<NamedEdit, TextFault>
     ensures { result ≡ edit_by_word word.now (fields_of fields.entry) }
 {

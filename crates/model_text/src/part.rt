@@ -15,7 +15,7 @@ use evac_law::limits::{
 };
 
 /// A part of a model.
-#[derive(Clone, Copy, PartialEq, Eq, Debug)]
+#[derive(Clone, Copy)]
 pub enum Part<'a> {
     Title {
         text: &'a [u8],
@@ -178,7 +178,7 @@ fn entrant<'a>(fields: Fields<'a>) -> Result<Part<'a>, TextFault>
     })
 }
 
-/// The part that a first word and the fields behind it say, or its first fault.
+/// The part that a first word and the fields after it say, or its first fault.
 pub(crate) fn read_part<'a>(word: &[u8], fields: Fields<'a>) -> Result<Part<'a>, TextFault>
     ensures { ReadsPart result (part_by_word word.now fields.entry) }
 {

@@ -11,7 +11,7 @@ use crate::fields::{Fields, is_word};
 use crate::part::{Part, read_part};
 
 /// What a line of a model says.
-#[derive(Clone, Copy, PartialEq, Eq, Debug)]
+#[derive(Clone, Copy)]
 pub enum Statement<'a> {
     Blank,
     Header { version: u32 },
@@ -73,7 +73,7 @@ pub fn read_line(line: &[u8]) -> Result<Statement<'_>, TextFault>
     }
 }
 
-// Whether a first word is unknown behind the header of a version.
+// Whether a first word is unknown after the header of a version.
 fn is_unknown(version: u32, word: &[u8]) -> bool
     ensures { result ≡ is_unknown version word.now }
 {
@@ -81,7 +81,7 @@ fn is_unknown(version: u32, word: &[u8]) -> bool
         || (version == 1 && (is_word(word, b"window") || is_word(word, b"entrant")))
 }
 
-// What a line behind the header of a version says by its first word.
+// What a line after the header of a version says by its first word.
 fn later_by_word<'a>(
     version: u32,
     word: &[u8],
@@ -96,7 +96,7 @@ fn later_by_word<'a>(
     }
 }
 
-/// What a line behind the header of a version says, or its first fault.
+/// What a line after the header of a version says, or its first fault.
 pub fn read_later_line(version: u32, line: &[u8]) -> Result<Statement<'_>, TextFault>
     ensures exact { Reads result (later_statement version line.now) }
     ensures within { IfOk result (λ statement. IsSaid (said statement)) }

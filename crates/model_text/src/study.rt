@@ -11,7 +11,7 @@ use crate::statement::is_comment;
 use evac_law::NodeName;
 
 /// What a line of a study commands.
-#[derive(Clone, Copy, PartialEq, Eq, Debug)]
+#[derive(Clone, Copy)]
 pub enum StudyCommand {
     Blank,
     Exits,

@@ -32,7 +32,7 @@ fn push_escaped(text: &mut String, piece: &str) -> Result<(), AllocError> {
     text.push_str(piece)
 }
 
-// The number of a line and what stands in its place, where a part begins so.
+// The number of a line and what comes in its place, where a part begins so.
 fn changed(part: &str) -> Option<(usize, &str)> {
     let (number, line) = part.split_once(':')?;
     let number = number.parse().ok()?;

@@ -10,7 +10,7 @@ use std::io::{Error, ErrorKind, Read, Write};
 use std::process::Abort;
 use std::test::Fail;
 
-// A bar behind a line, a dot at the end, an r for a read fault, and else the code of a fault.
+// A bar after a line, a dot at the end, an r for a read fault, and else the code of a fault.
 fn mark(found: Result<Found, LineFault>) -> u8 {
     match found {
         Ok(Found::Text) => b'|',
@@ -21,7 +21,7 @@ fn mark(found: Result<Found, LineFault>) -> u8 {
     }
 }
 
-// Puts the next line of a source and its mark behind a text, and answers the mark.
+// Puts the next line of a source and its mark after a text, and answers the mark.
 fn spell_line<S: Source>(
     lines: &mut Lines,
     source: &mut S,

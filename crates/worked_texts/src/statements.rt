@@ -12,7 +12,7 @@ fn line_code(line: &str) -> u8 {
     }
 }
 
-// The same behind the header of a version.
+// The same after the header of a version.
 fn later_code(version: u32, line: &str) -> u8 {
     match read_later_line(version, line.as_bytes()) {
         Ok(_) => 0,
