@@ -70,7 +70,7 @@ stock_on s v same a b c d e f h =
 less_le : (c d : PeopleTable) (n t p : ℕ) → IsLess c d n t p → (i k : ℕ) → people_at d i k ≤ people_at c i k
 less_le c d n t p h i k = omega (arith, h.cells i k)
 
-other_cell : (x y n t p i k : ℕ) → (k < t ⊎ (i ≡ n → ⊥)) → x + cond (eqb n i && eqb t k) p 0 ≡ y → x ≡ y
+pub other_cell : (x y n t p i k : ℕ) → (k < t ⊎ (i ≡ n → ⊥)) → x + cond (eqb n i && eqb t k) p 0 ≡ y → x ≡ y
 other_cell x y n t p i k d e = grind (arith, nat_tests)
 
 -- ---- people who first stay, and then are led out from the next moment on

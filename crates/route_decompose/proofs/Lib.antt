@@ -4,6 +4,7 @@ pub mod Given
 pub mod Balance
 pub mod Leading
 pub mod Going
+pub mod Staying
 pub mod ShapeLemmas
 pub mod UsedUp
 pub mod Arrivals

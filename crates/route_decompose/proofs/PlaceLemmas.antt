@@ -1,9 +1,7 @@
 -- In how many places somebody is, once some people are taken off.
-use Rattle.std.proofs.Common.{◌≡◌, ℕ, zero, suc, ◌+◌, ◌<◌, ◌≤◌, Bool, true, false, cond, ◌&&◌, eqb, ltb, List, length, min, refl, ap, ap₂, sym, ◌∙◌, arith, subst, ◌⊎◌, inl, inr}
-use Rattle.std.specs.List.{sum_by}
+use Rattle.std.proofs.Common.{◌≡◌, ℕ, ◌+◌, ◌<◌, ◌≤◌, Bool, true, false, cond, ◌&&◌, eqb, ltb, min, refl, ap, ap₂, ◌∙◌, arith, ◌⊎◌, inl, inr}
 use Rattle.std.proofs.lemmas.Bool.{cases_lt, lt-ltb}
 use Rattle.std.proofs.lemmas.Bool.Decides.{nat_tests}
-use Rattle.evac_law.specs.Sums.{below}
 use Rattle.evac_law.proofs.SumLemmas.{gather_one, sum2, sum2-add, sum2-le}
 use Rattle.route_decompose.specs.Stocks.{Empties, IsLessHeld, IsLessLeft, Stock, used}
 use Rattle.route_decompose.specs.Tables.{IsLess, PeopleTable, people_at, places_in, places_with}
@@ -69,7 +67,7 @@ one-emptied c d n t p h row moment some-go all =
 less-left : (v w : Stock) (a t p : ℕ) → IsLessLeft v w a t p → used w ≤ used v
 less-left v w a t p h = omega (arith, less-places v.left w.left a t p h.less, ap places_in h.holds, ap places_in h.waiting)
 
-less-held : (v w : Stock) (n t p : ℕ) → IsLessHeld v w n t p → used w ≤ used v
+pub less-held : (v w : Stock) (n t p : ℕ) → IsLessHeld v w n t p → used w ≤ used v
 less-held v w n t p h = omega (arith, less-places v.holds w.holds n t p h.less, ap places_in h.left, ap places_in h.waiting)
 
 pub least-is : (a b c : ℕ) → c ≡ min a b → (c ≡ a) ⊎ (c ≡ b)
@@ -79,21 +77,13 @@ least-is a b c e = by (cases_lt a b)
     by (inl l) = inl (omega (arith, e, l))
     by (inr l) = inr (omega (arith, e, l))
 
--- people went on from where `there` of them could stay, and no more of them than `most` were to go
-pub empties-hold : (s v w : Stock) (n t p there most least : ℕ) → Empties s v p least → (least ≡ most) ⊎ (least ≡ there) → IsLessHeld v w n t p
-    → n < v.holds.rows → t ≤ v.holds.last → 1 ≤ p → people_at v.holds n t ≡ there → Empties s w p most
-empties-hold s v w n t p there most least (inl fewer) is less row moment go here = inl (omega (arith, fewer, less-held v w n t p less))
-empties-hold s v w n t p there most least (inr (all, few)) (inl e) less row moment go here = inr (omega (arith, all, e), omega (arith, few, less-held v w n t p less))
-empties-hold s v w n t p there most least (inr (all, few)) (inr e) less row moment go here =
-    inl (omega (
-      arith,
-      few,
-      one-emptied v.holds w.holds n t p less.less row moment go (omega (arith, here, all, e)),
-      ap places_in less.left,
-      ap places_in less.waiting,
-    ))
+-- people are taken off where they stay at a moment: if they are all who stay there, somebody is left in fewer places
+pub emptied-hold : (v w : Stock) (n t p : ℕ) → IsLessHeld v w n t p → n < v.holds.rows → t ≤ v.holds.last → 1 ≤ p → people_at v.holds n t ≡ p
+    → used w + 1 ≤ used v
+emptied-hold v w n t p less row moment go all =
+    omega (arith, one-emptied v.holds w.holds n t p less.less row moment go all, ap places_in less.left, ap places_in less.waiting)
 
--- the same along an arc
+-- people went on from an arc over which `there` of them could go, and no more of them than `most` were to go
 pub empties-left : (s v w : Stock) (a t p there most least : ℕ) → Empties s v p least → (least ≡ most) ⊎ (least ≡ there) → IsLessLeft v w a t p
     → a < v.left.rows → t ≤ v.left.last → 1 ≤ p → people_at v.left a t ≡ there → Empties s w p most
 empties-left s v w a t p there most least (inl fewer) is less row moment go here = inl (omega (arith, fewer, less-left v w a t p less))

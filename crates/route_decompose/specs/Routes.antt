@@ -81,7 +81,7 @@ pub record IsAllLeft (m : Model) (p : List Move) (w : RoutesView) : Type 0 where
   pub all_wait : (n t : ℕ) → waiting_at w n t ≡ entry m n t
   pub all_places : w.places ≡ places_of m p
 
--- a route is handed out: its people are left no more, and in some place nobody is
+-- a route is handed out: its people are left no more, and somebody is left in at least one place fewer
 pub record HandsOut (w v : RoutesView) : Type 0 where
   pub same_model : v.model ≡ w.model
   pub right : IsRoute w.model v.route

@@ -22,7 +22,7 @@ pub record Stock : Type 0 where
 abbrev pub used : Stock → ℕ
 used s = places_in s.left + places_in s.holds + places_in s.waiting
 
--- in one place more nobody is left; or all went who were to go, and nobody is in a new place
+-- somebody is left in at least one place fewer; or all went who were to go, and somebody is left in no more places than before
 abbrev pub Empties : Stock → Stock → ℕ → ℕ → Type 0
 Empties s v people most = (used v + 1 ≤ used s) ⊎ ((people ≡ most) × (used v ≤ used s))
 
@@ -105,7 +105,7 @@ pub record IsLedOut (s v : Stock) (n t p : ℕ) (steps : List RouteStep) : Type 
   pub stock : IsStock v
   pub balanced : IsBalancedBut v n t p
 
--- the stock has the people of a standing plan of its model
+-- the stock has the people of a plan of its model
 pub record IsStockOf (f : Stand) (s : Stock) : Type 0 where
   pub moves : (a t : ℕ) → a < s.left.rows → t ≤ s.left.last → people_at s.left a t ≡ moved f.plan a t
   pub stays : (n t : ℕ) → n < s.holds.rows → t ≤ s.holds.last → people_at s.holds n t ≡ f.contents n t
@@ -134,3 +134,42 @@ pub record IsLedOn (s v : Stock) (n t p : ℕ) (r u : TrailView) : Type 0 where
   pub more : List RouteStep
   pub led : IsLedOut s v n t p more
   pub trail : u ≡ record { steps = r.steps ++ more; room = r.room }
+
+-- ---- people who stay
+
+-- at least p people stay in a node from a moment until another
+abbrev pub Stay : Stock → ℕ → ℕ → ℕ → ℕ → Type 0
+Stay s n t u p = (k : ℕ) → t ≤ k → k < u → p ≤ people_at s.holds n k
+
+-- just p people stay there from one of these moments to the next
+abbrev pub AllStay : Stock → ℕ → ℕ → ℕ → ℕ → Type 0
+AllStay s n t u p = (k : ℕ) × (t ≤ k) × (k < u) × (people_at s.holds n k ≡ p)
+
+-- of some people in a node at a moment, p stay until u, when nobody stays any more; the others can't stay with them
+pub record IsStay (s : Stock) (n t some u p : ℕ) : Type 0 where
+  pub leadable : IsLeadable s n u
+  pub later : t ≤ u
+  pub somebody : 1 ≤ p
+  pub few : p ≤ some
+  pub stay : Stay s n t u p
+  pub over : people_at s.holds n u ≡ 0
+  pub all : (p ≡ some) ⊎ AllStay s n t u p
+
+-- somebody may be taken off those who stay in a node from a moment until another
+pub record MayStay (s : Stock) (n t u p : ℕ) : Type 0 where
+  pub stock : IsStock s
+  pub node_in : n < length s.model.nodes
+  pub later : t ≤ u
+  pub until_in : u ≤ s.model.horizon
+  pub somebody : 1 ≤ p
+  pub stay : Stay s n t u p
+
+-- whoever is led out from u on, with the first stock left, is led out from t on, with the second left
+abbrev pub LedEarlier : Stock → Stock → ℕ → ℕ → ℕ → ℕ → Type 0
+LedEarlier v w n t u p = (s : Stock) (r x : TrailView) → IsLedOn s v n u p r x → IsLedOn s w n t p r x
+
+-- people are taken off those who stay in a node from t until u
+pub record IsStayTaken (v w : Stock) (n t u p : ℕ) : Type 0 where
+  pub led : LedEarlier v w n t u p
+  pub fewer : used w ≤ used v
+  pub emptied : AllStay v n t u p → used w + 1 ≤ used v

@@ -1,6 +1,6 @@
 //! Routes that make up a plan, lent one after another.
 //!
-//! What a list of people's ways needs besides stands here too: a model that is kept with its arcs listed, a table's rows filled from a
+//! What a list of people's ways needs besides is here too: a model that is kept with its arcs listed, a table's rows filled from a
 //! plan, and steps in memory that is reserved once.
 #![tactic(auto)]
 
