@@ -288,7 +288,7 @@ runs-say m d moves =
     let hs = head_entries d.stage d.index d.people d.cleared in
     ap (λ v. says m hs d.outs d.runs v) moves ∙ append-nil ((hs ++ out_entries d.outs) ++ map (run_entry m) d.runs)
 
--- a list with one more behind other entries
+-- a list with one more after other entries
 map-push : {X : Type 0} (f : X → Entry) (hs : List Entry) (xs : List X) (x : X) → hs ++ map f (xs ++ (x ∷ [])) ≡ (hs ++ map f xs) ++ (f x ∷ [])
 map-push f hs xs x = ap (λ l. hs ++ l) (map-append f xs (x ∷ [])) ∙ sym (append_assoc hs (map f xs) (f x ∷ []))
 
@@ -347,7 +347,7 @@ arc-within m i j a e =
     let size : length (arc_ends m) ≡ length m.arcs = length-map m.arcs (λ x. (x.from, x.to)) in
     omega (arith, p.0, size)
 
--- moves stand only behind all the rest
+-- moves stand only after all the rest
 may-move : (m : Model) (d : Draft) → IsDraft m d → (not (is_empty d.moves) || is_full m d) ≡ true → is_full m d ≡ true
 may-move m d h test = full-by (is_full m d) refl
   where

@@ -29,7 +29,7 @@ before-all {X} R trans xs q x pairs e h = λ k d l.
       | inr b ↦ let same : k ≡ p = omega arith in subst (λ (y : X). R y x) (sym (ap (λ i. get_or xs i d) same ∙ is)) h
     ]
 
--- one more behind the last
+-- one more after the last
 pub push-sorted : {X : Type 0} (R : X → X → Type 0) (xs : List X) (x : X) → AllPairs R xs → All (λ v. R v x) xs → AllPairs R (xs ++ (x ∷ []))
 push-sorted R xs x pairs all = all_pairs_push R xs x pairs all
 

@@ -1,4 +1,4 @@
--- Which run may stand behind the ones before it.
+-- Which run may stand after the ones before it.
 use Rattle.std.proofs.Common.{◌≡◌, ℕ, ◌+◌, ◌-◌, ◌<◌, ◌≤◌, ◌⊎◌, zero, suc, Bool, true, false, not, ◌&&◌, ◌||◌, cond, nat_eq, nat_lt, List, [], ◌∷◌, ◌++◌, Some, None, refl, sym, subst, ap, ◌∙◌, inl, inr, arith, append_assoc, append-nil}
 use Rattle.std.specs.declared.option.Option.{Option}
 use Rattle.std.proofs.lemmas.Bool.{and_from, and_parts, cases_eq, cases_lt, eq-eqb, eqb-false, eqb-true, lt-ltb, ltb-true, ne_eqb, not-true}
@@ -110,7 +110,7 @@ before-exit m n o e h = record {
   ]);
 }
 
--- behind a run of it
+-- after a run of it
 pub before-next : (m : Model) (n : ℕ) (o : Option Run) (r : Run) → o ≡ Some r → r.node ≡ n → LastBefore m (suc n) o
 before-next m n o r is e =
     let at : behind_run o ≡ suc n = ap behind_run is ∙ (let q : r.node + 1 ≡ suc n = omega (arith, e) in q) in
@@ -133,7 +133,7 @@ differs f t x h pos e =
     ap (λ y. not (nat_eq (f t) y)) e
     ∙ sym (ap (λ b. b || not (nat_eq (f t) (f (t - 1)))) (ne_eqb t 0 (λ q. omega (arith, q, pos)))) ∙ h
 
--- a run of a block's labels may stand behind those before it
+-- a run of a block's labels may stand after those before it
 pub runs-follow : (m : Model) (f : ℕ → ℕ → ℕ) (c n t : ℕ) → t < c → begins_run (f n) t ≡ true → follows_run m (last_of (all_runs m f c n ++ run_parts f n t)) n t (f n t) ≡ true
 runs-follow m f c n zero h b =
     let before = last-before m f c n h in
@@ -226,7 +226,7 @@ push-own m rs r c e l h own = elim (follows-how m (last_of rs) r.node r.moment r
   | inr further ↦ further-own m rs r c e l further own
 ]
 
--- all of the runs, where only exits are behind the last one
+-- all of the runs, where only exits come after the last one
 pub whole-own : (m : Model) (rs : List Run) (c n : ℕ) → LastBefore m n (last_of rs) → AreOwn m c rs → all_runs m (run_label rs) c n ≡ rs
 whole-own m rs c n h own =
     let a = behind_run (last_of rs) in

@@ -32,7 +32,7 @@ unfolding walk
 walk-append m d [] ys = refl
 walk-append m d (e ∷ es) ys = bind-walk m (with_entry m d e) es ys (λ x. walk-append m x es ys)
 
--- ---- entries one behind the other
+-- ---- entries one after another
 
 pub walk-then : (m : Model) (a b c : Draft) (xs ys : List Entry) → walk m a xs ≡ Some b → walk m b ys ≡ Some c → walk m a (xs ++ ys) ≡ Some c
 walk-then m a b c xs ys h g = walk-append m a xs ys ∙ ap (option_and_then (λ x. walk m x ys)) h ∙ g

@@ -13,7 +13,7 @@ use Rattle.block_reader.specs.declared.fault.BlockFault.{BlockFault}
 use Rattle.block_reader.specs.declared.fault.BlockFault.TheVariants.{Bad, LineTooLong, InputTooLong, ReadFault, Memory}
 use Rattle.certificate_text.specs.BlockReadings.{ReadsAs, Refused, Stated}
 
--- the block or the first fault of the lines left before, behind `first` lines; `last` is the line of the block's end, with `after` behind it
+-- the block or the first fault of the lines left before, after `first` lines; `last` is the line of the block's end, with `after` following it
 abbrev pub IsBlockReading : Model → Result Block BlockFault → ℕ → ℕ → List Line → List Line → Type 0
 IsBlockReading m (Ok block) first last before after = ReadsAs m first before (Stated block last after)
 IsBlockReading m (Err (Bad line)) first last before after = ReadsAs m first before (Refused codes.BadBlock line)

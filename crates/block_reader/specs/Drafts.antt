@@ -80,7 +80,7 @@ node_of m name = position (λ n. same_name n name) (node_names m)
 unfoldable pub only_exits : Model → ℕ → ℕ → Bool
 only_exits m start finish = list_all (λ n. nat_lt n start || is_exit_at m n) (below finish)
 
--- whether a run may stand behind another one: a further run of its node, at a later moment and with another label,
+-- whether a run may stand after another one: a further run of its node, at a later moment and with another label,
 -- or the first run of the next node that is no exit, at moment 0
 abbrev pub follows_run : Model → Option Run → ℕ → ℕ → ℕ → Bool
 follows_run m None n t v = t == 0 && only_exits m 0 n
@@ -109,7 +109,7 @@ with_run m d name t v =
 unfoldable pub run_label : List Run → ℕ → ℕ → ℕ
 run_label runs n t = fold (λ label r. if r.node == n && nat_le r.moment t then r.label else label) unset runs
 
--- the moment at which the label of a run stops: that of the run behind it, where this is of the same node, or else c
+-- the moment at which the label of a run stops: that of the run after it, where this is of the same node, or else c
 abbrev pub stop_by : Option Run → Run → ℕ → ℕ
 stop_by None r c = c
 stop_by (Some next) r c = if next.node == r.node then next.moment else c
@@ -127,7 +127,7 @@ filled l r stop n t = if r.node == n && (nat_le r.moment t && nat_lt t stop) the
 
 -- ---- moves
 
--- the place behind the last node that has a run
+-- the place after the last node that has a run
 abbrev pub behind_run : Option Run → ℕ
 behind_run None = 0
 behind_run (Some r) = r.node + 1
@@ -140,7 +140,7 @@ is_full m d = is_curve d && (d.cleared == 0 || only_exits m (behind_run (last_of
 abbrev pub arc_of : Model → ℕ → ℕ → Option ℕ
 arc_of m start finish = position (λ e. e.0 == start && e.1 == finish) (arc_ends m)
 
--- whether a moment and an arc stand behind those of a move
+-- whether a moment and an arc stand after those of a move
 abbrev pub follows_move : Option Move → ℕ → ℕ → Bool
 follows_move None t a = true
 follows_move (Some v) t a = nat_lt v.moment t || (v.moment == t && nat_lt v.arc a)

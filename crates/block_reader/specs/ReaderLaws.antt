@@ -17,7 +17,7 @@ use Rattle.certificate_text.specs.BlockText.{answer_text}
 use Rattle.block_reader.specs.declared.fault.BlockFault.{BlockFault}
 use Rattle.block_reader.specs.declared.fault.BlockFault.TheVariants.{ReadFault, Memory}
 
--- what a call of `read_block` makes of such a text, with lines behind it: that answer, and just these lines are left
+-- what a call of `read_block` makes of such a text, with lines following it: that answer, and just these lines are left
 abbrev pub IsBack : ℕ → Model → List Move → LabelTable → ℕ → Result Block BlockFault → Option (List Line) → List Line → Type 0
 IsBack index m p l c (Ok block) left behind = IsAnswerBlock index m p l c block × (left ≡ Some behind)
 IsBack index m p l c (Err ReadFault) left behind = ⊤

@@ -47,7 +47,7 @@ pub record IsReady (r : BlockReader) : Type 0 where
 abbrev pub HearsBlock : Hearing BlockReader TakeFault
 HearsBlock r line text result new = (new.model.now ≡ r.model.now) × HearsDraft r.model.now text result r.builder new.builder
 
--- the answer of a block that heard all, or behind which the lines ended, where so many went by
+-- the answer of a block that heard all, or whose lines ended before that, where so many went by
 abbrev pub ConcludesBlock : Model → Ending TakeFault → Draft → ℕ → Result Block BlockFault → Type 0
 ConcludesBlock m endings.Finished d number (Ok block) = IsStated m d block
 ConcludesBlock m endings.Finished d number (Err fault) = fault ≡ faults.Memory

@@ -74,7 +74,7 @@ fn only_exits(model: &Model, from: u32, to: u32) -> bool
     true
 }
 
-// Whether a run of a node may stand behind the last one.
+// Whether a run of a node may stand after the last one.
 fn follows_run(model: &Model, last: Option<Run>, node: u32, moment: u16, label: u16) -> bool
     requires { node < length model.now.nodes }
     ensures { result ≡ follows_run model.now last node moment label }
@@ -86,7 +86,7 @@ fn follows_run(model: &Model, last: Option<Run>, node: u32, moment: u16, label: 
     }
 }
 
-// The place behind the last node that has a run.
+// The place after the last node that has a run.
 #[tactic(auto, unfolding(evac_law::specs::Limits::node_limit))]
 fn behind_run(last: Option<Run>) -> u32
     requires { ForSome last (λ run. run.node < node_limit) }
@@ -98,7 +98,7 @@ fn behind_run(last: Option<Run>) -> u32
     }
 }
 
-// Whether a moment and an arc stand behind those of the last move.
+// Whether a moment and an arc stand after those of the last move.
 fn follows_move(last: Option<Move>, moment: u16, arc: u32) -> bool
     ensures { result ≡ follows_move last moment arc }
 {

@@ -3,7 +3,7 @@
 /// Why lines give no block.
 #[derive(Clone, Copy, PartialEq, Eq, Debug)]
 pub enum BlockFault {
-    /// The first line that no block has there; where the input ends first, the line behind its last.
+    /// The first line that no block has there; where the input ends first, the line after its last.
     Bad { line: u32 },
     /// The line is too long.
     LineTooLong { line: u32 },

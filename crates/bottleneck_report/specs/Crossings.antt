@@ -45,7 +45,7 @@ pub record HasCounts (m : Model) (v : PeriodCounts) : Type 0 where
   pub holds_fit : length v.holds ≡ length m.nodes
   pub periods_fit : v.room ≡ m.horizon + 1
 
--- what a count of periods stands on: a valid model, labels for it, a moment up to its horizon, and a number for each of its periods
+-- what a count of periods rests on: a valid model, labels for it, a moment up to its horizon, and a number for each of its periods
 pub record IsReportable (m : Model) (l : LabelTable) (c : ℕ) (ends : List ℕ) : Type 0 where
   pub valid : IsValid m
   pub table : IsTableOf m l

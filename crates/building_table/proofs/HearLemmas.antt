@@ -21,7 +21,7 @@ later-at (Ok Last) step version taken new are still h = (taken, h.0, are, h.1)
 later-at (Err (refusals.Code code)) step version taken new are still h = h
 later-at (Err refusals.Memory) step version taken new are still h = tt
 
--- a line behind the header of a version
+-- a line after the header of a version
 pub hears-later : (result : Result Heard Refusal) (version : ℕ) (r new : ModelReader) (text : List ℕ) (line : ℕ) → r.version ≡ Some version → new.version ≡ Some version
     → ((taken : List SaidPart) → AreTaken taken → r.builder ≡ built_of taken → TakesStep result (content_step (InModel version taken) text) version taken new.builder) → HearsModel r line text result new
 hears-later result version r new text line first still heard AtStart is = let no : Some version ≡ None = sym first ∙ is.0 in cc
@@ -34,7 +34,7 @@ first-at : (o : Option ℕ) (step : Step) (new : ModelReader) → new.version �
 first-at (Some version) step new first built h = (InModel version [], h, (first, tt, built))
 first-at None step new first built h = (AtStart, h, (first, built))
 
--- a line that is the first or stands behind blank lines
+-- a line that is the first or stands after blank lines
 pub hears-first : (o : Option ℕ) (r new : ModelReader) (text : List ℕ) (line : ℕ) → r.version ≡ None → new.version ≡ o → new.builder ≡ r.builder → HearsFirst (Ok o) (content_step AtStart text)
     → HearsModel r line text (Ok More) new
 hears-first o r new text line shut first same h AtStart is = first-at o (content_step AtStart text) new first (same ∙ is.1) h

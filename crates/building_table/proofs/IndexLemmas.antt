@@ -45,7 +45,7 @@ insert-name names name =
 abbrev pub with-nodes : List (ℕ × ℕ) → List NodeName → NameLists
 with-nodes ends nodes = record { nodes = nodes; ends = ends }
 
--- the key of one more row goes behind those of the others, where none of them passes the test
+-- the key of one more row goes after those of the others, where none of them passes the test
 push-key : {R K : Type 0} (key : R → K) (test : K → Bool) (rows : List R) (row : R) (keys : List K)
     → keys ≡ map key rows → list_any (λ r. test (key r)) rows ≡ false
     → with-key test keys (key row) ≡ map key (rows ++ (row ∷ []))
@@ -67,7 +67,7 @@ push-ends rows row ends same new = push-key ends-of (λ (e : ℕ × ℕ). e.0 ==
 
 -- ---- rows in turn
 
--- the key of the next row goes behind those before it, where none of them passes the test
+-- the key of the next row goes after those before it, where none of them passes the test
 add-next : {R K : Type 0} (key : R → K) (test : K → Bool) (rows : List R) (i : ℕ) (d : R) (keys : List K) → i < length rows
     → ((k : ℕ) → k < i → test (key (get_or rows k d)) ≡ false) → keys ≡ map key (take i rows)
     → with-key test keys (key (get_or rows i d)) ≡ map key (take (i + 1) rows)

@@ -22,7 +22,7 @@ pub record NameLists : Type 0 where
   pub nodes : List NodeName
   pub ends : List (ℕ × ℕ)
 
--- with a name, or a pair of ends, behind the others where it is new
+-- with a name, or a pair of ends, after the others where it is new
 abbrev pub names_with : List NodeName → NodeName → List NodeName
 names_with names name = if list_any (λ n. same_name n name) names then names else names ++ (name ∷ [])
 

@@ -23,7 +23,7 @@ pub record ReadsLines (result : Result Building ModelFault) (before after : Read
   pub refused : (code : Code) (line : ℕ) → result ≡ Err (Named code line) → opening_of before.number (taken_lines before passes.taken) ≡ Refused code line
   pub described : IfOk result (λ building. (d : Description) × (opening_of before.number (text_lines texts) ≡ Described d after.number []) × IsBuilding building d)
 
--- the building or the first fault of the lines left before, behind `first` lines; `last` is the line of the model's end, with `after` behind it
+-- the building or the first fault of the lines left before, after `first` lines; `last` is the line of the model's end, with `after` following it
 abbrev pub IsReading : Result Building ModelFault → ℕ → ℕ → List Line → List Line → Type 0
 IsReading (Ok building) first last before after = (d : Description) × (opening_of first before ≡ Described d last after) × IsBuilding building d
 IsReading (Err (Named code line)) first last before after = opening_of first before ≡ Refused code line

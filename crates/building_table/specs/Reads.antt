@@ -5,8 +5,8 @@ use Rattle.evac_law.specs.declared.code.Code.{Code}
 use Rattle.evac_law.specs.declared.code.Code.TheVariants.{LineTooLong, InputTooLong, MissingEnd}
 use Rattle.line_io.specs.Hearing.{Hearing}
 use Rattle.line_io.specs.Line.{text_lines}
-use Rattle.line_io.specs.Passes.{IsLeft, Passes}
-use Rattle.line_io.specs.Reader.{lines_left, pending_lines}
+use Rattle.line_io.specs.Passes.{IsLeft}
+use Rattle.line_io.specs.Reader.{pending_lines}
 use Rattle.line_io.specs.declared.hearing.Ending.{Ending}
 use Rattle.line_io.specs.declared.hearing.Ending.TheVariants as endings
 use Rattle.line_io.specs.declared.hearing.Heard.{Heard}
@@ -24,7 +24,7 @@ use Rattle.model_text.specs.Grammar.{SaidPart}
 use Rattle.model_text.specs.Readings.{Line, Described, Refused, ReadingState, AtStart, InModel, Step, Moved, Stopped, end_step, step_at, opening_of}
 use Rattle.model_text.specs.Taken.{Description, description_of, end_fault, AreTaken}
 
--- a builder with the parts behind the header of a version heard a line that takes a step
+-- a builder with the parts after the header of a version heard a line that takes a step
 abbrev pub TakesStep : Result Heard Refusal → Step → ℕ → List SaidPart → Built → Type 0
 TakesStep (Ok More) step version taken new = (next : List SaidPart) × (step ≡ Moved (InModel version next)) × AreTaken next × (new ≡ built_of next)
 TakesStep (Ok Last) step version taken new = (step ≡ end_step taken) × (new ≡ built_of taken)
@@ -81,7 +81,7 @@ AnswersBy first (Err (Named code line)) r before after texts = RefusesAt first c
 AnswersBy first (Err ReadFault) r before after texts = opening_of first (text_lines texts) ≡ Refused MissingEnd (r.number + 1)
 AnswersBy first (Err Memory) r before after texts = ⊤
 
--- the answer of a reader that heard all, or behind which the lines ended, where so many went by
+-- the answer of a reader that heard all, or whose lines ended before that, where so many went by
 abbrev pub ConcludesModel : Ending Refusal → ModelReader → ℕ → Result Building ModelFault → Type 0
 ConcludesModel endings.Finished reader number result = (taken : List SaidPart) → AreTaken taken → reader.builder ≡ built_of taken → Finishes result taken number
 ConcludesModel (endings.Failed (refusals.Code code)) reader number result = result ≡ Err (Named code number)

@@ -127,7 +127,7 @@ impl Builder {
         Ok(())
     }
 
-    // Puts one more floor behind the others.
+    // Puts one more floor after the others.
     fn push_floor(&mut self, floor: u16, text: Vec<u8>) -> Result<(), BuildFault>
         requires { length self.old.floors < floor_limit }
         ensures made { OnOk result (self.new ≡ with_floor self.old floor text.items) }
@@ -253,7 +253,7 @@ impl Builder {
         self.push_floor(floor, text)
     }
 
-    // Puts one more node behind the others.
+    // Puts one more node after the others.
     #[tactic(auto, unfolding(evac_law::specs::Limits::people_limit))]
     fn push_node(&mut self, name: NodeName, capacity: u32, start: u32) -> Result<(), BuildFault>
         requires new { holds_node self.old name ≡ false }
@@ -309,7 +309,7 @@ impl Builder {
         self.push_node(name, 0, 0)
     }
 
-    // Puts one more arc behind the others.
+    // Puts one more arc after the others.
     fn push_arc(&mut self, row: ArcRow) -> Result<(), BuildFault>
         requires new { list_any (joins row.from row.to) self.old.arcs ≡ false }
         requires few { length self.old.arcs < arc_limit }

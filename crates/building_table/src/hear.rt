@@ -30,7 +30,7 @@ fn hear_part(alloc: Global, builder: &mut Builder, part: Part<'_>) -> Result<Hea
     }
 }
 
-/// Takes a line behind the header of a version into a builder.
+/// Takes a line after the header of a version into a builder.
 pub(crate) fn hear(
     alloc: Global,
     version: u32,
@@ -48,7 +48,7 @@ pub(crate) fn hear(
     }
 }
 
-/// The version of a line that is the first or stands behind blank lines and is the header: else it is blank, or refused.
+/// The version of a line that is the first or stands after blank lines and is the header: else it is blank, or refused.
 pub(crate) fn hear_first(text: &[u8]) -> Result<Option<u32>, Refusal>
     ensures { HearsFirst result (content_step AtStart text.now) }
 {

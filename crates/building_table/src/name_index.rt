@@ -39,7 +39,7 @@ impl NameIndex {
         }
     }
 
-    /// Puts a node's name behind the others, where it is new.
+    /// Puts a node's name after the others, where it is new.
     pub(crate) fn insert_node(&mut self, name: NodeName) -> Result<(), AllocError>
         requires { length self.old.nodes < node_limit }
         ensures made { OnOk result (self.new ≡ record self.old { nodes = names_with self.old.nodes name }) }
@@ -49,7 +49,7 @@ impl NameIndex {
         Ok(())
     }
 
-    /// Puts an arc's ends behind the others, where they are new.
+    /// Puts an arc's ends after the others, where they are new.
     pub(crate) fn insert_ends(&mut self, from: u32, to: u32) -> Result<(), AllocError>
         requires { length self.old.ends < arc_limit }
         ensures made { OnOk result (self.new ≡ record self.old { ends = ends_with self.old.ends (from, to) }) }

@@ -106,7 +106,7 @@ pub fn read_model<S: Source>(
     // which lines went by, with their bytes
     ensures bytes { ReadsLines result lines.old lines.new (S.left source.old) (S.left source.new) }
     ensures drained { Drained lines.old (S.left source.old) → Drained lines.new (S.left source.new) }
-    ensures asks { Asks S.takes lines.old.ended source.old lines.new.ended source.new }
+    ensures asks { Asks S.takes lines.old source.old lines.new source.new }
 
     // a read fault has its cause
     ensures failed { result ≡ Err ModelFault.ReadFault → Rose (S.faults source.old) (S.faults source.new) }

@@ -1,4 +1,4 @@
--- People who come in from nowhere, one behind another: each of them comes in at one node and one moment.
+-- People who come in from nowhere, one after another: each of them comes in at one node and one moment.
 use Rattle.std.proofs.Common.{◌≡◌, ℕ, suc, ◌+◌, ◌<◌, ◌≤◌, ◌⊎◌, inl, inr, true, false, ap, arith, length}
 use Rattle.std.specs.List.{sum_by}
 use Rattle.std.proofs.lemmas.Bool.{cases_Bool, cases_lt, cases_order}
@@ -63,7 +63,7 @@ module _ (m : Model) where
   in_node n t l =
       omega (arith, sum_below-more (entry m n) t, sum_below-grows (entry m n) (t + 1) (m.horizon + 1) (omega arith), sum_below-suc all_of n)
 
-  -- whoever comes in at an earlier place and moment stands before
+  -- who comes in at an earlier place and moment comes before
   pub earlier_node : (n k t u : ℕ) → n < k → t ≤ m.horizon → dealt_before m n t + entry m n t ≤ dealt_before m k u
   unfolding dealt_before
   earlier_node n k t u l h = omega (arith, in_node n t h, sum_below-grows all_of (suc n) k (omega (arith, l)))

@@ -102,7 +102,7 @@ module _ (m : Model) (p : List Move) (h : IsEvacuation m p) where
       let travel = (arc_is m l.step.arc h.valid leaver.arc_in).travel_fits.0 in
       omega (arith, waits c l comer leaver, travel, arrives_in_time l.step.arc l.step.moment (omega (arith, among)))
 
-  -- the steps from the next node on, behind the one that leads there
+  -- the steps from the next node on, after the one that leads there
   pub follows_on : (c : Comer) (l : Leaver) (d : Comer) (steps : List RouteStep) → IsLeaver m p c l → ComesOutAs m p l d → FollowsNumbers m p d.node d.number steps
       → FollowsNumbers m p c.node c.number (l.step ∷ steps)
   follows_on c l d steps leaver next f =

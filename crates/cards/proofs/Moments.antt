@@ -1,4 +1,4 @@
--- Counts that grow from moment to moment: each number stands at one moment, and who comes earlier doesn't leave later.
+-- Counts that grow from moment to moment: each number is at one moment, and who comes earlier doesn't leave later.
 use Rattle.std.proofs.Common.{◌≡◌, ℕ, zero, suc, ◌+◌, ◌<◌, ◌≤◌, inl, inr, ap, arith, add-one}
 use Rattle.std.proofs.lemmas.Bool.{cases_lt, cases_order}
 use Rattle.cards.specs.Numbers.{IsCountedAt, count_before}

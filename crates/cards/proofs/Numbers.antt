@@ -1,4 +1,4 @@
--- The numbers at a node: each of those who leave stands at one moment and on one arc, each of those who come at one moment, on one arc or among the entrants.
+-- The numbers at a node: each of those who leave is at one moment and on one arc, each of those who come at one moment, on one arc or among the entrants.
 use Rattle.std.proofs.Common.{◌≡◌, ℕ, zero, suc, ◌+◌, ◌-◌, ◌<◌, ◌≤◌, ◌⊎◌, inl, inr, Bool, true, cond, ◌&&◌, eqb, List, length, refl, ap, sym, ◌∙◌, arith, subst}
 use Rattle.std.specs.List.{All}
 use Rattle.std.proofs.lemmas.Bool.{cases_lt, eqb-true, eq-eqb}

@@ -1,4 +1,4 @@
--- People of some arcs one behind another: each number stands in one arc's part.
+-- People of some arcs one after another: each number is in one arc's part.
 use Rattle.std.proofs.Common.{◌≡◌, ℕ, zero, suc, ◌+◌, ◌<◌, ◌≤◌, inl, inr, Bool, true, cond, ap, arith}
 use Rattle.std.specs.List.{sum_by}
 use Rattle.std.proofs.lemmas.Bool.{cases_Bool, cases_lt, cases_order}
@@ -32,7 +32,7 @@ one_part q w a b o e f al ah bl bh = elim (cases_order a b) [
   | inr (inr more) ↦ absurd (let x = part_ends q w b a more f in omega (arith, x, bh, al))
 ]
 
--- the part in which a number stands
+-- the part in which a number is
 pub record HasPart (q : ℕ → Bool) (w : ℕ → ℕ) (n o : ℕ) : Type 0 where
   pub place : ℕ
   pub place_in : place < n

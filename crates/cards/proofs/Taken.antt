@@ -66,7 +66,7 @@ module _ (m : Model) (p q : List Move) (f : AreInRange m p) (g : AreInRange m q)
 
 -- ---- the list of a table that has the moves of a plan
 
--- a standing plan's moves are in range
+-- the moves of a plan that is kept are in range
 pub stand_in_range : (m : Model) (f : Stand) → Fits m f → AreInRange m f.plan
 stand_in_range m f fits =
     in_range_of m f.plan

@@ -1,4 +1,4 @@
--- Cards: the way of each person, a deal of a plan, and that whoever came first leaves first.
+-- Cards: the way of each person, a deal of a plan, and that who came first leaves first.
 use Rattle.std.specs.Prelude.{◌≡◌, ℕ, ◌<◌, ◌≤◌, ◌⊎◌, List, [], ◌∷◌, map}
 use Rattle.std.specs.List.{All, AllPairs, flat_map}
 use Rattle.evac_law.specs.declared.model.Model.{Model}
@@ -40,7 +40,7 @@ visits_of m c = visits_from m c.start c.entered c.steps
 abbrev pub IsFirstInFirstOut : List Visit → Type 0
 IsFirstInFirstOut visits = All (λ v. All (λ w. v.node ≡ w.node → v.comes < w.comes → v.leaves ≤ w.leaves) visits) visits
 
--- one card stands before another: its start is an earlier node, or the same node and no later moment
+-- one card is before another: its start is an earlier node, or the same node and no later moment
 abbrev pub DealtBefore : CardView → CardView → Type 0
 DealtBefore c d = (c.start < d.start) ⊎ ((c.start ≡ d.start) × (c.entered ≤ d.entered))
 

@@ -20,7 +20,7 @@ pub record CardsView : Type 0 where
   pub given : ℕ
   pub card : CardView
 
--- no card of a plan is handed out yet; the plan stands as one with the same moves, which takes everybody out too
+-- no card of a plan is handed out yet; what is kept is a plan with the same moves, which takes everybody out too
 pub record AreAllToCome (m : Model) (p : List Move) (w : CardsView) : Type 0 where
   pub same_model : w.model ≡ m
   pub same_moves : (a t : ℕ) → moved w.plan a t ≡ moved p a t

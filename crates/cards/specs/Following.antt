@@ -15,20 +15,20 @@ pub record IsComer (m : Model) (p : List Move) (c : Comer) : Type 0 where
   pub in_time : c.moment ≤ m.horizon
   pub at : IsCountedAt (came m p c.node) c.number c.moment
 
--- whoever came as the one of a number leaves as the one of that number: by this arc at this moment, behind some of those who enter it
+-- who came as the one of a number leaves as the one of that number: by this arc at this moment, after some of those who enter it
 pub record IsLeaver (m : Model) (p : List Move) (c : Comer) (l : Leaver) : Type 0 where
   pub arc_in : l.step.arc < length m.arcs
   pub from : tail m l.step.arc ≡ c.node
   pub number : leavers_before m p l.step.arc l.step.moment + l.behind ≡ c.number
   pub among : l.behind < moved p l.step.arc l.step.moment
 
--- whoever enters an arc comes to its head behind as many of those who come out of it
+-- who enters an arc comes to its head after as many of those who come out of it
 pub record ComesOutAs (m : Model) (p : List Move) (l : Leaver) (c : Comer) : Type 0 where
   pub node : c.node ≡ head m l.step.arc
   pub moment : c.moment ≡ arrival m l.step.arc l.step.moment
   pub number : c.number ≡ comers_before m p l.step.arc (arrival m l.step.arc l.step.moment) + l.behind
 
--- a person who comes in at a turn comes behind as many of those who come in then
+-- a person who comes in at a turn comes after as many of those who come in then
 pub record ComesInAs (m : Model) (p : List Move) (t : Turn) (person : ℕ) (c : Comer) : Type 0 where
   pub node : c.node ≡ t.node
   pub moment : c.moment ≡ t.moment

@@ -9,12 +9,12 @@ use Rattle.evac_law.specs.Sums.{below, moments_to}
 use Rattle.route_decompose.specs.declared.route.RouteStep.{RouteStep}
 use Rattle.cards.specs.Cards.{CardView}
 
--- a count by each moment, as it stands before the moment
+-- a count by each moment, as it is before the moment
 abbrev pub count_before : (ℕ → ℕ) → ℕ → ℕ
 count_before count zero = 0
 count_before count (suc t) = count t
 
--- whoever has a number in a count is counted at a moment
+-- who has a number in a count is counted at a moment
 pub record IsCountedAt (count : ℕ → ℕ) (i t : ℕ) : Type 0 where
   pub not_before : count_before count t ≤ i
   pub by_then : i < count t
@@ -37,15 +37,15 @@ unfoldable pub comers_before : Model → List Move → ℕ → ℕ → ℕ
 comers_before m p a t =
     count_before (came m p (head m a)) t + part (λ b. head m b == head m a) (λ b. brought m p b t) a
 
--- the number of the first who comes into a node from nowhere at a moment, behind those who come along arcs then
+-- the number of the first who comes into a node from nowhere at a moment, after those who come along arcs then
 unfoldable pub entrants_before : Model → List Move → ℕ → ℕ → ℕ
 entrants_before m p n t = count_before (came m p n) t + coming m p n t
 
--- the number at its head of whom enters an arc at a moment and has a number at its tail
+-- the number at its head of one who enters an arc at a moment and has a number at its tail
 abbrev pub number_on : Model → List Move → ℕ → ℕ → ℕ → ℕ
 number_on m p a t i = comers_before m p a (arrival m a t) + (i - leavers_before m p a t)
 
--- whoever has a number at a node takes these steps: the one of a number to come is the one of that number to leave
+-- who has a number at a node takes these steps: the one of a number to come is the one of that number to leave
 abbrev pub FollowsNumbers : Model → List Move → ℕ → ℕ → List RouteStep → Type 0
 FollowsNumbers m p n i [] = IsTrue (is_exit_at m n)
 FollowsNumbers m p n i (s ∷ steps) =

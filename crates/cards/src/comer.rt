@@ -1,7 +1,7 @@
 //! Those who come to a node, and those who leave it.
 use route_decompose::RouteStep;
 
-/// Somebody who comes to a node at a moment, and how many come to it before.
+/// A person who comes to a node at a moment, and how many come to it before.
 #[derive(Clone, Copy)]
 pub struct Comer {
     pub node: u32,

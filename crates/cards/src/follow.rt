@@ -66,7 +66,7 @@ fn comers_before(counts: &Counts, arc: u32, moment: u16) -> u64
     number
 }
 
-// Where somebody comes to who enters an arc.
+// Where a person arrives who enters an arc.
 fn comer_of(counts: &Counts, comer: Comer, leaver: Leaver) -> Comer
     requires counts { AreTrueCounts counts.now }
     requires comer { IsComer counts.now.plan.model counts.now.plan.moves comer }

@@ -70,7 +70,7 @@ pub fn find_turn(model: &Model, from: Turn, person: u32) -> Turn
     turn
 }
 
-/// A person who comes in from nowhere, behind those who come along arcs then.
+/// A person who comes in from nowhere, numbered after those who come along arcs then.
 pub fn entrant(counts: &Counts, turn: Turn, person: u32) -> Comer
     requires counts { AreTrueCounts counts.now }
     requires turn { IsTurnOf counts.now.plan.model person turn }

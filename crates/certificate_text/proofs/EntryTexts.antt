@@ -84,7 +84,7 @@ end-back = entry-back (codes "end") [] (word-field (codes "end") (omega arith) (
 
 -- ---- the line of an entry
 
--- its first field, and those behind it
+-- its first field, and those after it
 abbrev word_of : Entry → List ℕ
 word_of Blank = codes "#"
 word_of (Index n) = codes "answer"

@@ -8,7 +8,7 @@ use Rattle.std.proofs.Math.Seq.{take-append_seam}
 use Rattle.std.proofs.lemmas.List.{get_or_push}
 use Rattle.std.proofs.lemmas.List.Folds.{list_all-append, list_all_at}
 use Rattle.evac_law.specs.Limits.{floor_number_limit, number_limit}
-use Rattle.line_io.specs.Line.{Line, content, input_limit, is_lf, line_limit, line_of, lines_after, pieces, text_lines, then_lines, without_last}
+use Rattle.line_io.specs.Line.{content, input_limit, is_lf, line_limit, line_of, lines_after, pieces, text_lines, then_lines, without_last}
 use Rattle.line_io.specs.Line as lines
 use Rattle.line_io.specs.Text.{fields}
 use Rattle.line_io.proofs.Pieces.{line-good, without_last-drops, without_last-keeps, without_last-nil}

@@ -38,7 +38,7 @@ pub record IsAnswerBlock (index : ℕ) (m : Model) (p : List Move) (l : LabelTab
   pub certified : IsCertified m p b.labels c
   pub moves_same : b.moves ≡ p
 
--- the lines of the text of an answer, behind other lines of an input, state a block and end with it, and the block is that answer
+-- the lines of the text of an answer, after other lines of an input, state a block and end with it, and the block is that answer
 pub record ReadsBack (index : ℕ) (m : Model) (p : List Move) (l : LabelTable) (c : ℕ) : Type 0 where
   pub block : Block
   pub count : ℕ

@@ -39,23 +39,23 @@ pub record Begins (m : Model) (texts : List (List ℕ)) : Type 0 where
   pub left : List Entry
   pub says : Says m texts block (next ∷ left)
 
--- the first of the lines behind others is refused by a code: with it they begin no block of the model's, or it has a fault of its own, or there is none
+-- the first of the lines after others is refused by a code: with it they begin no block of the model's, or it has a fault of its own, or there is none
 abbrev pub Refuses : Model → List (List ℕ) → List Line → Code → Type 0
 Refuses m texts [] code = code ≡ BadBlock
 Refuses m texts (Err fault ∷ lines) code = code ≡ fault
 Refuses m texts (Ok text ∷ lines) code = (code ≡ BadBlock) × ((b : Block) (left : List Entry) → ¬ Says m (texts ++ (text ∷ [])) b left)
 
--- lines state a block and end it at the line `last`, with `rest` behind it; or they are refused, by a code and at a line
+-- lines state a block and end it at the line `last`, with `rest` following it; or they are refused, by a code and at a line
 pub data BlockReading : Type 0 where
   Stated : (block : Block) → (last : ℕ) → (rest : List Line) → BlockReading
   Refused : (code : Code) → (line : ℕ) → BlockReading
 
--- how lines behind those of `texts` end the block by their first, which has this number
+-- how lines after those of `texts` end the block by their first, which has this number
 abbrev pub EndsBlock : Model → List (List ℕ) → List Line → ℕ → BlockReading → Type 0
 EndsBlock m texts lines number (Stated block last rest) = (last ≡ number) × ((text : List ℕ) × (lines ≡ Ok text ∷ rest) × Says m (texts ++ (text ∷ [])) block [])
 EndsBlock m texts lines number (Refused code line) = (line ≡ number) × Refuses m texts lines code
 
--- what lines are read as, behind `before` other lines: while they begin a block of the model's they go on, and the next line ends it or is refused
+-- what lines are read as, after `before` other lines: while they begin a block of the model's they go on, and the next line ends it or is refused
 pub record ReadsAs (m : Model) (before : ℕ) (lines : List Line) (reading : BlockReading) : Type 0 where
   pub texts : List (List ℕ)
   pub behind : List Line

@@ -56,7 +56,7 @@ abbrev pub end_entry : List (List ℕ) → Option Entry
 end_entry [] = Some End
 end_entry _ = None
 
--- what a line says by its first word and the fields behind it
+-- what a line says by its first word and the fields after it
 abbrev pub entry_by_word : List ℕ → List (List ℕ) → Option Entry
 entry_by_word word more =
     if is_comment word then Some Blank

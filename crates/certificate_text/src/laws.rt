@@ -7,7 +7,7 @@ pub fn block_reads_back()
     ensures { BlockReadsBack }
 {}
 
-/// The block of a certified plan has 40,000,000 bytes at most, so that a reader takes it behind a model of a fifth of an input.
+/// The block of a certified plan has 40,000,000 bytes at most, so that a reader takes it after a model of a fifth of an input.
 pub fn block_is_small()
     ensures { BlockIsSmall }
 {}

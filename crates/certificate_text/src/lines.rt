@@ -8,7 +8,7 @@ use crate::names::NameText;
 use evac_law::{Code, NodeName};
 use line_io::{Sink, TextLine, Writer};
 
-/// Puts a space and a name behind.
+/// Puts a space and a name at the end.
 pub fn put_name(line: &mut TextLine, name: NodeName)
     requires name { IsName name }
     requires room { length line.old ≤ 100 }

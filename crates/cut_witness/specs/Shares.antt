@@ -31,7 +31,7 @@ hold_shares m l k n = sum_by (hold_share m l k n) (below m.horizon)
 abbrev pub arc_shares : Model → LabelTable → ℕ → ℕ → ℕ
 arc_shares m l k a = sum_by (arc_share m l k a) (moments_to m.horizon)
 
--- what a sum of shares stands on: a valid model, labels for it, and changes at each of its periods
+-- what a sum of shares rests on: a valid model, labels for it, and changes at each of its periods
 pub record IsSummable (m : Model) (l : LabelTable) (c : Changes) : Type 0 where
   pub valid : IsValid m
   pub table : IsTableOf m l

@@ -22,7 +22,7 @@ arc-count n =
 
 -- ---- each arc
 
--- a stairwell stands behind its storey's hall, and that of the storey below before this one's rooms
+-- a stairwell stands after its storey's hall, and that of the storey below before this one's rooms
 pub stair-is : (f : ℕ) → 1 ≤ f → stair_place f ≡ 4 * f + 2
 stair-is f low = ap (λ t. cond t 0 (4 * f + 2)) (ne_eqb f 0 (λ e. omega (arith, e, low)))
 

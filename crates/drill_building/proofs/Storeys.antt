@@ -1,4 +1,4 @@
--- Rows of storeys, one storey behind the other.
+-- Rows of storeys, one storey after another.
 use Rattle.std.proofs.Common.{◌≡◌, ◌≢◌, ℕ, zero, suc, ◌+◌, ◌-◌, ◌*◌, ◌<◌, ◌≤◌, List, [], ◌∷◌, ◌++◌, length, get_or, refl, sym, ap, subst, ◌∙◌, arith, append-nil, append_assoc, length-append}
 use Rattle.std.specs.List.{All, flat_map, range_with_len, sum_by}
 use Rattle.std.proofs.lemmas.List.Elements.{All-append, All-cons, All-nil}

@@ -1,14 +1,14 @@
 -- The ways out of a drill's building: three people at once can walk from each room over its hall and down the stairs to the lobby's first exit.
-use Rattle.std.proofs.Common.{◌≡◌, ◌≢◌, ℕ, zero, suc, ◌+◌, ◌-◌, ◌*◌, ◌/◌, ◌%◌, ◌<◌, ◌≤◌, Bool, true, false, cond, ◌||◌, List, [], ◌∷◌, ◌++◌, length, get_or, refl, ap, sym, ◌∙◌, subst, arith, inl, inr}
+use Rattle.std.proofs.Common.{◌≡◌, ℕ, zero, suc, ◌+◌, ◌-◌, ◌*◌, ◌/◌, ◌%◌, ◌<◌, ◌≤◌, false, cond, ◌||◌, List, [], ◌∷◌, ◌++◌, length, get_or, refl, ap, sym, ◌∙◌, subst, arith, inl, inr}
 use Rattle.std.specs.List.{All, flat_map, range_with_len, sum_by}
-use Rattle.std.proofs.lemmas.Bool.{cases_eq, cases_lt}
+use Rattle.std.proofs.lemmas.Bool.{cases_lt}
 use Rattle.std.proofs.lemmas.List.{get_or_append_left, get_or-append_right}
 use Rattle.std.proofs.lemmas.List.Elements.{All-append, All-cons, All-nil}
 use Rattle.std.proofs.lemmas.List.Sums.{sum_by-append, sum_by-cons}
 use Rattle.evac_law.specs.declared.model.ArcRow.{ArcRow}
 use Rattle.evac_law.specs.declared.model.NodeRow.{NodeRow}
 use Rattle.evac_law.specs.declared.name.Kind.TheVariants.{Exit, Lobby}
-use Rattle.evac_law.specs.Building.{arc_at, arc_row, is_exit_at, no_arc, no_node, node_row, people, rate, start}
+use Rattle.evac_law.specs.Building.{arc_at, arc_row, no_arc, no_node, node_row, people, rate, start}
 use Rattle.evac_law.specs.Certificates.{IsClearable}
 use Rattle.evac_law.specs.Windows.{is_closed_at}
 use Rattle.building_laws.specs.Ways.{HasWays, Way, way_time}

@@ -91,7 +91,7 @@ fn storey_arcs(storey: u16) -> [ArcRow; 4]
     ]
 }
 
-// Puts a storey's arcs behind others.
+// Puts a storey's arcs after others.
 fn push_storey(arcs: &mut Vec<ArcRow>, storey: u16) -> Result<(), AllocError>
     requires positive { 1 ≤ storey }
     requires few { storey ≤ STOREY_LIMIT }

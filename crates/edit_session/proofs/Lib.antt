@@ -2,5 +2,5 @@ pub mod Saved
 pub mod Thrifty
 pub mod Ring
 pub mod Standing
-pub mod Repaired
+pub mod RepairLemmas
 pub mod Going

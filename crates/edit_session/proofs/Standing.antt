@@ -8,8 +8,8 @@ use Rattle.evac_law.specs.Plans.{above, held}
 use Rattle.evac_law.specs.Certificates.{IsClearable, IsShortfall, IsTableOf, label_cut}
 use Rattle.evac_law.specs.Edits.{IsEditOf, applied, edited}
 use Rattle.evac_law.specs.LabelTable.{LabelTable}
-use Rattle.evac_law.specs.Stands.{Fits, IsOrdered}
 use Rattle.evac_law.specs.Parts.{IsMost}
+use Rattle.evac_law.specs.Stands.{Fits, IsOrdered}
 use Rattle.evac_law.proofs.Optimal.{certified_is_clearable, shortfall_bars_clearing}
 use Rattle.residual_net.specs.Labelled.{IsLabelsOf}
 use Rattle.residual_net.specs.Network.{Network, flow_at, flow_into, flow_out, limit_at, supply_limits, with_saved}
@@ -48,7 +48,8 @@ clearable_by m w l h = certified_is_clearable m (plan_of w) l (last_arrival_of w
 
 -- ---- the session as a standing plan
 
-above_none : (x : ℕ) (z : ℤ) → pos x ≡ z → above z 0 ≡ x
+-- what a whole number from 0 on is above 0
+pub above_none : (x : ℕ) (z : ℤ) → pos x ≡ z → above z 0 ≡ x
 above_none x z e = ap (λ y. above y 0) (sym e) ∙ omega arith
 
 -- the contents are the flows of the holds

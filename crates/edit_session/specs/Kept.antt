@@ -18,7 +18,7 @@ abbrev pub former_of : Model → List Edit → List Model
 former_of m [] = []
 former_of m (e ∷ es) = edited m e ∷ former_of (edited m e) es
 
--- each inverse edit is accepted where it stands, and leads to a model that can be cleared
+-- each inverse edit is accepted by the model that it is kept for, and leads to a model that can be cleared
 abbrev pub LeadBack : Model → List Edit → Type 0
 LeadBack m [] = Unit {0}
 LeadBack m (e ∷ es) =

@@ -1,4 +1,4 @@
--- What a repair of a standing net starts from, works with and leaves.
+-- What a repair of a plan's net starts from, works with and leaves.
 use Rattle.std.specs.Prelude.{◌≡◌, ℕ, ◌+◌, ◌-◌, ◌≤◌, Ok}
 use Rattle.evac_law.specs.declared.edit.Edit.{Edit}
 use Rattle.evac_law.specs.declared.model.Model.{Model}

@@ -1,8 +1,8 @@
 //! An editing session: a model with its best plan, repaired after each edit, and edits undone.
 //!
-//! `Session::begin` takes all memory. After each edit and undo the standing net is brought under the edited model's limits, and settled
+//! `Session::begin` takes all memory. After each edit and undo the plan's net is brought under the edited model's limits, and settled
 //! from the first moment that the edit may have touched; where not everybody can get out any more, all is left as it was. A trial
-//! answers when everybody would be out behind an edit, and leaves all as it was.
+//! answers when everybody would be out after an edit, and leaves all as it was.
 #![tactic(auto)]
 
 mod faults;

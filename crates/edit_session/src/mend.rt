@@ -1,4 +1,4 @@
-//! A standing net brought to an edited model.
+//! The net of a plan brought to an edited model.
 ghost use Rattle.std.specs.Prelude.{◌≡◌, ◌+◌, MatchOption};
 ghost use Rattle.evac_law.specs.Building.{IsValid};
 ghost use Rattle.residual_net.specs.OfModel.{site_of};
@@ -13,7 +13,7 @@ use lex_flow::{Outcome, settle_all};
 use residual_net::Net;
 use std::sync::ledger::Ledger;
 
-/// Brings a standing net to an edited model; the scratch gets the labels of its new plan, and what is saved is the net before. Where not
+/// Brings the net of a plan to an edited model; the scratch gets the labels of its new plan, and what is saved is the net before. Where not
 /// everybody can get out, the net is left as it was, and the scratch has the labels that show it.
 pub fn repair_net<L: Ledger>(
     net: &mut Net,

@@ -110,7 +110,7 @@ impl Session {
         Ok(made.work)
     }
 
-    /// The moment by which everybody would be out behind an edit. It is made and taken back, so all stays as it was but the refused cut.
+    /// The moment by which everybody would be out after an edit. It is made and taken back, so all stays as it was but the refused cut.
     pub fn trial<L: Ledger>(&mut self, edit: Edit, steps: &mut Steps<L>) -> Result<u16, EditRefusal>
         requires { IsEditOf self.old.state.model edit }
         ensures ends { (n : ℕ) × (steps.new ≡ steps.old + n) × TrialEnds self.old edit result self.new n }
@@ -140,7 +140,7 @@ impl Session {
         let Some(back) = self.ring.pop_front() else {
             return Err(UndoRefusal::NothingToUndo);
         };
-        // a kept edit is accepted where it stands
+        // a kept edit is accepted by the model that it is kept for
         let _ = apply(&mut self.model, back);
         match repair_net(
             &mut self.net,

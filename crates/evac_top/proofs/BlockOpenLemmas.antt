@@ -46,9 +46,9 @@ open-in-block r0 r1 r2 l0 l1 l2 building fault fresh h g is =
     (claim-further (text_lines h.texts) (text_lines g.texts) d r1.number claim (described-lines r0 r1 l0 l1 building fresh h) (blocks.Refused BadBlock (r2.number + 1), undecided, refl)) in
     (claim, claimed, ap (λ k. k + 1) (lines-count r0 r2 l0 l2 texts fresh p))
 
--- ---- behind the block
+-- ---- after the block
 
--- a block that lines stated stays stated, with the further lines behind it
+-- a block that lines stated stays stated, with the further lines after it
 block-further : (m : Model) (before : ℕ) (xs ys : List Line) (block : Block) (last : ℕ) (rest : List Line) → ReadsAs m before xs (blocks.Stated block last rest)
     → ReadsAs m before (xs ++ ys) (blocks.Stated block last (rest ++ ys))
 block-further m before xs ys block last rest h = record {
@@ -110,7 +110,7 @@ pub quiet-as-block : {T : Type 0} (found : ModelFault) (fault : BlockFault) (n k
     → (Failed {T = T} (Err found) → ⊥) → k ≡ n
 quiet-as-block found fault n k is quiet not = quiet (λ e. not (ap Err (is ∙ ap block_fault (block-fault fault e))))
 
--- behind a block that was read without a fault
+-- after a block that was read without a fault
 pub rose-behind : {T : Type 0} (block : Block) (fault : ModelFault) (n0 n1 n2 : Count) → ((BlockFailed (Ok block) → ⊥) → n1 ≡ n0)
     → (Failed {T = Unit {0}} (Err fault) → Rose n1 n2) → Failed {T = T} (Err fault) → Rose n0 n2
 rose-behind {T} block fault n0 n1 n2 quiet rose e =

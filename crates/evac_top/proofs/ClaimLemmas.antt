@@ -35,7 +35,7 @@ use Rattle.evac_top.proofs.TellLemmas.{FaultIs}
 
 -- ---- reading
 
--- the building and the block are there, and nothing behind them
+-- the building and the block are there, and nothing after them
 said-claim : (building : Building) (block : Block) (n1 n2 : ℕ) (bytes : List ℕ) (b c : Option (List Line))
     → ReadsModel (Ok building) 0 n1 (Some (lines_of bytes)) b → ReadsBlock building.model (Ok block) n1 n2 b c → ReadsTail (Ok tt) n2 c
     → ClaimIs (Ok (record { building = building; block = block })) bytes
@@ -73,7 +73,7 @@ said-block-fault building (block_faults.InputTooLong line) n1 n2 bytes (Some x) 
 said-block-fault building block_faults.ReadFault n1 n2 bytes (Some x) (Some y) h g = tt
 said-block-fault building block_faults.Memory n1 n2 bytes (Some x) (Some y) h g = tt
 
--- a line behind the block is refused
+-- a line after the block is refused
 said-tail-fault : (building : Building) (block : Block) (code : Code) (line n1 n2 : ℕ) (bytes : List ℕ) (b c : Option (List Line))
     → ReadsModel (Ok building) 0 n1 (Some (lines_of bytes)) b → ReadsBlock building.model (Ok block) n1 n2 b c → ReadsTail (Err (Named code line)) n2 c
     → ClaimIs (Err (Named code line)) bytes
@@ -84,7 +84,7 @@ said-tail-fault building block code line n1 n2 bytes (Some x) (Some y) (d, e, is
     let here = subst (λ (m : Model). ReadsAs m n1 x (blocks.Stated block n2 y)) is.model stated in
     subst (λ r. ClaimsBehind r (Err (code, line))) (sym e) (blocks.Stated block n2 y, here, sym (ap (λ f. unless_fault f claimed) fault))
 
--- what is said of the lines behind a block
+-- what is said of the lines after a block
 said-tail : (building : Building) (block : Block) (fault : ModelFault) (n1 n2 : ℕ) (bytes : List ℕ) (b c : Option (List Line))
     → ReadsModel (Ok building) 0 n1 (Some (lines_of bytes)) b → ReadsBlock building.model (Ok block) n1 n2 b c → ReadsTail (Err fault) n2 c
     → ClaimIs (Err fault) bytes

@@ -62,7 +62,7 @@ one-claim (Refused code line) valid one other h g = g ∙ sym h
 one-claim-of : (lines : List Line) (one other : Result Claimed (Code × ℕ)) → IsClaimOf lines one → IsClaimOf lines other → other ≡ one
 one-claim-of lines one other h g = one-claim (model_of lines) (λ d last rest e. opening-valid lines 0 d last rest e) one other h g
 
--- no fault stands among lines that have none
+-- no fault is among lines that have none
 never-fault : (texts answered : List (List ℕ)) (code : Code) (rest : List Line) → text_lines texts ≡ text_lines answered ++ (Err code ∷ rest) → ⊥
 never-fault [] [] code rest e = cc
 never-fault [] (a ∷ more) code rest e = cc

@@ -20,7 +20,7 @@ told-model r None building n b P fresh h f = tt
 told-model r (Some bytes) building n b P fresh h f =
     f bytes (subst (λ (x : Reader). ReadsModel (Ok building) x.number n (lines_left x (Some bytes)) b) fresh h)
 
--- the building is there, and nothing behind it
+-- the building is there, and nothing after it
 said-input : (building : Building) (last n : ℕ) (bytes : List ℕ) (b : Option (List Line))
     → ReadsModel (Ok building) 0 n (Some (lines_of bytes)) b → ReadsTail (Ok tt) n b → last ≡ n
     → InputIs (Ok (record { building = building; last = last })) bytes
@@ -35,7 +35,7 @@ pub told-building : (r : Reader) (left : Option (List ℕ)) (building : Building
 told-building r left building last n b fresh h f same =
     told-model r left building n b (InputIs (Ok (record { building = building; last = last }))) fresh h (λ bytes read. said-input building last n bytes b read f same)
 
--- a line behind the building is refused
+-- a line after the building is refused
 said-fault : (building : Building) (fault : ModelFault) (n : ℕ) (bytes : List ℕ) (b : Option (List Line)) → ReadsModel (Ok building) 0 n (Some (lines_of bytes)) b
     → ReadsTail (Err fault) n b → InputIs (Err fault) bytes
 said-fault building (Named code line) n bytes None h f = absurd h

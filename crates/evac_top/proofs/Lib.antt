@@ -9,7 +9,6 @@ pub mod OpenLemmas
 pub mod PlanLemmas
 pub mod PromiseLemmas
 pub mod QuietLemmas
-pub mod SendLemmas
 pub mod SolveLemmas
 pub mod TailLemmas
 pub mod TakeLemmas

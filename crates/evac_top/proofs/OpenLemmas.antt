@@ -10,12 +10,16 @@ use Rattle.building_table.specs.Passes.{ReadsLines}
 use Rattle.building_table.specs.declared.building.Building.{Building}
 use Rattle.building_table.specs.declared.faults.ModelFault.{ModelFault}
 use Rattle.building_table.specs.declared.faults.ModelFault.TheVariants.{ReadFault}
-use Rattle.model_text.specs.Readings.{Described, Refused, AtStart, IsUndecided, opening_of}
+use Rattle.model_text.specs.Readings.{Described, Refused, AtStart, model_of, opening_of}
 use Rattle.model_text.specs.Taken.{Description}
 use Rattle.model_text.proofs.ReadingLemmas.{reading-further}
 use Rattle.evac_top.specs.Inputs.{IsOpenClaim, IsOpenInput, NoneRefused, ClaimsBehind, input_by, tail_fault, unless_fault}
 use Rattle.evac_top.specs.Reads.{IsFresh, PassesTail, Takes}
 use Rattle.evac_top.proofs.TakeLemmas.{Failed, fresh-drained, lines-count, read-fault, takes, takes-value}
+
+-- lines that end too early, and have no fault before
+abbrev pub IsUndecided : List Line → Type 0
+IsUndecided lines = model_of lines ≡ Refused MissingEnd (length lines + 1)
 
 -- ---- in the model
 
@@ -39,9 +43,9 @@ takes-model {T} IsOpen open_lines fault r0 r1 l0 l1 fresh read unfinished =
     (λ e. (let f : Failed {T = Building} (Err fault) = ap Err (read-fault {T = T} fault e) in
     (unfinished f, open_lines (text_lines read.texts) (model-missing r0 r1 l0 l1 (Err fault) fresh read f))))
 
--- ---- behind the model
+-- ---- after the model
 
--- what lines described they describe with further lines behind them
+-- what lines described they describe with further lines after them
 pub opening-further : (before : ℕ) (xs ys : List Line) (d : Description) (last : ℕ) (rest : List Line)
     → opening_of before xs ≡ Described d last rest → opening_of before (xs ++ ys) ≡ Described d last (rest ++ ys)
 opening-further before xs ys d last rest h = reading-further AtStart before xs ys d last rest h
@@ -66,7 +70,7 @@ open-behind r0 r1 r2 l0 l1 l2 building result fresh h t is =
     let all = ap input_by further ∙ ap (λ f. unless_fault f (record { building = d; last = r1.number })) (tail-none result r1 r2 l1 l2 t is) in
     subst IsOpenInput (sym (text_lines-append h.texts t.texts)) (subst (λ r. NoneRefused r (length (xs ++ ys))) (sym all) tt)
 
--- what was taken of an input with a model: all, or some lines behind it
+-- what was taken of an input with a model: all, or some lines after it
 pub takes-tail : {T : Type 0} (value : T) (r0 r1 r2 : Reader) (l0 l1 l2 : Option (List ℕ)) (building : Building) → IsFresh r0 → ReadsLines (Ok building) r0 r1 l0 l1
     → PassesTail (Ok tt) r1 r2 l1 l2 → (Drained r0 l0 → Drained r1 l1) → (Drained r1 l1 → Drained r2 l2) → r2.ended ≡ true → Takes {T = T} IsOpenInput (Ok value) l0 l2
 takes-tail value r0 r1 r2 l0 l1 l2 building fresh h t first second ended =

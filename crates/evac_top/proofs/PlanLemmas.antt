@@ -1,4 +1,4 @@
--- The block of a session with what is asked for behind it.
+-- The block of a session with what is asked for after it.
 use Rattle.std.proofs.Common.{IfSome, ◌≡◌, ℕ, List, [], ◌++◌, Some, None, is_some, refl, sym, subst}
 use Rattle.std.specs.declared.option.Option.{Option}
 use Rattle.building_table.specs.Names.{NameTable}

@@ -55,6 +55,7 @@ stuck m l all most valid h = record {
   fewer = omega (arith, h.shortfall.below_people, h.count);
   barred = h.barred;
   bound = λ p f. omega (arith, out_le_value m (label_cut m l m.horizon) p m.horizon valid f, h.shortfall.worth);
+  greatest = h.greatest;
 }
 
 right-row : (m : Model) (x : ℕ) (l : LabelTable) (row : ExitRow) → IsValid (without_exit m x) → IsExitRow m x l row → IsRightRow (without_exit m x) row

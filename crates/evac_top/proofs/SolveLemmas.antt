@@ -89,6 +89,7 @@ short_by_labels m other l all most line count taken same h spent = record {
   most = most;
   shortfall = h.shortfall;
   barred = h.barred;
+  greatest = h.greatest;
   refused = refl;
   block = subst (λ (x : Model). shortfall_text line x (label_cut x l x.horizon) most ≡ shortfall_text line m (label_cut m l m.horizon) most) (sym same) refl;
   few_steps = spent;

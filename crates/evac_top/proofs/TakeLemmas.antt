@@ -2,12 +2,14 @@
 use Rattle.std.proofs.Common.{◌≡◌, ℕ, ◌+◌, ◌≤◌, Bool, true, false, List, [], ◌∷◌, ◌++◌, length, Result, Ok, Err, OnOk, refl, sym, ap, subst, ◌∙◌, arith, inl, inr, ◌⊎◌}
 use Rattle.std.specs.declared.option.Option.{Option}
 use Rattle.std.specs.Io.KnownBytes.{IsAtEnd}
+use Rattle.line_io.specs.Calls.{Asks, AsksAtMost, Taking}
 use Rattle.line_io.specs.Causes.{Count, Rose}
 use Rattle.line_io.specs.Line.{IsWhole, input_limit, Line, lines_after, lines_of, pieces, text_lines, whole_part}
 use Rattle.line_io.specs.Passes.{Passes}
 use Rattle.line_io.specs.Reader.{Drained, HasRoom, is_settled}
 use Rattle.line_io.specs.declared.limits.TheConstants.{BUFFER_SIZE}
 use Rattle.line_io.specs.View.{Reader}
+use Rattle.line_io.proofs.CallLemmas.{asked-most, asks-then}
 use Rattle.line_io.proofs.LineLemmas.{unsettled-open, whole_part-unsettled}
 use Rattle.line_io.proofs.PassLemmas.{passes-few}
 use Rattle.building_table.specs.declared.building.Building.{Building}
@@ -34,7 +36,7 @@ not-failed value e = cc
 pub read-fault : {T : Type 0} (fault : ModelFault) → Failed {T = T} (Err fault) → fault ≡ ReadFault
 read-fault fault e = cc
 
--- behind a model that was read without a fault
+-- after a model that was read without a fault
 pub rose-then : {T : Type 0} (building : Building) (result : Result T ModelFault) (n0 n1 n2 : Count) → ((Failed {T = Building} (Ok building) → ⊥) → n1 ≡ n0)
     → (Failed result → Rose n1 n2) → Failed result → Rose n0 n2
 rose-then building result n0 n1 n2 quiet rose e = subst (λ (n : Count). Rose n n2) (quiet (not-failed building)) (rose e)
@@ -102,3 +104,15 @@ pub taken-fault : {T U : Type 0} (IsOpen : List Line → Type 0) (fault : ModelF
     → Takes {T = U} IsOpen (Err fault) l0 l1
 taken-fault {T} {U} IsOpen fault l0 l1 t =
     record { taken = t.taken; consumed = t.consumed; few = t.few; all = tt; open_lines = λ e. t.open_lines (ap Err (read-fault {T = U} fault e)) }
+
+-- ---- the bytes that a source gave, also where it doesn't tell them
+
+pub asked-fresh : {S : Type 0} {takes : Taking S} {r0 r1 : Reader} {s s' : S} → IsFresh r0 → Asks takes r0 s r1 s' → (HasRoom r0 → HasRoom r1)
+    → AsksAtMost takes (input_limit + BUFFER_SIZE) s s'
+asked-fresh {S} {takes} {r0} fresh asks room =
+    asked-most asks (ap (λ (r : Reader). r.ended) fresh) (ap (λ (r : Reader). r.given) fresh) (ap (λ (r : Reader). r.pending) fresh) (room (fresh-room r0 fresh))
+
+-- the same in two parts
+pub asked-then : {S : Type 0} {takes : Taking S} {r0 r1 r2 : Reader} {s mid s' : S} → IsFresh r0 → Asks takes r0 s r1 mid → (HasRoom r0 → HasRoom r1)
+    → Asks takes r1 mid r2 s' → (HasRoom r1 → HasRoom r2) → AsksAtMost takes (input_limit + BUFFER_SIZE) s s'
+asked-then fresh first room more still = asked-fresh fresh (asks-then first more) (λ h. still (room h))

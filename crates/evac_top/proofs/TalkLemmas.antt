@@ -17,7 +17,7 @@ use Rattle.building_table.specs.Passes.{IsReading, ReadsLines, ReadsModel}
 use Rattle.building_table.specs.declared.building.Building.{Building}
 use Rattle.building_table.specs.declared.faults.ModelFault.{ModelFault}
 use Rattle.building_table.specs.declared.faults.ModelFault.TheVariants.{Named, ReadFault, Memory}
-use Rattle.model_text.specs.Readings.{Described, IsUndecided, Reading, Refused, model_of, opening_of}
+use Rattle.model_text.specs.Readings.{Described, Reading, Refused, model_of, opening_of}
 use Rattle.model_text.specs.Taken.{Description}
 use Rattle.replan_talk.specs.ReplanTalks.{replan}
 use Rattle.session_talk.specs.Sessions.{session}
@@ -32,7 +32,7 @@ use Rattle.evac_top.specs.Talking.{HasQuit, ReadsOn, TalkOn, Talks, TalksFront, 
 use Rattle.evac_top.specs.Tells.{Stops}
 use Rattle.evac_top.specs.declared.words.Mode.{Mode}
 use Rattle.evac_top.specs.declared.words.Mode.TheVariants.{Replan, Session, Study}
-use Rattle.evac_top.proofs.OpenLemmas.{described-lines, opening-further, takes-model}
+use Rattle.evac_top.proofs.OpenLemmas.{IsUndecided, described-lines, opening-further, takes-model}
 use Rattle.evac_top.proofs.TakeLemmas.{Failed, few-taken, not-failed, read-fault, whole-lines}
 use Rattle.evac_top.proofs.TellLemmas.{FaultIs, ReadsFirst, stopped, told-input}
 
@@ -114,13 +114,13 @@ took-all : (bytes taken : List ℕ) (left : Option (List ℕ)) → Consumes (Som
 took-all bytes taken None c end = absurd c
 took-all bytes taken (Some ys) c end = sym (append-nil taken) ∙ ap (λ l. taken ++ l) (sym end) ∙ sym c
 
--- a line that quits stands among the lines
+-- a line that quits is among the lines
 quits-among : {S : Type 0} (talk : TalkOn S) (d : Description) (n : ℕ) (first : List (List ℕ)) (line : List ℕ) (more : List Line)
     → (talk (names_of d) d.model).Quits line → HasQuit talk (Described d n (text_lines (first ++ (line ∷ [])) ++ more))
 quits-among talk d n first line more quit =
     (text_lines first, line, more, ap (λ l. l ++ more) (text_lines-push first line) ∙ append_assoc (text_lines first) (Ok line ∷ []) more, quit)
 
--- the model of lines with others behind it
+-- the model of lines with others after it
 model-before : (texts heard : List (List ℕ)) (more : List Line) (d : Description) (n : ℕ) → opening_of 0 (text_lines texts) ≡ Described d n []
     → model_of (text_lines (texts ++ heard) ++ more) ≡ Described d n (text_lines heard ++ more)
 model-before texts heard more d n e =
@@ -170,7 +170,7 @@ all-passes talk building status r0 r1 r2 before after l1 f1 h =
 same-spoken : (status : ℕ) (did : Spoken) → did.status ≡ status → did ≡ record { status = status; text = did.text; steps = did.steps }
 same-spoken status did over = ap (λ (s : ℕ). record { status = s; text = did.text; steps = did.steps }) over
 
--- what was written and counted, behind all that was taken
+-- what was written and counted, after all that was taken
 abbrev account-of : ℕ → List ℕ → Spoken → Account
 account-of status taken did = record { status = status; taken = taken; written = did.text; steps = did.steps }
 

@@ -4,9 +4,10 @@ use Rattle.std.specs.declared.option.Option.{Option}
 use Rattle.std.specs.Io.KnownBytes.{Appends, Consumes, IsAtEnd}
 use Rattle.std.proofs.KnownBytes.{Appends-nil, Consumes-nil}
 use Rattle.evac_law.specs.declared.code.Code.{Code}
-use Rattle.line_io.specs.Causes.{HasCause, Rose}
+use Rattle.line_io.specs.Causes.{Rose}
 use Rattle.line_io.specs.Line.{Line, input_limit, lines_of, whole_part}
 use Rattle.line_io.specs.declared.limits.TheConstants.{BUFFER_SIZE}
+use Rattle.line_io.specs.declared.out.WriteFault.{WriteFault}
 use Rattle.building_table.specs.declared.faults.ModelFault.{ModelFault}
 use Rattle.building_table.specs.declared.faults.ModelFault.TheVariants.{Named, ReadFault, Memory}
 use Rattle.certificate_text.specs.BlockText.{refusal_line}
@@ -16,8 +17,8 @@ use Rattle.evac_top.specs.Drill.{IsDrilled}
 use Rattle.evac_top.specs.Inputs.{IsOpenClaim, IsOpenInput}
 use Rattle.evac_top.specs.Reads.{Takes}
 use Rattle.evac_top.specs.Runs.{OfInput, Runs}
-use Rattle.evac_top.specs.Sends.{Sends}
-use Rattle.talk.specs.Held.{status_after}
+use Rattle.talk.specs.Held.{SendsBy, status_after}
+use Rattle.talk.proofs.Holding.{front_over, went_over}
 use Rattle.evac_top.specs.Tells.{Stops, Tells}
 use Rattle.evac_top.specs.declared.words.Flags.{Flags}
 use Rattle.evac_top.specs.declared.words.Mode.{Mode}
@@ -26,47 +27,49 @@ use Rattle.evac_top.proofs.TakeLemmas.{Failed, not-failed, read-fault}
 
 -- ---- telling
 
--- a text was sent, or a front of it
-sent-told : {T E : Type 0} (Holds : Account → Type 0) (status steps : ℕ) (text : List ℕ) (r : Result T E) (before after : Side) → status ≤ 2
-    → Sends before.bytes after.bytes text r → HasCause before.faults after.faults r
+-- a text was sent from an empty buffer, or a front of it
+sent-told : {T : Type 0} (Holds : Account → Type 0) (status steps : ℕ) (text : List ℕ) (r : Result T WriteFault) (before after : Side) (p q : List ℕ) → status ≤ 2 → p ≡ []
+    → SendsBy r text before.bytes p before.faults after.bytes q after.faults
     → ((taken : List ℕ) → Holds (record { status = status; taken = taken; written = text; steps = steps })) → Tells Holds (status_after r status) steps before after
-sent-told Holds status steps text (Ok done) before after few sent cause holds = record {
+sent-told Holds status steps text (Ok done) before after p q few none sent holds = record {
   known = (omega (arith, few), λ e. omega (arith, few, e));
   written = text;
-  over = sent.ok;
-  same = λ e. cause.same;
+  over = went_over before.bytes after.bytes p q text sent.put.ok none sent.flushed;
+  same = λ e. sent.cause.same;
   rose = λ e. absurd (omega (arith, few, e));
   whole = λ l taken. holds taken;
   front = λ e. absurd (omega (arith, few, e));
   nothing = λ e. absurd (omega (arith, few, e));
 }
-sent-told Holds status steps text (Err fault) before after few sent cause holds = record {
-  known = (omega arith, λ e. omega (arith, e));
-  written = sent.err.front;
-  over = sent.err.over;
-  same = λ e. absurd (e refl);
-  rose = λ e. cause.failed;
-  whole = λ l. absurd (omega (arith, l));
-  front = λ e taken. (
-    status,
-    sent.err.rest,
-    subst (λ (t : List ℕ). Holds (record { status = status; taken = taken; written = t; steps = steps })) sent.err.parts (holds taken),
-  );
-  nothing = λ e. absurd (omega (arith, e));
-}
+sent-told Holds status steps text (Err fault) before after p q few none sent holds =
+    let h = front_over before.bytes after.bytes p q text sent.put.err none in record {
+      known = (omega arith, λ e. omega (arith, e));
+      written = h.front;
+      over = h.over;
+      same = λ e. absurd (e refl);
+      rose = λ e. sent.cause.failed;
+      whole = λ l. absurd (omega (arith, l));
+      front = λ e taken. (
+        status,
+        h.rest,
+        subst (λ (t : List ℕ). Holds (record { status = status; taken = taken; written = t; steps = steps })) h.parts (holds taken),
+      );
+      nothing = λ e. absurd (omega (arith, e));
+    }
 
-pub tells-sent : {T E : Type 0} (Holds : Account → Type 0) (status steps : ℕ) (text : List ℕ) (r : Result T E) (before after : Side) (ended : ℕ) → ended ≡ status_after r status
-    → status ≤ 2 → Sends before.bytes after.bytes text r → HasCause before.faults after.faults r
+pub tells-sent : {T : Type 0} (Holds : Account → Type 0) (status steps : ℕ) (text : List ℕ) (r : Result T WriteFault) (before after : Side) {p q : List ℕ} (ended : ℕ)
+    → ended ≡ status_after r status → status ≤ 2 → p ≡ [] → SendsBy r text before.bytes p before.faults after.bytes q after.faults
     → ((taken : List ℕ) → Holds (record { status = status; taken = taken; written = text; steps = steps })) → Tells Holds ended steps before after
-tells-sent Holds status steps text r before after ended is few sent cause holds =
-    subst (λ (s : ℕ). Tells Holds s steps before after) (sym is) (sent-told Holds status steps text r before after few sent cause holds)
+tells-sent Holds status steps text r before after {p} {q} ended is few none sent holds =
+    subst (λ (s : ℕ). Tells Holds s steps before after) (sym is) (sent-told Holds status steps text r before after p q few none sent holds)
 
 -- the line of a fault was sent, or a front of it
-pub stops-named : {T E : Type 0} (fault : ModelFault) (code : Code) (line : ℕ) (r : Result T E) (before after : Side) (ended : ℕ) → fault ≡ Named code line
-    → ended ≡ status_after r 1 → Sends before.bytes after.bytes (refusal_line code line) r → HasCause before.faults after.faults r → Stops fault ended before after
-stops-named fault code line r before after ended named is sent cause =
+pub stops-named : {T : Type 0} (fault : ModelFault) (code : Code) (line : ℕ) (r : Result T WriteFault) (before after : Side) {p q : List ℕ} (ended : ℕ)
+    → fault ≡ Named code line → ended ≡ status_after r 1 → p ≡ []
+    → SendsBy r (refusal_line code line) before.bytes p before.faults after.bytes q after.faults → Stops fault ended before after
+stops-named fault code line r before after ended named is none sent =
     subst (λ (f : ModelFault). Stops f ended before after) (sym named)
-    (tells-sent (IsRefusal (code, line)) 1 0 (refusal_line code line) r before after ended is (omega arith) sent cause
+    (tells-sent (IsRefusal (code, line)) 1 0 (refusal_line code line) r before after ended is (omega arith) none sent
     (λ taken. record { over = refl; text_whole = refl; counted = refl }))
 
 -- there was no memory

@@ -19,7 +19,7 @@ use Rattle.evac_top.specs.declared.read.Input.{Input}
 use Rattle.evac_top.specs.declared.words.Mode.TheVariants.{Upgrade}
 use Rattle.evac_top.proofs.TellLemmas.{FaultIs}
 
--- the building of an input is that of its lines, and no line behind it has a fault
+-- the building of an input is that of its lines, and no line after it has a fault
 pub building-of : (r : Reading) (asked : Asked) → input_by r ≡ Ok asked
     → (rest : List Line) × (r ≡ Described asked.building asked.last rest) × (tail_fault asked.last rest ≡ None)
 building-of (Described d last rest) asked e = let is = by_tail (tail_fault last rest) refl e in (rest, is.0, is.1)

@@ -26,7 +26,7 @@ pub record ModeRuns : Type 1 where
   pub reads : Bool
   -- a run that is over, at statuses 0, 1 and 2
   pub Answers : List ℕ → Account → Type 0
-  -- a run whose source failed behind these whole lines, none of which ended it; a mode that doesn't read has no such run
+  -- a run whose source failed after these whole lines, none of which ended it; a mode that doesn't read has no such run
   pub AnswersSoFar : List Line → Account → Type 0
   -- a run whose sink failed: the front of an answer
   pub AnswersFront : List ℕ → Account → Type 0
@@ -52,7 +52,7 @@ reads_nothing Answers All = record {
   AnswersAll = λ input x. All x;
 }
 
--- one that reads all of its input before it writes: behind these lines its input isn't over yet
+-- one that reads all of its input before it writes: after these lines its input isn't over yet
 abbrev pub reads_first : (List Line → Type 0) → (List ℕ → Account → Type 0) → (List ℕ → Account → Type 0) → ModeRuns
 reads_first IsOpen Answers All = record {
   reads = true;
@@ -84,7 +84,7 @@ words_text = refusal_line UnknownWords 0
 abbrev pub RefusesWords : Account → Type 0
 RefusesWords x = (x.taken ≡ []) × Ends x 2 words_text 0
 
--- an input is read as a building with a block behind it, or as a first fault, and is checked
+-- an input is read as a building with a block after it, or as a first fault, and is checked
 abbrev pub ChecksInput : List ℕ → Account → Type 0
 ChecksInput input x = (claim : Result Claimed (Code × ℕ)) × IsClaimOf (lines_of input) claim × Checks input claim x
 

@@ -33,14 +33,14 @@ abbrev pub ChecksAll : Result Claimed (Code × ℕ) → Account → Type 0
 ChecksAll (Ok claimed) x = let m = claimed.building.model in (IsRight m claimed.block → x.status ≡ 0) × (¬ IsRight m claimed.block → x.status ≡ 1)
 ChecksAll (Err fault) x = IsRefusal fault x
 
--- lines are read as a building with a block behind it, or as a first fault, in one way alone, and that is answered
+-- lines are read as a building with a block after it, or as a first fault, in one way alone, and that is answered
 pub record ChecksLines (lines : List Line) (x : Account) : Type 0 where
   pub claim : Result Claimed (Code × ℕ)
   pub of_lines : IsClaimOf lines claim
   pub alone : (other : Result Claimed (Code × ℕ)) → IsClaimOf lines other → other ≡ claim
   pub answered : ChecksAll claim x
 
--- a building is opened and the lines behind it are answered up to the end, exactly where it can be cleared, and it is refused with its shortfall exactly
+-- a building is opened and the lines after it are answered up to the end, exactly where it can be cleared, and it is refused with its shortfall exactly
 -- where it can't; the talk is done where no line has a fault of its own; a model with a fault is refused by it
 abbrev pub TalksAll : {S : Type 0} → TalkOn S → Reading → Account → Type 0
 TalksAll talk (Described d last rest) x =

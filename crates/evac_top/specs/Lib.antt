@@ -10,7 +10,6 @@ pub mod Inputs
 pub mod Promises
 pub mod Reads
 pub mod Runs
-pub mod Sends
 pub mod Solve
 pub mod Tables
 pub mod Talking

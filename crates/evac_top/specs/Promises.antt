@@ -6,6 +6,7 @@ use Rattle.evac_law.specs.declared.model.Model.{Model}
 use Rattle.evac_law.specs.declared.plan.Move.{Move}
 use Rattle.evac_law.specs.Building.{people}
 use Rattle.evac_law.specs.Certificates.{IsClearable}
+use Rattle.evac_law.specs.Parts.{IsMost}
 use Rattle.evac_law.specs.Plans.{IsFeasible, out_by}
 use Rattle.line_io.specs.Line.{Line, lines_of, text_lines}
 use Rattle.model_text.specs.declared.fault.TextFault.{TextFault}
@@ -40,12 +41,14 @@ use Rattle.evac_top.specs.declared.words.Mode.TheVariants.{Check, Drill, Study, 
 
 -- ---- a study
 
--- not everybody can get out of a building of so many people: no feasible plan takes all out, nor more by the horizon than `most`
+-- not everybody can get out of a building of so many people: no feasible plan takes all out, nor more by the horizon than `most`; and so many can get
+-- out when the others aren't there, and no more
 pub record IsStuck (m : Model) (all most : ℕ) : Type 0 where
   pub count : all ≡ people m
   pub fewer : most < all
   pub barred : ¬ IsClearable m
   pub bound : (p : List Move) → IsFeasible m p m.horizon → out_by m p m.horizon ≤ most
+  pub greatest : IsMost m most
 
 -- what a row says of a building without an exit: the moment by which a best plan has everybody out, or that not everybody can get out
 abbrev pub IsRightRow : Model → ExitRow → Type 0

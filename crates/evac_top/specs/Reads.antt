@@ -24,7 +24,7 @@ use Rattle.model_text.specs.Grammar.{Said}
 use Rattle.evac_top.specs.declared.read.TextFound.{TextFound}
 use Rattle.evac_top.specs.Inputs.{Asked, Claimed, IsClaimOf, input_of, says_nothing, tail_fault}
 
--- the first fault behind a model's end, by the lines left before the call
+-- the first fault after a model's end, by the lines left before the call
 abbrev pub TailIs : Result (Unit {0}) ModelFault → ℕ → List Line → Type 0
 TailIs (Ok done) first before = tail_fault first before ≡ None
 TailIs (Err (Named code line)) first before = tail_fault first before ≡ Some (code, line)
@@ -36,7 +36,7 @@ abbrev pub ReadsTail : Result (Unit {0}) ModelFault → ℕ → Option (List Lin
 ReadsTail result first None = ⊤
 ReadsTail result first (Some before) = TailIs result first before
 
--- what the lines behind a model's end are heard as
+-- what the lines after a model's end are heard as
 abbrev pub HearsTail : Result Said TextFault → Result Heard TextFound → Type 0
 HearsTail said (Ok More) = says_nothing said ≡ true
 HearsTail said (Ok Last) = ⊥
@@ -51,7 +51,7 @@ tail_by (endings.Fault line_faults.LineTooLong) number = Err (Named LineTooLong 
 tail_by (endings.Fault line_faults.InputTooLong) number = Err (Named InputTooLong (number + 1))
 tail_by (endings.Fault line_faults.ReadFault) number = Err ReadFault
 
--- a reader went on by some lines behind a model's end; where the source failed, they say nothing
+-- a reader went on by some lines after a model's end; where the source failed, they say nothing
 pub record PassesTail (result : Result (Unit {0}) ModelFault) (before after : Reader) (left left' : Option (List ℕ)) : Type 0 where
   pub texts : List (List ℕ)
   pub passes : Passes before after left left' texts

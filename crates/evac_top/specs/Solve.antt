@@ -5,6 +5,7 @@ use Rattle.evac_law.specs.declared.model.Model.{Model}
 use Rattle.evac_law.specs.declared.plan.Move.{Move}
 use Rattle.evac_law.specs.Certificates.{IsClearable, IsShortfall}
 use Rattle.evac_law.specs.Cuts.{Cut}
+use Rattle.evac_law.specs.Parts.{IsMost}
 use Rattle.evac_law.specs.Plans.{IsFeasible, out_by}
 use Rattle.building_table.specs.Names.{NameTable, names_of}
 use Rattle.certificate_text.specs.BlockText.{shortfall_text}
@@ -20,7 +21,7 @@ abbrev pub Where : Bool → (List ℕ → Type 0) → List ℕ → Type 0
 Where true Says text = Says text
 Where false Says text = text ≡ []
 
--- the block of a state, and behind it its routes, its cards and the reports on it, where they are asked for
+-- the block of a state, and after it its routes, its cards and the reports on it, where they are asked for
 pub record SaysPlan (flags : Flags) (names : NameTable) (s : SessionState) (text : List ℕ) : Type 0 where
   pub routes : List ℕ
   pub says_routes : Where flags.routes (SaysRoutesOf 0 s) routes
@@ -31,7 +32,7 @@ pub record SaysPlan (flags : Flags) (names : NameTable) (s : SessionState) (text
   pub parts : text ≡ block_text 0 s ++ routes ++ cards ++ reports
 
 -- a building is answered by the block of a plan that takes everybody out, with a cut for each period that is worth as many as are out by then;
--- so no feasible plan has more people out by any period. Behind it stands what is asked for. As many steps are counted as people were sent on
+-- so no feasible plan has more people out by any period. After it comes what is asked for. As many steps are counted as people were sent on
 pub record IsPlanned (flags : Flags) (names : NameTable) (m : Model) (x : Account) : Type 0 where
   pub opening : SessionState
   pub begins : Begins m opening
@@ -40,12 +41,14 @@ pub record IsPlanned (flags : Flags) (names : NameTable) (m : Model) (x : Accoun
   pub says : SaysPlan flags names opening x.written
   pub counted : x.steps ≡ opening.work.pushes
 
--- a building whose end is at a line is refused there, with a cut that is worth fewer at the horizon than there are people
+-- a building whose end is at a line is refused there, with a cut that is worth fewer at the horizon than there are people: so many can get out when the
+-- others aren't there, and no more
 pub record IsShort (m : Model) (line : ℕ) (x : Account) : Type 0 where
   pub cut : Cut
   pub most : ℕ
   pub shortfall : IsShortfall m cut most
   pub barred : ¬ IsClearable m
+  pub greatest : IsMost m most
   pub refused : x.status ≡ 1
   pub block : x.written ≡ shortfall_text line m cut most
   pub few_steps : x.steps ≤ (m.horizon + 1) * most

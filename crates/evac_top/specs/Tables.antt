@@ -1,4 +1,4 @@
--- The tables of what is asked for behind a block.
+-- The tables of what is asked for after a block.
 use Rattle.std.specs.Prelude.{◌≡◌, is_some, IfSome}
 use Rattle.building_table.specs.Names.{NameTable}
 use Rattle.edit_session.specs.Sessions.{SessionState}

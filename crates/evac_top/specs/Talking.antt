@@ -1,4 +1,4 @@
--- What a run does that holds a talk on its building: in each of these modes a model is read, and each line behind it gets a reply.
+-- What a run does that holds a talk on its building: in each of these modes a model is read, and each line after it gets a reply.
 use Rattle.std.specs.Prelude.{◌≡◌, ℕ, ◌+◌, List, [], ◌∷◌, ◌++◌, Ok, ◌⊎◌}
 use Rattle.evac_law.specs.declared.code.Code.TheVariants.{MissingEnd}
 use Rattle.evac_law.specs.declared.model.Model.{Model}
@@ -16,12 +16,12 @@ TalkOn S = NameTable → Model → Talk S
 abbrev pub spoken : Account → Spoken
 spoken x = record { status = x.status; text = x.written; steps = x.steps }
 
--- a building is opened and the lines behind it are answered up to the end, or it is refused; a model with a fault is refused by it
+-- a building is opened and the lines after it are answered up to the end, or it is refused; a model with a fault is refused by it
 abbrev pub Talks : {S : Type 0} → TalkOn S → Reading → Account → Type 0
 Talks talk (Described d last rest) x = TalkAnswers (talk (names_of d) d.model) last rest (spoken x)
 Talks talk (Refused code line) x = IsRefusal (code, line) x
 
--- a line behind a building quits
+-- a line after a building quits
 abbrev pub HasQuit : {S : Type 0} → TalkOn S → Reading → Type 0
 HasQuit talk (Described d last rest) =
     (first : List Line) × (line : List ℕ) × (more : List Line) × (rest ≡ first ++ (Ok line ∷ more)) × (talk (names_of d) d.model).Quits line
@@ -31,7 +31,7 @@ HasQuit talk (Refused code line) = ⊥
 abbrev pub ReadsOn : {S : Type 0} → TalkOn S → List ℕ → Account → Type 0
 ReadsOn talk input x = x.status ≡ 0 → (x.taken ≡ input) ⊎ HasQuit talk (model_of (lines_of (whole_part x.taken)))
 
--- a talk whose source failed behind so many whole lines: each line behind its building is answered, and none of them ended it; or its model isn't
+-- a talk whose source failed after so many whole lines: each line after its building is answered, and none of them ended it; or its model isn't
 -- whole yet, and nothing was written
 abbrev pub TalksSoFar : {S : Type 0} → TalkOn S → Reading → ℕ → Account → Type 0
 TalksSoFar talk (Described d last rest) count x =
@@ -43,7 +43,7 @@ abbrev pub TalksFront : {S : Type 0} → TalkOn S → Reading → Account → Ty
 TalksFront talk (Described d last rest) x = TalkFront (talk (names_of d) d.model) last rest (spoken x)
 TalksFront talk (Refused code line) x = IsFront (IsRefusal (code, line)) x
 
--- memory was wanting for a line behind a building: the lines before it got their replies, whole
+-- memory was wanting for a line after a building: the lines before it got their replies, whole
 abbrev pub TalksWanting : {S : Type 0} → TalkOn S → Reading → Account → Type 0
 TalksWanting talk (Described d last rest) x =
     (heard : List (List ℕ)) × (more : List Line) × (rest ≡ text_lines heard ++ more) × TalkWants (talk (names_of d) d.model) last heard (spoken x)

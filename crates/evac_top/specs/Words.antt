@@ -12,34 +12,34 @@ use Rattle.evac_top.specs.declared.words.Mode.TheVariants.{Solve, Check, Session
 abbrev pub asking : Bool → Bool → Flags
 asking routes reports = record { routes = routes; cards = false; reports = reports }
 
--- what is put behind a plan where cards are asked for
+-- what is put after a plan where cards are asked for
 abbrev pub cards_alone : Flags
 cards_alone = record { routes = false; cards = true; reports = false }
 
--- one word behind `solve`
+-- one word after `solve`
 abbrev pub one_flag : List ℕ → Option Flags
 one_flag v =
     if bytes_eq v (codes "--routes") then Some (asking true false) else if bytes_eq v (codes "--reports") then Some (asking false true) else None
 
--- two words behind `solve`: each of the two once, in either order
+-- two words after `solve`: each of the two once, in either order
 abbrev pub two_flags : List ℕ → List ℕ → Option Flags
 two_flags v w =
     if (bytes_eq v (codes "--routes") && bytes_eq w (codes "--reports")) || (bytes_eq v (codes "--reports") && bytes_eq w (codes "--routes"))
     then Some (asking true true) else None
 
--- what the words behind `solve` ask for
+-- what the words after `solve` ask for
 abbrev pub flags_of : List (List ℕ) → Option Flags
 flags_of [] = Some (asking false false)
 flags_of (v ∷ []) = one_flag v
 flags_of (v ∷ w ∷ []) = two_flags v w
 flags_of (v ∷ w ∷ x ∷ more) = None
 
--- the number of storeys that the words behind `drill` ask for: from 1 to the most that can be built, without leading zeros
+-- the number of storeys that the words after `drill` ask for: from 1 to the most that can be built, without leading zeros
 abbrev pub storeys_of : List (List ℕ) → Option ℕ
 storeys_of (v ∷ w ∷ []) = if bytes_eq v (codes "--number") then plain_within 1 STOREY_LIMIT w else None
 storeys_of _ = None
 
--- a mode whose word has none behind it
+-- a mode whose word has none after it
 abbrev pub mode_alone : Mode → List (List ℕ) → Option Mode
 mode_alone mode [] = Some mode
 mode_alone mode (v ∷ more) = None

@@ -1,6 +1,9 @@
 //! The mode `check`: a model and a block are read, and the checker's verdict is sent.
-ghost use Rattle.std.specs.Prelude.{◌≡◌, ℕ, [], Some};
+ghost use Rattle.std.specs.Prelude.{◌≡◌, ℕ, ◌+◌, [], Some};
 ghost use Rattle.evac_law.specs.Building.{IsValid};
+ghost use Rattle.line_io.specs.Calls.{AsksAtMost};
+ghost use Rattle.line_io.specs.Line.{input_limit};
+ghost use Rattle.line_io.specs.declared.limits.TheConstants.{BUFFER_SIZE};
 ghost use Rattle.certificate_text.specs.Block.{IsBlockOf};
 ghost use Rattle.evac_top.specs.Accounts.{side};
 ghost use Rattle.evac_top.specs.Check.{IsChecked, verdict_status};
@@ -63,9 +66,10 @@ fn judge_claim<K: Sink>(alloc: Global, out: &mut Out, sink: &mut K, claim: Claim
 
 /// Runs the mode. It counts no steps.
 pub(crate) fn check<S: Source, K: Sink>(alloc: Global, source: &mut S, sink: &mut K) -> Status
-    ensures { (steps : ℕ) → Runs (Some Check) (status_number result)
+    ensures run { (steps : ℕ) → Runs (Some Check) (status_number result)
         (record { source = side (S.left source.old) (S.faults source.old); sink = side (K.held sink.old) (K.faults sink.old); steps = steps })
         (record { source = side (S.left source.new) (S.faults source.new); sink = side (K.held sink.new) (K.faults sink.new); steps = steps }) }
+    ensures asked { AsksAtMost S.takes (input_limit + BUFFER_SIZE) source.old source.new }
 {
     let Ok((mut lines, mut out)) = take_room(alloc) else {
         return Status::NoMemory;

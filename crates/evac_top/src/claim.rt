@@ -1,10 +1,13 @@
 //! The building and the block that an input of `check` states.
-ghost use Rattle.std.specs.Prelude.{◌≡◌, ℕ, List, Err, IfOk, Ok};
+ghost use Rattle.std.specs.Prelude.{◌≡◌, ℕ, ◌+◌, List, Err, IfOk, Ok};
 ghost use Rattle.std.specs.declared.option.Option.{Option};
 ghost use Rattle.evac_law.specs.Building.{IsValid};
+ghost use Rattle.line_io.specs.Calls.{Asks, AsksAtMost};
 ghost use Rattle.line_io.specs.Causes.{Rose};
-ghost use Rattle.line_io.specs.Reader.{Drained, lines_left};
+ghost use Rattle.line_io.specs.Line.{input_limit};
+ghost use Rattle.line_io.specs.Reader.{Drained, HasRoom, lines_left};
 ghost use Rattle.line_io.specs.View.{Reader};
+ghost use Rattle.line_io.specs.declared.limits.TheConstants.{BUFFER_SIZE};
 ghost use Rattle.building_table.specs.Names.{NamesFit};
 ghost use Rattle.building_table.specs.declared.faults.ModelFault.{ModelFault as FaultValue};
 ghost use Rattle.building_table.specs.Passes.{ReadsLines, ReadsModel};
@@ -21,7 +24,7 @@ use evac_law::Code;
 use line_io::{Lines, Source};
 use std::alloc::Global;
 
-/// A building with the answer block that stands behind it.
+/// A building with the answer block after it.
 #[derive(Drop)]
 pub struct Claim {
     pub building: Building,
@@ -42,7 +45,7 @@ fn block_fault(fault: BlockFault) -> ModelFault
     ModelFault::Named { code, line }
 }
 
-// Reads the block behind a building, and to the end of the input behind it. What they say with the building is said of a reader that read it.
+// Reads the block after a building, and to the end of the input after it. What they say with the building is said of a reader that read it.
 fn read_block_alone<S: Source>(
     alloc: Global,
     lines: &mut Lines,
@@ -60,6 +63,8 @@ fn read_block_alone<S: Source>(
         → result ≡ Err fault → Told left (ClaimIs (Err fault)) }
     ensures takes { (first : Reader) (left : Option (List ℕ)) → IsFresh first → ReadsLines (Ok building.now) first lines.old left (S.left source.old)
         → (Drained first left → Drained lines.old (S.left source.old)) → Takes IsOpenClaim result left (S.left source.new) }
+    ensures asks { Asks S.takes lines.old source.old lines.new source.new }
+    ensures room { HasRoom lines.old → HasRoom lines.new }
     ensures failed { result ≡ Err ModelFault.ReadFault → Rose (S.faults source.old) (S.faults source.new) }
     ensures quiet { (result ≡ Err ModelFault.ReadFault → ⊥) → S.faults source.new ≡ S.faults source.old }
 {
@@ -91,6 +96,8 @@ fn read_behind<S: Source>(
     ensures block { IfOk result (λ claim. IsBlockOf claim.building.model claim.block) }
     ensures takes { (first : Reader) (left : Option (List ℕ)) → IsFresh first → ReadsLines (Ok building) first lines.old left (S.left source.old)
         → (Drained first left → Drained lines.old (S.left source.old)) → Takes IsOpenClaim result left (S.left source.new) }
+    ensures asks { Asks S.takes lines.old source.old lines.new source.new }
+    ensures room { HasRoom lines.old → HasRoom lines.new }
     ensures failed { result ≡ Err ModelFault.ReadFault → Rose (S.faults source.old) (S.faults source.new) }
     ensures quiet { (result ≡ Err ModelFault.ReadFault → ⊥) → S.faults source.new ≡ S.faults source.old }
 {
@@ -103,7 +110,7 @@ fn read_behind<S: Source>(
     }
 }
 
-/// Reads the building and the block of an input that has nothing but blank lines and comments behind them.
+/// Reads the building and the block of an input that has nothing but blank lines and comments after them.
 pub(crate) fn read_claim<S: Source>(
     alloc: Global,
     lines: &mut Lines,
@@ -114,6 +121,7 @@ pub(crate) fn read_claim<S: Source>(
     ensures valid { IfOk result (λ claim. IsValid claim.building.model) }
     ensures block { IfOk result (λ claim. IsBlockOf claim.building.model claim.block) }
     ensures takes { Takes IsOpenClaim result (S.left source.old) (S.left source.new) }
+    ensures asked { AsksAtMost S.takes (input_limit + BUFFER_SIZE) source.old source.new }
     ensures failed { result ≡ Err ModelFault.ReadFault → Rose (S.faults source.old) (S.faults source.new) }
     ensures quiet { (result ≡ Err ModelFault.ReadFault → ⊥) → S.faults source.new ≡ S.faults source.old }
 {

@@ -5,13 +5,12 @@ ghost use Rattle.drill_building.specs.Drill.{drill_model};
 ghost use Rattle.drill_building.specs.Summary.{drill_text, figures_of};
 ghost use Rattle.edit_session.specs.Sessions.{BeginEnds, Begins};
 ghost use Rattle.evac_law.specs.Building.{IsValid};
-ghost use Rattle.line_io.specs.Causes.{HasCause};
 ghost use Rattle.evac_top.specs.Accounts.{Side, side};
 ghost use Rattle.evac_top.specs.Drill.{IsDrilled};
 ghost use Rattle.evac_top.specs.Runs.{Runs};
-ghost use Rattle.evac_top.specs.Sends.{Sends};
 ghost use Rattle.evac_top.specs.Tells.{HasBegun, Tells};
 ghost use Rattle.evac_top.specs.declared.words.Mode.TheVariants.{Drill};
+ghost use Rattle.talk.specs.Held.{SendsBy};
 ghost use Rattle.talk.specs.Statuses.{status_number};
 
 use crate::stop::stop_short;
@@ -47,10 +46,9 @@ fn send_drill<K: Sink>(
     model: &Model,
     figures: Figures,
 ) -> Result<(), WriteFault>
-    requires fresh { out.old ≡ [] }
-    requires valid { IsValid model.now }
-    ensures text { Sends (K.held sink.old) (K.held sink.new) (drill_text number model.now figures) result }
-    ensures cause { HasCause (K.faults sink.old) (K.faults sink.new) result }
+    requires { IsValid model.now }
+    ensures { SendsBy result (drill_text number model.now figures)
+        (K.held sink.old) out.old (K.faults sink.old) (K.held sink.new) out.new (K.faults sink.new) }
 {
     let mut writer = Writer::new(out, sink);
     put_drill(&mut writer, number, model, figures);

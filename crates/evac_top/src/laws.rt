@@ -14,7 +14,7 @@ pub fn runs_answer()
 /// A session on a building that can be cleared, with any lines after it, opens with block 0 of that building, and no edit is kept yet. Each answer
 /// block written reads back as a feasible plan of the edited building that takes everybody out, with a cut for every period that is worth as
 /// many as are out by then, so no feasible plan has more people out by any period; a count bounds what the repair took back and how often it
-/// sent people; and whatever was refused left model and plan as they were. Nothing else is written: the replies to the lines stand one after
+/// sent people; and whatever was refused left model and plan as they were. Nothing else is written: the replies to the lines come one after
 /// another, up to the end of the input, a line that quits, or the refusal of a line that has a fault of its own. A building that can't be cleared
 /// is refused with its shortfall, and a text with a fault by its line.
 pub fn sessions_keep_promise()
@@ -28,7 +28,7 @@ pub fn replans_keep_promise()
     ensures { ReplansKeepPromise }
 {}
 
-/// A building that can be cleared, planned without a session: the block written is such a block too, and after it stands what is asked for
+/// A building that can be cleared, planned without a session: the block written is such a block too, and after it comes what is asked for
 /// and nothing else. Others are refused as a session refuses them.
 pub fn plans_keep_promise()
     ensures { PlansKeepPromise }

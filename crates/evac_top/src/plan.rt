@@ -1,15 +1,14 @@
-//! The block of a session with what is asked for behind it.
-ghost use Rattle.std.specs.Prelude.{◌≡◌, ℕ, List, [], IfSome, is_some};
-ghost use Rattle.line_io.specs.Causes.{HasCause};
+//! The block of a session with what is asked for after it.
+ghost use Rattle.std.specs.Prelude.{ℕ, List, IfSome, is_some};
 ghost use Rattle.line_io.specs.Writer.{Writes};
 ghost use Rattle.report_text.specs.ReportText.{SaysCards};
 ghost use Rattle.route_decompose.specs.Routes.{IsSameSite};
 ghost use Rattle.session_text.specs.Spaces.{IsSpace};
 ghost use Rattle.session_text.specs.StateTexts.{SaysReports, SaysRoutesOf};
-ghost use Rattle.evac_top.specs.Sends.{Sends};
 ghost use Rattle.evac_top.specs.Solve.{SaysPlan, Where};
 ghost use Rattle.evac_top.specs.Tables.{HasTablesAsked};
 ghost use Rattle.evac_top.specs.declared.words.Flags.{Flags};
+ghost use Rattle.talk.specs.Held.{SendsBy};
 
 use crate::report_tables::Tables;
 use building_table::Names;
@@ -60,7 +59,7 @@ fn put_reports<K: Sink>(
     }
 }
 
-/// Sends the block of a session with what is asked for behind it.
+/// Sends the block of a session with what is asked for after it.
 pub(crate) fn send_plan<K: Sink>(
     out: &mut Out,
     sink: &mut K,
@@ -68,13 +67,11 @@ pub(crate) fn send_plan<K: Sink>(
     names: &Names,
     tables: &mut Tables,
 ) -> Result<(), WriteFault>
-    requires fresh { out.old ≡ [] }
     requires site { IfSome tables.old.routes (λ r. IsSameSite session.now.state.model r.model) }
     requires cards { IfSome tables.old.cards (λ c. IsSameSite session.now.state.model c.model) }
     requires space { IfSome tables.old.reports (IsSpace session.now.state.model names.now) }
-    ensures text { (flags : Flags) → HasTablesAsked flags names.now session.now.state tables.old
-        → (text : List ℕ) × SaysPlan flags names.now session.now.state text × Sends (K.held sink.old) (K.held sink.new) text result }
-    ensures cause { HasCause (K.faults sink.old) (K.faults sink.new) result }
+    ensures { (flags : Flags) → HasTablesAsked flags names.now session.now.state tables.old → (text : List ℕ) × SaysPlan flags names.now session.now.state text
+        × SendsBy result text (K.held sink.old) out.old (K.faults sink.old) (K.held sink.new) out.new (K.faults sink.new) }
 {
     let mut writer = Writer::new(out, sink);
     put_block(&mut writer, session, 0);

@@ -1,16 +1,18 @@
 //! The building that an input describes.
-ghost use Rattle.std.specs.Prelude.{◌≡◌, ℕ, ◌≤◌, List, Err, IfOk, Ok, OnOk, false, true};
+ghost use Rattle.std.specs.Prelude.{◌≡◌, ℕ, ◌+◌, ◌≤◌, List, Err, IfOk, Ok, OnOk, false, true};
 ghost use Rattle.std.specs.declared.option.Option.{Option};
 ghost use Rattle.evac_law.specs.Building.{IsValid};
+ghost use Rattle.line_io.specs.Calls.{Asks, AsksAtMost};
 ghost use Rattle.line_io.specs.Causes.{Rose};
-ghost use Rattle.line_io.specs.Reader.{Drained, is_settled, lines_left};
+ghost use Rattle.line_io.specs.Line.{input_limit};
+ghost use Rattle.line_io.specs.Reader.{Drained, HasRoom, is_settled, lines_left};
 ghost use Rattle.line_io.specs.View.{Reader};
+ghost use Rattle.line_io.specs.declared.limits.TheConstants.{BUFFER_SIZE};
 ghost use Rattle.building_table.specs.Passes.{ReadsLines, ReadsModel};
 ghost use Rattle.model_text.specs.Grammar.{statement_of};
 ghost use Rattle.evac_top.specs.Inputs.{IsOpenInput, says_nothing};
 ghost use Rattle.evac_top.specs.Accounts.{Told};
 ghost use Rattle.evac_top.specs.Reads.{InputIs, IsFresh, PassesTail, ReadsTail, Takes, tail_by};
-ghost use Rattle.line_io.specs.Line.{input_limit};
 
 use building_table::{Building, ModelFault, read_model};
 use evac_law::Code;
@@ -79,12 +81,13 @@ fn conclude_tail(ending: Ending<TextFound>, number: u32) -> Result<(), ModelFaul
     })
 }
 
-/// Reads to the end of the input, where only blank lines and comments may stand.
+/// Reads to the end of the input, where there may be only blank lines and comments.
 pub(crate) fn read_tail<S: Source>(lines: &mut Lines, source: &mut S) -> Result<(), ModelFault>
     ensures tail { ReadsTail result lines.old.number (lines_left lines.old (S.left source.old)) }
     ensures passes { PassesTail result lines.old lines.new (S.left source.old) (S.left source.new) }
     ensures ended { OnOk result (lines.new.ended ≡ true) }
     ensures drained { Drained lines.old (S.left source.old) → Drained lines.new (S.left source.new) }
+    ensures asks { Asks S.takes lines.old source.old lines.new source.new }
 
     // a read fault has its cause
     ensures failed { result ≡ Err ModelFault.ReadFault → Rose (S.faults source.old) (S.faults source.new) }
@@ -103,7 +106,7 @@ pub struct Input {
     pub last: u32,
 }
 
-// Reads to the end of the input behind a building. What is said of the input is said of a reader that read the building.
+// Reads to the end of the input after a building. What is said of the input is said of a reader that read the building.
 fn read_end<S: Source>(
     lines: &mut Lines,
     source: &mut S,
@@ -115,6 +118,8 @@ fn read_end<S: Source>(
     ensures valid { IfOk result (λ input. IsValid input.building.model) }
     ensures takes { (first : Reader) (left : Option (List ℕ)) → IsFresh first → ReadsLines (Ok building) first lines.old left (S.left source.old)
         → (Drained first left → Drained lines.old (S.left source.old)) → Takes IsOpenInput result left (S.left source.new) }
+    ensures asks { Asks S.takes lines.old source.old lines.new source.new }
+    ensures room { HasRoom lines.old → HasRoom lines.new }
     ensures failed { result ≡ Err ModelFault.ReadFault → Rose (S.faults source.old) (S.faults source.new) }
     ensures quiet { (result ≡ Err ModelFault.ReadFault → ⊥) → S.faults source.new ≡ S.faults source.old }
 {
@@ -128,7 +133,7 @@ fn read_end<S: Source>(
     }
 }
 
-/// Reads the building of an input that has nothing but blank lines and comments behind its end.
+/// Reads the building of an input that has nothing but blank lines and comments after its end.
 pub(crate) fn read_input<S: Source>(
     alloc: Global,
     lines: &mut Lines,
@@ -138,6 +143,7 @@ pub(crate) fn read_input<S: Source>(
     ensures input { Told (S.left source.old) (InputIs result) }
     ensures valid { IfOk result (λ input. IsValid input.building.model) }
     ensures takes { Takes IsOpenInput result (S.left source.old) (S.left source.new) }
+    ensures asked { AsksAtMost S.takes (input_limit + BUFFER_SIZE) source.old source.new }
     ensures failed { result ≡ Err ModelFault.ReadFault → Rose (S.faults source.old) (S.faults source.new) }
     ensures quiet { (result ≡ Err ModelFault.ReadFault → ⊥) → S.faults source.new ≡ S.faults source.old }
 {

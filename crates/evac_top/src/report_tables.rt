@@ -1,4 +1,4 @@
-//! The tables of what is asked for behind a block.
+//! The tables of what is asked for after a block.
 ghost use Rattle.std.specs.Prelude.{◌≡◌, IfOk, IfSome, is_some};
 ghost use Rattle.route_decompose.specs.Routes.{IsSameSite};
 ghost use Rattle.session_text.specs.Spaces.{IsSpace};

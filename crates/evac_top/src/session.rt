@@ -1,5 +1,8 @@
-//! The mode `session`: a model is read, its best plan is kept while it is edited, and each line behind it is answered.
-ghost use Rattle.std.specs.Prelude.{◌≡◌, Some};
+//! The mode `session`: a model is read, its best plan is kept while it is edited, and each line after it is answered.
+ghost use Rattle.std.specs.Prelude.{◌≡◌, ◌+◌, Some};
+ghost use Rattle.line_io.specs.Calls.{AsksAtMost};
+ghost use Rattle.line_io.specs.Line.{input_limit};
+ghost use Rattle.line_io.specs.declared.limits.TheConstants.{BUFFER_SIZE};
 ghost use Rattle.evac_top.specs.Accounts.{side};
 ghost use Rattle.evac_top.specs.Runs.{Runs};
 ghost use Rattle.evac_top.specs.declared.words.Mode.TheVariants.{Session};
@@ -22,9 +25,10 @@ pub(crate) fn session<S: Source, K: Sink, L: Ledger>(
     sink: &mut K,
     steps: &mut Steps<L>,
 ) -> Status
-    ensures { Runs (Some Session) (status_number result)
+    ensures run { Runs (Some Session) (status_number result)
         (record { source = side (S.left source.old) (S.faults source.old); sink = side (K.held sink.old) (K.faults sink.old); steps = steps.old })
         (record { source = side (S.left source.new) (S.faults source.new); sink = side (K.held sink.new) (K.faults sink.new); steps = steps.new }) }
+    ensures asked { AsksAtMost S.takes (input_limit + BUFFER_SIZE) source.old source.new }
 {
     let Ok((mut lines, mut out)) = take_room(alloc) else {
         return Status::NoMemory;

@@ -3,6 +3,9 @@ ghost use Rattle.std.specs.Prelude.{◌≡◌, ℕ, ◌+◌, [], Some};
 ghost use Rattle.evac_law.specs.Building.{IsValid};
 ghost use Rattle.edit_session.specs.Sessions.{BeginEnds, Begins};
 ghost use Rattle.evac_law.specs.declared.model.Model.{Model as ModelValue};
+ghost use Rattle.line_io.specs.Calls.{AsksAtMost};
+ghost use Rattle.line_io.specs.Line.{input_limit};
+ghost use Rattle.line_io.specs.declared.limits.TheConstants.{BUFFER_SIZE};
 ghost use Rattle.evac_top.specs.Accounts.{side};
 ghost use Rattle.evac_top.specs.Runs.{Runs};
 ghost use Rattle.evac_top.specs.Solve.{IsPlanned, IsPlannedOrShort};
@@ -115,9 +118,10 @@ pub(crate) fn solve<S: Source, K: Sink, L: Ledger>(
     sink: &mut K,
     steps: &mut Steps<L>,
 ) -> Status
-    ensures { Runs (Some (Solve flags)) (status_number result)
+    ensures run { Runs (Some (Solve flags)) (status_number result)
         (record { source = side (S.left source.old) (S.faults source.old); sink = side (K.held sink.old) (K.faults sink.old); steps = steps.old })
         (record { source = side (S.left source.new) (S.faults source.new); sink = side (K.held sink.new) (K.faults sink.new); steps = steps.new }) }
+    ensures asked { AsksAtMost S.takes (input_limit + BUFFER_SIZE) source.old source.new }
 {
     let Ok((mut lines, mut out)) = take_room(alloc) else {
         return Status::NoMemory;

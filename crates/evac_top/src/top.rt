@@ -1,5 +1,8 @@
 //! The top call.
-ghost use Rattle.std.specs.Prelude.{◌≡◌, ℕ, [], None, false, map, string_bytes};
+ghost use Rattle.std.specs.Prelude.{◌≡◌, ℕ, ◌+◌, [], None, false, map, string_bytes};
+ghost use Rattle.line_io.specs.Calls.{AsksAtMost};
+ghost use Rattle.line_io.specs.Line.{input_limit};
+ghost use Rattle.line_io.specs.declared.limits.TheConstants.{BUFFER_SIZE};
 ghost use Rattle.evac_top.specs.Accounts.{Side, side};
 ghost use Rattle.evac_top.specs.Answers.{runs_of};
 ghost use Rattle.evac_top.specs.Runs.{Runs};
@@ -32,6 +35,9 @@ pub fn run<S: Source, K: Sink, L: Ledger>(
         (record { source = side (S.left source.old) (S.faults source.old); sink = side (K.held sink.old) (K.faults sink.old); steps = steps.old })
         (record { source = side (S.left source.new) (S.faults source.new); sink = side (K.held sink.new) (K.faults sink.new); steps = steps.new }) }
     ensures untouched { (runs_of (mode_of (map string_bytes words.now))).reads ≡ false → source.new ≡ source.old }
+
+    // each time the source is offered enough room; it is asked no more after its end, and gives so many bytes at most, also where it tells none of them
+    ensures asked { AsksAtMost S.takes (input_limit + BUFFER_SIZE) source.old source.new }
 {
     match mode_of(words) {
         Some(Mode::Solve(flags)) => solve(alloc, flags, source, sink, steps),

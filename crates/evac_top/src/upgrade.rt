@@ -1,14 +1,16 @@
 //! The mode `upgrade`: a model is read to the end of its input, and is sent as a text of version 2.
-ghost use Rattle.std.specs.Prelude.{◌≡◌, ℕ, [], Some};
+ghost use Rattle.std.specs.Prelude.{◌≡◌, ℕ, ◌+◌, [], Some};
 ghost use Rattle.evac_law.specs.Building.{IsValid};
-ghost use Rattle.line_io.specs.Causes.{HasCause};
+ghost use Rattle.line_io.specs.Calls.{AsksAtMost};
+ghost use Rattle.line_io.specs.Line.{input_limit};
+ghost use Rattle.line_io.specs.declared.limits.TheConstants.{BUFFER_SIZE};
 ghost use Rattle.model_writer.specs.ModelText.{building_text};
 ghost use Rattle.evac_top.specs.Accounts.{side};
 ghost use Rattle.evac_top.specs.Runs.{Runs};
-ghost use Rattle.evac_top.specs.Sends.{Sends};
 ghost use Rattle.evac_top.specs.Upgrade.{IsUpgraded};
 ghost use Rattle.evac_top.specs.Tells.{Tells};
 ghost use Rattle.evac_top.specs.declared.words.Mode.TheVariants.{Upgrade};
+ghost use Rattle.talk.specs.Held.{SendsBy};
 ghost use Rattle.talk.specs.Statuses.{status_number};
 
 use crate::read::read_input;
@@ -22,10 +24,9 @@ use talk::{Status, status_after};
 
 // Sends the text of a building.
 fn send_model<K: Sink>(out: &mut Out, sink: &mut K, building: &Building) -> Result<(), WriteFault>
-    requires fresh { out.old ≡ [] }
-    requires valid { IsValid building.now.model }
-    ensures text { Sends (K.held sink.old) (K.held sink.new) (building_text building.now) result }
-    ensures cause { HasCause (K.faults sink.old) (K.faults sink.new) result }
+    requires { IsValid building.now.model }
+    ensures { SendsBy result (building_text building.now)
+        (K.held sink.old) out.old (K.faults sink.old) (K.held sink.new) out.new (K.faults sink.new) }
 {
     let mut writer = Writer::new(out, sink);
     put_model(&mut writer, building);
@@ -45,9 +46,10 @@ fn answer<K: Sink>(out: &mut Out, sink: &mut K, building: Building) -> Status
 
 /// Runs the mode. It counts no steps.
 pub(crate) fn upgrade<S: Source, K: Sink>(alloc: Global, source: &mut S, sink: &mut K) -> Status
-    ensures { (steps : ℕ) → Runs (Some Upgrade) (status_number result)
+    ensures run { (steps : ℕ) → Runs (Some Upgrade) (status_number result)
         (record { source = side (S.left source.old) (S.faults source.old); sink = side (K.held sink.old) (K.faults sink.old); steps = steps })
         (record { source = side (S.left source.new) (S.faults source.new); sink = side (K.held sink.new) (K.faults sink.new); steps = steps }) }
+    ensures asked { AsksAtMost S.takes (input_limit + BUFFER_SIZE) source.old source.new }
 {
     let Ok((mut lines, mut out)) = take_room(alloc) else {
         return Status::NoMemory;

@@ -1,10 +1,9 @@
 //! The line of a verdict.
-ghost use Rattle.std.specs.Prelude.{◌≡◌, ◌≤◌, [], ◌++◌, length};
+ghost use Rattle.std.specs.Prelude.{◌≡◌, ◌≤◌, [], length};
 ghost use Rattle.evac_law.specs.Building.{IsValid};
-ghost use Rattle.line_io.specs.Causes.{HasCause};
 ghost use Rattle.line_io.specs.Text.{fields};
 ghost use Rattle.evac_top.specs.Check.{IsVerdictOf, no_fields, verdict_fields, verdict_text};
-ghost use Rattle.evac_top.specs.Sends.{Sends};
+ghost use Rattle.talk.specs.Held.{SendsBy};
 
 use certificate_text::put_name;
 use evac_law::{Code, Model};
@@ -65,11 +64,10 @@ pub(crate) fn send_verdict<K: Sink>(
     model: &Model,
     verdict: Verdict,
 ) -> Result<(), WriteFault>
-    requires fresh { out.old ≡ [] }
     requires valid { IsValid model.now }
     requires place { IsVerdictOf model.now verdict }
-    ensures text { Sends (K.held sink.old) (K.held sink.new) (verdict_text model.now verdict) result }
-    ensures cause { HasCause (K.faults sink.old) (K.faults sink.new) result }
+    ensures { SendsBy result (verdict_text model.now verdict)
+        (K.held sink.old) out.old (K.faults sink.old) (K.held sink.new) out.new (K.faults sink.new) }
 {
     let mut writer = Writer::new(out, sink);
     writer.put(line_of(model, verdict));

@@ -6,7 +6,7 @@ ghost use Rattle.evac_top.specs.Words.{IsBuildable, cards_alone, mode_alone, fla
 use drill_building::STOREY_LIMIT;
 use model_text::read_number;
 
-/// The reports that are put behind a plan.
+/// The reports that are put after a plan.
 #[derive(Clone, Copy)]
 pub struct Flags {
     /// Who goes which way.
@@ -20,7 +20,7 @@ pub struct Flags {
 /// What the program does.
 #[derive(Clone, Copy)]
 pub enum Mode {
-    /// Plans the building of a model, with what is asked for behind the plan.
+    /// Plans the building of a model, with what is asked for after the plan.
     Solve(Flags),
     /// Checks an answer block for the model before it.
     Check,
@@ -36,7 +36,7 @@ pub enum Mode {
     Drill(u32),
 }
 
-// One word behind `solve`.
+// One word after `solve`.
 fn one_flag(word: &str) -> Option<Flags>
     ensures { result ≡ one_flag word.now }
 {
@@ -57,7 +57,7 @@ fn one_flag(word: &str) -> Option<Flags>
     }
 }
 
-// Two words behind `solve`.
+// Two words after `solve`.
 fn two_flags(first: &str, second: &str) -> Option<Flags>
     ensures { result ≡ two_flags first.now second.now }
 {
@@ -74,7 +74,7 @@ fn two_flags(first: &str, second: &str) -> Option<Flags>
     }
 }
 
-// What the words behind `solve` ask for.
+// What the words after `solve` ask for.
 fn flags_of(words: &[String]) -> Option<Flags>
     ensures { result ≡ flags_of (map string_bytes words.now) }
 {
@@ -106,7 +106,7 @@ fn number_of(word: &str) -> Option<u32>
     }
 }
 
-// The number of storeys that the words behind `drill` ask for.
+// The number of storeys that the words after `drill` ask for.
 fn storeys_of(words: &[String]) -> Option<u32>
     ensures number { result ≡ storeys_of (map string_bytes words.now) }
     ensures few { IfSome result (λ n. n ≤ STOREY_LIMIT) }
@@ -117,14 +117,14 @@ fn storeys_of(words: &[String]) -> Option<u32>
     }
 }
 
-// A mode whose word has none behind it.
+// A mode whose word has none after it.
 fn mode_alone(mode: Mode, words: &[String]) -> Option<Mode>
     ensures { result ≡ mode_alone mode (map string_bytes words.now) }
 {
     if words.is_empty() { Some(mode) } else { None }
 }
 
-// What is put behind a plan where cards are asked for.
+// What is put after a plan where cards are asked for.
 fn cards_alone() -> Flags
     ensures { result ≡ cards_alone }
 {

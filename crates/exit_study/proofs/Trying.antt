@@ -124,7 +124,7 @@ cleared_is_enough m a k r valid l few h = (
 same_rate : (m : Model) (a : ℕ) → at_rate m a (arc_at m a).rate ≡ m
 same_rate m a = ap (λ (arcs : List ArcRow). record m { arcs = arcs }) (set-get_or m.arcs a no_arc)
 
--- the plan that stands is in time
+-- the session's plan is in time
 pub search_from_enough : (s : SessionState) (a k : ℕ) → IsSolved s → a < length s.model.arcs → s.last ≤ k → IsSearch s.model a k 0 (arc_at s.model a).rate
 search_from_enough s a k h l soon = record {
   ordered = omega arith;
@@ -133,7 +133,7 @@ search_from_enough s a k h l soon = record {
   enough = λ _. cleared_by (at_rate s.model a (arc_at s.model a).rate) s k (sym (same_rate s.model a)) h soon;
 }
 
--- the plan that stands is too late
+-- the session's plan is too late
 pub search_from_slow : (s : SessionState) (a k : ℕ) → IsSolved s → a < length s.model.arcs → k < s.last
     → IsSearch s.model a k ((arc_at s.model a).rate + 1) (rate_limit + 1)
 search_from_slow s a k h l late = record {

@@ -13,7 +13,7 @@ pub enum ExitRow {
     Short { people: u32, most: u32 },
 }
 
-/// What the session's model comes to without an exit. The session stands as before; after `Short` its refused cut shows it.
+/// What the session's model comes to without an exit. The session stays as it was; after `Short` its refused cut shows it.
 pub fn study_exit<L: Ledger>(session: &mut Session, node: u32, steps: &mut Steps<L>) -> ExitRow
     requires { IsOpenExit session.old.state.model node }
     ensures row { IsExitRow session.old.state.model node session.new.refused result }

@@ -1,7 +1,7 @@
-//! Studies of a building whose best plan stands: when everybody is out without one of its exits, and the least rate of an arc at which
+//! Studies of a building that has its best plan: when everybody is out without one of its exits, and the least rate of an arc at which
 //! everybody is out by a moment.
 //!
-//! `study_exit` and `least_rate` try edits of a session, which stands as before.
+//! `study_exit` and `least_rate` try edits of a session, which stays as it was.
 #![tactic(auto)]
 
 mod exits;

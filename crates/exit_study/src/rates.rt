@@ -42,7 +42,7 @@ struct Span {
     high: u32,
 }
 
-// The span that the plan that stands leaves of all rates, by the rate that the arc has.
+// The span that the session's plan leaves of all rates, by the rate that the arc has.
 #[tactic(auto, unfolding(evac_law::specs::Limits::rate_limit))]
 fn first_span(session: &Session, arc: u32, by: u16) -> Span
     requires { arc < length session.now.state.model.arcs }
@@ -79,7 +79,7 @@ fn next_rate(low: u32, high: u32, doublings: u32) -> u32
     }
 }
 
-/// The least rate of an arc at which everybody is out of the session's model by a moment. The session stands as before.
+/// The least rate of an arc at which everybody is out of the session's model by a moment. The session stays as it was.
 #[tactic(auto, unfolding(evac_law::specs::Limits::rate_limit))]
 pub fn least_rate<L: Ledger>(
     session: &mut Session,

@@ -22,15 +22,15 @@ pub record IsReshapable (m : Model) (e : Edit) (w : Network) (l : LabelTable) (p
   pub closed : IsClosedBelow w l (last_move w.site (plan_of w) + 1)
   pub room : w.site.shape.horizon + 2 ≤ path_room
 
--- the net has come under a model's limits, and what was saved of it stands
+-- the net has come under a model's limits, and what was saved of it stays
 pub record IsReshaped (m : Model) (w v : Network) : Type 0 where
   pub site : v.site ≡ w.site
   pub of : IsNetOf m v
   pub within : IsWithinLimits v
   pub saved : v.saved ≡ w.saved
 
--- so many people are taken off, just so many fewer are sent: no more than the edit breaks, no flow rises, no arrivals fall by more, and where it is
--- nobody no flow changes
+-- so many people are taken off: just so many fewer are sent, and no more than the edit breaks; no flow rises, no moment's arrivals fall by more, and
+-- where nobody is taken off no flow changes
 pub record IsTakenOff (m : Model) (w v : Network) (people : ℕ) : Type 0 where
   pub few : (b : Model) → IsValid b → IsNetOf b w → people ≤ violation b (plan_of w) m
   pub flows : (p : Place) → IsPlace w.site p → flow_at v p ≤ flow_at w p

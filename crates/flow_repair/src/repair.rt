@@ -67,7 +67,7 @@ fn fit_edit<L: Ledger>(
     }
 }
 
-/// Brings a standing net under the limits of an edited model: sets the limits that changed, and takes people off whole flow paths
+/// Brings the net of a plan under the limits of an edited model: sets the limits that changed, and takes people off whole flow paths
 /// until every place fits.
 ///
 /// `labels` prove the net best up to its last arrival before the edit; below `least_label` they still do.

@@ -1,7 +1,7 @@
 //! Hints at the paths along which people can be sent to an arrival moment.
 //!
 //! **What this crate answers is a hint, and no contract speaks of it.** It is proved to be safe and to end, and no more: its contracts
-//! are on sizes alone, so that nothing is read or written but where it stands, and its numbers may be wrong or stale. A net of another
+//! are on sizes alone, so that nothing is read or written out of its place, and its numbers may be wrong or stale. A net of another
 //! size than the building's gets no hint. Whoever takes a path from it looks at each of its steps before people are sent along it, and
 //! finishes a moment by a flood that needs no hint. So a wrong number costs time, and never a right answer.
 //!

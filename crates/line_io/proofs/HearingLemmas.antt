@@ -49,7 +49,7 @@ pub record Went {S F : Type 0} (hears : Hearing S F) (from at : S) (a b : Reader
 pub went-none : {S F : Type 0} (hears : Hearing S F) (s : S) (a : Reader) (l : Option (List ℕ)) → Went hears s s a a l l
 went-none hears s a l = record { texts = []; goes = goes-none hears s a.number; passes = passes-none a l }
 
--- the number of the line behind some lines
+-- the number of the line after some lines
 next-number : (a b c : Reader) (l m n : Option (List ℕ)) (texts : List (List ℕ)) (t : List ℕ) → Passes a b l m texts → Passes b c m n (t ∷ []) → c.number ≡ a.number + length texts + 1
 next-number a b c l m n texts t p q = omega (arith, p.number, q.number)
 
@@ -168,7 +168,7 @@ listens-fault hears from at InputTooLong a b c l m n w p answers stays open_line
 
 -- ---- what lines mean
 
--- where each line that a state goes on from leads to the meaning of those behind it, so do all of them
+-- where each line that a state goes on from leads to the meaning of those after it, so do all of them
 pub goes-meant : {S F X R : Type 0} (hears : Hearing S F) (Is : S → X → Type 0) (meaning : X → ℕ → List Line → R)
     → ((s s' : S) (x : X) (n : ℕ) (t : List ℕ) → Is s x → hears s (n + 1) t (Ok More) s' → (y : X) × Is s' y × ((rest : List Line) → meaning x n (Ok t ∷ rest) ≡ meaning y (n + 1) rest))
     → (s s' : S) (x : X) (n : ℕ) (texts : List (List ℕ)) → Is s x → HearsAll hears s n texts s'

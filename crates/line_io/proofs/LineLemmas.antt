@@ -8,7 +8,7 @@ use Rattle.evac_law.specs.declared.code.Code.TheVariants as codes
 use Rattle.line_io.specs.Line.{Line, is_lf, pieces, onto_first, IsPiece, line_of, then_lines, lines_after, lines_of, text_lines, whole_part, onto_whole, IsWhole, line_limit}
 use Rattle.line_io.specs.Reader.{IsGiven, is_settled, answer_at, settled_answer, fault_of}
 use Rattle.line_io.specs.View.{Reader}
-use Rattle.line_io.specs.declared.lines.LineFault.TheVariants.{ReadFault, LineTooLong}
+use Rattle.line_io.specs.declared.lines.LineFault.TheVariants.{ReadFault}
 
 -- ---- whole bytes
 
@@ -16,7 +16,7 @@ whole-behind : (b : ℕ) (bs w : List ℕ) → onto_whole b w ≡ b ∷ bs → w
 whole-behind b bs [] h = elim (nat_eq b 10) as (λ t. cond t (b ∷ []) [] ≡ b ∷ bs → [] ≡ bs) [ true ↦ λ g. cc | false ↦ λ g. cc ] h
 whole-behind b bs (c ∷ cs) h = cc
 
--- what is behind the first byte of whole bytes is whole
+-- what follows the first byte of whole bytes is whole
 pub IsWhole-tail : (b : ℕ) (bs : List ℕ) → IsWhole (b ∷ bs) → IsWhole bs
 unfolding whole_part
 IsWhole-tail b bs h = whole-behind b bs (whole_part bs) h
@@ -73,7 +73,7 @@ whole_part-unsettled gone r h unsettled = whole_part-front gone r.pending h (uns
 onto-some : (b : ℕ) (p : List ℕ) (ps qs : List (List ℕ)) → onto_first b ((p ∷ ps) ++ qs) ≡ onto_first b (p ∷ ps) ++ qs
 onto-some b p ps qs = refl
 
--- a byte in front of whole bytes that isn't LF has a piece behind it
+-- a byte in front of whole bytes that isn't LF has a piece after it
 onto-append : (b : ℕ) (bs : List ℕ) (qs : List (List ℕ)) → IsWhole (b ∷ bs) → nat_eq b 10 ≡ false → onto_first b (pieces bs ++ qs) ≡ onto_first b (pieces bs) ++ qs
 unfolding whole_part pieces
 onto-append b [] qs h off = let e : cond (nat_eq b 10) (b ∷ []) [] ≡ b ∷ [] = h in let n : [] ≡ b ∷ [] = rw off at e in cc
@@ -138,7 +138,7 @@ pub text_lines-push : (texts : List (List ℕ)) (text : List ℕ) → text_lines
 text_lines-push [] text = refl
 text_lines-push (t ∷ ts) text = ap (λ l. Ok t ∷ l) (text_lines-push ts text)
 
--- one more line behind whole bytes
+-- one more line after whole bytes
 pub lines_of-push : (gone piece : List ℕ) (texts : List (List ℕ)) (text : List ℕ) → IsWhole gone → lines_of gone ≡ text_lines texts
     → IsPiece piece → line_of (length gone + length piece) piece ≡ Ok text → lines_of (gone ++ piece) ≡ text_lines (texts ++ text ∷ [])
 unfolding lines_after
@@ -150,7 +150,7 @@ lines_of-push gone piece texts text whole lines single good =
     ∙ ap (λ l. text_lines texts ++ then_lines l []) good
     ∙ sym (text_lines-push texts text)
 
--- the line given last, behind those given before it
+-- the line given last, after those given before it
 pub lines_of-given : (gone piece : List ℕ) (texts : List (List ℕ)) (after : Reader) → IsWhole gone → lines_of gone ≡ text_lines texts
     → IsGiven after piece → after.given ≡ length gone + length piece → lines_of (gone ++ piece) ≡ text_lines (texts ++ after.text ∷ [])
 lines_of-given gone piece texts after whole lines given count =

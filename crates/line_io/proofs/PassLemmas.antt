@@ -52,7 +52,7 @@ tied-then : (a x b y c g h : List ℕ) → a ++ x ≡ g ++ b → b ++ y ≡ h ++
 tied-then a x b y c g h first second =
     sym (append_assoc a x y) ∙ ap (λ l. l ++ y) first ∙ append_assoc g b y ∙ ap (λ l. g ++ l) second ∙ sym (append_assoc g h c)
 
--- ---- no line, and lines behind lines
+-- ---- no line, and lines after lines
 
 -- no line went by
 pub passes-none : (r : Reader) (left : Option (List ℕ)) → Passes r r left left []

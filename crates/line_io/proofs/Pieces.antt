@@ -23,7 +23,7 @@ unfolding first_size
 first_size-some [] h = absurd (omega arith)
 first_size-some (b ∷ bs) h = elim (nat_eq b 10) as (λ t. 0 < cond t 1 (suc (first_size bs))) [ true ↦ omega arith | false ↦ omega arith ]
 
--- the first piece, and the pieces of what is behind it
+-- the first piece, and the pieces of what follows it
 pub pieces-first : (xs : List ℕ) → 0 < length xs → pieces xs ≡ take (first_size xs) xs ∷ pieces (drop (first_size xs) xs)
 unfolding pieces first_size
 pieces-first [] h = absurd (omega arith)

@@ -103,6 +103,10 @@ pending-drops xs start end n h =
     let split : end - start ≡ n + m = omega arith in
     ap (take m) (sym (drop-drop n start xs)) ∙ sym (drop-take n m (drop start xs)) ∙ ap (λ k. drop n (take k (drop start xs))) (sym split)
 
+-- a part of a buffer has as many bytes as lie between its places
+pub part-length : (xs : List ℕ) (start end : ℕ) → end ≤ length xs → length (take (end - start) (drop start xs)) ≡ end - start
+part-length xs start end h = length-take-le (end - start) (drop start xs) (omega (arith, length-drop start xs))
+
 -- a buffer after a write at its front
 pub written-front : (xs ys given : List ℕ) (n : ℕ) → length ys ≤ length xs → given ≡ ys → length xs ≡ n → take n (given ++ drop (length given) xs) ≡ ys ++ drop (length ys) xs
 written-front xs ys given n h e m =
@@ -148,7 +152,7 @@ answers-through r s t before now result text kept given ended give =
 
 -- ---- a refill
 
--- the pending bytes moved to the front, and those that were taken behind them
+-- the pending bytes moved to the front, and those that were taken after them
 pub refilled : (bytes moved now : List ℕ) (start count n : ℕ) → take count now ≡ take count moved → take count moved ≡ take count (drop start bytes)
     → take (count + n - 0) now ≡ take count (drop start bytes) ++ take n (drop count now)
 refilled bytes moved now start count n kept shifted =
@@ -229,6 +233,14 @@ gives-first (Err e) r s t a b size f given is found gone stays = let same = stay
   counted = ap (λ x. x.given) same ∙ given ∙ (let z : r.given ≡ r.given + 0 = omega arith in z);
   line = refl;
 }
+
+-- a line that went away is counted, and nothing else goes away
+pub counts-first : (result : Result Found LineFault) (s t : Reader) (size : ℕ) → size ≡ first_size s.pending → (result ≡ Ok Text → (t.given ≡ s.given + size) × (t.pending ≡ drop size s.pending))
+    → ((result ≡ Ok Text → ⊥) → t ≡ s) → t.given + length t.pending ≡ s.given + length s.pending
+counts-first (Ok Text) s t size is gone stays =
+    omega (arith, (gone refl).0, ap length (gone refl).1, length-drop size s.pending, first_size-le s.pending)
+counts-first (Ok End) s t size is gone stays = ap (λ r. r.given + length r.pending) (stays (λ e. cc))
+counts-first (Err fault) s t size is gone stays = ap (λ r. r.given + length r.pending) (stays (λ e. cc))
 
 -- ---- the last answer
 

@@ -67,7 +67,7 @@ pub text-line : {T E : Type 0} {a : Option (List ℕ)} {p line : List ℕ} {b : 
     → line ≡ fields fs → PutsText a p (line ++ (10 ∷ [])) b q r → PutsText a p (line_text fs) b q r
 text-line fs e h = text-is (ap (λ l. l ++ (10 ∷ [])) e) h
 
--- the last writer of several, behind the texts of those before it
+-- the last writer of several, after the texts of those before it
 pub text-last : {T E : Type 0} (r : Result T E) {a : Option (List ℕ)} {p t : List ℕ} {b : Option (List ℕ)} {q u : List ℕ} {c : Option (List ℕ)} {s : List ℕ}
     → Puts a p t b q → PutsText b q u c s r → PutsText a p (t ++ u) c s r
 text-last (Ok x) before h = record { ok = puts-then before h.ok; err = tt }
@@ -91,7 +91,7 @@ flat_map-more f xs i none h =
     let x = get_or xs i none in
     ap (λ l. flat_map f (take i xs) ++ l) (sym (append-nil (f x))) ∙ sym (flat_map-append f (take i xs) (x ∷ [])) ∙ ap (flat_map f) (sym (take_more xs i none h))
 
--- those so far, this one and those behind it
+-- those so far, this one and those after it
 flat_map-parts : {X : Type 0} (f : X → List ℕ) (xs : List X) (i : ℕ) (none : X) → i < length xs
     → (flat_map f (take i xs) ++ f (get_or xs i none)) ++ flat_map f (drop (i + 1) xs) ≡ flat_map f xs
 flat_map-parts f xs i none h =
@@ -113,7 +113,7 @@ front-each f xs i none h before this = front-is (flat_map-parts f xs i none h) (
 
 -- ---- fields
 
--- the fields behind the first, each with its space
+-- the fields after the first, each with its space
 fields-behind : (text first : List ℕ) (fs : List (List ℕ)) → fields ((text ++ first) ∷ fs) ≡ text ++ fields (first ∷ fs)
 fields-behind text first [] = refl
 fields-behind text first (f ∷ fs) = ap (λ l. fields (l ∷ fs)) (append_assoc text first (32 ∷ f)) ∙ fields-behind text (first ++ (32 ∷ f)) fs

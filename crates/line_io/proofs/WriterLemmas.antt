@@ -19,7 +19,7 @@ unfailed {S} {H} {F} {a} {b} h e = by a.failed refl
     by true f = absurd (false≢true (sym e ∙ ap (λ (w : Writer S). w.failed) (h.stays f) ∙ f))
     by false f = f
 
--- one text, and another behind it
+-- one text, and another after it
 pub writes_then : {S : Type 0} {H : S → Option (List ℕ)} {F : S → Count} {a b c : Writer S} {t u : List ℕ}
     → Writes H F a t b → Writes H F b u c → Writes H F a (t ++ u) c
 writes_then {S} {H} {F} {a} {b} {c} {t} {u} h g = record {

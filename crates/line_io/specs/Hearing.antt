@@ -17,12 +17,12 @@ use Rattle.line_io.specs.declared.hearing.Ending.TheVariants.{Finished, Failed, 
 abbrev pub Hearing : Type 0 → Type 0 → Type 1
 Hearing S F = S → ℕ → List ℕ → Result Heard F → S → Type 0
 
--- some lines, behind `before` others, led from a state to a state, and each time it went on
+-- some lines, after `before` others, led from a state to a state, and each time it went on
 unfoldable pub HearsAll : {S F : Type 0} → Hearing S F → S → ℕ → List (List ℕ) → S → Type 0
 HearsAll hears s before [] s' = s' ≡ s
 HearsAll hears s before (text ∷ texts) s' = (mid : _) × hears s (before + 1) text (Ok More) mid × HearsAll hears mid (before + 1) texts s'
 
--- the end behind them: `last` is the line that the state answered last, if there was one, and `rest` the lines behind
+-- the end after them: `last` is the line that the state answered last, if there was one, and `rest` the lines after it
 abbrev pub EndsBy : {S F : Type 0} → Hearing S F → Ending F → S → ℕ → List (List ℕ) → List Line → S → Type 0
 EndsBy hears Finished s before last rest s' = (text : List ℕ) × (last ≡ text ∷ []) × hears s (before + 1) text (Ok Last) s'
 EndsBy hears (Failed fault) s before last rest s' = (text : List ℕ) × (last ≡ text ∷ []) × hears s (before + 1) text (Err fault) s'
@@ -46,7 +46,7 @@ IsCaused _ before now = now ≡ before
 
 -- a state listened to a reader
 pub record Listens {S F : Type 0} (hears : Hearing S F) (result : Ending F) (from to : S) (before after : Reader) (left left' : Option (List ℕ)) : Type 0 where
-  -- the lines from which it went on, the line that it answered last, and what is left behind them
+  -- the lines from which it went on, the line that it answered last, and what is left after them
   pub texts : List (List ℕ)
   pub last : List (List ℕ)
   pub rest : List Line

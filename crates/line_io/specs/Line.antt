@@ -20,7 +20,7 @@ abbrev pub onto_first : ℕ → List (List ℕ) → List (List ℕ)
 onto_first b [] = (b ∷ []) ∷ []
 onto_first b (p ∷ ps) = (b ∷ p) ∷ ps
 
--- the bytes cut behind each LF: each part is a line with its end
+-- the bytes cut after each LF: each part is a line with its end
 unfoldable pub pieces : List ℕ → List (List ℕ)
 pieces [] = []
 pieces (b ∷ bs) = if is_lf b then (b ∷ []) ∷ pieces bs else onto_first b (pieces bs)
@@ -55,7 +55,7 @@ abbrev pub then_lines : Line → List Line → List Line
 then_lines (Ok text) lines = Ok text ∷ lines
 then_lines (Err code) lines = Err code ∷ []
 
--- the lines of these pieces, behind so many bytes of the input
+-- the lines of these pieces, after so many bytes of the input
 unfoldable pub lines_after : ℕ → List (List ℕ) → List Line
 lines_after before [] = []
 lines_after before (p ∷ ps) = then_lines (line_of (before + length p) p) (lines_after (before + length p) ps)

@@ -1,5 +1,5 @@
 -- What a reader of lines has before it, and what it answers.
-use Rattle.std.specs.Prelude.{◌≡◌, ℕ, ◌+◌, ◌<◌, ◌≤◌, Bool, true, ◌||◌, ◌==◌, nat_le, if◌then◌else◌, List, [], ◌∷◌, ◌++◌, length, Result, Ok, Err, None, Some, ⊤, ◌⊎◌}
+use Rattle.std.specs.Prelude.{◌≡◌, ℕ, ◌+◌, ◌<◌, ◌≤◌, Bool, true, ◌||◌, nat_le, if◌then◌else◌, List, [], ◌∷◌, ◌++◌, length, Result, Ok, Err, None, Some, ⊤, ◌⊎◌}
 use Rattle.std.specs.List.{list_any}
 use Rattle.std.specs.Option.{option_map}
 use Rattle.std.specs.declared.option.Option.{Option}
@@ -94,7 +94,7 @@ answer_at (Err code ∷ lines) = Err (fault_of code)
 abbrev pub pending_lines : Reader → List Line
 pending_lines r = lines_after r.given (pieces r.pending)
 
--- the lines of the pending bytes with those that were taken behind them
+-- the lines of the pending bytes with those that were taken after them
 abbrev pub taken_lines : Reader → List ℕ → List Line
 taken_lines r taken = lines_after r.given (pieces (r.pending ++ taken))
 

@@ -1,7 +1,7 @@
 -- How a line of output is spelled: fields with one space between them, and a LF, which is the byte 10.
 use Rattle.std.specs.Prelude.{ℕ, List, [], ◌∷◌, ◌++◌, fold}
 
--- the fields, each but the first behind one space, which is the byte 32
+-- the fields, each but the first after one space, which is the byte 32
 abbrev pub fields : List (List ℕ) → List ℕ
 fields [] = []
 fields (first ∷ others) = fold (λ text field. text ++ (32 ∷ field)) first others

@@ -1,11 +1,11 @@
 -- What a buffered writer has written: the bytes that the sink holds, then the pending ones.
-use Rattle.std.specs.Prelude.{◌≡◌, ℕ, Bool, true, false, List, ◌++◌, Result, OnOk, OnErr}
+use Rattle.std.specs.Prelude.{◌≡◌, ℕ, true, false, List, ◌++◌, Result, OnOk, OnErr}
 use Rattle.std.specs.declared.option.Option.{Option}
 use Rattle.std.specs.Io.KnownBytes.{Appends}
 use Rattle.line_io.specs.Causes.{Count, Rose}
 use Rattle.line_io.specs.declared.writer.Writer.{Writer}
 
--- the text was put behind the pending bytes: some bytes went over to the sink, in order, and the rest is pending
+-- the text was put after the pending bytes: some bytes went over to the sink, in order, and the rest is pending
 pub record Puts (held : Option (List ℕ)) (pending text : List ℕ) (held' : Option (List ℕ)) (pending' : List ℕ) : Type 0 where
   pub sent : List ℕ
   pub order : pending ++ text ≡ sent ++ pending'

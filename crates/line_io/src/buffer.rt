@@ -25,7 +25,7 @@ pub(crate) fn write_at(buffer: &mut [u8], at: usize, bytes: &[u8])
     buffer[at..end].copy_from_slice(bytes);
 }
 
-// Takes bytes of a source behind those in front of a place.
+// Takes bytes of a source after those in front of a place.
 pub(crate) fn take_behind<S: Source>(
     source: &mut S,
     buffer: &mut [u8],

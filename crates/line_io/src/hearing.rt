@@ -75,7 +75,7 @@ pub fn listen<S: Source, L: Listener>(
     ensures cause { IsCaused result (S.faults source.old) (S.faults source.new) }
     ensures kept { L.kept listener.new ≡ L.kept listener.old }
     ensures drained { Drained lines.old (S.left source.old) → Drained lines.new (S.left source.new) }
-    ensures asks { Asks S.takes lines.old.ended source.old lines.new.ended source.new }
+    ensures asks { Asks S.takes lines.old source.old lines.new source.new }
 {
     loop {
         match lines.next(source) {

@@ -167,7 +167,7 @@ impl Lines {
         ensures drained { Drained self.old (S.left source.old) → Drained self.new (S.left source.new) }
         ensures more { OnOk result ((self.new.ended ≡ true) ⊎ (length self.old.pending < length self.new.pending)) }
         ensures bounds { length self.new.pending ≤ BUFFER_SIZE }
-        ensures asks { Asks S.takes self.old.ended source.old self.new.ended source.new }
+        ensures asks { Asks S.takes self.old source.old self.new source.new }
         ensures cause { HasCause (S.faults source.old) (S.faults source.new) result }
     {
         let end = self.end - self.start;
@@ -228,8 +228,8 @@ impl Lines {
         ensures end { result ≡ Ok Found.End → self.new.ended ≡ true }
         ensures drained { Drained self.old (S.left source.old) → Drained self.new (S.left source.new) }
 
-        // each time the source is offered enough room, and it is asked no more where it has ended
-        ensures asks { Asks S.takes self.old.ended source.old self.new.ended source.new }
+        // each time the source is offered enough room, it is asked no more where it has ended, and each byte that it gave is kept
+        ensures asks { Asks S.takes self.old source.old self.new source.new }
 
         // a read fault has its cause, and comes only where no line is pending
         ensures failed { result ≡ Err LineFault.ReadFault → Rose (S.faults source.old) (S.faults source.new) }

@@ -73,7 +73,7 @@ impl Out {
         &self.buffer[..self.len]
     }
 
-    /// Puts bytes behind the pending ones. On `Err` none of them was taken in, and what the sink didn't take of the pending ones is still
+    /// Puts bytes after the pending ones. On `Err` none of them was taken in, and what the sink didn't take of the pending ones is still
     /// pending.
     pub fn put<K: Sink>(&mut self, sink: &mut K, bytes: &[u8]) -> Result<(), WriteFault>
         requires { length bytes.now ≤ PUT_LIMIT }

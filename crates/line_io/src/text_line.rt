@@ -44,7 +44,7 @@ impl TextLine {
         line
     }
 
-    /// Puts bytes behind, in the last field.
+    /// Puts bytes at the end, in the last field.
     pub fn extend(&mut self, bytes: &[u8])
         requires { length self.old + length bytes.now ≤ TEXT_LINE_LIMIT }
         ensures { self.new ≡ self.old ++ bytes.now }
@@ -55,7 +55,7 @@ impl TextLine {
         self.len = end;
     }
 
-    /// Puts a space and one more field behind.
+    /// Puts a space and one more field at the end.
     pub fn field(&mut self, field: &[u8])
         requires { length self.old + 1 + length field.now ≤ TEXT_LINE_LIMIT }
         ensures { self.new ≡ self.old ++ (32 ∷ field.now) }
@@ -64,7 +64,7 @@ impl TextLine {
         self.extend(field);
     }
 
-    /// Puts a space and a number in decimal digits behind.
+    /// Puts a space and a number in decimal digits at the end.
     pub fn number(&mut self, value: u64)
         requires { length self.old + 21 ≤ TEXT_LINE_LIMIT }
         ensures value { self.new ≡ self.old ++ (32 ∷ decimal value) }

@@ -95,7 +95,7 @@ size-by x false = omega (arith, length-append x (10 ∷ []))
 pub ended-size : (x : List ℕ) → length (ended x) ≤ length x + 2
 ended-size x = size-by x (ends 13 x)
 
--- the end of a line with a text behind a space is that of the text
+-- the end of a line with a text after a space is that of the text
 text-end : (text : List ℕ) → ends 13 (32 ∷ text) ≡ ends 13 text
 text-end [] = refl
 text-end (b ∷ bs) = ends-cons 13 32 b bs

@@ -45,7 +45,7 @@ entrant-last (f ∷ es) e later =
 
 -- ---- an entrant
 
--- the people of entrants up to one are those of all but those behind it
+-- the people of entrants up to one are those of all but those after it
 coming-so-far : (starting : ℕ) (done : List Coming) (e : Coming) (es : List Coming) → starting + sum_by (λ f. f.people) (done ++ (e ∷ es)) ≤ people_limit
     → starting + sum_by (λ f. f.people) done + e.people ≤ people_limit
 coming-so-far starting done e es few =
@@ -92,7 +92,7 @@ entrant-adds m g horizon done e es taken named is valid early sorted people =
 
 -- ---- entrants
 
--- entrants in order behind those so far
+-- entrants in order after those so far
 pub entrants-go : (m : Model) (g : Gathered) (horizon : ℕ) (es done : List Coming) (taken : List SaidPart) → AreNamed m.nodes
     → gathered taken ≡ record g { nodes = m.nodes; entrants = done } → All (IsEntrant m.nodes horizon) es → horizon ≤ horizon_limit → AllPairs ComesBefore (done ++ es)
     → sum_by (λ n. n.start) m.nodes + sum_by (λ f. f.people) (done ++ es) ≤ people_limit

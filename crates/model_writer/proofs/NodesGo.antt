@@ -51,7 +51,7 @@ unshut-row : (n : NodeRow) (capacity start : ℕ) → capacity ≡ n.capacity �
 unshut-row n capacity start c s unshut =
     ap (λ k. node_row n.name k start) c ∙ ap (node_row n.name n.capacity) s ∙ ap (λ b. record n { shut = b }) (sym unshut)
 
--- the people of nodes up to one are those of all but those behind it
+-- the people of nodes up to one are those of all but those after it
 people-so-far : (done : List NodeRow) (n : NodeRow) (ns : List NodeRow) (coming : ℕ) → sum_by (λ x. x.start) (done ++ (n ∷ ns)) + coming ≤ people_limit
     → sum_by (λ x. x.start) done + coming + n.start ≤ people_limit
 people-so-far done n ns coming few =

@@ -1,12 +1,12 @@
 -- Lines that say parts without a fault are read as the building that these describe.
-use Rattle.std.proofs.Common.{◌≡◌, ℕ, ◌+◌, Bool, true, false, ◌||◌, cond, List, [], ◌∷◌, ◌++◌, length, map, Result, Ok, Err, None, refl, sym, ap, subst, ◌∙◌, arith}
+use Rattle.std.proofs.Common.{◌≡◌, ℕ, ◌+◌, Bool, true, false, ◌||◌, cond, List, [], ◌∷◌, ◌++◌, length, map, Result, Ok, Err, None, refl, ap, ◌∙◌, arith}
 use Rattle.std.specs.Prelude.{codes}
 use Rattle.std.specs.Str.{bytes_eq}
 use Rattle.model_text.specs.declared.fault.TextFault.{TextFault}
 use Rattle.model_text.specs.declared.fault.TextFault.TheVariants.{UnknownWord}
 use Rattle.model_text.specs.Fields.{behind_field, fields_of}
 use Rattle.model_text.specs.Grammar.{◌>>=◌, Said, SaidPart, Blank, Header, Part, End, header, is_comment, number_field, of_fields, one_field, statement_of}
-use Rattle.model_text.specs.Readings.{Line, Described, ReadingState, InModel, Moved, Ended, Stopped, after_step, begins_unknown, first_said, later_said, later_statement, model_of, opening_of, reading_at, step_at, step_unless}
+use Rattle.model_text.specs.Readings.{Line, Described, ReadingState, InModel, Moved, Ended, after_step, begins_unknown, first_said, later_said, later_statement, model_of, opening_of, reading_at, step_at, step_unless}
 use Rattle.line_io.specs.Line.{text_lines}
 use Rattle.model_text.specs.Taken.{description_of, end_fault, part_fault}
 use Rattle.model_writer.specs.Laws.{AreFine, pushed}
@@ -37,7 +37,7 @@ known : (line : List ℕ) (p : SaidPart) → statement_of line ≡ Ok (Part p) �
 unfolding statement_of
 known line p e = known-word (fields_of line) (behind_field line) p e
 
--- the reading behind the header of version 2 and some parts
+-- the reading after the header of version 2 and some parts
 abbrev behind : List SaidPart → ReadingState
 behind taken = InModel 2 taken
 

@@ -36,7 +36,7 @@ range-back low high n above below few =
 
 -- ---- a line of fields
 
--- what its first word says of the bytes behind it, whose fields are the others
+-- what its first word says of the bytes after it, whose fields are the others
 pub record Spells (f : List ℕ) (fs : List (List ℕ)) : Type 0 where
   pub says : statement_of (fields (f ∷ fs)) ≡ by_word f (behind_field (fields (f ∷ fs)))
   pub behind : fields_of (behind_field (fields (f ∷ fs))) ≡ fs

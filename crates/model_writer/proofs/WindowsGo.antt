@@ -24,12 +24,12 @@ use Rattle.model_writer.proofs.ArcsGo.{AreNamed, EndsDiffer, IsPlainArc, apart-e
 abbrev pub with_windows : ArcRow → List Closed → ArcRow
 with_windows a ws = record (bare a) { windows = record { items = ws } }
 
--- ---- the place of an arc behind others
+-- ---- the place of an arc after others
 
 joins-self : (a : ArcRow) (ws : List Closed) → joins a.from a.to (with_windows a ws) ≡ true
 joins-self a ws = rw (eq-eqb a.from a.from refl, eq-eqb a.to a.to refl) refl
 
--- the arcs before one, it with some of its windows, and those behind it
+-- the arcs before one, it with some of its windows, and those after it
 abbrev arcs_around : List ArcRow → ArcRow → List Closed → List ArcRow → List ArcRow
 arcs_around done a ws rest = done ++ (with_windows a ws ∷ rest)
 
@@ -49,7 +49,7 @@ arc-place done a ws rest new =
 
 -- ---- a window
 
--- a window that begins behind all others comes last
+-- a window that begins after all others comes last
 window-last : (ws : List Closed) (w : Closed) → All (λ v. v.from ≤ w.from) ws → with_window ws w ≡ ws ++ (w ∷ [])
 window-last [] w later = refl
 window-last (v ∷ ws) w later =
@@ -127,7 +127,7 @@ window-adds m g done rest a ws w more taken named is valid new are =
 
 -- ---- windows
 
--- windows of one arc behind those so far
+-- windows of one arc after those so far
 windows-of-go : (m : Model) (g : Gathered) (done rest : List ArcRow) (a : ArcRow) (more ws : List Closed) (taken : List SaidPart) → AreNamed m.nodes
     → gathered taken ≡ record g { nodes = m.nodes; arcs = arcs_around done a ws rest } → IsArc m.nodes a → list_any (joins a.from a.to) done ≡ false → AreWindows (ws ++ more)
     → AddsAll taken (map (window_said m a) more) (record g { nodes = m.nodes; arcs = arcs_around done a (ws ++ more) rest })

@@ -46,7 +46,7 @@ abbrev pub pushed : List SaidPart → List SaidPart → List SaidPart
 pushed taken [] = taken
 pushed taken (p ∷ ps) = pushed (p ∷ taken) ps
 
--- parts that are spelled, each without a fault behind those before it
+-- parts that are spelled, each without a fault after those before it
 abbrev pub AreFine : List SaidPart → List SaidPart → Type 0
 AreFine taken [] = ⊤
 AreFine taken (p ∷ ps) = IsSpelledPart p × (part_fault taken p ≡ None) × AreFine (p ∷ taken) ps

@@ -83,7 +83,7 @@ said_line (Header version) = fields (codes "evacplan" ∷ decimal version ∷ []
 said_line (Part part) = part_line part
 said_line End = fields (codes "end" ∷ [])
 
--- the end of a line, which is LF, the byte 10; behind a line that ends with CR, the byte 13, one further CR stands before it
+-- the end of a line, which is LF, the byte 10; after a line that ends with CR, the byte 13, one further CR stands before it
 abbrev pub line_end : List ℕ → List ℕ
 line_end line = if ends_with nat_eq line (13 ∷ []) then 13 ∷ 10 ∷ [] else 10 ∷ []
 
@@ -143,7 +143,7 @@ rows_text m =
 abbrev pub building_text : Building → List ℕ
 building_text b = ((settings_text b ++ floors_text b.names) ++ rows_text b.model) ++ said_text End
 
--- the fields of a line, with the text behind them where there is one
+-- the fields of a line, with the text after them where there is one
 abbrev pub line_with : List ℕ → Option (List ℕ) → List ℕ
 line_with line None = line
 line_with line (Some text) = line ++ (32 ∷ text)

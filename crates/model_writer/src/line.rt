@@ -60,7 +60,7 @@ fn of_names_numbers(word: &[u8], from: NodeName, to: NodeName, first: u32, secon
     line
 }
 
-// The fields of a line, and the text that stands behind them, where there is one.
+// The fields of a line, and the text that stands after them, where there is one.
 #[derive(Drop)]
 struct Line<'a> {
     fields: TextLine,
@@ -75,7 +75,7 @@ fn of_fields<'a>(fields: TextLine) -> Line<'a>
     Line { fields, text: None }
 }
 
-// A line of fields and of a text behind them.
+// A line of fields and of a text after them.
 fn with_text<'a>(fields: TextLine, text: &'a [u8]) -> Line<'a>
     ensures fields { result.fields ≡ fields }
     ensures text { result.text ≡ Some text.entry }
@@ -154,7 +154,7 @@ fn put_line<K: Sink>(writer: &mut Writer<'_, K>, line: &[u8])
     writer.put_all(end_of(line));
 }
 
-// Puts a line of fields and of a text behind them, with its end.
+// Puts a line of fields and of a text after them, with its end.
 fn put_text_line<K: Sink>(writer: &mut Writer<'_, K>, fields: &[u8], text: &[u8])
     ensures { Writes K.held K.faults writer.old (ended (fields.now ++ (32 ∷ text.now))) writer.new }
 {

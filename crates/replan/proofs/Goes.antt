@@ -1,4 +1,4 @@
--- Moves behind those made before a moment: feasible in the building exactly where they are in what is left of it.
+-- Moves after those made before a moment: feasible in the building exactly where they are in what is left of it.
 use Rattle.std.proofs.Common.{◌≡◌, ℕ, ◌+◌, ◌-◌, ◌<◌, ◌≤◌, List, length, get_or, ap, sym, ◌∙◌, ◌⊎◌, inl, inr, arith, IsFalse, pos, ◌≤ℤ◌, ◌↔◌}
 use Rattle.std.proofs.lemmas.List.Elements.{All-weaker}
 use Rattle.std.proofs.lemmas.Bool.{cases_lt}

@@ -1,5 +1,5 @@
 -- Carrying a best plan out keeps its curve.
-use Rattle.std.proofs.Common.{◌≡◌, ℕ, ◌+◌, ◌≤◌, List, ◌++◌, refl, ◌∙◌, arith}
+use Rattle.std.proofs.Common.{ℕ, List, ◌++◌, refl, ◌∙◌, arith}
 use Rattle.evac_law.specs.declared.model.Model.{Model}
 use Rattle.evac_law.specs.declared.plan.Move.{Move}
 use Rattle.evac_law.specs.Building.{IsValid}

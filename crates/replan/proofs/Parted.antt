@@ -14,7 +14,7 @@ use Rattle.evac_law.specs.Sums.{moments_to}
 use Rattle.evac_law.proofs.SumLemmas.{by_suc, sum_by-add, sum_by-nothing, sum_by-same, sum_by-same_all}
 use Rattle.replan.specs.Committed.{moves_before, moves_from}
 
--- what two tests let through, one behind the other
+-- what two tests let through, one after the other
 pub both : (a b : Bool) (w : ℕ) → cond a (cond b w 0) 0 ≡ cond (a && b) w 0
 both true b w = refl
 both false b w = refl

@@ -22,7 +22,7 @@ module _ (m : Model) (p : List Move) (s : ℕ) (valid : IsValid m) (first : 1 �
   of : IsLeft m p s (rest m p s)
   of = is_left m p s valid first in_horizon all
 
-  -- moves from s on in the building, behind p's before s, and in what is left
+  -- moves from s on in the building, after p's before s, and in what is left
   feasible : (r w : List Move) (k : ℕ) → IsLate s r → IsBehind m p s r w → IsFeasible m w k ↔ IsFeasible (rest m p s) r k
   feasible r w k late behind = feasible_both m (rest m p s) p r w s valid in_horizon all late of behind k
 

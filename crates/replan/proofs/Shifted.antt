@@ -1,4 +1,4 @@
--- Behind the moves made before a moment, as many are held as in what is left of the building.
+-- After the moves made before a moment, as many are held as in what is left of the building.
 use Rattle.std.proofs.Common.{◌≡◌, ℕ, zero, suc, ◌+◌, ◌-◌, ◌<◌, ◌≤◌, Bool, true, false, cond, ◌&&◌, ◌||◌, eqb, leb, ltb, IsFalse, List, length, get_or, ap, ap₂, ◌∙◌, ◌⊎◌, inl, inr, arith, pos, ◌-ℤ◌, ◌+ℤ◌}
 use Rattle.std.specs.List.{All, sum_by}
 use Rattle.std.proofs.lemmas.List.Elements.{All-filter, All-weaker}
@@ -164,7 +164,7 @@ module _ (m : Model) (p : List Move) (s : ℕ) (valid : IsValid m) (in_horizon :
         shifted d,
       ))
 
-  -- as many are held behind the moves made as in the rest, whatever moves come after them
+  -- as many are held after the moves made as in the rest, whatever moves come after them
   pub held_shifts : (r w : List Move) (d : ℕ) → IsBehind m p s r w
       → (sum_by (rest_entry m p s n) (moments_to (s + d)) + arrived m r n (s + d)) + left m w n (s + d) ≡ came m w n (s + d) + left m r n (s + d)
   held_shifts r w d behind =

@@ -10,7 +10,7 @@ use Rattle.evac_law.specs.Plans.{IsFeasible, out_by}
 use Rattle.replan.specs.Committed.{SharesMoves, TakesAllOut, gone_by, moves_before, moves_from}
 use Rattle.replan.specs.Rest.{rest}
 
--- behind the moves made before s, moves from s on are feasible in the building exactly where they are in what is left of it, and at every moment
+-- after the moves made before s, moves from s on are feasible in the building exactly where they are in what is left of it, and at every moment
 -- those who are out by the one and by the other add up
 pub record GoesOnAsRest (m : Model) (p : List Move) (s : ℕ) (r : List Move) : Type 0 where
   pub feasible : (k : ℕ) → s ≤ k → IsFeasible m (moves_before s p ++ r) k ↔ IsFeasible (rest m p s) r k
@@ -39,7 +39,7 @@ pub record IsBestFrom (m : Model) (p : List Move) (s : ℕ) (r : List Move) : Ty
   pub shares : SharesMoves s p (moves_before s p ++ r)
   pub best : (q : List Move) (k : ℕ) → SharesMoves s p q → IsFeasible m q k → out_by m q k ≤ out_by m (moves_before s p ++ r) k
 
--- behind the moves made before s a certified plan of what is left is best
+-- after the moves made before s a certified plan of what is left is best
 abbrev pub CertifiedRestIsBest : Type 0
 CertifiedRestIsBest =
     (m : Model) (p r : List Move) (s : ℕ) (l : LabelTable) (c : ℕ) → IsValid m → 1 ≤ s → s ≤ m.horizon → TakesAllOut m p

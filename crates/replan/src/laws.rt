@@ -1,7 +1,7 @@
 //! The laws, each the contract of a function with nothing to do.
 ghost use Rattle.replan.specs.RestLaws.{AdvanceKeepsCurve, AdvancesAddUp, CertifiedRestIsBest, RestGoesOn, RestIsClearable};
 
-/// Behind the moves made before a moment a plan goes on as in what is left of the building.
+/// After the moves made before a moment a plan goes on as in what is left of the building.
 pub fn rest_goes_on()
     ensures { RestGoesOn }
 {}

@@ -2,7 +2,7 @@
 //!
 //! `Replan` is a session whose plan is carried out step by step. `advance` keeps the moves before a moment and plans what is left of the
 //! building from nothing: whoever is in a node then, on an arc, or still to come. The laws say that what is left can always be cleared, and
-//! that the moves made with the best plan of the rest behind them are best among all plans that make the same moves.
+//! that the moves made with the best plan of the rest after them are best among all plans that make the same moves.
 #![tactic(auto)]
 
 mod comers;

@@ -87,10 +87,10 @@ barred_said {X} {H} {F} line code p steps n k t t' a b barred desk replan none c
 
 -- ---- what a line asks for
 
-pub asks_moment : {N X E : Type 0} {H : X → Option (List ℕ)} {F : X → Count} (line : ℕ) (s : Replanned) (text : List ℕ) (p : ℕ) (named : Result ℕ TextFault) (result : Result (Unit {0}) E) (x y : Speaking N Replanned X)
+pub asks_moment : {N X E : Type 0} (H : X → Option (List ℕ)) (F : X → Count) (line : ℕ) (s : Replanned) (text : List ℕ) (p : ℕ) (named : Result ℕ TextFault) (result : Result (Unit {0}) E) (x y : Speaking N Replanned X)
     → asks_advance text ≡ true → named ≡ Ok p → named ≡ asked_moment text → AnswersSome H F (AdvancesTo line s p (bars_moment s p)) (bars_moment s p ≡ false) result x y
     → AnswersSome H F (AsksAdvance line s (asked_moment text)) (WantsMemory s text) result x y
-asks_moment {N} {X} {E} {H} {F} line s text p named result x y asks ok is h =
+asks_moment {N} {X} {E} H F line s text p named result x y asks ok is h =
     let e : asked_moment text ≡ Ok p = sym is ∙ ok in
     let P : Result ℕ TextFault → Type 0 = λ m. AnswersSome H F (AsksAdvance line s m) (WantsMemory s text) result x y in
     subst P (sym e) (by_result result h)

@@ -43,7 +43,7 @@ pub tail_is : (m : Model) (items more : List CutItem) (item : CutItem) → items
 tail_is m items more item e h =
     let all : All (IsItemOf m) (item ∷ more) = subst (All (IsItemOf m)) e h in λ k d l. all (suc k) d (omega (arith, l))
 
--- those before it, it and those behind it
+-- those before it, it and those after it
 pub parted : (m : Model) (done items more whole : List CutItem) (item : CutItem) → items ≡ item ∷ more → done ++ items ≡ whole
     → flat_map (item_line m) done ++ (item_line m item ++ flat_map (item_line m) more) ≡ flat_map (item_line m) whole
 parted m done items more whole item e h =

@@ -15,7 +15,7 @@ parts-same_below f g (suc n) h =
     flat_map-suc f n ∙ ap (λ l. l ++ f n) (parts-same_below f g n (λ i l. h i (omega (arith, l)))) ∙ ap (λ l. flat_map g (below n) ++ l) (h n (omega arith))
     ∙ sym (flat_map-suc g n)
 
--- one part behind others
+-- one part after others
 pub parts-one : {X Y : Type 0} (f : X → List Y) (xs : List X) (x : X) → flat_map f (xs ++ x ∷ []) ≡ flat_map f xs ++ f x
 parts-one f xs x = flat_map-append f xs (x ∷ []) ∙ ap (λ l. flat_map f xs ++ l) (append-nil (f x))
 

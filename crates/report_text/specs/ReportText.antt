@@ -1,5 +1,5 @@
 -- The texts of the reports on an answer: its cuts, routes, cards, clearing, bottlenecks and summary, and the work of an edit.
-use Rattle.std.specs.Prelude.{◌≡◌, ℕ, ◌+◌, ◌*◌, ◌==◌, if◌then◌else◌, List, [], ◌∷◌, ◌++◌, codes, decimal, Some, None}
+use Rattle.std.specs.Prelude.{◌≡◌, ℕ, ◌+◌, ◌*◌, ◌≤◌, ◌==◌, if◌then◌else◌, List, [], ◌∷◌, ◌++◌, length, codes, decimal, Some, None}
 use Rattle.std.specs.declared.option.Option.{Option}
 use Rattle.std.specs.List.{flat_map}
 use Rattle.line_io.specs.Text.{line_text}
@@ -17,7 +17,7 @@ use Rattle.bottleneck_report.specs.Crossings.{arc_periods, hold_periods}
 use Rattle.clearing_report.specs.Clearing.{floor_occupied, last_occupied}
 use Rattle.cards.specs.Cards.{CardView, IsFairDeal}
 use Rattle.route_decompose.specs.declared.route.RouteStep.{RouteStep}
-use Rattle.route_decompose.specs.Routes.{Covers, RouteView}
+use Rattle.route_decompose.specs.Routes.{Covers, RouteView, places_of}
 
 -- a word and a number
 unfoldable pub number_line : List ℕ → ℕ → List ℕ
@@ -73,10 +73,11 @@ route_lines m r = route_line r.people (name_of_node m r.start) r.entered ++ flat
 unfoldable pub routes_text : ℕ → Model → List RouteView → List ℕ
 routes_text index m routes = number_line (codes "routes") index ++ flat_map (route_lines m) routes ++ end_line
 
--- the text lists some routes that make up the plan
+-- the text lists some routes that make up the plan, no more than there are places that it uses
 pub record SaysRoutes (index : ℕ) (m : Model) (p : List Move) (text : List ℕ) : Type 0 where
   pub routes : List RouteView
   pub cover : Covers m p routes
+  pub few : length routes ≤ places_of m p
   pub says : text ≡ routes_text index m routes
 
 -- ---- cards

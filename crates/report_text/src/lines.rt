@@ -73,7 +73,7 @@ pub(crate) fn put_arc<K: Sink>(
     writer.put(line);
 }
 
-// Puts a space and a moment behind that isn't 0.
+// Puts a space and a moment that isn't 0 at the end.
 fn put_entered(line: &mut TextLine, moment: u16)
     requires { length line.old ≤ 100 }
     ensures { line.new ≡ line.old ++ (if moment == 0 then [] else (32 ∷ decimal moment)) }
@@ -132,7 +132,7 @@ pub(crate) fn put_step<K: Sink>(
     writer.put(line);
 }
 
-// Puts a space and a moment behind, or a word where there is none.
+// Puts a space and a moment at the end, or a word where there is none.
 fn put_moment(line: &mut TextLine, moment: Option<u16>)
     requires { length line.old ≤ 100 }
     ensures { line.new ≡ line.old ++ (32 ∷ moment_field moment) }

@@ -2,7 +2,7 @@
 use Rattle.std.proofs.Common.{◌≡◌, ℕ, zero, suc, ◌+◌, ◌<◌, ◌≤◌, Bool, true, false, cond, not, ◌&&◌, ◌||◌, eqb, ltb, leb, List, [], ◌∷◌, length, get_or, refl, ap, sym, ◌∙◌, arith, inl, inr, ◌⊎◌, subst, pos, ◌≤ℤ◌}
 use Rattle.std.specs.List.{sum_by, All}
 use Rattle.std.proofs.lemmas.List.Elements.{All-get_or}
-use Rattle.std.proofs.lemmas.Bool.{cases_Bool, cases_lt, cond-false, eqb-true, false_from_ne_true, ne_eqb, ltb-false, le-leb, lt-leb, leb-true, not-true, and_parts}
+use Rattle.std.proofs.lemmas.Bool.{cases_Bool, cases_lt, cond-false, false_from_ne_true, ne_eqb, le-leb, leb-true, and_parts}
 use Rattle.std.proofs.lemmas.Bool.Decides.{nat_tests}
 use Rattle.std.proofs.lemmas.Int.{ints}
 use Rattle.evac_law.specs.Entrants.{entering}
@@ -19,7 +19,7 @@ use Rattle.evac_law.specs.Cuts.{Cut, leaves_cut, cut_value}
 use Rattle.evac_law.specs.Names.{is_exit}
 use Rattle.evac_law.specs.Plans.{IsFeasible, moved, held, out_by}
 use Rattle.evac_law.specs.LabelTable.{LabelTable, label_at}
-use Rattle.evac_law.proofs.SumLemmas.{All-below, sum2, sum2-le, sum2-nothing, sum_by-le_all, sum_by-same}
+use Rattle.evac_law.proofs.SumLemmas.{All-below, sum2, sum2-le, sum2-nothing, sum_by-same}
 use Rattle.evac_law.proofs.SumLemmas as sums
 use Rattle.evac_law.proofs.Entries.{entered_le, exit_entry}
 use Rattle.evac_law.proofs.EntrantTable.{all_of_table, entering-table_entrants, entrants_are_table}

@@ -8,7 +8,7 @@ use Rattle.evac_law.proofs.Entries.{entered_all, none_late, none_past}
 use Rattle.evac_law.proofs.SumLemmas as sums
 use Rattle.residual_net.specs.declared.place.Place.TheVariants.{Supply}
 use Rattle.residual_net.specs.Network.{Network, IsNet, IsWithinLimits, arrived_by, flow_at, flow_out}
-use Rattle.residual_net.specs.OfModel.{IsNetOf, plan_of}
+use Rattle.residual_net.specs.OfModel.{IsNetOf}
 use Rattle.residual_net.proofs.Sent.{sent_model}
 use Rattle.residual_net.specs.Site.{Site, arc_count, is_source, sum_places}
 use Rattle.residual_net.specs.NetLaws.{ArrivedGetOut}
@@ -57,14 +57,10 @@ module _ (m : Model) (w : Network) (valid : IsValid m) (net : IsNet w) (of : IsN
         ap (λ z. arrived_by w z) horizon,
       )
 
-  entry_le : (n t : ℕ) → (length m.nodes ≤ n) ⊎ (n < length m.nodes) → (m.horizon < t) ⊎ (t ≤ m.horizon) → entry some n t ≤ entry m n t
-  entry_le n t (inl past) late = omega (arith, none_past some n t is_valid (omega (arith, past, count_same m w valid net of)))
-  entry_le n t (inr i) (inl late) = omega (arith, none_late some n t is_valid late)
-  entry_le n t (inr i) (inr j) = omega (arith, entry_sent m w valid net of within n t i j, supply_le m w valid net of within n t i j)
-
-  flip : (n : ℕ) → (n < length m.nodes) ⊎ (length m.nodes ≤ n) → (length m.nodes ≤ n) ⊎ (n < length m.nodes)
-  flip n (inl i) = inr i
-  flip n (inr i) = inl i
+  entry_le : (n t : ℕ) → (n < length m.nodes) ⊎ (length m.nodes ≤ n) → (m.horizon < t) ⊎ (t ≤ m.horizon) → entry some n t ≤ entry m n t
+  entry_le n t (inr past) late = omega (arith, none_past some n t is_valid (omega (arith, past, count_same m w valid net of)))
+  entry_le n t (inl i) (inl late) = omega (arith, none_late some n t is_valid late)
+  entry_le n t (inl i) (inr j) = omega (arith, entry_sent m w valid net of within n t i j, supply_le m w valid net of within n t i j)
 
   pub part : IsPart m some
   part = record {
@@ -77,7 +73,7 @@ module _ (m : Model) (w : Network) (valid : IsValid m) (net : IsNet w) (of : IsN
     travels = λ a. refl;
     rates = rate_same m w valid net of;
     capacities = capacity_same m w valid net of;
-    entries = λ n t. entry_le n t (flip n (cases_lt n (length m.nodes))) (cases_lt m.horizon t);
+    entries = λ n t. entry_le n t (cases_lt n (length m.nodes)) (cases_lt m.horizon t);
   }
 
 pub arrived-get-out : ArrivedGetOut

@@ -1,5 +1,5 @@
 -- How a net of a model begins.
-use Rattle.std.specs.Prelude.{◌≡◌, ℕ, zero, suc, ◌+◌, ◌<◌, ◌≤◌, Bool, true, false, if◌then◌else◌, List, [], ◌++◌, length, map}
+use Rattle.std.specs.Prelude.{◌≡◌, ℕ, zero, suc, ◌+◌, ◌<◌, ◌≤◌, Bool, true, false, if◌then◌else◌, List, [], ◌++◌, map}
 use Rattle.evac_law.specs.Sums.{below}
 use Rattle.evac_law.specs.declared.model.Model.{Model}
 use Rattle.residual_net.specs.declared.place.Place.{Place}

@@ -1,6 +1,6 @@
 //! The ways of a building in the order of their lists.
 //!
-//! Each node has a list of the ways into it, which has the number of the node. Behind these lists each node has one of its doors: the
+//! Each node has a list of the ways into it, which has the number of the node. After these lists each node has one of its doors: the
 //! ways from it over an arc into an exit. In a list ways forwards come first, and each direction goes by the rows, in file order.
 ghost use Rattle.std.specs.Prelude.{◌≡◌, ◌<◌, ◌≤◌, IfOk, length};
 ghost use Rattle.std.specs.List.{All};

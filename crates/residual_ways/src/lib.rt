@@ -1,12 +1,12 @@
 //! The pairs, cells and ways of a building by their numbers, for searches that go over many of them.
 //!
 //! A pair is a node at a moment. A cell is a place of a net, with its flow and its limit. A way is an arc or a wait that leads into a
-//! node, forwards or backwards; at a moment it is a step. `Sizes` says where pairs and cells stand, `Ways` has the ways into each node
+//! node, forwards or backwards; at a moment it is a step. `Sizes` numbers pairs and cells, `Ways` has the ways into each node
 //! in the order in which they are to be tried, and `Residual` has them beside the cells of a net.
 //!
-//! The contracts say where pairs and cells stand, that the cell of each place is the one that it has in a net of the same sizes, which
+//! The contracts say which numbers pairs and cells have, that the cell of each place is the one that it has in a net of the same sizes, which
 //! step a way is at a moment, and how many people have room over it. **Which ways there are and in which order they come is said by
-//! none**, but that each is within the building, so that nothing is read or written but where it stands. `guided_search` needs no more:
+//! none**, but that each is within the building, so that nothing is read or written out of its place. `guided_search` needs no more:
 //! it looks for paths over the ways, and what it finds is a hint.
 #![tactic(auto)]
 

@@ -1,7 +1,7 @@
-//! How large a building is, and where its pairs and cells stand.
+//! How large a building is, and how its pairs and cells are numbered.
 //!
-//! A pair is a node at a moment, and the pairs of a node stand one after another. A row of cells has one for each moment: rows of arcs
-//! come first, then those of the nodes' waits, and then those of their supplies. So waits and supplies stand as pairs do.
+//! A pair is a node at a moment, and the pairs of a node come one after another. A row of cells has one for each moment: rows of arcs
+//! come first, then those of the nodes' waits, and then those of their supplies. So waits and supplies are in the order of pairs.
 ghost use Rattle.std.specs.Prelude.{◌≡◌, ℕ, ◌+◌, ◌*◌, ◌<◌, ◌≤◌, ◌^◌, length};
 ghost use Rattle.residual_net.specs.Site.{Site, cell_of};
 ghost use Rattle.residual_net.specs.declared.place.Place.TheVariants.{Arc, Hold, Supply};

@@ -113,7 +113,7 @@ impl Stay {
         self.step.pair - self.count()
     }
 
-    /// The numbers of the cells of its waits: the first, and behind the last.
+    /// The numbers of the cells of its waits: the first, and the one after the last.
     pub fn waits(&self, sizes: Sizes) -> (usize, usize)
         requires { IsStayWithin sizes self.now }
         ensures count { result.0 + self.now.step.moment ≡ result.1 + self.now.since }

@@ -1,4 +1,4 @@
-//! An editing session over lines: a building is opened with its best plan, and each line behind it is answered, until the input ends, a
+//! An editing session over lines: a building is opened with its best plan, and each line after it is answered, until the input ends, a
 //! line quits, or a line has a fault.
 //!
 //! `hold_session` takes all memory before it writes, and brings each reply to the sink before it reads on. `specs/Sessions` says what a line

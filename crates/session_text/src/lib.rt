@@ -1,4 +1,4 @@
-//! What a session says of where it stands: its answer block, the reports on it, the cut of a period, and its work.
+//! What a session says of its state: its answer block, the reports on it, the cut of a period, and its work.
 //!
 //! Each function puts one text, by the definitions of `specs/StateTexts`; a sink that fails has a front of it.
 #![tactic(auto)]

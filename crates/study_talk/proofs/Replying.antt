@@ -1,5 +1,5 @@
 -- A text that was put is a reply of a study.
-use Rattle.std.proofs.Common.{◌≡◌, ℕ, ◌+◌, List, Result, Ok, Err, refl, sym, subst, Bool, true, false, nat_lt}
+use Rattle.std.proofs.Common.{◌≡◌, ℕ, ◌+◌, List, Result, refl, sym, subst, Bool, true, false, nat_lt}
 use Rattle.std.proofs.Math.Nat.{add-zero}
 use Rattle.std.specs.declared.option.Option.{Option}
 use Rattle.evac_law.specs.declared.code.Code.{Code}

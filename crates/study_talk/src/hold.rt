@@ -35,7 +35,7 @@ pub fn hold_study<S: Source, K: Sink, L: Ledger>(
         (around lines.old (S.left source.old) (S.faults source.old) (K.held sink.old) (K.faults sink.old) steps.old)
         (around lines.new (S.left source.new) (S.faults source.new) (K.held sink.new) (K.faults sink.new) steps.new) }
     ensures drained { Drained lines.old (S.left source.old) → Drained lines.new (S.left source.new) }
-    ensures asks { Asks S.takes lines.old.ended source.old lines.new.ended source.new }
+    ensures asks { Asks S.takes lines.old source.old lines.new source.new }
 {
     let line = lines.number();
     match StudyDesk::open(alloc, building, steps) {

@@ -1,4 +1,4 @@
-//! A study over lines: a building is opened with its best plan, and each line behind it is answered by when everybody is out without each of
+//! A study over lines: a building is opened with its best plan, and each line after it is answered: by when everybody is out without each of
 //! its exits, or by the least rate of an arc.
 //!
 //! `hold_study` takes all memory before it hears a line. No reply changes the building, so a line gets what it would get first.

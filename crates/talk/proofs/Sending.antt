@@ -1,9 +1,9 @@
 -- A text that is put and flushed, and the refusal of a model that can't be cleared.
-use Rattle.std.proofs.Common.{◌≡◌, ℕ, ◌+◌, true, false, List, [], Result, Ok, Err, OnOk, OnErr, refl, sym, subst, append-nil}
+use Rattle.std.proofs.Common.{◌≡◌, ℕ, ◌+◌, true, false, List, [], Result, Ok, Err, OnOk, OnErr, refl, subst, append-nil}
 use Rattle.std.specs.declared.option.Option.{Option}
 use Rattle.evac_law.specs.declared.model.Model.{Model}
 use Rattle.evac_law.specs.Certificates.{label_cut}
-use Rattle.line_io.specs.Causes.{Count, HasCause}
+use Rattle.line_io.specs.Causes.{Count}
 use Rattle.line_io.specs.View.{Reader}
 use Rattle.line_io.specs.Writer.{Writes}
 use Rattle.line_io.specs.declared.out.WriteFault.{WriteFault}
@@ -34,12 +34,6 @@ sent {X} {H} {F} result a b c text {s} {s'} {p} {p'} fresh e f i j put flush fin
     by_result (Err fault) fine gone failed =
         record { put = record { ok = tt; err = all.front fresh failed }; flushed = tt; cause = record { same = tt; failed = all.rose fresh failed } }
 
--- where the sink failed its count rose
-pub caused : {X : Type 0} {H : X → Option (List ℕ)} {F : X → Count} (result : Result (Unit {0}) WriteFault) (a b c : Writer X) (text : List ℕ) {s s' : X} → a.failed ≡ false → a.sink.now ≡ s
-    → c.sink.now ≡ s' → Writes H F a text b → Writes H F b [] c → OnOk result (c.failed ≡ false) → OnOk result (c.out.now ≡ []) → OnErr result (c.failed ≡ true) → HasCause (F s) (F s') result
-caused {X} {H} {F} result a b c text {s} {s'} fresh e i put flush fine gone failed =
-    let sends : SendsBy result text (H s) a.out.now (F s) (H s') c.out.now (F s') = sent result a b c text fresh e refl i refl put flush fine gone failed in sends.cause
-
 -- ---- the refusal of a model that can't be cleared
 
 short_opens : (m : Model) (s : Short) (line n : ℕ) → BeginEnds m (Err (NotCleared s)) n
@@ -47,7 +41,7 @@ short_opens : (m : Model) (s : Short) (line n : ℕ) → BeginEnds m (Err (NotCl
 short_opens m s line n h = record {
   most = s.most;
   refused = refl;
-  short = record { cut = label_cut m s.labels m.horizon; shortfall = h.2.shortfall; barred = h.2.barred; block = refl };
+  short = record { cut = label_cut m s.labels m.horizon; shortfall = h.2.shortfall; barred = h.2.barred; greatest = h.2.greatest; block = refl };
   spent = h.3;
 }
 

@@ -79,7 +79,7 @@ pub fn hold_talk<S: Source, K: Sink, L: Ledger, T: Speaker + Drop>(
     // only a line wants memory
     ensures memory { result ≡ Status.NoMemory → lines.old.number < lines.new.number }
     ensures drained { Drained lines.old (S.left source.old) → Drained lines.new (S.left source.new) }
-    ensures asks { Asks S.takes lines.old.ended source.old lines.new.ended source.new }
+    ensures asks { Asks S.takes lines.old source.old lines.new source.new }
 {
     match send_opening(&speaker, out, sink) {
         Ok(()) => {

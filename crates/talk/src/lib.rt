@@ -1,4 +1,4 @@
-//! A talk over lines: it is opened, and each line behind it is answered, until the input ends, a line quits, or a line has a fault.
+//! A talk over lines: it is opened, and each line after it is answered, until the input ends, a line quits, or a line has a fault.
 //!
 //! A `Speaker` says what opens a talk and what a line gets. `hold_talk` brings each reply to the sink before it reads on. `refuse_building`
 //! refuses a building that can't be cleared in place of a talk. `specs/Talks` says how a talk goes over lines, and `specs/Held` what a whole

@@ -65,7 +65,7 @@ pub fn converse<S: Source, K: Sink, L: Ledger, T: Speaker>(
         lines.old lines.new (S.left source.old) (S.left source.new) }
     ensures cause { IsCaused result (S.faults source.old) (S.faults source.new) }
     ensures drained { Drained lines.old (S.left source.old) → Drained lines.new (S.left source.new) }
-    ensures asks { Asks S.takes lines.old.ended source.old lines.new.ended source.new }
+    ensures asks { Asks S.takes lines.old source.old lines.new source.new }
 {
     let mut talker = Talker {
         speaker,

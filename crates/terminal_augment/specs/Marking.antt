@@ -2,14 +2,14 @@
 use Rattle.std.specs.Prelude.{◌≡◌, ℕ, ◌+◌, ◌*◌, ◌<◌, ◌≤◌, ◌^◌, Bool, ◌==◌, List, length, slice_index, slice_set}
 use Rattle.std.specs.List.{All}
 
--- marks as contracts see them: the number of nodes, the horizon, the stamp of a mark that stands, and a stamp for each node and moment
+-- marks as contracts see them: the number of nodes, the horizon, the stamp of a mark that counts, and a stamp for each node and moment
 pub record MarkTable : Type 0 where
   pub nodes : ℕ
   pub horizon : ℕ
   pub stamp : ℕ
   pub list : List ℕ
 
--- there is a stamp for each node and moment, and none is later than the one that stands
+-- there is a stamp for each node and moment, and none is later than that of a mark that counts
 pub record IsMarks (m : MarkTable) : Type 0 where
   pub full : length m.list ≡ m.nodes * (m.horizon + 1)
   pub some : 1 ≤ m.stamp

@@ -6,7 +6,7 @@ use crate::spot::Spot;
 use std::alloc::{AllocError, Global};
 use std::marker::Model;
 
-/// Marks on nodes at moments. A mark stands while its stamp is the latest, so that a new stamp takes all marks off at once.
+/// Marks on nodes at moments. A mark counts while its stamp is the latest, so that a new stamp takes all marks off at once.
 #[derive(Drop)]
 pub struct Marks {
     nodes: u32,

@@ -8,7 +8,6 @@ use Rattle.evac_law.specs.declared.name.NodeName.{NodeName}
 use Rattle.evac_law.specs.declared.plan.Move.{Move}
 use Rattle.evac_law.specs.Building.{IsValid, people}
 use Rattle.evac_law.specs.Certificates.{IsCertified}
-use Rattle.evac_law.specs.Edits.{applied}
 use Rattle.evac_law.specs.LabelTable.{LabelTable}
 use Rattle.evac_law.specs.Plans.{IsFeasible, out_by}
 use Rattle.evac_law.proofs.Optimal.{certified_is_best, out_le_out}
@@ -17,7 +16,6 @@ use Rattle.model_text.specs.declared.named_edit.NamedEdit.TheVariants.{ShutExit}
 use Rattle.model_text.specs.Readings.{Described, model_of}
 use Rattle.model_text.specs.Taken.{Description}
 use Rattle.building_table.specs.declared.building.Building.{Building}
-use Rattle.building_table.specs.Built.{IsBuilding}
 use Rattle.building_table.specs.EditNames.{edit_named}
 use Rattle.building_table.specs.Names.{NameTable, NamesFit, names_of}
 use Rattle.edit_session.specs.declared.faults.BeginFault.{BeginFault}

@@ -16,7 +16,6 @@ use Rattle.line_io.specs.Writer.{Writes}
 use Rattle.line_io.specs.declared.writer.Writer.{Writer}
 use Rattle.line_io.proofs.WriterLemmas.{writes_then}
 use Rattle.certificate_text.specs.declared.block.Block.{Block}
-use Rattle.certificate_text.specs.Block.{number_field_limit}
 use Rattle.certificate_text.specs.BlockLaws.{IsAnswerBlock, block_limit}
 use Rattle.block_reader.specs.declared.fault.BlockFault.{BlockFault}
 use Rattle.block_reader.specs.declared.fault.BlockFault.TheVariants as faults

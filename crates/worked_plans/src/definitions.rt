@@ -113,7 +113,7 @@ fn an_empty_building(rt: HostRuntime) -> Result<(), Fail> {
     check_plan(&rt, EMPTY_ROOM, &[], &[], &[0])
 }
 
-// Four people go through the hall, one behind the other.
+// Four people go through the hall, one after the other.
 fn through_hall() -> [Move; 8] {
     [
         step(0, 0, 1),

@@ -6,7 +6,7 @@ use sample_buildings::{ONE_ROOM, TWO_EXITS};
 use std::process::Abort;
 use std::test::Fail;
 
-// An edit, and when everybody would be out behind it, or why it is refused.
+// An edit, and when everybody would be out after it, or why it is refused.
 struct Trial {
     edit: Edit,
     answer: Result<u16, EditRefusal>,

@@ -26,4 +26,4 @@ pub returns-clause-unfinished : goal.returns-clause-unfinished
 returns-clause-unfinished g c = λ is. rests-open _ _ (c.conclude.ensures.caused is) c.listen-ending.ensures.listens.rests
 
 pub returns-in_default-clause-asks : goal.returns-in_default-clause-asks
-returns-in_default-clause-asks g c = asks-none g.S.Source.takes c.args.lines.now.ended c.args.source.now
+returns-in_default-clause-asks g c = asks-none g.S.Source.takes c.args.lines.now c.args.source.now

@@ -1,5 +1,4 @@
 -- The texts so far were put.
-use Rattle.std.proofs.Common.{◌≡◌}
 use Rattle.std.specs.List.{flat_map}
 use Rattle.evac_law.specs.Sums.{below}
 use Rattle.line_io.specs.Writer.{Writes}

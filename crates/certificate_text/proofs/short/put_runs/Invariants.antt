@@ -1,5 +1,4 @@
 -- The texts so far were put.
-use Rattle.std.proofs.Common.{◌≡◌}
 use Rattle.std.specs.List.{flat_map}
 use Rattle.evac_law.specs.Certificates.{label_cut}
 use Rattle.evac_law.specs.Sums.{below}

@@ -1,4 +1,4 @@
-use Rattle.edit_session.proofs.Repaired.{cuts-stay}
+use Rattle.edit_session.proofs.RepairLemmas.{cuts-stay}
 use Rattle.edit_session.proofs.laws.cuts_stay.Goals as goal
 
 pub returns : goal.returns

@@ -18,7 +18,7 @@ use Rattle.flow_repair.proofs.Whole.{valid_now}
 use Rattle.edit_session.specs.declared.work.Work.{Work}
 use Rattle.edit_session.specs.Mended.{last_arrival_of}
 use Rattle.edit_session.proofs.Saved.{arrived_saved, edit_saved, flow_saved, of_saved, plan_saved, reshapable_saved, sources_saved}
-use Rattle.edit_session.proofs.Repaired.{IsBrought, least_saved, repair_of}
+use Rattle.edit_session.proofs.RepairLemmas.{IsBrought, least_saved, repair_of}
 use Rattle.edit_session.proofs.Thrifty.{spent, thrifty}
 use Rattle.edit_session.proofs.mend.repair_net.Goals as goal
 

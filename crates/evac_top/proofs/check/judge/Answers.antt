@@ -17,4 +17,4 @@ returns g c =
     let ended : status_number c.status_after.result ≡ status_after c.send_verdict.result (verdict_status v) =
     c.status_after.ensures ∙ ap (status_after c.send_verdict.result) c.status_of.ensures in
     tells-sent (IsChecked m b) (verdict_status v) 0 (verdict_text m v) c.send_verdict.result _ _ (status_number c.status_after.result) ended (status-small v)
-    c.send_verdict.ensures.text c.send_verdict.ensures.cause (λ taken. checked m b v taken c.requires.valid c.requires.block c.in-Ok.ensures.verdict)
+    c.requires.fresh c.send_verdict.ensures (λ taken. checked m b v taken c.requires.valid c.requires.block c.in-Ok.ensures.verdict)

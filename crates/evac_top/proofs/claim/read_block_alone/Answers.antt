@@ -1,4 +1,5 @@
 use Rattle.std.proofs.Common.{Err, ap, ◌∙◌}
+use Rattle.line_io.proofs.CallLemmas.{asks-then}
 use Rattle.evac_top.proofs.BlockOpenLemmas.{quiet-as-block, quiet-behind, rose-as-block, rose-behind, takes-block, takes-block-fault, takes-block-tail}
 use Rattle.evac_top.proofs.ClaimLemmas.{told-block-fault, told-claim, told-tail}
 use Rattle.evac_top.proofs.TakeLemmas.{not-failed, read-fault}
@@ -53,3 +54,18 @@ returns-in-Err-read_tail-clause-failed g c = rose-behind c.in-Ok.block c.in-Err-
 pub returns-in-Err-read_tail-clause-quiet : goal.returns-in-Err-read_tail-clause-quiet
 returns-in-Err-read_tail-clause-quiet g c = λ not.
     c.in-Err-read_tail.ensures.quiet (λ e. not (ap Err (read-fault c.in-Err-read_tail.fault e))) ∙ quiet-behind c.in-Ok.block _ _ c.in-Ok.ensures.quiet
+
+pub returns-in-Err-clause-room : goal.returns-in-Err-clause-room
+returns-in-Err-clause-room g c = c.in-Err.ensures.bytes.passes.room
+
+pub returns-in-Ok-read_tail-clause-asks : goal.returns-in-Ok-read_tail-clause-asks
+returns-in-Ok-read_tail-clause-asks g c = asks-then c.in-Ok.ensures.asks c.in-Ok-read_tail.ensures.asks
+
+pub returns-in-Ok-read_tail-clause-room : goal.returns-in-Ok-read_tail-clause-room
+returns-in-Ok-read_tail-clause-room g c = λ h. c.in-Ok-read_tail.ensures.passes.passes.room (c.in-Ok.ensures.bytes.passes.room h)
+
+pub returns-in-Err-read_tail-clause-asks : goal.returns-in-Err-read_tail-clause-asks
+returns-in-Err-read_tail-clause-asks g c = asks-then c.in-Ok.ensures.asks c.in-Err-read_tail.ensures.asks
+
+pub returns-in-Err-read_tail-clause-room : goal.returns-in-Err-read_tail-clause-room
+returns-in-Err-read_tail-clause-room g c = λ h. c.in-Err-read_tail.ensures.passes.passes.room (c.in-Ok.ensures.bytes.passes.room h)

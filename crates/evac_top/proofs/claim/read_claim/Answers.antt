@@ -1,6 +1,6 @@
 use Rattle.evac_top.specs.Inputs.{IsOpenClaim}
 use Rattle.evac_top.proofs.OpenLemmas.{missing-claim, takes-model}
-use Rattle.evac_top.proofs.TakeLemmas.{quiet-then, rose-then}
+use Rattle.evac_top.proofs.TakeLemmas.{asked-fresh, asked-then, quiet-then, rose-then}
 use Rattle.evac_top.proofs.claim.read_claim.Goals as goal
 
 pub returns-in-Ok-clause-input : goal.returns-in-Ok-clause-input
@@ -19,3 +19,9 @@ pub returns-in-Err-clause-takes : goal.returns-in-Err-clause-takes
 returns-in-Err-clause-takes g c =
     let read = c.in-Err.ensures in
     takes-model IsOpenClaim missing-claim c.in-Err.fault c.args.lines.now c.read_model.new.lines _ _ c.requires read.bytes read.unfinished
+
+pub returns-in-Ok-clause-asked : goal.returns-in-Ok-clause-asked
+returns-in-Ok-clause-asked g c = asked-then c.requires c.in-Ok.ensures.asks c.in-Ok.ensures.bytes.passes.room c.read_behind.ensures.asks c.read_behind.ensures.room
+
+pub returns-in-Err-clause-asked : goal.returns-in-Err-clause-asked
+returns-in-Err-clause-asked g c = asked-fresh c.requires c.in-Err.ensures.asks c.in-Err.ensures.bytes.passes.room

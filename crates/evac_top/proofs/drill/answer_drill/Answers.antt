@@ -18,5 +18,5 @@ returns g c =
     let lent : c.model-model.result.now ≡ s.model = c.model-model.ensures.model in
     let text = drill_text number c.model-model.result.now f in
     tells-sent (IsDrilled number) 0 s.work.pushes text c.send_drill.result _ _ (status_number c.status_after.result) c.status_after.ensures (omega arith)
-    c.send_drill.ensures.text c.send_drill.ensures.cause
+    c.requires.fresh c.send_drill.ensures
     (λ taken. lent-drilled number s f c.model-model.result.now taken lent c.requires.begins known.0 known.1)

@@ -31,3 +31,9 @@ returns-in-Err-clause-failed g c = λ e. c.in-Err.ensures.failed (ap Err (read-f
 
 pub returns-in-Err-clause-quiet : goal.returns-in-Err-clause-quiet
 returns-in-Err-clause-quiet g c = λ not. c.in-Err.ensures.quiet (λ e. not (ap Err (read-fault c.in-Err.fault e)))
+
+pub returns-in-Ok-clause-room : goal.returns-in-Ok-clause-room
+returns-in-Ok-clause-room g c = c.in-Ok.ensures.passes.passes.room
+
+pub returns-in-Err-clause-room : goal.returns-in-Err-clause-room
+returns-in-Err-clause-room g c = c.in-Err.ensures.passes.passes.room

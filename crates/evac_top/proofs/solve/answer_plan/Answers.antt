@@ -14,6 +14,6 @@ returns g c =
     let flags = c.args.flags in
     let names = c.args.names.now in
     let s = c.args.session.now.state in
-    let sent = c.send_plan-sent.ensures.text flags c.in-Ok.ensures in
+    let sent = c.send_plan-sent.ensures flags c.in-Ok.ensures in
     tells-sent (IsPlanned flags names s.model) 0 s.work.pushes sent.0 c.send_plan-sent.result _ _ (status_number c.status_after.result) c.status_after.ensures (omega arith)
-    sent.2 c.send_plan-sent.ensures.cause (λ taken. planned flags names s.model s sent.0 taken c.requires.begins sent.1)
+    c.requires.fresh sent.2 (λ taken. planned flags names s.model s sent.0 taken c.requires.begins sent.1)

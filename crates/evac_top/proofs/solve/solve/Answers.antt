@@ -1,3 +1,4 @@
+use Rattle.line_io.proofs.CallLemmas.{asked-none}
 use Rattle.evac_top.specs.Reads.{InputIs}
 use Rattle.evac_top.specs.Solve.{IsPlannedOrShort}
 use Rattle.evac_top.specs.declared.words.Mode.TheVariants.{Solve}
@@ -6,11 +7,11 @@ use Rattle.evac_top.proofs.TellLemmas.{fault-told, no-memory, read-told, solve-r
 use Rattle.talk.specs.Statuses.{status_number}
 use Rattle.evac_top.proofs.solve.solve.Goals as goal
 
-pub returns-in_default : goal.returns-in_default
-returns-in_default g c = no-memory (Solve c.args.flags) (solve-reads c.args.flags) _
+pub returns-in_default-clause-run : goal.returns-in_default-clause-run
+returns-in_default-clause-run g c = no-memory (Solve c.args.flags) (solve-reads c.args.flags) _
 
-pub returns-in-Ok-read_input : goal.returns-in-Ok-read_input
-returns-in-Ok-read_input g c =
+pub returns-in-Ok-read_input-clause-run : goal.returns-in-Ok-read_input-clause-run
+returns-in-Ok-read_input-clause-run g c =
     let flags = c.args.flags in
     let names = c.in-Ok-read_input.input.building.names in
     let m = c.in-Ok-read_input.input.building.model in
@@ -19,9 +20,12 @@ returns-in-Ok-read_input g c =
     read-told (Solve flags) (solve-reads flags) InputIs (IsPlannedOrShort flags names m last) c.in-Ok-read_input.input (solved-few flags names m last) (said-building flags c.in-Ok-read_input.input)
     (status_number c.answer.result) told.0 c.args.steps.now c.answer.new.steps _ _ _ _ c.in-Ok-read_input.ensures.takes c.in-Ok-read_input.ensures.quiet told.1 told.2 c.in-Ok-read_input.ensures.input
 
-pub returns : goal.returns
-returns g c =
+pub returns-clause-run : goal.returns-clause-run
+returns-clause-run g c =
     let flags = c.args.flags in
     let read = c.in-Err.ensures in
     fault-told (Solve flags) (solve-reads flags) InputIs c.in-Err.fault (solve-fault flags c.in-Err.fault) (status_number c.stop.result) c.args.steps.now _ _ _ _ read.takes
     read.failed read.quiet c.stop.ensures read.input
+
+pub returns-in_default-clause-asked : goal.returns-in_default-clause-asked
+returns-in_default-clause-asked g c = asked-none g.S.Source.takes _ _

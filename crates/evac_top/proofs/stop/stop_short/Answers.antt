@@ -3,7 +3,6 @@ use Rattle.certificate_text.specs.BlockText.{shortfall_text}
 use Rattle.evac_law.specs.Building.{people}
 use Rattle.evac_law.specs.Certificates.{label_cut}
 use Rattle.evac_top.specs.Solve.{IsShort}
-use Rattle.evac_top.proofs.SendLemmas.{sends-by}
 use Rattle.evac_top.proofs.SolveLemmas.{short-as, short_by_labels, table-as, valid-as}
 use Rattle.evac_top.proofs.TellLemmas.{tells-nothing, tells-sent}
 use Rattle.talk.specs.Statuses.{status_number}
@@ -30,7 +29,7 @@ returns-in-NotCleared g c = λ m steps ends.
     let n = short-as m steps c.args.fault short c.in-NotCleared.is ends in
     tells-sent (IsShort m line) 1 steps (shortfall_text line short.model (label_cut short.model short.labels short.model.horizon) short.most)
     c.send_short.result _ _ (status_number c.status_after.result) c.status_after.ensures (omega arith)
-    (sends-by c.send_short.result _ _ _ _ _ _ _ c.requires.fresh c.send_short.ensures) c.send_short.ensures.cause
+    c.requires.fresh c.send_short.ensures
     (λ taken. short_by_labels m short.model short.labels (people m) short.most line steps taken n.0 n.2 n.3)
 
 pub returns-in-Memory : goal.returns-in-Memory

@@ -1,6 +1,5 @@
 use Rattle.std.proofs.Common.{arith, refl}
 use Rattle.evac_top.specs.Answers.{words_text}
-use Rattle.evac_top.proofs.SendLemmas.{sends-by}
 use Rattle.evac_top.proofs.TellLemmas.{RefusesBy, tells-nothing, tells-sent, words-told}
 use Rattle.talk.specs.Statuses.{status_number}
 use Rattle.evac_top.proofs.top.refuse_words.Goals as goal
@@ -12,4 +11,4 @@ pub returns : goal.returns
 returns g c = λ source steps.
     words-told (status_number c.status_after.result) source steps _ _
     (tells-sent RefusesBy 2 0 words_text c.send_refusal-sent.result _ _ (status_number c.status_after.result) c.status_after.ensures (omega arith)
-    (sends-by c.send_refusal-sent.result _ _ _ _ _ _ _ c.in-Ok.ensures c.send_refusal-sent.ensures) c.send_refusal-sent.ensures.cause (λ taken. record { over = refl; text_whole = refl; counted = refl }))
+    c.in-Ok.ensures c.send_refusal-sent.ensures (λ taken. record { over = refl; text_whole = refl; counted = refl }))

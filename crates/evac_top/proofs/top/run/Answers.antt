@@ -1,4 +1,5 @@
 use Rattle.std.proofs.Common.{None, Some, ap, sym, ◌∙◌}
+use Rattle.line_io.proofs.CallLemmas.{asked-none}
 use Rattle.evac_top.specs.declared.words.Mode.TheVariants.{Check, Drill, Replan, Session, Solve, Study, Upgrade}
 use Rattle.evac_top.proofs.TalkLemmas.{replan-talks, session-talks, study-talks}
 use Rattle.evac_top.proofs.TellLemmas.{check-reads, reads-not, runs-by, solve-reads, upgrade-reads}
@@ -10,7 +11,7 @@ returns-in-Some-Solve-clause-untouched g c = λ not. (let h = c.in-Some-Solve in
 
 pub returns-in-Some-Check-clause-run : goal.returns-in-Some-Check-clause-run
 returns-in-Some-Check-clause-run g c =
-    let h = c.in-Some-Check in runs-by _ (Some Check) (status_number c.check.result) _ _ (sym h.ensures.mode ∙ ap Some h.field-0-is) (c.check.ensures c.args.steps.now)
+    let h = c.in-Some-Check in runs-by _ (Some Check) (status_number c.check.result) _ _ (sym h.ensures.mode ∙ ap Some h.field-0-is) (c.check.ensures.run c.args.steps.now)
 
 pub returns-in-Some-Check-clause-untouched : goal.returns-in-Some-Check-clause-untouched
 returns-in-Some-Check-clause-untouched g c = λ not. (let h = c.in-Some-Check in absurd (reads-not _ (Some Check) (sym h.ensures.mode ∙ ap Some h.field-0-is) check-reads.input not))
@@ -26,7 +27,7 @@ returns-in-Some-Replan-clause-untouched g c = λ not. (let h = c.in-Some-Replan 
 
 pub returns-in-Some-Upgrade-clause-run : goal.returns-in-Some-Upgrade-clause-run
 returns-in-Some-Upgrade-clause-run g c =
-    let h = c.in-Some-Upgrade in runs-by _ (Some Upgrade) (status_number c.upgrade.result) _ _ (sym h.ensures.mode ∙ ap Some h.field-0-is) (c.upgrade.ensures c.args.steps.now)
+    let h = c.in-Some-Upgrade in runs-by _ (Some Upgrade) (status_number c.upgrade.result) _ _ (sym h.ensures.mode ∙ ap Some h.field-0-is) (c.upgrade.ensures.run c.args.steps.now)
 
 pub returns-in-Some-Upgrade-clause-untouched : goal.returns-in-Some-Upgrade-clause-untouched
 returns-in-Some-Upgrade-clause-untouched g c = λ not. (let h = c.in-Some-Upgrade in absurd (reads-not _ (Some Upgrade) (sym h.ensures.mode ∙ ap Some h.field-0-is) upgrade-reads.input not))
@@ -37,3 +38,9 @@ returns-in-Some-Drill-clause-run g c =
 
 pub returns-in-None-clause-run : goal.returns-in-None-clause-run
 returns-in-None-clause-run g c = runs-by _ None (status_number c.refuse_words.result) _ _ (sym c.in-None.ensures.mode) (c.refuse_words.ensures _ c.args.steps.now)
+
+pub returns-in-Some-Drill-clause-asked : goal.returns-in-Some-Drill-clause-asked
+returns-in-Some-Drill-clause-asked g c = asked-none g.S.Source.takes _ _
+
+pub returns-in-None-clause-asked : goal.returns-in-None-clause-asked
+returns-in-None-clause-asked g c = asked-none g.S.Source.takes _ _

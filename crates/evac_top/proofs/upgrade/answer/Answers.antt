@@ -9,4 +9,4 @@ pub returns : goal.returns
 returns g c =
     let building = c.args.building in
     tells-sent (IsUpgraded building) 0 0 (building_text building) c.send_model.result _ _ (status_number c.status_after-status.result) c.status_after-status.ensures (omega arith)
-    c.send_model.ensures.text c.send_model.ensures.cause (λ taken. record { over = refl; text_whole = refl; counted = refl })
+    c.requires.fresh c.send_model.ensures (λ taken. record { over = refl; text_whole = refl; counted = refl })

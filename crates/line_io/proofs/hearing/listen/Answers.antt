@@ -11,7 +11,7 @@ loop-listener-init g c = record {
   ready = c.requires.ready;
   faults = refl;
   drained = λ d. d;
-  asks = asks-none g.S.Source.takes c.args.lines.now.ended c.args.source.now;
+  asks = asks-none g.S.Source.takes c.args.lines.now c.args.source.now;
 }
 
 pub loop-listener-preserved : goal.loop-listener-preserved

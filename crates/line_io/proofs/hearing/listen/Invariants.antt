@@ -13,7 +13,7 @@ invariant-loop-listener g l = record {
   ready : g.L.Listener.ready l.listener;
   faults : g.S.Source.faults l.source ≡ g.S.Source.faults l.initial.source;
   drained : Drained l.initial.lines (g.S.Source.left l.initial.source) → Drained l.lines (g.S.Source.left l.source);
-  asks : Asks g.S.Source.takes l.initial.lines.ended l.initial.source l.lines.ended l.source;
+  asks : Asks g.S.Source.takes l.initial.lines l.initial.source l.lines l.source;
 }
 
 abbrev pub decreases-loop-listener : goal.decreases-loop-listener

@@ -1,4 +1,4 @@
-use Rattle.std.proofs.Common.{◌≡◌, ℕ, ◌+◌, ◌∙◌, ◌++◌, List, [], ◌∷◌, ap, append_assoc, append-nil, arith, codes, length, refl, subst, sym}
+use Rattle.std.proofs.Common.{◌≡◌, ◌+◌, ◌∙◌, ◌++◌, [], ◌∷◌, ap, append_assoc, append-nil, arith, codes, length, refl, subst, sym}
 use Rattle.line_io.proofs.WriterLemmas.{writes_is, writes_then}
 use Rattle.cards.specs.Cards.{CardView}
 use Rattle.cards.specs.Dealing.{CardsView}

@@ -1,4 +1,4 @@
-use Rattle.std.proofs.Common.{◌≡◌, ℕ, ◌∙◌, ◌++◌, List, [], ◌∷◌, ap, append_assoc, append-nil, arith, codes, refl, subst, sym}
+use Rattle.std.proofs.Common.{◌≡◌, ◌∙◌, ◌++◌, [], ◌∷◌, ap, append_assoc, append-nil, arith, codes, refl, subst, sym}
 use Rattle.std.specs.List.{flat_map}
 use Rattle.line_io.proofs.WriterLemmas.{writes_is, writes_then}
 use Rattle.evac_law.specs.declared.model.Model.{Model}
@@ -55,7 +55,7 @@ returns-clause-text g c =
     let p = (g.F.Standing.stand c.args.standing.now).plan in
     let h = c.loop-writer.invariant in (
       routes_text c.args.index m h.0,
-      record { routes = h.0; cover = used_up_covers m p h.0 c.loop-writer.routes h.1 (c.next.ensures.none c.loop-writer-test.false); says = refl },
+      record { routes = h.0; cover = used_up_covers m p h.0 c.loop-writer.routes h.1 (c.next.ensures.none c.loop-writer-test.false); few = omega (arith, h.1.few); says = refl },
       writes_then h.2 c.put_end.ensures,
     )
 

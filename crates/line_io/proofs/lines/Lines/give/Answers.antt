@@ -1,4 +1,4 @@
--- The lines of settled bytes are those of the first piece and of what is behind it.
+-- The lines of settled bytes are those of the first piece and of what follows it.
 use Rattle.std.proofs.Common.{◌<◌, ◌≤◌, ◌+◌, [], refl, ap, ◌∙◌, sym, arith, length, take}
 use Rattle.std.proofs.lemmas.List.{length-take-le}
 use Rattle.line_io.specs.Line.{content, input_limit, line_limit}

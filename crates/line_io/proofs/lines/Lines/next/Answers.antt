@@ -2,8 +2,8 @@ use Rattle.std.proofs.Common.{◌≡◌, ◌∙◌, ap, refl, false, rules}
 use Rattle.std.proofs.lemmas.Bool.{both_ways}
 use Rattle.std.proofs.KnownBytes.{Keeps-refl, Keeps-trans}
 use Rattle.line_io.specs.Reader.{is_settled}
-use Rattle.line_io.proofs.CallLemmas.{asks-none, asks-then}
-use Rattle.line_io.proofs.ReaderLemmas.{gives-first, gives-none, takes-more, takes-none}
+use Rattle.line_io.proofs.CallLemmas.{asks-none, asks-same, asks-then}
+use Rattle.line_io.proofs.ReaderLemmas.{counts-first, gives-first, gives-none, takes-more, takes-none}
 use Rattle.line_io.proofs.lines.Lines.next.Goals as goal
 
 pub returns-in-Some-clause-bytes : goal.returns-in-Some-clause-bytes
@@ -14,6 +14,10 @@ returns-in-Some-clause-bytes g c =
 pub returns-in-Err-clause-bytes : goal.returns-in-Err-clause-bytes
 returns-in-Err-clause-bytes g c =
     gives-none c.args.self.now c.refill.new.self _ _ (takes-more _ _ _ _ _ _ c.loop-size.invariant.taken c.in-Err.ensures.taken) (c.in-Err.ensures.rest.0 ∙ c.loop-size.invariant.given)
+
+pub returns-in-Some-clause-asks : goal.returns-in-Some-clause-asks
+returns-in-Some-clause-asks g c =
+    asks-same c.loop-size.invariant.asks c.give.ensures.ended (counts-first c.give.result c.loop-size.self c.give.new.self c.in-Some.size c.in-Some.ensures.size c.give.ensures.gone c.give.ensures.stays)
 
 pub returns-in-Err-clause-asks : goal.returns-in-Err-clause-asks
 returns-in-Err-clause-asks g c = asks-then c.loop-size.invariant.asks c.refill.ensures.asks
@@ -44,5 +48,5 @@ loop-size-init g c = record {
   number = refl;
   text = refl;
   faults = refl;
-  asks = asks-none g.S.Source.takes c.args.self.now.ended c.args.source.now;
+  asks = asks-none g.S.Source.takes c.args.self.now c.args.source.now;
 }

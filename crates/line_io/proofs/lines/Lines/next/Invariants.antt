@@ -1,4 +1,4 @@
--- Nothing is given yet, bytes were taken behind the pending ones, and the source failed no more than before.
+-- Nothing is given yet, bytes were taken after the pending ones, and the source failed no more than before.
 use Rattle.std.proofs.Common.{◌≡◌, ◌-◌, ◌+◌, length, cond, true}
 use Rattle.std.specs.Io.KnownBytes.{Keeps}
 use Rattle.line_io.specs.Calls.{Asks}
@@ -17,7 +17,7 @@ invariant-loop-size g l = record {
   number : l.self.number ≡ l.initial.self.number;
   text : l.self.text ≡ l.initial.self.text;
   faults : g.S.Source.faults l.source ≡ g.S.Source.faults l.initial.source;
-  asks : Asks g.S.Source.takes l.initial.self.ended l.initial.source l.self.ended l.source;
+  asks : Asks g.S.Source.takes l.initial.self l.initial.source l.self l.source;
 }
 
 abbrev pub decreases-loop-size : goal.decreases-loop-size

@@ -1,4 +1,4 @@
-use Rattle.std.proofs.Common.{[], Ok, Err, Result, refl, sym, ap, ◌∙◌, arith}
+use Rattle.std.proofs.Common.{[], Ok, Err, refl, sym, ap, ◌∙◌, arith}
 use Rattle.edit_session.specs.Sessions.{SessionView}
 use Rattle.line_io.proofs.WriterLemmas.{writes_is}
 use Rattle.model_text.specs.declared.command.Command.TheVariants.{Blank, Edit, Undo, Cut, Report, Work}

@@ -1,4 +1,4 @@
-use Rattle.std.proofs.Common.{Ok, Err, Result, refl, sym, ap, ◌∙◌, arith}
+use Rattle.std.proofs.Common.{Ok, Err, refl, sym, ap, ◌∙◌, arith}
 use Rattle.model_text.specs.declared.command.Command.TheVariants.{Blank, Edit, Undo, Cut, Report, Work}
 use Rattle.session_text.specs.StateTexts.{work_of}
 use Rattle.session_talk.specs.Desks.{desk_state, shown_of}

@@ -1,4 +1,4 @@
-use Rattle.std.proofs.Common.{Ok, Err, Result, refl, sym, ap, ◌∙◌}
+use Rattle.std.proofs.Common.{Ok, Err, refl, sym, ap, ◌∙◌}
 use Rattle.model_text.specs.declared.study.StudyCommand.TheVariants.{Blank, Exits, Least}
 use Rattle.study_talk.specs.Desks.{shown_study}
 use Rattle.study_talk.specs.Studies.{StudyReplies}

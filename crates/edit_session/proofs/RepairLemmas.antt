@@ -1,23 +1,23 @@
 -- What a repair keeps: the people who aren't taken off keep their way, and labels stay below whatever came open.
-use Rattle.std.proofs.Common.{◌≡◌, ℕ, suc, ◌+◌, ◌<◌, ◌≤◌, Bool, true, false, cond, not, ◌&&◌, eqb, leb, ltb, List, [], ◌∷◌, length, refl, ap, ap₂, sym, subst, ◌∙◌, arith, ◌⊎◌, inl, inr, pos, ℤ}
+use Rattle.std.proofs.Common.{◌≡◌, ℕ, ◌+◌, ◌<◌, ◌≤◌, Bool, true, false, cond, not, ◌&&◌, eqb, leb, ltb, List, [], ◌∷◌, length, refl, ap, ap₂, sym, subst, ◌∙◌, arith, ◌⊎◌, inl, inr}
 use Rattle.std.specs.List.{All}
 use Rattle.std.proofs.lemmas.Bool.{cases_Bool, cases_lt, lt-ltb}
 use Rattle.std.proofs.lemmas.Bool.Decides.{nat_tests}
 use Rattle.std.proofs.lemmas.List.Elements.{All-head, All-tail}
+use Rattle.std.proofs.lemmas.List.Sums.{sum_by-cons}
 use Rattle.evac_law.specs.declared.model.Model.{Model}
 use Rattle.evac_law.specs.declared.plan.Move.{Move}
-use Rattle.evac_law.specs.Building.{IsValid, arrival, capacity, entry, head, is_exit_at, people, rate}
+use Rattle.evac_law.specs.Building.{IsValid, arrival, capacity, entry, head, is_exit_at, rate}
 use Rattle.evac_law.specs.LabelTable.{LabelTable, label_at, unset}
 use Rattle.evac_law.specs.Limits.{horizon_limit}
-use Rattle.evac_law.specs.Plans.{above, held, moved, out_by, staying}
+use Rattle.evac_law.specs.Plans.{above, held, moved, staying}
 use Rattle.evac_law.proofs.MoveLemmas.{moved-moves_of, moves_are_table}
-use Rattle.residual_net.specs.declared.end.End.{End}
-use Rattle.residual_net.specs.declared.end.End.TheVariants.{Door, Pair, Source}
+use Rattle.residual_net.specs.declared.end.End.TheVariants.{Door, Pair}
 use Rattle.residual_net.specs.declared.place.Place.{Place}
 use Rattle.residual_net.specs.declared.place.Place.TheVariants.{Arc, Hold, Supply}
 use Rattle.residual_net.specs.Network.{Network, IsNet, IsWithinLimits, arrived_by, flow_at, flow_out, limit_at, with_saved}
-use Rattle.residual_net.specs.OfModel.{IsNetOf, plan_of, site_of}
-use Rattle.residual_net.specs.Site.{Site, IsPlace, arc_count, arrival_at, head_of, is_source}
+use Rattle.residual_net.specs.OfModel.{IsNetOf, plan_of}
+use Rattle.residual_net.specs.Site.{Site, IsPlace, arc_count, arrival_at, is_source}
 use Rattle.residual_net.proofs.Held.{arcs_same, arrival_is, head_is, horizon_same, nodes_same}
 use Rattle.residual_net.proofs.Law.{arrived_is_out, entry_sent, exit_same, feasible, held_is, out_same}
 use Rattle.residual_net.proofs.PartLemmas.{is_valid, part, people_sent}
@@ -28,8 +28,8 @@ use Rattle.lex_flow.specs.Settling.{IsRelabelled}
 use Rattle.edit_session.specs.declared.work.Work.{Work}
 use Rattle.edit_session.specs.Mended.{IsStanding, last_arrival_of}
 use Rattle.edit_session.specs.Laws.{CutsStay}
-use Rattle.edit_session.specs.Repairs.{AgreeBelow, IsRepairOf, OpensFrom, number_at}
-use Rattle.edit_session.proofs.Standing.{contents_by}
+use Rattle.edit_session.specs.Repairs.{AgreeBelow, IsRepairOf, OpensFrom}
+use Rattle.edit_session.proofs.Standing.{above_none, contents_by}
 
 -- ---- who keeps the way
 
@@ -44,7 +44,9 @@ moved_away [] a t n k h late = refl
 moved_away (v ∷ p) a t n k h late =
     let In : Move → Type 0 = λ v. (v.arc < n) × (v.moment ≤ k) in
     let here = All-head In v p h in
-    omega (arith, one_away v a t n k here.0 here.1 late, moved_away p a t n k (All-tail In v p h) late)
+    let more : moved (v ∷ p) a t ≡ cond (eqb v.arc a && eqb v.moment t) v.people 0 + moved p a t =
+    sum_by-cons (λ (u : Move). cond (eqb u.arc a && eqb u.moment t) u.people 0) v p in
+    omega (arith, more, one_away v a t n k here.0 here.1 late, moved_away p a t n k (All-tail In v p h) late)
 
 -- what enters an arc by a net's plan is what flows there
 moved_is : (w : Network) (a t : ℕ) → IsPlace w.site (Arc a t) → moved (plan_of w) a t ≡ flow_at w (Arc a t)
@@ -54,21 +56,17 @@ plan_in_range : (w : Network) → All (λ v. (v.arc < arc_count w.site) × (v.mo
 plan_in_range w = (moves_are_table (arc_count w.site) w.site.shape.horizon (λ a t. flow_at w (Arc a t))).ordered.in_range
 
 moved_fewer : (w v : Network) (a t : ℕ) → v.site ≡ w.site → ((p : Place) → IsPlace w.site p → flow_at v p ≤ flow_at w p)
-    → (a < arc_count w.site) ⊎ (arc_count w.site ≤ a) → (t ≤ w.site.shape.horizon) ⊎ (w.site.shape.horizon < t) → moved (plan_of v) a t ≤ moved (plan_of w) a t
-moved_fewer w v a t site flows (inl i) (inl j) =
+    → (a < arc_count w.site) ⊎ (arc_count w.site ≤ a) → (w.site.shape.horizon < t) ⊎ (t ≤ w.site.shape.horizon) → moved (plan_of v) a t ≤ moved (plan_of w) a t
+moved_fewer w v a t site flows (inl i) (inr j) =
     omega (arith, moved_is w a t (i, j), moved_is v a t (subst (λ (s : Site). IsPlace s (Arc a t)) (sym site) (i, j)), flows (Arc a t) (i, j))
 moved_fewer w v a t site flows (inr i) late =
     omega (arith, moved_away (plan_of v) a t (arc_count v.site) v.site.shape.horizon (plan_in_range v) (inl (omega (arith, i, ap arc_count site))))
-moved_fewer w v a t site flows (inl i) (inr j) =
+moved_fewer w v a t site flows (inl i) (inl j) =
     omega (
       arith,
       moved_away (plan_of v) a t (arc_count v.site) v.site.shape.horizon (plan_in_range v)
           (inr (omega (arith, j, ap (λ (s : Site). s.shape.horizon) site))),
     )
-
-flip : {A B : Type 0} → A ⊎ B → B ⊎ A
-flip (inl a) = inr a
-flip (inr b) = inl b
 
 -- ---- what came open
 
@@ -124,9 +122,6 @@ module _ (b m : Model) (w v : Network) (l : LabelTable) (h : IsBrought b m w v l
   moment-in : (t : ℕ) → t ≤ w.site.shape.horizon → (t ≤ b.horizon) × (t ≤ m.horizon)
   moment-in t i = let e = horizon_same b w before.net before.of before.valid in (omega (arith, i, e), omega (arith, i, e, horizons))
 
-  above-none : (x : ℕ) (z : ℤ) → z ≡ pos x → above z 0 ≡ x
-  above-none x z e = ap (λ y. above y 0) e ∙ omega arith
-
   some-stay : (n t : ℕ) → n < length m.nodes → t ≤ m.horizon → staying (sent_model m v) (plan_of v) n t ≤ flow_at v (Hold n t)
   some-stay n t i j = by (cases_Bool (is_exit_at (sent_model m v) n))
     where
@@ -137,7 +132,7 @@ module _ (b m : Model) (w v : Network) (l : LabelTable) (h : IsBrought b m w v l
       by (inl e) = omega (arith, ap (λ x. cond x 0 stayed) e)
       by (inr e) =
           let open_node = sym (exit_same m v h.valid h.net h.of n) ∙ e in
-          let is = above-none (flow_at v (Hold n t)) (held (sent_model m v) (plan_of v) n t) (held_is m v h.valid h.net h.of h.within n t i open_node j) in
+          let is = above_none (flow_at v (Hold n t)) (held (sent_model m v) (plan_of v) n t) (sym (held_is m v h.valid h.net h.of h.within n t i open_node j)) in
           omega (arith, ap (λ x. cond x 0 stayed) e, is)
 
   hold-opened : (n t : ℕ) → IsPlace w.site (Hold n t) → IsOpened w v (Hold n t)
@@ -208,7 +203,7 @@ repair_of b m w v l k lost first least next h exact is_first is_least relabelled
   way = record {
     moves = plan_of v;
     kept = arrived_by v m.horizon;
-    fewer = λ a t. moved_fewer w v a t h.site h.flows (cases_lt a (arc_count w.site)) (flip (cases_lt w.site.shape.horizon t));
+    fewer = λ a t. moved_fewer w v a t h.site h.flows (cases_lt a (arc_count w.site)) (cases_lt w.site.shape.horizon t);
     take_out = record {
       some = sent_model m v;
       valid = is_valid m v h.valid h.net h.of h.within;
