@@ -25,25 +25,16 @@ use Rattle.study_talk.specs.Studies.{study}
 use Rattle.talk.specs.Held.{EndsByQuit, HoldsTalk, IsReadOut, OfLines, around}
 use Rattle.talk.specs.Talks.{Spoken, Talk, TalkAnswers, TalkFront, TalkGoesOn, TalkWants}
 use Rattle.evac_top.specs.Accounts.{Account, Outside, Side, Told}
-use Rattle.evac_top.specs.Answers.{WritesNothing, runs_of}
+use Rattle.evac_top.specs.Answers.{IsTalk, WritesNothing, runs_of}
 use Rattle.evac_top.specs.Reads.{IsFresh}
 use Rattle.evac_top.specs.Runs.{Runs}
-use Rattle.evac_top.specs.Talking.{HasQuit, ReadsOn, TalkOn, Talks, TalksFront, TalksMemory, TalksSoFar, TalksWanting, spoken}
+use Rattle.evac_top.specs.Talking.{HasQuit, TalkOn, Talks, TalksFront, TalksMemory, TalksSoFar, TalksWanting, spoken}
 use Rattle.evac_top.specs.Tells.{Stops}
 use Rattle.evac_top.specs.declared.words.Mode.{Mode}
 use Rattle.evac_top.specs.declared.words.Mode.TheVariants.{Replan, Session, Study}
 use Rattle.evac_top.proofs.OpenLemmas.{IsUndecided, described-lines, opening-further, takes-model}
 use Rattle.evac_top.proofs.TakeLemmas.{Failed, few-taken, not-failed, read-fault, whole-lines}
 use Rattle.evac_top.proofs.TellLemmas.{FaultIs, ReadsFirst, stopped, told-input}
-
--- a mode that holds a talk: what it answers is what a talk comes to
-pub record IsTalk {S : Type 0} (mode : Mode) (talk : TalkOn S) : Type 0 where
-  pub input : (runs_of (Some mode)).reads ≡ true
-  pub answers : (input : List ℕ) (x : Account) → Talks talk (model_of (lines_of input)) x → ReadsOn talk input x → (runs_of (Some mode)).Answers input x
-  pub talks : (input : List ℕ) (x : Account) → (runs_of (Some mode)).Answers input x → Talks talk (model_of (lines_of input)) x
-  pub so_far : (lines : List Line) (x : Account) → TalksSoFar talk (model_of lines) (length lines) x → (runs_of (Some mode)).AnswersSoFar lines x
-  pub front : (input : List ℕ) (x : Account) → TalksFront talk (model_of (lines_of input)) x → (runs_of (Some mode)).AnswersFront input x
-  pub memory : (x : Account) → TalksMemory talk x → (runs_of (Some mode)).AnswersMemory x
 
 -- ---- a model that isn't read
 

@@ -100,3 +100,12 @@ runs_of (Some Replan) = holds_talk replan (λ x. TalksMemory replan x)
 runs_of (Some Upgrade) =
     reads_first IsOpenInput (λ input x. Upgrades input (input_of (lines_of input)) x) (λ input x. UpgradesAll (input_of (lines_of input)) x)
 runs_of (Some (Drill number)) = reads_nothing (Drills number) (λ x. x.status ≡ 0)
+
+-- a mode that holds a talk: what it answers is what a talk comes to
+pub record IsTalk {S : Type 0} (mode : Mode) (talk : TalkOn S) : Type 0 where
+  pub input : (runs_of (Some mode)).reads ≡ true
+  pub answers : (input : List ℕ) (x : Account) → Talks talk (model_of (lines_of input)) x → ReadsOn talk input x → (runs_of (Some mode)).Answers input x
+  pub talks : (input : List ℕ) (x : Account) → (runs_of (Some mode)).Answers input x → Talks talk (model_of (lines_of input)) x
+  pub so_far : (lines : List Line) (x : Account) → TalksSoFar talk (model_of lines) (length lines) x → (runs_of (Some mode)).AnswersSoFar lines x
+  pub front : (input : List ℕ) (x : Account) → TalksFront talk (model_of (lines_of input)) x → (runs_of (Some mode)).AnswersFront input x
+  pub memory : (x : Account) → TalksMemory talk x → (runs_of (Some mode)).AnswersMemory x

@@ -7,16 +7,14 @@
 mod check;
 mod claim;
 mod drill;
+mod holding;
 mod laws;
 mod plan;
 mod read;
-mod replanning;
 mod report_tables;
 mod room;
-mod session;
 mod solve;
 mod stop;
-mod study;
 mod top;
 mod upgrade;
 mod verdict;

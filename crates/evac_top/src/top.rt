@@ -11,16 +11,17 @@ ghost use Rattle.talk.specs.Statuses.{status_number};
 
 use crate::check::check;
 use crate::drill::drill;
-use crate::replanning::replan;
-use crate::session::session;
+use crate::holding::hold;
 use crate::solve::solve;
-use crate::study::study;
 use crate::upgrade::upgrade;
 use crate::words::{Mode, mode_of};
 use evac_law::{Code, Steps};
 use line_io::{Out, Sink, Source};
+use replan_talk::ReplanTalk;
+use session_talk::SessionTalk;
 use std::alloc::Global;
 use std::sync::ledger::Ledger;
+use study_talk::StudyDesk;
 use talk::{Status, send_refusal, status_after};
 
 /// Does what the words ask for, and answers how that ended. The words are those after the program's name.
@@ -42,9 +43,9 @@ pub fn run<S: Source, K: Sink, L: Ledger>(
     match mode_of(words) {
         Some(Mode::Solve(flags)) => solve(alloc, flags, source, sink, steps),
         Some(Mode::Check) => check(alloc, source, sink),
-        Some(Mode::Session) => session(alloc, source, sink, steps),
-        Some(Mode::Study) => study(alloc, source, sink, steps),
-        Some(Mode::Replan) => replan(alloc, source, sink, steps),
+        Some(Mode::Session) => hold::<SessionTalk, S, K, L>(alloc, source, sink, steps),
+        Some(Mode::Study) => hold::<StudyDesk, S, K, L>(alloc, source, sink, steps),
+        Some(Mode::Replan) => hold::<ReplanTalk, S, K, L>(alloc, source, sink, steps),
         Some(Mode::Upgrade) => upgrade(alloc, source, sink),
         Some(Mode::Drill(number)) => drill(alloc, number, sink, steps),
         None => refuse_words(alloc, sink),

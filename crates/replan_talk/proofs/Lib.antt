@@ -5,4 +5,4 @@ pub mod Resting
 pub mod Going
 pub mod Advancing
 pub mod Replying
-pub mod Sending
+pub mod Beginning

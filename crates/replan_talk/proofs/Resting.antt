@@ -23,6 +23,5 @@ pub rest_desk : (d d' : DeskView) (v v' : SessionView) (m : Model) (s : ℕ) →
 rest_desk d d' v v' m s h names begins is tables =
     let left = rest v.state.model v.state.plan s in
     let fit : NamesFit d.names left = rest_named d.names v.state.model v.state.plan s (desk_fit d v h) in
-    let P : NameTable → Type 0 = λ x. NamesFit x left in
     let Q : Model → Type 0 = λ x. HasTables x d' in
-    desk_opened left d' v' (subst P (sym names) fit) (subst Q (is ∙ begins.begun) tables) begins
+    desk_opened d.names left d' v' fit names (subst Q (is ∙ begins.begun) tables) begins

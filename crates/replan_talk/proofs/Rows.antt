@@ -1,4 +1,4 @@
--- The rows of a session stand behind those of a replan.
+-- The rows of a session come after those of a replan.
 use Rattle.std.proofs.Common.{◌≡◌, ℕ, Bool, true, false, ◌&&◌, nat_lt, Result, Ok, Err, refl, sym, ap, ◌∙◌, subst}
 use Rattle.evac_law.specs.declared.code.Code.TheVariants as codes
 use Rattle.evac_law.specs.declared.edit.Edit.{Edit}

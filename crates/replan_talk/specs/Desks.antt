@@ -1,20 +1,19 @@
 -- What a replan does at a line.
 use Rattle.std.specs.Prelude.{◌≡◌, ℕ, ◌≤◌, Bool, true, false, List, Result, Ok, Err}
+use Rattle.evac_law.specs.declared.model.Model.{Model}
 use Rattle.std.specs.declared.option.Option.{Option}
 use Rattle.evac_law.specs.declared.code.Code.TheVariants.{Committed}
 use Rattle.evac_law.specs.declared.edit.Edit.{Edit}
 use Rattle.evac_law.specs.Edits.{applied}
 use Rattle.line_io.specs.Causes.{Count}
 use Rattle.line_io.specs.declared.writer.Writer.{Writer}
-use Rattle.model_text.specs.declared.command.Command.TheVariants.{Quit}
-use Rattle.model_text.specs.Commands.{command_of}
 use Rattle.building_table.specs.Names.{NameTable}
 use Rattle.replan.specs.Replans.{ReplanView}
 use Rattle.session_talk.specs.Desks.{DeskView, desk_state}
 use Rattle.session_talk.specs.Sessions.{Edits, State}
-use Rattle.replan_talk.specs.ReplanTalks.{ReplanReplies, Replanned, WantsMemory, carried_on}
+use Rattle.replan_talk.specs.ReplanTalks.{Replanned, carried_on}
 use Rattle.talk.specs.Speaking.{PutsNothing, PutsSome, Speaking, speaking}
-use Rattle.talk.specs.Talks.{Reply, Replying, Wanting, refuses}
+use Rattle.talk.specs.Talks.{Reply, refuses}
 
 -- where a replan is whose replies are made on a desk
 abbrev pub replanned : DeskView → ReplanView → Replanned
@@ -24,19 +23,9 @@ replanned d v = record { session = desk_state d v.session; moment = v.moment; go
 abbrev pub shown_replan : {X : Type 0} → DeskView → ReplanView → Writer X → ℕ → Speaking NameTable Replanned X
 shown_replan d v writer steps = speaking d.names (replanned d v) writer steps
 
--- what a line gets in a replan with these names, which line quits, and which may want memory
-abbrev pub gets : NameTable → Replying Replanned
-gets names = λ line s text r. ReplanReplies names line s text r
-
-abbrev pub Quits : List ℕ → Type 0
-Quits text = command_of text ≡ Ok Quit
-
-abbrev pub Wants : Wanting Replanned
-Wants line s text = WantsMemory s text
-
--- no more blocks are written than lines are answered
-abbrev pub Behind : ℕ → Replanned → Type 0
-Behind before s = s.session.index ≤ before
+-- a replan on a building keeps its names, and no more blocks are written than lines are answered
+abbrev pub Reaches : NameTable → Model → ℕ → NameTable → Replanned → Type 0
+Reaches names m before kept s = (kept ≡ names) × (s.session.index ≤ before)
 
 -- ---- parts of a line's answer
 

@@ -13,4 +13,3 @@ pub use Rattle.talk.specs.Talks
 pub mod ReplanTalks
 pub mod Desks
 pub mod Talking
-pub mod Held

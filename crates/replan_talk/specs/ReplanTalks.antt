@@ -1,4 +1,4 @@
--- A replan over lines: what each line gets, by what it asks for. The rows of a session stand behind those of a replan.
+-- A replan over lines: what each line gets, by what it asks for. The rows of a session come after those of a replan.
 use Rattle.std.specs.Prelude.{◌≡◌, ◌≢◌, ℕ, ◌+◌, ◌<◌, ◌≤◌, Bool, true, false, ◌&&◌, nat_lt, List, [], ◌∷◌, ◌++◌, length, slice_index, codes, decimal, Result, Ok, Err, IsTrue, IsFalse}
 use Rattle.std.specs.List.{flat_map}
 use Rattle.std.specs.Str.{bytes_eq}

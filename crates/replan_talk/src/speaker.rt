@@ -1,8 +1,6 @@
 //! A replan answers the lines of a talk.
 ghost use Rattle.std.specs.Prelude.{◌≡◌, ◌<◌, ◌≤◌, ◌+◌, ◌++◌, ◌&&◌, ℕ, nat_lt, Ok, OnOk, IsTrue, IsFalse};
-ghost use Rattle.evac_law.specs.Building.{IsValid};
 ghost use Rattle.evac_law.specs.Edits.{IsEditOf};
-ghost use Rattle.building_table.specs.Names.{NamesFit};
 ghost use Rattle.line_io.specs.Line.{input_limit};
 ghost use Rattle.line_io.specs.Writer.{Writes};
 ghost use Rattle.replan.specs.Replans.{is_of_people};
@@ -29,42 +27,14 @@ use talk::Speaker;
 
 /// A replan with the desk at which its replies are made.
 #[derive(Drop)]
-pub(crate) struct ReplanTalk {
+pub struct ReplanTalk {
     alloc: Global,
     desk: Desk,
     replan: Replan,
 }
 
 impl ReplanTalk {
-    ghost use Rattle.replan_talk.specs.Talking.{TalkAdvances, TalkBegins};
-
-    /// A replan on a building, with the best plan of its model.
-    pub(crate) fn open<L: Ledger>(
-        alloc: Global,
-        building: Building,
-        steps: &mut Steps<L>,
-    ) -> Result<ReplanTalk, BeginFault>
-        requires valid { IsValid building.model }
-        requires names { NamesFit building.names building.model }
-        ensures { (n : ℕ) × (steps.new ≡ steps.old + n) × TalkBegins building.names building.model result n }
-    {
-        let Building { model, names } = building;
-        let Ok(desk) = Desk::new(alloc, names, &model) else {
-            drop(model);
-            return Err(BeginFault::Memory);
-        };
-        match Replan::begin(alloc, model, steps) {
-            Ok(replan) => Ok(ReplanTalk {
-                alloc,
-                desk,
-                replan,
-            }),
-            Err(fault) => {
-                drop(desk);
-                Err(fault)
-            }
-        }
-    }
+    ghost use Rattle.replan_talk.specs.Talking.{TalkAdvances};
 
     // Carries the plan out up to a moment, and counts the block that answers it. Others come into the nodes then, so the desk's tables are
     // made anew.
@@ -227,8 +197,8 @@ impl Speaker for ReplanTalk {
     ghost use Rattle.building_table.specs.Names.{NameTable};
     ghost use Rattle.session_text.specs.StateTexts.{block_text};
     ghost use Rattle.session_talk.specs.Desks.{IsDesk};
-    ghost use Rattle.replan_talk.specs.Desks.{Behind, Quits, Wants, gets, replanned};
-    ghost use Rattle.replan_talk.specs.ReplanTalks.{Replanned};
+    ghost use Rattle.replan_talk.specs.Desks.{Reaches, replanned};
+    ghost use Rattle.replan_talk.specs.ReplanTalks.{Replanned, replan};
 
     ghost State = { Replanned };
 
@@ -240,15 +210,36 @@ impl Speaker for ReplanTalk {
 
     ghost opening = { λ t. block_text t.desk.index t.replan.session.state };
 
-    ghost gets = { gets };
+    ghost talk = { replan };
 
-    ghost Quits = { Quits };
-
-    ghost Wants = { Wants };
-
-    ghost Behind = { Behind };
+    ghost Reaches = { Reaches };
 
     ghost ready = { λ t. IsDesk t.desk t.replan.session };
+
+    ghost refuses = { λ _ _ _ _ short. short };
+
+    fn begin<L: Ledger>(
+        alloc: Global,
+        building: Building,
+        steps: &mut Steps<L>,
+    ) -> Result<ReplanTalk, BeginFault> {
+        let Building { model, names } = building;
+        let Ok(desk) = Desk::new(alloc, names, &model) else {
+            drop(model);
+            return Err(BeginFault::Memory);
+        };
+        match Replan::begin(alloc, model, steps) {
+            Ok(replan) => Ok(ReplanTalk {
+                alloc,
+                desk,
+                replan,
+            }),
+            Err(fault) => {
+                drop(desk);
+                Err(fault)
+            }
+        }
+    }
 
     fn open<K: Sink>(&self, writer: &mut Writer<'_, K>) {
         self.desk.put_block(writer, self.replan.session());

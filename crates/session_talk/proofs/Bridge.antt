@@ -16,6 +16,7 @@ use Rattle.edit_session.specs.declared.work.Work.{Work}
 use Rattle.edit_session.specs.Sessions.{BeginEnds, EditEnds, IsEdited, IsSolved, IsUndone, SessionState, SessionView, UndoEnds}
 use Rattle.edit_session.specs.Thrift.{IsSpent}
 use Rattle.session_text.specs.StateTexts.{block_text}
+use Rattle.session_talk.specs.Desks.{DeskView, desk_state}
 use Rattle.session_talk.specs.Sessions.{Edits, IsAnswerText, Opens, State, Undoes}
 use Rattle.talk.specs.Talks.{Reply, refuses}
 
@@ -43,11 +44,9 @@ unfolding number_field_limit
 zero_few = omega arith
 
 -- a session begins
-pub begin_opens : BlockReadsBack → (m : Model) (v : SessionView) (steps : ℕ) → BeginEnds m (Ok v) steps
-    → Opens m (block_reply (record { index = 0; standing = v.state }) steps)
-begin_opens back m v steps h =
-    let s : State = record { index = 0; standing = v.state } in
-    record { begins = h.0; first = refl; answer = answer_of back s zero_few h.0.solved; counted = h.2 }
+pub begin_opens : BlockReadsBack → (m : Model) (d : DeskView) (v : SessionView) (steps : ℕ) → d.index ≡ 0 → BeginEnds m (Ok v) steps → Opens m (block_reply (desk_state d v) steps)
+begin_opens back m d v steps first h =
+    record { begins = h.0; first = first; answer = answer_of back (desk_state d v) (omega (arith, first, zero_few)) h.0.solved; counted = h.2 }
 
 -- an edit that is made
 pub edit_advances : BlockReadsBack → (line : ℕ) (s : State) (v v' : SessionView) (e : Edit) (w : Work) (steps : ℕ) → v.state ≡ s.standing

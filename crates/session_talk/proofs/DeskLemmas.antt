@@ -3,7 +3,7 @@ use Rattle.std.proofs.Common.{◌≡◌, ℕ, refl, sym, ap, subst, Result, Ok, 
 use Rattle.evac_law.specs.declared.edit.Edit.{Edit}
 use Rattle.evac_law.specs.declared.model.Model.{Model}
 use Rattle.evac_law.specs.Shapes.{HasSameShape}
-use Rattle.building_table.specs.Names.{NamesFit}
+use Rattle.building_table.specs.Names.{NameTable, NamesFit}
 use Rattle.building_table.proofs.FitLemmas.{names_kept}
 use Rattle.edit_session.specs.declared.faults.EditRefusal.{EditRefusal}
 use Rattle.edit_session.specs.declared.faults.EditRefusal.TheVariants.{Fault, NotCleared}
@@ -83,11 +83,11 @@ with_undone d v v' (Err NothingToUndo) steps h ends =
     with_state d v v' h (stays_of h.building v.state v'.state (ap (λ (x : SessionView). x.state) ends.1) h.of_building)
 
 -- a desk that is laid for the model with which a session begins
-pub desk_opened : (m : Model) (d : DeskView) (v : SessionView) → NamesFit d.names m → HasTables m d → Begins m v.state → IsDesk d v
-desk_opened m d v fit tables begins = record {
+pub desk_opened : (names : NameTable) (m : Model) (d : DeskView) (v : SessionView) → NamesFit names m → d.names ≡ names → HasTables m d → Begins m v.state → IsDesk d v
+desk_opened names m d v fit same tables begins = record {
   building = m;
   of_building = begins_of_building m v.state begins;
-  names_fit = fit;
+  names_fit = subst (λ (x : NameTable). NamesFit x m) (sym same) fit;
   site = subst (IsSameSite m) (sym tables.routes) (record { horizon = refl; nodes = refl; ends = refl; entrants = refl });
   space = tables.space;
 }

@@ -4,4 +4,3 @@ pub mod DeskLemmas
 pub mod Saying
 pub mod Replying
 pub mod Back
-pub mod Sending

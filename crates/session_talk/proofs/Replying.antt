@@ -15,8 +15,8 @@ use Rattle.model_text.specs.Commands.{command_of}
 use Rattle.building_table.specs.declared.faults.NameFault.{NameFault}
 use Rattle.building_table.specs.EditNames.{edit_named}
 use Rattle.building_table.specs.Names.{NameTable}
-use Rattle.session_talk.specs.Desks.{Behind, gets}
-use Rattle.session_talk.specs.Sessions.{AsksEdit, Edits, Replies, Reports, State, Undoes}
+use Rattle.session_talk.specs.Desks.{Reaches}
+use Rattle.session_talk.specs.Sessions.{AsksEdit, Edits, Replies, Reports, State, Undoes, session}
 use Rattle.session_talk.proofs.Same.{cut_stays}
 use Rattle.talk.specs.Speaking.{PutsReply, PutsSome, Speaking}
 use Rattle.talk.specs.Talks.{Reply, says}
@@ -60,9 +60,11 @@ reply-index names line s (Ok commands.Quit) r h = absurd h
 
 -- ---- a line that is replied to is answered
 
-pub answers : {X : Type 0} {H : X → Option (List ℕ)} {F : X → Count} (x y : Speaking NameTable State X) (before line : ℕ) (text : List ℕ) (c : Result Command TextFault) → c ≡ command_of text
-    → line ≡ before + 1 → Behind before x.state → PutsSome H F (Replies x.kept line x.state c) x y → (r : Reply State) × gets x.kept line x.state text r × PutsReply H F x r y × Behind line y.state
-answers x y before line text c is at few h =
+pub answers : {X : Type 0} {H : X → Option (List ℕ)} {F : X → Count} (x y : Speaking NameTable State X) (names : NameTable) (m : Model) (before line : ℕ) (text : List ℕ) (c : Result Command TextFault)
+    → c ≡ command_of text → line ≡ before + 1 → Reaches names m before x.kept x.state → PutsSome H F (Replies x.kept line x.state c) x y
+    → (r : Reply State) × (session names m).Gets line x.state text r × PutsReply H F x r y × Reaches names m line y.kept y.state
+answers x y names m before line text c is at reaches h =
     let P : Result Command TextFault → Type 0 = λ z. Replies x.kept line x.state z h.0 in
+    let Q : NameTable → Type 0 = λ z. Replies z line x.state (command_of text) h.0 in
     let e = ap (λ (s : State). s.index) h.2.state in
-    (h.0, subst P is h.1, h.2, omega (arith, reply-index x.kept line x.state c h.0 h.1, e, few, at))
+    (h.0, subst Q reaches.0 (subst P is h.1), h.2, (h.2.kept ∙ reaches.0, omega (arith, reply-index x.kept line x.state c h.0 h.1, e, reaches.1, at)))

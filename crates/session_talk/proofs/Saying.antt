@@ -1,4 +1,4 @@
--- What is put behind the pending bytes is what a line gets.
+-- What is put after the pending bytes is what a line gets.
 use Rattle.std.specs.Prelude.{Bool, true, false, nat_lt, if◌then◌else◌}
 use Rattle.std.proofs.Common.{◌≡◌, ℕ, ◌+◌, ◌^◌, ◌<◌, ◌≤◌, List, Result, Ok, Err, refl, sym, ap, ◌∙◌, subst, arith}
 use Rattle.std.specs.declared.option.Option.{Option}
@@ -54,7 +54,7 @@ same_desk d = record { names = refl; index = refl }
 
 -- ---- edits
 
--- a line behind a block leaves the next block a number that its field can hold
+-- a line after a block leaves the next block a number that its field can hold
 pub few_blocks : (index line : ℕ) → index < line → line ≤ input_limit → index + 1 ≤ number_field_limit
 unfolding input_limit number_field_limit
 few_blocks index line before short = omega (arith, before, short)

@@ -1,17 +1,14 @@
 -- What replies about a session are made in, and what a session does at a line.
-use Rattle.std.specs.Prelude.{◌≡◌, ℕ, ◌≤◌, List, Ok}
+use Rattle.std.specs.Prelude.{◌≡◌, ℕ, ◌≤◌}
 use Rattle.evac_law.specs.declared.model.Model.{Model}
 use Rattle.line_io.specs.declared.writer.Writer.{Writer}
-use Rattle.model_text.specs.declared.command.Command.TheVariants.{Quit}
-use Rattle.model_text.specs.Commands.{command_of}
 use Rattle.building_table.specs.Names.{NameTable, NamesFit}
 use Rattle.edit_session.specs.Sessions.{SessionView}
 use Rattle.route_decompose.specs.Routes.{IsSameSite, RoutesView}
 use Rattle.session_text.specs.Laws.{IsOfBuilding}
 use Rattle.session_text.specs.Spaces.{IsSpace, SpaceView}
-use Rattle.session_talk.specs.Sessions.{Replies, State}
+use Rattle.session_talk.specs.Sessions.{State}
 use Rattle.talk.specs.Speaking.{Speaking, speaking}
-use Rattle.talk.specs.Talks.{Replying}
 
 -- a desk as contracts see it: the names of a building, the index of the block written last, and what routes and reports are made in
 pub record DeskView : Type 0 where
@@ -46,13 +43,6 @@ desk_state d v = record { index = d.index; standing = v.state }
 abbrev pub shown_of : {X : Type 0} → DeskView → SessionView → Writer X → ℕ → Speaking NameTable State X
 shown_of d v writer steps = speaking d.names (desk_state d v) writer steps
 
--- what a line gets in a session with these names, and which line quits
-abbrev pub gets : NameTable → Replying State
-gets names = λ line s text r. Replies names line s (command_of text) r
-
-abbrev pub Quits : List ℕ → Type 0
-Quits text = command_of text ≡ Ok Quit
-
--- no more blocks are written than lines are answered
-abbrev pub Behind : ℕ → State → Type 0
-Behind before s = s.index ≤ before
+-- a session on a building keeps its names, and no more blocks are written than lines are answered
+abbrev pub Reaches : NameTable → Model → ℕ → NameTable → State → Type 0
+Reaches names m before kept s = (kept ≡ names) × (s.index ≤ before)

@@ -11,5 +11,3 @@ pub use Rattle.talk.specs.Talks
 pub mod Sessions
 pub mod SessionLaws
 pub mod Desks
-pub mod Talking
-pub mod Held

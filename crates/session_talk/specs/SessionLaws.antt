@@ -12,7 +12,7 @@ abbrev pub EditsApart : Type 0
 EditsApart =
     (s : State) (m : Model) (earlier : List Model) (line : ℕ) (r q : Reply State) → Advances s m earlier r → StaysBefore s m line q → ⊥
 
--- a session over lines is one over the first of them, with the replies to the others behind it
+-- a session over lines is one over the first of them, with the replies to the others after it
 abbrev pub SessionsPart : Type 0
 SessionsPart =
     (names : NameTable) (m : Model) (before : ℕ) (xs ys : List (List ℕ)) (r : Reply State) → SessionGoes names m before (xs ++ ys) r

@@ -6,7 +6,7 @@ pub fn edits_apart()
     ensures { EditsApart }
 {}
 
-/// A session over lines is one over the first of them, with the replies to the others behind it.
+/// A session over lines is one over the first of them, with the replies to the others after it.
 pub fn sessions_part()
     ensures { SessionsPart }
 {}

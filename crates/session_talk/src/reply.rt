@@ -1,4 +1,4 @@
-//! What commands get, put behind the pending bytes.
+//! What commands get, put after the pending bytes.
 ghost use Rattle.std.specs.Prelude.{◌≡◌, ◌<◌, ◌≤◌, ◌+◌, ℕ, Err};
 ghost use Rattle.evac_law.specs.Edits.{applied};
 ghost use Rattle.evac_law.specs.declared.edit.Edit.{Edit as EditValue};

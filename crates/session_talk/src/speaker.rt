@@ -1,8 +1,6 @@
 //! A session answers the lines of a talk.
-ghost use Rattle.std.specs.Prelude.{◌≡◌, ◌<◌, ◌≤◌, ◌+◌, ℕ};
-ghost use Rattle.evac_law.specs.Building.{IsValid};
+ghost use Rattle.std.specs.Prelude.{◌≡◌, ◌<◌, ◌≤◌};
 ghost use Rattle.building_table.specs.EditNames.{edit_named};
-ghost use Rattle.building_table.specs.Names.{NamesFit};
 ghost use Rattle.line_io.specs.Line.{input_limit};
 ghost use Rattle.session_talk.specs.Desks.{IsDesk, desk_state, shown_of};
 ghost use Rattle.session_talk.specs.Sessions.{AsksEdit, Undoes};
@@ -23,37 +21,9 @@ use talk::Speaker;
 
 /// A session with the desk at which its replies are made.
 #[derive(Drop)]
-pub(crate) struct SessionTalk {
+pub struct SessionTalk {
     desk: Desk,
     session: Session,
-}
-
-impl SessionTalk {
-    ghost use Rattle.session_talk.specs.Talking.{TalkBegins};
-
-    /// A session on a building, with the best plan of its model. All memory that it needs is taken here.
-    pub(crate) fn open<L: Ledger>(
-        alloc: Global,
-        building: Building,
-        steps: &mut Steps<L>,
-    ) -> Result<SessionTalk, BeginFault>
-        requires valid { IsValid building.model }
-        requires names { NamesFit building.names building.model }
-        ensures { (n : ℕ) × (steps.new ≡ steps.old + n) × TalkBegins building.names building.model result n }
-    {
-        let Building { model, names } = building;
-        let Ok(desk) = Desk::new(alloc, names, &model) else {
-            drop(model);
-            return Err(BeginFault::Memory);
-        };
-        match Session::begin(alloc, model, steps) {
-            Ok(session) => Ok(SessionTalk { desk, session }),
-            Err(fault) => {
-                drop(desk);
-                Err(fault)
-            }
-        }
-    }
 }
 
 // An edit gets the next block, or a refusal with all as it was.
@@ -105,9 +75,8 @@ fn reply_undo<K: Sink, L: Ledger>(
 impl Speaker for SessionTalk {
     ghost use Rattle.building_table.specs.Names.{NameTable};
     ghost use Rattle.session_text.specs.StateTexts.{block_text};
-    ghost use Rattle.session_talk.specs.Desks.{Behind, IsDesk, Quits, desk_state, gets};
-    ghost use Rattle.session_talk.specs.Sessions.{State};
-    ghost use Rattle.talk.specs.Talks.{WantsNone};
+    ghost use Rattle.session_talk.specs.Desks.{IsDesk, Reaches, desk_state};
+    ghost use Rattle.session_talk.specs.Sessions.{State, session};
 
     ghost State = { State };
 
@@ -119,15 +88,32 @@ impl Speaker for SessionTalk {
 
     ghost opening = { λ t. block_text t.desk.index t.session.state };
 
-    ghost gets = { gets };
+    ghost talk = { session };
 
-    ghost Quits = { Quits };
-
-    ghost Wants = { WantsNone };
-
-    ghost Behind = { Behind };
+    ghost Reaches = { Reaches };
 
     ghost ready = { λ t. IsDesk t.desk t.session };
+
+    ghost refuses = { λ _ _ _ _ short. short };
+
+    fn begin<L: Ledger>(
+        alloc: Global,
+        building: Building,
+        steps: &mut Steps<L>,
+    ) -> Result<SessionTalk, BeginFault> {
+        let Building { model, names } = building;
+        let Ok(desk) = Desk::new(alloc, names, &model) else {
+            drop(model);
+            return Err(BeginFault::Memory);
+        };
+        match Session::begin(alloc, model, steps) {
+            Ok(session) => Ok(SessionTalk { desk, session }),
+            Err(fault) => {
+                drop(desk);
+                Err(fault)
+            }
+        }
+    }
 
     fn open<K: Sink>(&self, writer: &mut Writer<'_, K>) {
         self.desk.put_block(writer, &self.session);

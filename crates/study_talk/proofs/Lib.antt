@@ -1,4 +1,4 @@
 pub mod RowLemmas
 pub mod CertLemmas
 pub mod Replying
-pub mod Sending
+pub mod Beginning

@@ -1,5 +1,5 @@
 -- A text that was put is a reply of a study.
-use Rattle.std.proofs.Common.{◌≡◌, ℕ, ◌+◌, List, Result, refl, sym, subst, Bool, true, false, nat_lt}
+use Rattle.std.proofs.Common.{◌≡◌, ℕ, ◌+◌, List, Result, refl, sym, subst, ◌∙◌, Bool, true, false, nat_lt}
 use Rattle.std.proofs.Math.Nat.{add-zero}
 use Rattle.std.specs.declared.option.Option.{Option}
 use Rattle.evac_law.specs.declared.code.Code.{Code}
@@ -11,12 +11,13 @@ use Rattle.model_text.specs.declared.study.StudyCommand.{StudyCommand}
 use Rattle.model_text.specs.declared.fault.TextFault.{TextFault}
 use Rattle.model_text.specs.StudyCommands.{study_command_of}
 use Rattle.certificate_text.specs.BlockText.{refusal_line}
-use Rattle.study_talk.specs.Desks.{Behind, StudyView, Kept, gets, kept_of, shown_study}
+use Rattle.study_talk.specs.Desks.{Kept, Reaches, StudyView, kept_of, shown_study}
 use Rattle.evac_law.specs.declared.model.Model.{Model}
 use Rattle.building_table.specs.declared.faults.NameFault.{NameFault}
+use Rattle.building_table.specs.Names.{NameTable}
 use Rattle.exit_study.specs.declared.rates.Least.{Least}
 use Rattle.study_talk.specs.StudyTexts.{SaysLeast}
-use Rattle.study_talk.specs.Studies.{AsksLeast, LeastReply, StudyReplies}
+use Rattle.study_talk.specs.Studies.{AsksLeast, LeastReply, StudyReplies, study}
 use Rattle.talk.specs.Speaking.{PutsReply, PutsSome, Speaking}
 use Rattle.talk.specs.Talks.{Reply, refuses}
 
@@ -59,6 +60,10 @@ asks_named {X} {H} {F} m line k made named x y is h = let P : Result ℕ NameFau
 
 -- ---- a line that is replied to is answered
 
-pub answers : {X : Type 0} {H : X → Option (List ℕ)} {F : X → Count} (x y : Speaking Kept (Unit {0}) X) (line : ℕ) (text : List ℕ) (c : Result StudyCommand TextFault) → c ≡ study_command_of text
-    → PutsSome H F (StudyReplies x.kept.0 x.kept.1 line c) x y → (r : Reply (Unit {0})) × gets x.kept line x.state text r × PutsReply H F x r y × Behind line y.state
-answers x y line text c is h = let P : Result StudyCommand TextFault → Type 0 = λ z. StudyReplies x.kept.0 x.kept.1 line z h.0 in (h.0, subst P is h.1, h.2, tt)
+pub answers : {X : Type 0} {H : X → Option (List ℕ)} {F : X → Count} (x y : Speaking Kept (Unit {0}) X) (names : NameTable) (m : Model) (before line : ℕ) (text : List ℕ) (c : Result StudyCommand TextFault)
+    → c ≡ study_command_of text → Reaches names m before x.kept x.state → PutsSome H F (StudyReplies x.kept.0 x.kept.1 line c) x y
+    → (r : Reply (Unit {0})) × (study names m).Gets line x.state text r × PutsReply H F x r y × Reaches names m line y.kept y.state
+answers x y names m before line text c is reaches h =
+    let P : Result StudyCommand TextFault → Type 0 = λ z. StudyReplies x.kept.0 x.kept.1 line z h.0 in
+    let Q : Kept → Type 0 = λ z. StudyReplies z.0 z.1 line (study_command_of text) h.0 in
+    (h.0, subst Q reaches (subst P is h.1), h.2, h.2.kept ∙ reaches)

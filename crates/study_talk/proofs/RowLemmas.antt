@@ -89,7 +89,7 @@ pub rows_same : (m : Model) (n : ℕ) (rows : List Row) → AreRows m (filter (i
     → AreRows m (filter (is_exit_at m) (below (n + 1))) rows
 rows_same m n rows h e = subst (λ (l : List ℕ). AreRows m l rows) (sym (filter_no (is_exit_at m) n e)) h
 
--- the row of one more exit was put behind those before it
+-- the row of one more exit was put after those before it
 pub rows_put : {X : Type 0} {H : X → Option (List ℕ)} {F : X → Count} (m of : Model) (n : ℕ) (head : List ℕ) (rows : List Row) (w a b : Writer X)
     → AreRows m (filter (is_exit_at m) (below n)) rows → is_exit_at m n ≡ true → of ≡ m
     → (row : Row) × (row.exit ≡ n) × IsExitRow of row.exit row.cut row.outcome × Writes H F a (row_text of row) b

@@ -1,15 +1,11 @@
 -- What a study works with.
-use Rattle.std.specs.Prelude.{◌≡◌, ℕ, List, [], Result, Ok, Err, ⊤}
+use Rattle.std.specs.Prelude.{◌≡◌, ℕ, [], Result, Ok, Err}
 use Rattle.evac_law.specs.declared.model.Model.{Model}
 use Rattle.line_io.specs.declared.writer.Writer.{Writer}
-use Rattle.model_text.specs.declared.study.StudyCommand.TheVariants.{Quit}
-use Rattle.model_text.specs.StudyCommands.{study_command_of}
 use Rattle.building_table.specs.Names.{NameTable, NamesFit}
 use Rattle.edit_session.specs.declared.faults.BeginFault.{BeginFault}
 use Rattle.edit_session.specs.Sessions.{BeginEnds, SessionView}
-use Rattle.study_talk.specs.Studies.{StudyReplies}
 use Rattle.talk.specs.Speaking.{Speaking, speaking}
-use Rattle.talk.specs.Talks.{Replying}
 
 -- a desk of a study as contracts see it: the names of a building, and a session on its model
 pub record StudyView : Type 0 where
@@ -37,13 +33,6 @@ kept_of d = (d.names, d.session.state.model)
 abbrev pub shown_study : {X : Type 0} → StudyView → Writer X → ℕ → Speaking Kept (Unit {0}) X
 shown_study d writer steps = speaking (kept_of d) tt writer steps
 
--- what a line gets in a study, and which line quits
-abbrev pub gets : Kept → Replying (Unit {0})
-gets kept = λ line s text r. StudyReplies kept.0 kept.1 line (study_command_of text) r
-
-abbrev pub Quits : List ℕ → Type 0
-Quits text = study_command_of text ≡ Ok Quit
-
--- a study can be anywhere
-abbrev pub Behind : ℕ → Unit {0} → Type 0
-Behind before s = ⊤
+-- a study keeps its building
+abbrev pub Reaches : NameTable → Model → ℕ → Kept → Unit {0} → Type 0
+Reaches names m before kept s = kept ≡ (names, m)

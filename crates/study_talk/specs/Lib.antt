@@ -12,4 +12,3 @@ pub mod Stays
 pub mod StudyTexts
 pub mod Studies
 pub mod Desks
-pub mod Held

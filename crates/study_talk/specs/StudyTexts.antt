@@ -47,7 +47,7 @@ pub record Row : Type 0 where
 abbrev pub exits_of : Model → List ℕ
 exits_of m = filter (is_exit_at m) (places m.nodes)
 
--- a row in lines; a cut stands behind its line
+-- a row in lines; a cut comes after its line
 abbrev pub outcome_text : Model → ℕ → LabelTable → ExitRow → List ℕ
 outcome_text m x l (Clears moment) = exit_line (name_of_node m x) moment
 outcome_text m x l (Short people most) =

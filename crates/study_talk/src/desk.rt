@@ -20,7 +20,7 @@ use std::sync::ledger::Ledger;
 
 /// A session with the names of its building, on which each edit is undone.
 #[derive(Drop)]
-pub(crate) struct StudyDesk {
+pub struct StudyDesk {
     names: Names,
     session: Session,
 }
@@ -37,7 +37,7 @@ impl Model for StudyDesk {
 
 impl StudyDesk {
     /// A desk for a building, with the best plan of its model. All memory that a study needs is taken here.
-    pub(crate) fn open<L: Ledger>(
+    pub(crate) fn new<L: Ledger>(
         alloc: Global,
         building: Building,
         steps: &mut Steps<L>,

@@ -1,4 +1,4 @@
-//! Going back behind an edit that was made to print its plan or its cut.
+//! Going back after an edit that was made to print its plan or its cut.
 ghost use Rattle.std.specs.Prelude.{◌≡◌, ◌+◌, ℕ, [], ◌≢◌};
 ghost use Rattle.edit_session.specs.Sessions.{IsUndone};
 

@@ -1,17 +1,16 @@
 //! A study over lines: a building is opened with its best plan, and each line after it is answered: by when everybody is out without each of
 //! its exits, or by the least rate of an arc.
 //!
-//! `hold_study` takes all memory before it hears a line. No reply changes the building, so a line gets what it would get first.
+//! A `StudyDesk` takes all memory that it needs before it is opened. No reply changes the building, so a line gets what it would get first.
 //! `specs/Studies` says what a line gets; how a talk goes over lines, and what a whole talk comes to, is said by `talk`.
 #![tactic(auto)]
 
 mod desk;
 mod exits;
 mod going_back;
-mod hold;
 mod least;
 mod lines;
 mod reply;
 mod speaker;
 
-pub use hold::hold_study;
+pub use desk::StudyDesk;

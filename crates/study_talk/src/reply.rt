@@ -1,4 +1,4 @@
-//! What a line of a study gets, put behind the pending bytes.
+//! What a line of a study gets, put after the pending bytes.
 ghost use Rattle.std.specs.Prelude.{◌<◌, ◌≤◌, ℕ, Ok, length, nat_lt};
 ghost use Rattle.building_table.specs.EditNames.{named_arc};
 ghost use Rattle.study_talk.specs.Desks.{shown_study};

@@ -3,18 +3,20 @@ ghost use Rattle.std.specs.Prelude.{◌≡◌};
 
 use crate::desk::StudyDesk;
 use crate::reply::{reply_exits, reply_least};
+use building_table::Building;
 use certificate_text::put_refusal;
+use edit_session::BeginFault;
 use evac_law::Steps;
 use line_io::{Heard, Sink, Writer};
 use model_text::{StudyCommand, read_study_command};
-use std::alloc::AllocError;
+use std::alloc::{AllocError, Global};
 use std::sync::ledger::Ledger;
 use talk::Speaker;
 
 impl Speaker for StudyDesk {
     ghost use Rattle.std.specs.Prelude.{[], ⊤};
-    ghost use Rattle.study_talk.specs.Desks.{Behind, Kept, Quits, gets, kept_of};
-    ghost use Rattle.talk.specs.Talks.{WantsNone};
+    ghost use Rattle.study_talk.specs.Desks.{Kept, Reaches, kept_of};
+    ghost use Rattle.study_talk.specs.Studies.{study};
 
     ghost State = { Unit {0} };
 
@@ -26,15 +28,21 @@ impl Speaker for StudyDesk {
 
     ghost opening = { λ _. [] };
 
-    ghost gets = { gets };
+    ghost talk = { study };
 
-    ghost Quits = { Quits };
-
-    ghost Wants = { WantsNone };
-
-    ghost Behind = { Behind };
+    ghost Reaches = { Reaches };
 
     ghost ready = { λ _. ⊤ };
+
+    ghost refuses = { λ _ _ _ _ short. short };
+
+    fn begin<L: Ledger>(
+        alloc: Global,
+        building: Building,
+        steps: &mut Steps<L>,
+    ) -> Result<StudyDesk, BeginFault> {
+        StudyDesk::new(alloc, building, steps)
+    }
 
     fn open<K: Sink>(&self, _writer: &mut Writer<'_, K>) {}
 

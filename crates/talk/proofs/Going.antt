@@ -21,24 +21,22 @@ use Rattle.line_io.proofs.LineLemmas.{text_lines-push}
 use Rattle.line_io.proofs.PassLemmas.{passes-none}
 use Rattle.certificate_text.specs.BlockText.{refusal_line}
 use Rattle.talk.specs.Held.{ConcludesTalk, HoldsTalk, RefusesBy, SendsBy, around, status_after}
-use Rattle.talk.specs.Speaking.{HearsLine, SaysFront, Shown, shown, talk_from}
-use Rattle.talk.specs.Talks.{RepliesTo, Reply, Replying, Spoken, Talk, TalkAnswers, TalkFront, TalkGoes, TalkGoesOn, TalkRun, Wanting, followed, over_with, says}
+use Rattle.talk.specs.Speaking.{HearsLine, SaysFront, Shown, shown}
+use Rattle.talk.specs.Talks.{RepliesTo, Reply, Spoken, Talk, TalkAnswers, TalkFront, TalkGoes, TalkGoesOn, TalkRun, followed, over_with, says}
 use Rattle.talk.proofs.Answering.{Said, goes-said}
 use Rattle.talk.proofs.Holding.{all_lines_so, at_0, at_1, at_3, at_4, at_5, front_over, held_as, of_lines, over_behind, some_lines, went_over}
 use Rattle.talk.proofs.TalkLemmas.{followed_assoc, replies_join, replies_one}
 
 -- a talk went over the lines that a listener went on from
-pub record Went {N S : Type 0} (gets : N → Replying S) (Quits : List ℕ → Type 0) (Wants : Wanting S) (Behind : ℕ → S → Type 0) (i : N) (o : Reply S) (before : ℕ) (lines : List (List ℕ))
-    (held : Option (List ℕ)) (faults : Count) (k : ℕ) (at : Shown N S) : Type 0 where
+pub record Went {N S : Type 0} (talk : Talk S) (Reaches : ℕ → N → S → Type 0) (before : ℕ) (lines : List (List ℕ)) (held : Option (List ℕ)) (faults : Count) (k : ℕ) (at : Shown N S) : Type 0 where
   pub replies : Reply S
-  pub goes : TalkGoes (talk_from o (gets i) Quits Wants) before lines replies
+  pub goes : TalkGoes talk before lines replies
   pub state : replies.after ≡ at.state
-  pub kept : at.kept ≡ i
   pub written : Appends held at.held replies.text
   pub flushed : at.pending ≡ []
   pub faults_same : at.faults ≡ faults
   pub counted : at.steps ≡ k + replies.steps
-  pub behind : Behind (before + length lines) at.state
+  pub reaches : Reaches (before + length lines) at.kept at.state
 
 no-last : (texts last : List (List ℕ)) → last ≡ [] → texts ++ last ≡ texts
 no-last texts last is = ap (λ (l : List (List ℕ)). texts ++ l) is ∙ append-nil texts
@@ -74,18 +72,14 @@ refused_run talk code a c l n texts last rest r goes passes none is lines e = re
   ends = ap (λ (i : ℕ). let x : Spoken = record { status = 1; text = r.text ++ refusal_line code (i + 1); steps = r.steps } in x) (number_of a c l n texts last passes none);
 }
 
-module _ {N S : Type 0} (gets : N → Replying S) (Quits : List ℕ → Type 0) (Wants : Wanting S) (Behind : ℕ → S → Type 0) (i : N) (o : Reply S) where
-  -- the talk that was opened so
-  abbrev talk : Talk S
-  talk = talk_from o (gets i) Quits Wants
-
+module _ {N S : Type 0} (talk : Talk S) (Reaches : ℕ → N → S → Type 0) (i : N) (o : Reply S) (opens : talk.Opens o) where
   abbrev hears_line : Shown N S → ℕ → List ℕ → Result Rattle.line_io.specs.declared.hearing.Heard.Heard AnswerFault → Shown N S → Type 0
-  hears_line = HearsLine gets Quits Wants Behind
+  hears_line = HearsLine talk Reaches
 
-  -- an opening with no line behind it
+  -- an opening with no line after it
   goes_none : (before : ℕ) → TalkGoes talk before [] (followed o (says o.after []))
   unfolding RepliesTo
-  goes_none before = record { opening = o; more = says o.after []; opens = refl; replies = refl; all = refl }
+  goes_none before = record { opening = o; more = says o.after []; opens = opens; replies = refl; all = refl }
 
   -- the sink failed at the opening
   pub held_unopened : (fault : WriteFault) (k j : ℕ) (r : Reader) (left : Option (List ℕ)) (reads : Count) (held held' : Option (List ℕ)) (pending pending' : List ℕ) (writes writes' : Count)
@@ -104,23 +98,22 @@ module _ {N S : Type 0} (gets : N → Replying S) (Quits : List ℕ → Type 0) 
       )))
 
   went : (before : ℕ) (lines : List (List ℕ)) (k : ℕ) (held held' : Option (List ℕ)) (faults : Count) (at : Shown N S) → Appends held held' o.text
-      → Said gets Behind before (shown i o.after held' [] faults (k + o.steps)) lines at → Went gets Quits Wants Behind i o before lines held faults k at
+      → Said talk Reaches before (shown i o.after held' [] faults (k + o.steps)) lines at → Went talk Reaches before lines held faults k at
   went before lines k held held' faults at block w =
       let flushed = w.flushed refl in record {
         replies = followed o w.reply;
-        goes = record { opening = o; more = w.reply; opens = refl; replies = w.replies; all = refl };
+        goes = record { opening = o; more = w.reply; opens = opens; replies = w.replies; all = refl };
         state = sym w.state;
-        kept = w.kept;
         written = Appends-trans held held' at.held o.text w.reply.text block (went_over held' at.held [] at.pending w.reply.text w.put refl flushed);
         flushed = flushed;
         faults_same = w.faults;
         counted = omega (arith, w.steps);
-        behind = w.behind;
+        reaches = w.reaches;
       }
 
   module _ (held : Option (List ℕ)) (faults : Count) (k : ℕ) (from to : Shown N S) (a c : Reader) (l n : Option (List ℕ)) (reads reads' : Count) where
     -- the input ended
-    held_ended : (h : Listens {F = AnswerFault} hears_line InputEnded from to a c l n) → Went gets Quits Wants Behind i o a.number h.texts held faults k h.at → reads' ≡ reads
+    held_ended : (h : Listens {F = AnswerFault} hears_line InputEnded from to a c l n) → Went talk Reaches a.number h.texts held faults k h.at → reads' ≡ reads
         → HoldsTalk talk 0 (around a l reads held faults k) (around c n reads' to.held to.faults to.steps)
     held_ended h w same =
         let is : h.at ≡ to = sym h.ends.2 in
@@ -134,11 +127,11 @@ module _ {N S : Type 0} (gets : N → Replying S) (Quits : List ℕ → Type 0) 
         (inl h.rests)
 
     -- a line quit
-    held_quit : (h : Listens {F = AnswerFault} hears_line Finished from to a c l n) → Went gets Quits Wants Behind i o a.number h.texts held faults k h.at → reads' ≡ reads
+    held_quit : (h : Listens {F = AnswerFault} hears_line Finished from to a c l n) → Went talk Reaches a.number h.texts held faults k h.at → reads' ≡ reads
         → HoldsTalk talk 0 (around a l reads held faults k) (around c n reads' to.held to.faults to.steps)
     held_quit h w same =
         let line = h.ends.0 in
-        let quits = h.ends.2 (a.number + length h.texts) refl w.behind in
+        let quits = h.ends.2 (a.number + length h.texts) refl w.reaches in
         let is : h.at ≡ to = sym quits.1 in
         let did : Spoken = over_with 0 w.replies in
         let last = ap (λ (x : List (List ℕ)). h.texts ++ x) h.ends.1 in
@@ -157,7 +150,7 @@ module _ {N S : Type 0} (gets : N → Replying S) (Quits : List ℕ → Type 0) 
         (inr (h.texts, line, last, quits.0))
 
     -- the source failed
-    held_read : (h : Listens {F = AnswerFault} hears_line (Fault ReadFault) from to a c l n) → Went gets Quits Wants Behind i o a.number h.texts held faults k h.at → Rose reads reads'
+    held_read : (h : Listens {F = AnswerFault} hears_line (Fault ReadFault) from to a c l n) → Went talk Reaches a.number h.texts held faults k h.at → Rose reads reads'
         → HoldsTalk talk 3 (around a l reads held faults k) (around c n reads' to.held to.faults to.steps)
     held_read h w rose =
         let is : h.at ≡ to = sym h.ends.1 in
@@ -170,17 +163,16 @@ module _ {N S : Type 0} (gets : N → Replying S) (Quits : List ℕ → Type 0) 
         h.rests
 
     -- the sink failed at a reply
-    held_unsaid : (fault : WriteFault) (h : Listens {F = AnswerFault} hears_line (Failed (Write fault)) from to a c l n) → Went gets Quits Wants Behind i o a.number h.texts held faults k h.at → reads' ≡ reads
+    held_unsaid : (fault : WriteFault) (h : Listens {F = AnswerFault} hears_line (Failed (Write fault)) from to a c l n) → Went talk Reaches a.number h.texts held faults k h.at → reads' ≡ reads
         → HoldsTalk talk 4 (around a l reads held faults k) (around c n reads' to.held to.faults to.steps)
     held_unsaid fault h w same =
         let line = h.ends.0 in
-        let heard = h.ends.2 (a.number + length h.texts) refl w.behind in
+        let heard = h.ends.2 (a.number + length h.texts) refl w.reaches in
         let r = heard.0 in
         let front : SaysFront h.at r to = heard.2 in
         let x = over_behind held h.at.held to.held w.replies.text r.text w.written (front_over h.at.held to.held h.at.pending to.pending r.text front.put w.flushed) in
         let last = ap (λ (z : List (List ℕ)). h.texts ++ z) h.ends.1 in
-        let row = let P : N → Type 0 = λ z. gets z (a.number + length h.texts + 1) h.at.state line r in subst P w.kept heard.1 in
-        let goes = one-more talk a.number h.texts line h.at.state w.replies r w.goes w.state row in
+        let goes = one-more talk a.number h.texts line h.at.state w.replies r w.goes w.state heard.1 in
         let whole = followed w.replies (followed r (says r.after [])) in
         let did : Spoken = record { status = 4; text = x.front; steps = w.replies.steps + r.steps } in
         let text : whole.text ≡ x.front ++ x.rest = ap (λ (z : List ℕ). w.replies.text ++ z) (append-nil r.text) ∙ x.parts in
@@ -200,11 +192,11 @@ module _ {N S : Type 0} (gets : N → Replying S) (Quits : List ℕ → Type 0) 
         )))
 
     -- a line wanted memory that wasn't there
-    held_wanting : (h : Listens {F = AnswerFault} hears_line (Failed Memory) from to a c l n) → Went gets Quits Wants Behind i o a.number h.texts held faults k h.at → reads' ≡ reads
+    held_wanting : (h : Listens {F = AnswerFault} hears_line (Failed Memory) from to a c l n) → Went talk Reaches a.number h.texts held faults k h.at → reads' ≡ reads
         → HoldsTalk talk 5 (around a l reads held faults k) (around c n reads' to.held to.faults to.steps)
     held_wanting h w same =
         let line = h.ends.0 in
-        let heard = h.ends.2 (a.number + length h.texts) refl w.behind in
+        let heard = h.ends.2 (a.number + length h.texts) refl w.reaches in
         let quiet = heard.1 in
         let spent : w.replies.steps ≤ to.steps - k = omega (arith, quiet.steps, w.counted) in
         let last = ap (λ (z : List (List ℕ)). h.texts ++ z) h.ends.1 in
@@ -220,12 +212,12 @@ module _ {N S : Type 0} (gets : N → Replying S) (Quits : List ℕ → Type 0) 
           goes = w.goes;
           text_said = refl;
           counted = spent;
-          wants = subst (λ (z : S). Wants (a.number + length h.texts + 1) z line) (sym w.state) heard.0;
+          wants = subst (λ (z : S). talk.Wants (a.number + length h.texts + 1) z line) (sym w.state) heard.0;
         })
 
   -- a line had a fault, and its refusal was sent
   held_fault : (sent : Result (Unit {0}) WriteFault) (held : Option (List ℕ)) (faults : Count) (k : ℕ) (code : Code) (at : Shown N S) (a c : Reader) (l n : Option (List ℕ)) (reads reads' : Count)
-      (texts last : List (List ℕ)) (rest : List Line) (held' : Option (List ℕ)) (pending' : List ℕ) (faults' : Count) → Went gets Quits Wants Behind i o a.number texts held faults k at → reads' ≡ reads
+      (texts last : List (List ℕ)) (rest : List Line) (held' : Option (List ℕ)) (pending' : List ℕ) (faults' : Count) → Went talk Reaches a.number texts held faults k at → reads' ≡ reads
       → Passes a c l n (texts ++ last) → IsLeft (lines_left a l) (lines_left c n) rest → last ≡ [] → rest ≡ Err code ∷ []
       → SendsBy sent (refusal_line code (c.number + 1)) at.held at.pending at.faults held' pending' faults'
       → HoldsTalk talk (status_after sent 1) (around a l reads held faults k) (around c n reads' held' faults' at.steps)
@@ -249,12 +241,12 @@ module _ {N S : Type 0} (gets : N → Replying S) (Quits : List ℕ → Type 0) 
       inl (1, x.rest, inl (subst P x.parts (refused_run talk code a c l n texts last rest w.replies w.goes passes none is lines e)))))
 
   held_line : (code : Code) (status : ℕ) (held held'' : Option (List ℕ)) (faults faults'' : Count) (pending'' : List ℕ) (k : ℕ) (at to : Shown N S) (a c : Reader) (l n : Option (List ℕ))
-      (reads reads' : Count) (texts last : List (List ℕ)) (rest : List Line) → Went gets Quits Wants Behind i o a.number texts held faults k at → reads' ≡ reads → Passes a c l n (texts ++ last)
+      (reads reads' : Count) (texts last : List (List ℕ)) (rest : List Line) → Went talk Reaches a.number texts held faults k at → reads' ≡ reads → Passes a c l n (texts ++ last)
       → IsLeft (lines_left a l) (lines_left c n) rest → last ≡ [] → rest ≡ Err code ∷ [] → to ≡ at
       → RefusesBy (refusal_line code (c.number + 1)) status to.held to.pending to.faults held'' pending'' faults''
       → HoldsTalk talk status (around a l reads held faults k) (around c n reads' held'' faults'' to.steps)
   held_line code status held held'' faults faults'' pending'' k at to a c l n reads reads' texts last rest w same passes is_left none is there refuses =
-      let here = subst (Went gets Quits Wants Behind i o a.number texts held faults k) (sym there) w in
+      let here = subst (Went talk Reaches a.number texts held faults k) (sym there) w in
       held_as talk status (status_after refuses.sent 1) (around a l reads held faults k) (around c n reads' held'' faults'' to.steps) refuses.over
       (held_fault refuses.sent held faults k code to a c l n reads reads' texts last rest held'' pending'' faults'' here same passes is_left none is refuses.sends)
 
@@ -269,49 +261,49 @@ module _ {N S : Type 0} (gets : N → Replying S) (Quits : List ℕ → Type 0) 
 
   -- the state from which it went on is where it showed itself last, but where the sink failed
   went_of : (ending : Ending AnswerFault) (k : ℕ) (held held' : Option (List ℕ)) (faults : Count) (to : Shown N S) (a c : Reader) (l n : Option (List ℕ))
-      (h : Listens hears_line ending (shown i o.after held' [] faults (k + o.steps)) to a c l n) → Behind a.number o.after → Appends held held' o.text
-      → Went gets Quits Wants Behind i o a.number h.texts held faults k h.at
-  went_of ending k held held' faults to a c l n h behind block =
-      went a.number h.texts k held held' faults h.at block (goes-said gets Quits Wants Behind (shown i o.after held' [] faults (k + o.steps)) h.at a.number h.texts h.goes behind)
+      (h : Listens hears_line ending (shown i o.after held' [] faults (k + o.steps)) to a c l n) → Reaches a.number i o.after → Appends held held' o.text
+      → Went talk Reaches a.number h.texts held faults k h.at
+  went_of ending k held held' faults to a c l n h reaches block =
+      went a.number h.texts k held held' faults h.at block (goes-said talk Reaches (shown i o.after held' [] faults (k + o.steps)) h.at a.number h.texts h.goes reaches)
 
   held_by : (ending : Ending AnswerFault) (status k : ℕ) (held held' held'' : Option (List ℕ)) (faults faults'' : Count) (pending'' : List ℕ)
-      (to : Shown N S) (a c : Reader) (l n : Option (List ℕ)) (reads reads' : Count) → Behind a.number o.after → Appends held held' o.text
+      (to : Shown N S) (a c : Reader) (l n : Option (List ℕ)) (reads reads' : Count) → Reaches a.number i o.after → Appends held held' o.text
       → Listens hears_line ending (shown i o.after held' [] faults (k + o.steps)) to a c l n → IsCaused ending reads reads'
       → ConcludesTalk ending c.number status to.held to.pending to.faults held'' pending'' faults''
       → HoldsTalk talk status (around a l reads held faults k) (around c n reads' held'' faults'' to.steps)
-  held_by Finished status k held held' held'' faults faults'' pending'' to a c l n reads reads' behind block h cause ends =
+  held_by Finished status k held held' held'' faults faults'' pending'' to a c l n reads reads' reaches block h cause ends =
       so status 0 held held'' faults faults'' k to a c l n reads reads' ends.0 ends.1 ends.2
-      (held_quit held faults k (shown i o.after held' [] faults (k + o.steps)) to a c l n reads reads' h (went_of Finished k held held' faults to a c l n h behind block) cause)
-  held_by InputEnded status k held held' held'' faults faults'' pending'' to a c l n reads reads' behind block h cause ends =
+      (held_quit held faults k (shown i o.after held' [] faults (k + o.steps)) to a c l n reads reads' h (went_of Finished k held held' faults to a c l n h reaches block) cause)
+  held_by InputEnded status k held held' held'' faults faults'' pending'' to a c l n reads reads' reaches block h cause ends =
       so status 0 held held'' faults faults'' k to a c l n reads reads' ends.0 ends.1 ends.2
-      (held_ended held faults k (shown i o.after held' [] faults (k + o.steps)) to a c l n reads reads' h (went_of InputEnded k held held' faults to a c l n h behind block) cause)
-  held_by (Failed (Write fault)) status k held held' held'' faults faults'' pending'' to a c l n reads reads' behind block h cause ends =
+      (held_ended held faults k (shown i o.after held' [] faults (k + o.steps)) to a c l n reads reads' h (went_of InputEnded k held held' faults to a c l n h reaches block) cause)
+  held_by (Failed (Write fault)) status k held held' held'' faults faults'' pending'' to a c l n reads reads' reaches block h cause ends =
       so status 4 held held'' faults faults'' k to a c l n reads reads' ends.0 ends.1 ends.2
-      (held_unsaid held faults k (shown i o.after held' [] faults (k + o.steps)) to a c l n reads reads' fault h (went_of (Failed (Write fault)) k held held' faults to a c l n h behind block) cause)
-  held_by (Failed Memory) status k held held' held'' faults faults'' pending'' to a c l n reads reads' behind block h cause ends =
+      (held_unsaid held faults k (shown i o.after held' [] faults (k + o.steps)) to a c l n reads reads' fault h (went_of (Failed (Write fault)) k held held' faults to a c l n h reaches block) cause)
+  held_by (Failed Memory) status k held held' held'' faults faults'' pending'' to a c l n reads reads' reaches block h cause ends =
       so status 5 held held'' faults faults'' k to a c l n reads reads' ends.0 ends.1 ends.2
-      (held_wanting held faults k (shown i o.after held' [] faults (k + o.steps)) to a c l n reads reads' h (went_of (Failed Memory) k held held' faults to a c l n h behind block) cause)
-  held_by (Fault ReadFault) status k held held' held'' faults faults'' pending'' to a c l n reads reads' behind block h cause ends =
+      (held_wanting held faults k (shown i o.after held' [] faults (k + o.steps)) to a c l n reads reads' h (went_of (Failed Memory) k held held' faults to a c l n h reaches block) cause)
+  held_by (Fault ReadFault) status k held held' held'' faults faults'' pending'' to a c l n reads reads' reaches block h cause ends =
       so status 3 held held'' faults faults'' k to a c l n reads reads' ends.0 ends.1 ends.2
-      (held_read held faults k (shown i o.after held' [] faults (k + o.steps)) to a c l n reads reads' h (went_of (Fault ReadFault) k held held' faults to a c l n h behind block) cause)
-  held_by (Fault LineTooLong) status k held held' held'' faults faults'' pending'' to a c l n reads reads' behind block h cause ends =
-      let w = went_of (Fault LineTooLong) k held held' faults to a c l n h behind block in
+      (held_read held faults k (shown i o.after held' [] faults (k + o.steps)) to a c l n reads reads' h (went_of (Fault ReadFault) k held held' faults to a c l n h reaches block) cause)
+  held_by (Fault LineTooLong) status k held held' held'' faults faults'' pending'' to a c l n reads reads' reaches block h cause ends =
+      let w = went_of (Fault LineTooLong) k held held' faults to a c l n h reaches block in
       held_line codes.LineTooLong status held held'' faults faults'' pending'' k h.at to a c l n reads reads' h.texts h.last h.rest w cause h.passes h.is_left h.ends.0 h.ends.1 h.ends.2 ends
-  held_by (Fault InputTooLong) status k held held' held'' faults faults'' pending'' to a c l n reads reads' behind block h cause ends =
-      let w = went_of (Fault InputTooLong) k held held' faults to a c l n h behind block in
+  held_by (Fault InputTooLong) status k held held' held'' faults faults'' pending'' to a c l n reads reads' reaches block h cause ends =
+      let w = went_of (Fault InputTooLong) k held held' faults to a c l n h reaches block in
       held_line codes.InputTooLong status held held'' faults faults'' pending'' k h.at to a c l n reads reads' h.texts h.last h.rest w cause h.passes h.is_left h.ends.0 h.ends.1 h.ends.2 ends
 
   -- the same from the opening on
   pub held_all : (ending : Ending AnswerFault) (status number k j : ℕ) (held held' held'' : Option (List ℕ)) (pending pending' pending'' : List ℕ)
-      (faults faults' faults'' : Count) (to : Shown N S) (a c : Reader) (l n : Option (List ℕ)) (reads reads' : Count) (done : Unit {0}) → Behind a.number o.after → j ≡ k + o.steps → pending ≡ []
+      (faults faults' faults'' : Count) (to : Shown N S) (a c : Reader) (l n : Option (List ℕ)) (reads reads' : Count) (done : Unit {0}) → Reaches a.number i o.after → j ≡ k + o.steps → pending ≡ []
       → SendsBy {T = Unit {0}} (Ok done) o.text held pending faults held' pending' faults' → Listens hears_line ending (shown i o.after held' pending' faults' j) to a c l n
       → IsCaused ending reads reads' → number ≡ c.number → ConcludesTalk ending number status to.held to.pending to.faults held'' pending'' faults''
       → HoldsTalk talk status (around a l reads held faults k) (around c n reads' held'' faults'' to.steps)
-  held_all ending status number k j held held' held'' pending pending' pending'' faults faults' faults'' to a c l n reads reads' done behind counted none sends h cause at ends =
+  held_all ending status number k j held held' held'' pending pending' pending'' faults faults' faults'' to a c l n reads reads' done reaches counted none sends h cause at ends =
       let block = went_over held held' pending pending' o.text sends.put.ok none sends.flushed in
       let P : List ℕ → Type 0 = λ x. Listens hears_line ending (shown i o.after held' x faults' j) to a c l n in
       let Q : Count → Type 0 = λ x. Listens hears_line ending (shown i o.after held' [] x j) to a c l n in
       let R : ℕ → Type 0 = λ x. Listens hears_line ending (shown i o.after held' [] faults x) to a c l n in
       let listened = subst R counted (subst Q sends.cause.same (subst P sends.flushed h)) in
       let over = subst (λ (x : ℕ). ConcludesTalk ending x status to.held to.pending to.faults held'' pending'' faults'') at ends in
-      held_by ending status k held held' held'' faults faults'' pending'' to a c l n reads reads' behind block listened cause over
+      held_by ending status k held held' held'' faults faults'' pending'' to a c l n reads reads' reaches block listened cause over

@@ -24,7 +24,7 @@ rose_so status before after rose = record { rose = λ e. rose; same = λ e. absu
 
 -- ---- what goes over to the sink
 
--- a text behind no pending bytes that leaves none pending went over whole
+-- a text after no pending bytes that leaves none pending went over whole
 pub went_over : (held held' : Option (List ℕ)) (pending pending' text : List ℕ) → Puts held pending text held' pending' → pending ≡ [] → pending' ≡ [] → Appends held held' text
 went_over held held' pending pending' text put none gone =
     let sent : text ≡ put.sent = ap (λ (l : List ℕ). l ++ text) (sym none) ∙ put.order ∙ ap (λ (l : List ℕ). put.sent ++ l) gone ∙ append-nil put.sent in
@@ -46,7 +46,7 @@ front_over held held' pending pending' text h none =
       over = h.put.over;
     }
 
--- behind a text that went over whole
+-- after a text that went over whole
 pub over_behind : (a b c : Option (List ℕ)) (text more : List ℕ) → Appends a b text → Over b c more → Over a c (text ++ more)
 over_behind a b c text more whole h = record {
   front = text ++ h.front;

@@ -72,7 +72,7 @@ pub record HoldsTalk {S : Type 0} (talk : Talk S) (status : ℕ) (a b : Around) 
   -- without memory nothing is written and no line is heard, or the last line that it heard wanted memory
   pub no_memory : status ≡ 5 → ((did.text ≡ []) × (heard ≡ [])) ⊎ TalkWants talk a.reader.number heard did
 
--- the status behind a text that was sent
+-- the status after a text that was sent
 abbrev pub status_after : {T E : Type 0} → Result T E → ℕ → ℕ
 status_after (Ok done) status = status
 status_after (Err fault) status = 4

@@ -1,6 +1,7 @@
 pub use Rattle.evac_law.specs.Building
 pub use Rattle.line_io.specs.Calls
 pub use Rattle.line_io.specs.Reader
+pub use Rattle.building_table.specs.Names
 pub mod Talks
 pub mod Parts
 pub mod Speaking

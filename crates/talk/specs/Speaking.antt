@@ -1,12 +1,15 @@
 -- What who answers shows, and what it does at a line.
 use Rattle.std.specs.Prelude.{◌≡◌, ℕ, ◌+◌, ◌≤◌, List, [], Result, Ok, Err}
 use Rattle.std.specs.declared.option.Option.{Option}
+use Rattle.evac_law.specs.declared.model.Model.{Model}
 use Rattle.line_io.specs.Causes.{Count, Rose}
 use Rattle.line_io.specs.Writer.{Puts, PutsFront, Writes}
 use Rattle.line_io.specs.declared.hearing.Heard.{Heard}
 use Rattle.line_io.specs.declared.hearing.Heard.TheVariants.{More, Last}
 use Rattle.line_io.specs.declared.writer.Writer.{Writer}
-use Rattle.talk.specs.Talks.{Reply, Replying, Talk, Wanting}
+use Rattle.edit_session.specs.Sessions.{BeginEnds}
+use Rattle.edit_session.specs.declared.faults.BeginFault.{BeginFault}
+use Rattle.talk.specs.Talks.{Reply, Talk}
 use Rattle.talk.specs.declared.fault.AnswerFault.{AnswerFault}
 use Rattle.talk.specs.declared.fault.AnswerFault.TheVariants.{Write, Memory}
 
@@ -26,7 +29,6 @@ shown kept state held pending faults steps =
 
 -- a reply was said, whole
 pub record Says {N S : Type 0} (s : Shown N S) (r : Reply S) (s' : Shown N S) : Type 0 where
-  pub kept : s'.kept ≡ s.kept
   pub state : s'.state ≡ r.after
   pub put : Puts s.held s.pending r.text s'.held s'.pending
   pub faults : s'.faults ≡ s.faults
@@ -40,7 +42,6 @@ pub record SaysFront {N S : Type 0} (s : Shown N S) (r : Reply S) (s' : Shown N 
 
 -- nothing was said; some steps may have been taken
 pub record SaysNothing {N S : Type 0} (s s' : Shown N S) : Type 0 where
-  pub kept : s'.kept ≡ s.kept
   pub held : s'.held ≡ s.held
   pub pending : s'.pending ≡ s.pending
   pub faults : s'.faults ≡ s.faults
@@ -77,34 +78,32 @@ pub record PutsNothing {N S X : Type 0} (s s' : Speaking N S X) : Type 0 where
 abbrev pub PutsSome : {N S X : Type 0} → (X → Option (List ℕ)) → (X → Count) → (Reply S → Type 0) → Speaking N S X → Speaking N S X → Type 0
 PutsSome held faults Gets s s' = (r : Reply _) × Gets r × PutsReply held faults s r s'
 
--- how a line is answered: a reply is put, and what stands then can stand after the line; or the line quits; or nothing is put, since the line wanted
--- memory that wasn't there
-abbrev pub AnswersLine : {N S X E : Type 0} → (X → Option (List ℕ)) → (X → Count) → (N → Replying S) → (List ℕ → Type 0) → Wanting S → (ℕ → S → Type 0) → Speaking N S X → ℕ → List ℕ → Result Heard E
-    → Speaking N S X → Type 0
-AnswersLine held faults gets Quits Wants Behind s line text (Ok More) s' =
-    (r : Reply _) × gets s.kept line s.state text r × PutsReply held faults s r s' × Behind line s'.state
-AnswersLine held faults gets Quits Wants Behind s line text (Ok Last) s' = Quits text × (s' ≡ s)
-AnswersLine held faults gets Quits Wants Behind s line text (Err fault) s' = Wants line s.state text × PutsNothing s s'
+-- how a line of a talk is answered: a reply is put, and the talk can be where it is then after the line; or the line quits; or nothing is put, since
+-- the line wanted memory that wasn't there
+abbrev pub AnswersLine : {N S X E : Type 0} → (X → Option (List ℕ)) → (X → Count) → Talk S → (ℕ → N → S → Type 0) → Speaking N S X → ℕ → List ℕ → Result Heard E → Speaking N S X → Type 0
+AnswersLine held faults talk Reaches s line text (Ok More) s' =
+    (r : Reply _) × talk.Gets line s.state text r × PutsReply held faults s r s' × Reaches line s'.kept s'.state
+AnswersLine held faults talk Reaches s line text (Ok Last) s' = talk.Quits text × (s' ≡ s)
+AnswersLine held faults talk Reaches s line text (Err fault) s' = talk.Wants line s.state text × PutsNothing s s'
 
--- how a line is heard: a reply is said, and nothing is left pending; or the line quits; or a front of a reply is said, since the sink failed; or
+-- how it is heard: a reply is said, and nothing is left pending; or the line quits; or a front of a reply is said, since the sink failed; or
 -- nothing is said, since the line wanted memory that wasn't there
-abbrev pub HearsText : {N S : Type 0} → (N → Replying S) → (List ℕ → Type 0) → Wanting S → (ℕ → S → Type 0) → Shown N S → ℕ → List ℕ → Result Heard AnswerFault → Shown N S → Type 0
-HearsText gets Quits Wants Behind s line text (Ok More) s' =
-    (r : Reply _) × gets s.kept line s.state text r × Says s r s' × Behind line s'.state × (s'.pending ≡ [])
-HearsText gets Quits Wants Behind s line text (Ok Last) s' = Quits text × (s' ≡ s)
-HearsText gets Quits Wants Behind s line text (Err (Write fault)) s' = (r : Reply _) × gets s.kept line s.state text r × SaysFront s r s'
-HearsText gets Quits Wants Behind s line text (Err Memory) s' = Wants line s.state text × SaysNothing s s'
+abbrev pub HearsText : {N S : Type 0} → Talk S → (ℕ → N → S → Type 0) → Shown N S → ℕ → List ℕ → Result Heard AnswerFault → Shown N S → Type 0
+HearsText talk Reaches s line text (Ok More) s' =
+    (r : Reply _) × talk.Gets line s.state text r × Says s r s' × Reaches line s'.kept s'.state × (s'.pending ≡ [])
+HearsText talk Reaches s line text (Ok Last) s' = talk.Quits text × (s' ≡ s)
+HearsText talk Reaches s line text (Err (Write fault)) s' = (r : Reply _) × talk.Gets line s.state text r × SaysFront s r s'
+HearsText talk Reaches s line text (Err Memory) s' = talk.Wants line s.state text × SaysNothing s s'
 
--- the same, in a state that can stand behind the lines before
-abbrev pub HearsLine : {N S : Type 0} → (N → Replying S) → (List ℕ → Type 0) → Wanting S → (ℕ → S → Type 0) → Shown N S → ℕ → List ℕ → Result Heard AnswerFault → Shown N S → Type 0
-HearsLine gets Quits Wants Behind s line text result s' =
-    (before : ℕ) → line ≡ before + 1 → Behind before s.state → HearsText gets Quits Wants Behind s line text result s'
+-- the same, where the talk can be where it is after the lines before
+abbrev pub HearsLine : {N S : Type 0} → Talk S → (ℕ → N → S → Type 0) → Shown N S → ℕ → List ℕ → Result Heard AnswerFault → Shown N S → Type 0
+HearsLine talk Reaches s line text result s' = (before : ℕ) → line ≡ before + 1 → Reaches before s.kept s.state → HearsText talk Reaches s line text result s'
 
 -- the reply that opens a talk
 abbrev pub opened : {S : Type 0} → List ℕ → S → ℕ → Reply S
 opened text state steps = record { text = text; after = state; steps = steps }
 
--- a talk that was opened by a reply
-abbrev pub talk_from : {S : Type 0} → Reply S → Replying S → (List ℕ → Type 0) → Wanting S → Talk S
-talk_from opening Gets Quits Wants =
-    record { Opens = λ r. r ≡ opening; Refuses = λ line x. ⊥; Gets = Gets; Quits = Quits; Wants = Wants }
+-- a talk on a model begins, by the text that opens it and where it is then; or there is none
+abbrev pub TalkBegins : {T S : Type 0} → (T → List ℕ) → (T → S) → Talk S → Model → Result T BeginFault → ℕ → Type 0
+TalkBegins opening state talk m (Ok t) steps = talk.Opens (opened (opening t) (state t) steps)
+TalkBegins opening state talk m (Err fault) steps = BeginEnds m (Err fault) steps

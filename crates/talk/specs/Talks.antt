@@ -26,7 +26,7 @@ followed r more = record { text = r.text ++ more.text; after = more.after; steps
 abbrev pub Replying : Type 0 → Type 1
 Replying S = ℕ → S → List ℕ → Reply S → Type 0
 
--- what some lines get, behind `before` others, one after another
+-- what some lines get, after `before` others, one after another
 unfoldable pub RepliesTo : {S : Type 0} → Replying S → ℕ → S → List (List ℕ) → Reply S → Type 0
 RepliesTo Gets before s [] r = r ≡ says s []
 RepliesTo Gets before s (line ∷ lines) r =
@@ -55,7 +55,7 @@ pub record Talk (S : Type 0) : Type 1 where
   pub Quits : List ℕ → Type 0
   pub Wants : Wanting S
 
--- the opening of a talk behind so many lines, and what the next lines get: none of them ends the talk
+-- the opening of a talk after so many lines, and what the next lines get: none of them ends the talk
 pub record TalkGoes {S : Type 0} (talk : Talk S) (before : ℕ) (lines : List (List ℕ)) (r : Reply S) : Type 0 where
   pub opening : Reply S
   pub more : Reply S
@@ -63,11 +63,11 @@ pub record TalkGoes {S : Type 0} (talk : Talk S) (before : ℕ) (lines : List (L
   pub replies : RepliesTo talk.Gets before opening.after lines more
   pub all : r ≡ followed opening more
 
--- it is over with a status, behind some replies
+-- it is over with a status, after some replies
 abbrev pub over_with : {S : Type 0} → ℕ → Reply S → Spoken
 over_with status r = record { status = status; text = r.text; steps = r.steps }
 
--- how a talk ends behind some replies, by the lines that are left: with the input, with a line that quits, or with a line that has a fault
+-- how a talk ends after some replies, by the lines that are left: with the input, with a line that quits, or with a line that has a fault
 abbrev pub EndsAt : {S : Type 0} → Talk S → ℕ → List Line → Reply S → Spoken → Type 0
 EndsAt talk before [] r x = x ≡ over_with 0 r
 EndsAt talk before (Ok line ∷ rest) r x = talk.Quits line × (x ≡ over_with 0 r)
@@ -82,7 +82,7 @@ pub record TalkRun {S : Type 0} (talk : Talk S) (before : ℕ) (lines : List Lin
   pub goes : TalkGoes talk before answered replies
   pub ends : EndsAt talk (before + length answered) rest replies x
 
--- a talk opens and goes over the lines behind it, or is refused at the line before them
+-- a talk opens and goes over the lines after it, or is refused at the line before them
 abbrev pub TalkAnswers : {S : Type 0} → Talk S → ℕ → List Line → Spoken → Type 0
 TalkAnswers talk before lines x = TalkRun talk before lines x ⊎ talk.Refuses before x
 
@@ -94,7 +94,7 @@ pub record TalkGoesOn {S : Type 0} (talk : Talk S) (before : ℕ) (lines : List 
   pub counted : x.steps ≡ replies.steps
 
 -- a talk over these lines, the last of which wanted memory that wasn't there: all before it are answered, and it may want memory in the state
--- behind them. Some steps may have been taken for it
+-- after them. Some steps may have been taken for it
 pub record TalkWants {S : Type 0} (talk : Talk S) (before : ℕ) (lines : List (List ℕ)) (x : Spoken) : Type 0 where
   pub answered : List (List ℕ)
   pub line : List ℕ

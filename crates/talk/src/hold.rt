@@ -1,20 +1,26 @@
 //! Holding a talk over the lines of a source.
-ghost use Rattle.std.specs.Prelude.{◌≡◌, ◌<◌, ◌≤◌, ◌+◌, [], ℕ, Ok};
+ghost use Rattle.std.specs.Prelude.{◌≡◌, ◌≤◌, ◌+◌, [], ℕ};
+ghost use Rattle.evac_law.specs.Building.{IsValid};
+ghost use Rattle.evac_law.specs.declared.model.Model.{Model};
 ghost use Rattle.line_io.specs.Calls.{Asks};
 ghost use Rattle.line_io.specs.Line.{input_limit};
 ghost use Rattle.line_io.specs.Reader.{Drained};
+ghost use Rattle.building_table.specs.Names.{NameTable, NamesFit};
 ghost use Rattle.certificate_text.specs.BlockText.{refusal_line};
 ghost use Rattle.talk.specs.Held.{ConcludesTalk, HoldsTalk, RefusesBy, SendsBy, around};
-ghost use Rattle.talk.specs.Speaking.{opened, talk_from};
+ghost use Rattle.talk.specs.Speaking.{opened};
 ghost use Rattle.talk.specs.Statuses.{status_number};
 
 use crate::fault::AnswerFault;
-use crate::send::send_refusal;
+use crate::send::{send_refusal, send_short};
 use crate::speaker::Speaker;
 use crate::status::{Status, status_after};
 use crate::talker::converse;
+use building_table::Building;
+use edit_session::BeginFault;
 use evac_law::{Code, Steps};
 use line_io::{Ending, LineFault, Lines, Out, Sink, Source, WriteFault, Writer};
+use std::alloc::Global;
 use std::sync::ledger::Ledger;
 
 // Sends the text that opens a talk.
@@ -59,9 +65,8 @@ fn conclude<K: Sink>(
     }
 }
 
-/// Opens a talk and answers the lines of a source, each before it reads on. It is `Done` where the input ended or a line quit, and `Refused`
-/// where a line was refused for good; else the source or the sink failed, or a line wanted memory that wasn't there.
-pub fn hold_talk<S: Source, K: Sink, L: Ledger, T: Speaker + Drop>(
+// Opens a talk and answers the lines of a source, each before it reads on.
+fn hold_begun<T: Speaker + Drop, S: Source, K: Sink, L: Ledger>(
     lines: &mut Lines,
     source: &mut S,
     out: &mut Out,
@@ -71,13 +76,10 @@ pub fn hold_talk<S: Source, K: Sink, L: Ledger, T: Speaker + Drop>(
 ) -> Status
     requires fresh { out.old ≡ [] }
     requires ready { T.ready speaker }
-    requires behind { T.Behind lines.old.number (T.state speaker) }
-    ensures held { (n k : ℕ) → steps.old ≡ k + n → HoldsTalk
-        (talk_from (opened (T.opening speaker) (T.state speaker) n) (T.gets (T.kept speaker)) T.Quits T.Wants) (status_number result)
+    ensures held { (names : NameTable) (m : Model) (n k : ℕ) → (T.talk names m).Opens (opened (T.opening speaker) (T.state speaker) n)
+        → T.Reaches names m lines.old.number (T.kept speaker) (T.state speaker) → steps.old ≡ k + n → HoldsTalk (T.talk names m) (status_number result)
         (around lines.old (S.left source.old) (S.faults source.old) (K.held sink.old) (K.faults sink.old) k)
         (around lines.new (S.left source.new) (S.faults source.new) (K.held sink.new) (K.faults sink.new) steps.new) }
-    // only a line wants memory
-    ensures memory { result ≡ Status.NoMemory → lines.old.number < lines.new.number }
     ensures drained { Drained lines.old (S.left source.old) → Drained lines.new (S.left source.new) }
     ensures asks { Asks S.takes lines.old source.old lines.new source.new }
 {
@@ -91,5 +93,36 @@ pub fn hold_talk<S: Source, K: Sink, L: Ledger, T: Speaker + Drop>(
             drop(speaker);
             Status::SinkFailed
         }
+    }
+}
+
+/// Holds a talk on a building over the lines after it, and answers each before it reads on. It is `Done` where the input ended or a line quit, and
+/// `Refused` where the building or a line was refused for good; else the source or the sink failed, or there was no memory.
+pub fn hold_talk<T: Speaker + Drop, S: Source, K: Sink, L: Ledger>(
+    alloc: Global,
+    lines: &mut Lines,
+    source: &mut S,
+    out: &mut Out,
+    sink: &mut K,
+    building: Building,
+    steps: &mut Steps<L>,
+) -> Status
+    requires fresh { out.old ≡ [] }
+    requires valid { IsValid building.model }
+    requires names { NamesFit building.names building.model }
+    ensures held { HoldsTalk (T.talk building.names building.model) (status_number result)
+        (around lines.old (S.left source.old) (S.faults source.old) (K.held sink.old) (K.faults sink.old) steps.old)
+        (around lines.new (S.left source.new) (S.faults source.new) (K.held sink.new) (K.faults sink.new) steps.new) }
+    ensures drained { Drained lines.old (S.left source.old) → Drained lines.new (S.left source.new) }
+    ensures asks { Asks S.takes lines.old source.old lines.new source.new }
+{
+    let line = lines.number();
+    match T::begin(alloc, building, steps) {
+        Ok(speaker) => hold_begun(lines, source, out, sink, speaker, steps),
+        Err(BeginFault::NotCleared(short)) => status_after(
+            send_short(out, sink, &short, line),
+            Status::Refused,
+        ),
+        Err(BeginFault::Memory) => Status::NoMemory,
     }
 }

@@ -1,20 +1,18 @@
 //! A talk over lines: it is opened, and each line after it is answered, until the input ends, a line quits, or a line has a fault.
 //!
-//! A `Speaker` says what opens a talk and what a line gets. `hold_talk` brings each reply to the sink before it reads on. `refuse_building`
-//! refuses a building that can't be cleared in place of a talk. `specs/Talks` says how a talk goes over lines, and `specs/Held` what a whole
-//! talk comes to.
+//! A `Speaker` says how a talk on a building begins and what a line gets. `hold_talk` brings each reply to the sink before it reads on, and refuses
+//! a building that can't be cleared in place of a talk. `specs/Talks` says how a talk goes over lines, and `specs/Held` what a whole talk comes
+//! to.
 #![tactic(auto)]
 
 mod fault;
 mod hold;
 mod send;
-mod short;
 mod speaker;
 mod status;
 mod talker;
 
 pub use hold::hold_talk;
 pub use send::{send_refusal, send_short};
-pub use short::refuse_building;
 pub use speaker::Speaker;
 pub use status::{Status, status_after};

@@ -41,7 +41,7 @@ impl Status {
     }
 }
 
-/// The status behind a text that was sent.
+/// The status after a text that was sent.
 pub fn status_after(sent: Result<(), WriteFault>, status: Status) -> Status
     ensures { status_number result ≡ status_after sent (status_number status) }
 {

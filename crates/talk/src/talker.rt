@@ -1,8 +1,10 @@
 //! What hears the lines of a talk.
 ghost use Rattle.std.specs.Prelude.{◌≡◌, ◌<◌, ◌≤◌, ℕ};
+ghost use Rattle.evac_law.specs.declared.model.Model.{Model};
 ghost use Rattle.line_io.specs.Calls.{Asks};
 ghost use Rattle.line_io.specs.Hearing.{IsCaused, Listens};
 ghost use Rattle.line_io.specs.Reader.{Drained};
+ghost use Rattle.building_table.specs.Names.{NameTable};
 ghost use Rattle.talk.specs.Speaking.{HearsLine, shown};
 
 use crate::fault::AnswerFault;
@@ -22,6 +24,8 @@ struct Talker<'a, 'b, T: Speaker, K: Sink, L: Ledger> {
 
 impl<'a, 'b, T: Speaker, K: Sink, L: Ledger> Listener for Talker<'a, 'b, T, K, L> {
     ghost use Rattle.std.specs.Prelude.{◌≡◌, ℕ};
+    ghost use Rattle.evac_law.specs.declared.model.Model.{Model};
+    ghost use Rattle.building_table.specs.Names.{NameTable};
     ghost use Rattle.talk.specs.Speaking.{HearsLine, shown};
 
     type Fault = AnswerFault;
@@ -32,7 +36,7 @@ impl<'a, 'b, T: Speaker, K: Sink, L: Ledger> Listener for Talker<'a, 'b, T, K, L
 
     ghost ready = { λ s. T.ready s.speaker.now };
 
-    ghost hears = { λ s line text result s'. HearsLine T.gets T.Quits T.Wants T.Behind
+    ghost hears = { λ s line text result s'. (names : NameTable) (m : Model) → HearsLine (T.talk names m) (T.Reaches names m)
         (shown (T.kept s.speaker.now) (T.state s.speaker.now) (K.held s.sink.now) s.out.now (K.faults s.sink.now) s.steps.now) line text result
         (shown (T.kept s'.speaker.now) (T.state s'.speaker.now) (K.held s'.sink.now) s'.out.now (K.faults s'.sink.now) s'.steps.now) };
 
@@ -59,7 +63,7 @@ pub fn converse<S: Source, K: Sink, L: Ledger, T: Speaker>(
     steps: &mut Steps<L>,
 ) -> Ending<AnswerFault>
     requires { T.ready speaker.old }
-    ensures hears { (end : T) × Listens (HearsLine T.gets T.Quits T.Wants T.Behind) result
+    ensures hears { (names : NameTable) (m : Model) → (end : T) × Listens (HearsLine (T.talk names m) (T.Reaches names m)) result
         (shown (T.kept speaker.old) (T.state speaker.old) (K.held sink.old) out.old (K.faults sink.old) steps.old)
         (shown (T.kept end) (T.state end) (K.held sink.new) out.new (K.faults sink.new) steps.new)
         lines.old lines.new (S.left source.old) (S.left source.new) }

@@ -16,11 +16,23 @@ returns-in-Some-Check-clause-run g c =
 pub returns-in-Some-Check-clause-untouched : goal.returns-in-Some-Check-clause-untouched
 returns-in-Some-Check-clause-untouched g c = λ not. (let h = c.in-Some-Check in absurd (reads-not _ (Some Check) (sym h.ensures.mode ∙ ap Some h.field-0-is) check-reads.input not))
 
+pub returns-in-Some-Session-clause-run : goal.returns-in-Some-Session-clause-run
+returns-in-Some-Session-clause-run g c =
+    let h = c.in-Some-Session in runs-by _ (Some Session) (status_number c.hold.result) _ _ (sym h.ensures.mode ∙ ap Some h.field-0-is) (c.hold.ensures.run Session session-talks)
+
 pub returns-in-Some-Session-clause-untouched : goal.returns-in-Some-Session-clause-untouched
 returns-in-Some-Session-clause-untouched g c = λ not. (let h = c.in-Some-Session in absurd (reads-not _ (Some Session) (sym h.ensures.mode ∙ ap Some h.field-0-is) session-talks.input not))
 
+pub returns-in-Some-Study-clause-run : goal.returns-in-Some-Study-clause-run
+returns-in-Some-Study-clause-run g c =
+    let h = c.in-Some-Study in runs-by _ (Some Study) (status_number c.hold-in-Some-Study.result) _ _ (sym h.ensures.mode ∙ ap Some h.field-0-is) (c.hold-in-Some-Study.ensures.run Study study-talks)
+
 pub returns-in-Some-Study-clause-untouched : goal.returns-in-Some-Study-clause-untouched
 returns-in-Some-Study-clause-untouched g c = λ not. (let h = c.in-Some-Study in absurd (reads-not _ (Some Study) (sym h.ensures.mode ∙ ap Some h.field-0-is) study-talks.input not))
+
+pub returns-in-Some-Replan-clause-run : goal.returns-in-Some-Replan-clause-run
+returns-in-Some-Replan-clause-run g c =
+    let h = c.in-Some-Replan in runs-by _ (Some Replan) (status_number c.hold-in-Some-Replan.result) _ _ (sym h.ensures.mode ∙ ap Some h.field-0-is) (c.hold-in-Some-Replan.ensures.run Replan replan-talks)
 
 pub returns-in-Some-Replan-clause-untouched : goal.returns-in-Some-Replan-clause-untouched
 returns-in-Some-Replan-clause-untouched g c = λ not. (let h = c.in-Some-Replan in absurd (reads-not _ (Some Replan) (sym h.ensures.mode ∙ ap Some h.field-0-is) replan-talks.input not))

@@ -1,22 +1,28 @@
 use Rattle.line_io.proofs.CallLemmas.{asks-none}
-use Rattle.talk.specs.Speaking.{opened}
 use Rattle.talk.specs.Statuses.{status_number}
-use Rattle.talk.proofs.Going.{held_all, held_unopened}
+use Rattle.talk.proofs.Holding.{held_none}
+use Rattle.talk.proofs.Sending.{short_held}
 use Rattle.talk.proofs.hold.hold_talk.Goals as goal
 
 pub returns-in-Ok-clause-held : goal.returns-in-Ok-clause-held
 returns-in-Ok-clause-held g c =
-    let t = g.T.Speaker in
-    let h = c.converse-ending.ensures.hears in
-    λ n k counted. held_all t.gets t.Quits t.Wants t.Behind (t.kept c.args.speaker) (opened (t.opening c.args.speaker) (t.state c.args.speaker) n)
-    c.converse-ending.result (status_number c.conclude.result) c.number.result k _ _ _ _ _ _ _ _ _ _ _ _ _ _ _ _ _ tt c.requires.behind counted
-    c.requires.fresh c.in-Ok.ensures h.1 c.converse-ending.ensures.cause c.number.ensures.number c.conclude.ensures
+    let b = c.in-Ok.ensures.begins in
+    c.hold_begun.ensures.held c.args.building.names c.args.building.model b.0 c.args.steps.now b.2 (c.in-Ok.ensures.reaches c.args.lines.now.number) b.1
 
-pub returns-in-Err-clause-held : goal.returns-in-Err-clause-held
-returns-in-Err-clause-held g c =
-    let t = g.T.Speaker in
-    λ n k counted. held_unopened t.gets t.Quits t.Wants t.Behind (t.kept c.args.speaker) (opened (t.opening c.args.speaker) (t.state c.args.speaker) n)
-    _ k _ _ _ _ _ _ _ _ _ _ counted c.requires.fresh c.in-Err.ensures
+pub returns-in-Err-NotCleared-clause-held : goal.returns-in-Err-NotCleared-clause-held
+returns-in-Err-NotCleared-clause-held g c =
+    let d = c.args.building in
+    let b = c.in-Err-NotCleared.ensures.begins in
+    short_held (g.T.Speaker.talk d.names d.model) d.model c.in-Err-NotCleared.field-0 c.in-Err-NotCleared.short (status_number c.status_after.result) c.number-line.result b.0 _ _ _ _ _ _ _ _ _ _ _
+    (g.met.T.Speaker.refuses d.names d.model) c.in-Err-NotCleared.field-0-is b.2 c.number-line.ensures.number b.1 c.requires.fresh
+    (record { sent = c.send_short.result; over = c.status_after.ensures; sends = c.send_short.ensures })
 
-pub returns-in-Err-clause-asks : goal.returns-in-Err-clause-asks
-returns-in-Err-clause-asks g c = asks-none g.S.Source.takes _ _
+pub returns-in-Err-NotCleared-clause-asks : goal.returns-in-Err-NotCleared-clause-asks
+returns-in-Err-NotCleared-clause-asks g c = asks-none g.S.Source.takes _ _
+
+pub returns-in-Err-Memory-clause-held : goal.returns-in-Err-Memory-clause-held
+returns-in-Err-Memory-clause-held g c =
+    let d = c.args.building in held_none (g.T.Speaker.talk d.names d.model) _ _ _ _ _ _ _ _ c.in-Err-Memory.ensures.begins.1
+
+pub returns-in-Err-Memory-clause-asks : goal.returns-in-Err-Memory-clause-asks
+returns-in-Err-Memory-clause-asks g c = asks-none g.S.Source.takes _ _

@@ -22,21 +22,21 @@ returns-in-Ok-Blank-clause-answers g c =
     let t = c.args.self.now in
     let s = replanned t.desk t.replan in
     let x = shown_replan t.desk t.replan c.args.writer.now c.args.steps.now in
-    λ before at few. session_answers x x before c.args.line c.args.text.now (Ok Blank) (sym c.asks_advance.ensures ∙ c.if-asks_advance.false) (sym (ap Ok h.field-0-is) ∙ h.ensures.exact) at few
+    λ names m before at reaches. session_answers x x names m before c.args.line c.args.text.now (Ok Blank) (sym c.asks_advance.ensures ∙ c.if-asks_advance.false) (sym (ap Ok h.field-0-is) ∙ h.ensures.exact) at reaches
     (put_nothing g.K.Sink.held g.K.Sink.faults (λ r. SessionRow t.desk.names c.args.line s (Ok Blank) r) x
     (session_row t.desk.names c.args.line s (Ok Blank) refl (says s []) (says (desk_state t.desk t.replan.session) [], refl, refl)))
 
 pub returns-in-Ok-Edit-clause-answers : goal.returns-in-Ok-Edit-clause-answers
 returns-in-Ok-Edit-clause-answers g c =
     let h = c.in-Ok-Edit in
-    λ before at few. session_answers _ _ before c.args.line c.args.text.now (Ok (Edit h.named)) (sym c.asks_advance.ensures ∙ c.if-asks_advance.false)
-    (sym (ap Ok h.field-0-is) ∙ h.ensures.exact) at few (c.reply_named.ensures.says (omega (arith, at, few)))
+    λ names m before at reaches. session_answers _ _ names m before c.args.line c.args.text.now (Ok (Edit h.named)) (sym c.asks_advance.ensures ∙ c.if-asks_advance.false)
+    (sym (ap Ok h.field-0-is) ∙ h.ensures.exact) at reaches (c.reply_named.ensures.says (omega (arith, at, reaches.1)))
 
 pub returns-in-Ok-Undo-clause-answers : goal.returns-in-Ok-Undo-clause-answers
 returns-in-Ok-Undo-clause-answers g c =
     let h = c.in-Ok-Undo in
-    λ before at few. session_answers _ _ before c.args.line c.args.text.now (Ok Undo) (sym c.asks_advance.ensures ∙ c.if-asks_advance.false)
-    (sym (ap Ok h.field-0-is) ∙ h.ensures.exact) at few (c.reply_undo.ensures.says (omega (arith, at, few)))
+    λ names m before at reaches. session_answers _ _ names m before c.args.line c.args.text.now (Ok Undo) (sym c.asks_advance.ensures ∙ c.if-asks_advance.false)
+    (sym (ap Ok h.field-0-is) ∙ h.ensures.exact) at reaches (c.reply_undo.ensures.says (omega (arith, at, reaches.1)))
 
 pub returns-in-Ok-Cut-clause-answers : goal.returns-in-Ok-Cut-clause-answers
 returns-in-Ok-Cut-clause-answers g c =
@@ -45,16 +45,16 @@ returns-in-Ok-Cut-clause-answers g c =
     let s = desk_state t.desk t.replan.session in
     let k = h.period in
     let put = c.reply_cut.ensures.says s (sym (ap (λ (v : SessionView). v.state) c.session-session.ensures)) in
-    λ before at few. session_answers _ _ before c.args.line c.args.text.now (Ok (Cut k)) (sym c.asks_advance.ensures ∙ c.if-asks_advance.false)
-    (sym (ap Ok h.field-0-is) ∙ h.ensures.exact) at few
+    λ names m before at reaches. session_answers _ _ names m before c.args.line c.args.text.now (Ok (Cut k)) (sym c.asks_advance.ensures ∙ c.if-asks_advance.false)
+    (sym (ap Ok h.field-0-is) ∙ h.ensures.exact) at reaches
     (text_said t.desk.names c.args.line c.args.steps.now (Ok (Cut k)) (cut_reply c.args.line s k).text t.desk t.replan _ _ refl (cut_is c.args.line s k) put)
 
 pub returns-in-Ok-Report-clause-answers : goal.returns-in-Ok-Report-clause-answers
 returns-in-Ok-Report-clause-answers g c =
     let h = c.in-Ok-Report in
     let t = c.args.self.now in
-    λ before at few. session_answers _ _ before c.args.line c.args.text.now (Ok (Report h.report)) (sym c.asks_advance.ensures ∙ c.if-asks_advance.false)
-    (sym (ap Ok h.field-0-is) ∙ h.ensures.exact) at few
+    λ names m before at reaches. session_answers _ _ names m before c.args.line c.args.text.now (Ok (Report h.report)) (sym c.asks_advance.ensures ∙ c.if-asks_advance.false)
+    (sym (ap Ok h.field-0-is) ∙ h.ensures.exact) at reaches
     (report_said t.desk.names c.args.line c.args.steps.now h.report t.desk c.reply_report.new.desk t.replan c.session-session.result.now _ _ c.session-session.ensures
     (c.reply_report.ensures.says c.args.steps.now))
 
@@ -66,8 +66,8 @@ returns-in-Ok-Work-clause-answers g c =
     let h = c.in-Ok-Work in
     let t = c.args.self.now in
     let put = writes_is (ap (λ (v : SessionView). work_of v.state) c.session-session.ensures) c.put_work.ensures in
-    λ before at few. session_answers _ _ before c.args.line c.args.text.now (Ok Work) (sym c.asks_advance.ensures ∙ c.if-asks_advance.false)
-    (sym (ap Ok h.field-0-is) ∙ h.ensures.exact) at few
+    λ names m before at reaches. session_answers _ _ names m before c.args.line c.args.text.now (Ok Work) (sym c.asks_advance.ensures ∙ c.if-asks_advance.false)
+    (sym (ap Ok h.field-0-is) ∙ h.ensures.exact) at reaches
     (text_said t.desk.names c.args.line c.args.steps.now (Ok Work) (work_of t.replan.session.state) t.desk t.replan _ _ refl refl put)
 
 pub returns-in-Err-clause-answers : goal.returns-in-Err-clause-answers
@@ -75,6 +75,6 @@ returns-in-Err-clause-answers g c =
     let h = c.in-Err in
     let t = c.args.self.now in
     let s = replanned t.desk t.replan in
-    λ before at few. session_answers _ _ before c.args.line c.args.text.now (Err h.fault) (sym c.asks_advance.ensures ∙ c.if-asks_advance.false) h.ensures.exact at few
+    λ names m before at reaches. session_answers _ _ names m before c.args.line c.args.text.now (Err h.fault) (sym c.asks_advance.ensures ∙ c.if-asks_advance.false) h.ensures.exact at reaches
     (code_said (λ r. SessionRow t.desk.names c.args.line s (Err h.fault) r) c.args.line _ _ t.desk t.replan _ _ _ c.code.ensures
     (fault_row t.desk.names c.args.line s h.fault) c.put_refusal.ensures)

@@ -1,11 +1,12 @@
-//! The mode `replan`: a model is read, its best plan is kept while it is edited and carried out, and each line after it is answered.
+//! The modes that hold a talk: a model is read, and each line after it is answered.
 ghost use Rattle.std.specs.Prelude.{◌≡◌, ◌+◌, Some};
 ghost use Rattle.line_io.specs.Calls.{AsksAtMost};
 ghost use Rattle.line_io.specs.Line.{input_limit};
 ghost use Rattle.line_io.specs.declared.limits.TheConstants.{BUFFER_SIZE};
 ghost use Rattle.evac_top.specs.Accounts.{side};
+ghost use Rattle.evac_top.specs.Answers.{IsTalk};
 ghost use Rattle.evac_top.specs.Runs.{Runs};
-ghost use Rattle.evac_top.specs.declared.words.Mode.TheVariants.{Replan};
+ghost use Rattle.evac_top.specs.declared.words.Mode.{Mode};
 ghost use Rattle.talk.specs.Statuses.{status_number};
 
 use crate::room::take_room;
@@ -13,19 +14,18 @@ use crate::stop::stop;
 use building_table::read_model;
 use evac_law::Steps;
 use line_io::{Sink, Source};
-use replan_talk::hold_replan;
 use std::alloc::Global;
 use std::sync::ledger::Ledger;
-use talk::Status;
+use talk::{Speaker, Status, hold_talk};
 
-/// Runs the mode.
-pub(crate) fn replan<S: Source, K: Sink, L: Ledger>(
+/// Runs a mode that holds such a talk.
+pub(crate) fn hold<T: Speaker + Drop, S: Source, K: Sink, L: Ledger>(
     alloc: Global,
     source: &mut S,
     sink: &mut K,
     steps: &mut Steps<L>,
 ) -> Status
-    ensures run { Runs (Some Replan) (status_number result)
+    ensures run { (mode : Mode) → IsTalk mode T.talk → Runs (Some mode) (status_number result)
         (record { source = side (S.left source.old) (S.faults source.old); sink = side (K.held sink.old) (K.faults sink.old); steps = steps.old })
         (record { source = side (S.left source.new) (S.faults source.new); sink = side (K.held sink.new) (K.faults sink.new); steps = steps.new }) }
     ensures asked { AsksAtMost S.takes (input_limit + BUFFER_SIZE) source.old source.new }
@@ -34,7 +34,9 @@ pub(crate) fn replan<S: Source, K: Sink, L: Ledger>(
         return Status::NoMemory;
     };
     match read_model(alloc, &mut lines, source) {
-        Ok(building) => hold_replan(alloc, &mut lines, source, &mut out, sink, building, steps),
+        Ok(building) => hold_talk::<T, S, K, L>(
+            alloc, &mut lines, source, &mut out, sink, building, steps,
+        ),
         Err(fault) => stop(&mut out, sink, fault),
     }
 }

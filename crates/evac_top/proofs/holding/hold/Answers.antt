@@ -1,32 +1,30 @@
 use Rattle.line_io.proofs.CallLemmas.{asked-none}
-use Rattle.session_talk.specs.Sessions.{session}
-use Rattle.evac_top.specs.declared.words.Mode.TheVariants.{Session}
 use Rattle.evac_top.proofs.TakeLemmas.{asked-fresh, asked-then, fresh-drained}
-use Rattle.evac_top.proofs.TalkLemmas.{not-read, session-talks, talk-held, talk-reads}
+use Rattle.evac_top.proofs.TalkLemmas.{not-read, talk-held, talk-reads}
 use Rattle.evac_top.proofs.TellLemmas.{no-memory}
 use Rattle.talk.specs.Statuses.{status_number}
-use Rattle.evac_top.proofs.session.session.Goals as goal
+use Rattle.evac_top.proofs.holding.hold.Goals as goal
 
 pub returns-in_default-clause-run : goal.returns-in_default-clause-run
-returns-in_default-clause-run g c = no-memory Session (talk-reads Session session session-talks) _
+returns-in_default-clause-run g c = λ mode m. no-memory mode (talk-reads mode g.T.Speaker.talk m) _
 
 pub returns-in-Ok-read_model-clause-run : goal.returns-in-Ok-read_model-clause-run
 returns-in-Ok-read_model-clause-run g c =
     let read = c.in-Ok-read_model.ensures in
     let fresh = c.in-Ok.ensures.fresh in
-    talk-held Session session session-talks c.in-Ok-read_model.building (status_number c.hold_session.result) c.in-Ok.lines c.read_model.new.lines c.hold_session.new.lines _ _ _ _ (record {
+    λ mode m. talk-held mode g.T.Speaker.talk m c.in-Ok-read_model.building (status_number c.hold_talk.result) c.in-Ok.lines c.read_model.new.lines c.hold_talk.new.lines _ _ _ _ (record {
       fresh = fresh;
       read = read.bytes;
       reading = read.reading;
       quiet = read.quiet;
-      held = c.hold_session.ensures.held;
-      drained = c.hold_session.ensures.drained (read.drained (fresh-drained _ _ fresh));
+      held = c.hold_talk.ensures.held;
+      drained = c.hold_talk.ensures.drained (read.drained (fresh-drained _ _ fresh));
     })
 
 pub returns-clause-run : goal.returns-clause-run
 returns-clause-run g c =
     let read = c.in-Err.ensures in
-    not-read Session session session-talks c.in-Err.fault (status_number c.stop.result) c.in-Ok.lines c.read_model.new.lines c.args.steps.now _ _ _ _ c.in-Ok.ensures.fresh read.bytes
+    λ mode m. not-read mode g.T.Speaker.talk m c.in-Err.fault (status_number c.stop.result) c.in-Ok.lines c.read_model.new.lines c.args.steps.now _ _ _ _ c.in-Ok.ensures.fresh read.bytes
     read.reading read.unfinished read.failed read.quiet c.stop.ensures
 
 pub returns-in_default-clause-asked : goal.returns-in_default-clause-asked
@@ -35,7 +33,7 @@ returns-in_default-clause-asked g c = asked-none g.S.Source.takes _ _
 pub returns-in-Ok-read_model-clause-asked : goal.returns-in-Ok-read_model-clause-asked
 returns-in-Ok-read_model-clause-asked g c =
     let read = c.in-Ok-read_model.ensures in
-    let held = c.hold_session.ensures in
+    let held = c.hold_talk.ensures in
     asked-then c.in-Ok.ensures.fresh read.asks read.bytes.passes.room held.asks held.held.passes.room
 
 pub returns-clause-asked : goal.returns-clause-asked
