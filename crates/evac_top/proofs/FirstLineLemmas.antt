@@ -16,6 +16,7 @@ use Rattle.model_text.specs.declared.named_edit.NamedEdit.{NamedEdit}
 use Rattle.model_text.specs.declared.fault.TextFault.{TextFault}
 use Rattle.model_text.specs.Commands.{command_of, command_of_fields}
 use Rattle.model_text.specs.Fields.{behind_field, fields_of}
+use Rattle.model_text.specs.Grammar.{◌>>=◌}
 use Rattle.model_text.specs.Taken.{Description}
 use Rattle.building_table.specs.declared.faults.NameFault.{NameFault}
 use Rattle.building_table.specs.Names.{names_of}
@@ -23,7 +24,9 @@ use Rattle.certificate_text.specs.BlockText.{answer_text, end_line, refusal_line
 use Rattle.edit_session.specs.Sessions.{SessionState, kept_limit, with_former}
 use Rattle.replan.specs.Committed.{gone_by}
 use Rattle.replan.specs.Replans.{is_bad_moment, nobody_gone}
-use Rattle.replan_talk.specs.ReplanTalks.{AdvancesTo, AsksAdvance, AsksSession, CarriesOut, ReplanReplies, Replanned, RowOf, asked_moment, asks_advance, asks_of_people, carried_on, gone_text, is_advance_word, replan}
+use Rattle.replan_talk.specs.ReplanTalks.{AdvancesTo, AsksSession, CarriesOut, ReplanReplies, Replanned, RowOf, asked_moment, asks_advance, asks_of_people, carried_on, gone_text, is_advance_word, replan, request_by, request_of}
+use Rattle.replan_talk.specs.declared.request.Request.{Request}
+use Rattle.replan_talk.specs.declared.request.Request.TheVariants.{Advance, Session}
 use Rattle.report_text.specs.ReportText.{work_text}
 use Rattle.session_text.specs.StateTexts.{block_text, work_of}
 use Rattle.session_talk.specs.Sessions.{Advances, AsksEdit, Edits, Replies, State, Undoes, session}
@@ -153,13 +156,15 @@ no-advance line c is true asks = absurd (no-line line c asks is)
 no-advance line c is false asks = refl
 
 -- before an advance a line that asks for none gets what a session says
-session-gets : (d : Description) (number : ℕ) (line : List ℕ) (s : Replanned) (r : Reply Replanned) → s.moment ≡ 0 → asks_advance line ≡ false
+session-gets : (d : Description) (number : ℕ) (line : List ℕ) (c : Command) (s : Replanned) (r : Reply Replanned) → s.moment ≡ 0 → command_of line ≡ Ok c
     → ReplanReplies (names_of d) number s line r → (q : Reply State) × Replies (names_of d) number s.session (command_of line) q × (r ≡ carried_on s q)
-session-gets d number line s r start other h =
-    let late = asks_of_people (names_of d) (command_of line) in
-    let P : Bool → Type 0 = λ b. RowOf (names_of d) number s line b r in
-    let Q : ℕ → Type 0 = λ t. AsksSession (names_of d) number s (command_of line) (nat_lt 0 t && late) r in
-    subst Q start (subst P other h)
+session-gets d number line c s r start says h =
+    let e : request_of line ≡ Ok (Session c) =
+    ap (λ (b : Bool). request_by b line) (no-advance line c says (asks_advance line) refl) ∙ ap (λ (x : Result Command TextFault). x >>= λ y. Ok (Session y)) says in
+    let P : Result Request TextFault → Type 0 = λ x. RowOf (names_of d) number s x r in
+    let Q : ℕ → Type 0 = λ t. AsksSession (names_of d) number s c (nat_lt 0 t && asks_of_people (names_of d) c) r in
+    let g = subst Q start (subst P e h) in
+    let R : Result Command TextFault → Type 0 = λ x. Replies (names_of d) number s.session x g.0 in (g.0, subst R (sym says) g.1, g.2)
 
 pub first-replan-edit-gets-its-block : FirstReplanEditGetsItsBlock
 first-replan-edit-gets-its-block d last line rest x edited kept a =
@@ -170,8 +175,7 @@ first-replan-edit-gets-its-block d last line rest x edited kept a =
     let Gets : Replying Replanned = λ line s text r. ReplanReplies (names_of d) line s text r × KeepsCarried s r in
     let f = first-reply (replan (names_of d) d.model) Gets last line rest x o kept.more kept.answered kept.rest kept.parts
     (not-quit line a.by_names a.says) kept.replies kept.ends in
-    let g = session-gets d (last + 1) line o.after f.0 (ap (λ (r : Reply Replanned). r.after.moment) is)
-    (no-advance line (commands.Edit a.by_names) a.says (asks_advance line) refl) f.1.0 in
+    let g = session-gets d (last + 1) line (commands.Edit a.by_names) o.after f.0 (ap (λ (r : Reply Replanned). r.after.moment) is) a.says f.1.0 in
     let s = o.after.session in
     let same : s ≡ q.after = ap (λ (r : Reply Replanned). r.after.session) is in
     goes-on edited s o.text g.0 f.2.0 x (ap (λ (s : State). s.index) same ∙ opens.first) (ap (λ (s : State). s.standing.former) same ∙ opens.begins.none_former)
@@ -236,10 +240,10 @@ free-moment p horizon last low high start = grind (arith, nat_tests)
 advance-gets : (d : Description) (number : ℕ) (line : List ℕ) (p : ℕ) (s : Replanned) (r : Reply Replanned) → s.moment ≡ 0 → p ≤ s.session.standing.model.horizon
     → asks_advance line ≡ true → asked_moment line ≡ Ok p → 1 ≤ p → ReplanReplies (names_of d) number s line r → CarriesOut s p r
 advance-gets d number line p s r start high asks named low h =
-    let P : Bool → Type 0 = λ b. RowOf (names_of d) number s line b r in
-    let Q : Result ℕ TextFault → Type 0 = λ m. AsksAdvance number s m r in
+    let e : request_of line ≡ Ok (Advance p) = ap (λ (b : Bool). request_by b line) asks ∙ ap (λ (x : Result ℕ TextFault). x >>= λ y. Ok (Advance y)) named in
+    let P : Result Request TextFault → Type 0 = λ x. RowOf (names_of d) number s x r in
     let A : Bool → Type 0 = λ b. AdvancesTo number s p b r in
-    subst A (free-moment p s.session.standing.model.horizon s.moment low high start) (subst Q named (subst P asks h))
+    subst A (free-moment p s.session.standing.model.horizon s.moment low high start) (subst P e h)
 
 none-gone : (m : Model) (k n : ℕ) → k ≤ m.horizon → slice_index (nobody_gone m) k + n ≡ n
 none-gone m k n h = omega (arith, get_or-replicate {A = ℕ} (m.horizon + 1) k 0 0 (omega (arith, h)))

@@ -28,7 +28,9 @@ use Rattle.building_table.specs.Names.{NameTable, names_of}
 use Rattle.certificate_text.proofs.AnswerBack.{reads_back}
 use Rattle.edit_session.specs.Sessions.{IsSolved, with_former}
 use Rattle.edit_session.specs.Thrift.{IsThrifty, IsThriftyOpening}
-use Rattle.replan_talk.specs.ReplanTalks.{AdvancesTo, AsksAdvance, AsksSession, CarriesOut, ReplanReplies, Replanned, RowOf, asks_advance, asks_of_people, bars_moment, asked_moment, replan}
+use Rattle.replan_talk.specs.ReplanTalks.{AdvancesTo, AsksSession, CarriesOut, ReplanReplies, Replanned, RowOf, asks_of_people, bars_moment, replan, request_of}
+use Rattle.replan_talk.specs.declared.request.Request.{Request}
+use Rattle.replan_talk.specs.declared.request.Request.TheVariants as requests
 use Rattle.session_talk.specs.Sessions.{Advances, AsksEdit, Edits, IsAnswerText, Replies, Reports, State, Undoes, session}
 use Rattle.talk.specs.Short.{OpensShort}
 use Rattle.talk.specs.Talks.{EndsAt, RepliesTo, Reply, Spoken, TalkRun, says}
@@ -202,24 +204,21 @@ advanced-to : (line : ℕ) (s : Replanned) (p : ℕ) (barred : Bool) (r : Reply 
 advanced-to line s p true r h = stays-there s _ r h
 advanced-to line s p false r h = inl (carries-out s p r h)
 
-asked-advance : (line : ℕ) (s : Replanned) (named : Result ℕ TextFault) (r : Reply Replanned) → AsksAdvance line s named r → KeepsCarried s r
-asked-advance line s (Err fault) r h = stays-there s _ r h
-asked-advance line s (Ok p) r h = advanced-to line s p (bars_moment s p) r h
-
-asked-session : (names : NameTable) (line : ℕ) (s : Replanned) (c : Result Command TextFault) (late : Bool) (r : Reply Replanned) → AsksSession names line s c late r → KeepsCarried s r
+asked-session : (names : NameTable) (line : ℕ) (s : Replanned) (c : Command) (late : Bool) (r : Reply Replanned) → AsksSession names line s c late r → KeepsCarried s r
 asked-session names line s c true r h = stays-there s _ r h
-asked-session names line s c false r h = inr (inl (h.0, one_line names line s.session c h.0 h.1, h.2))
+asked-session names line s c false r h = inr (inl (h.0, one_line names line s.session (Ok c) h.0 h.1, h.2))
 
-row-of : (names : NameTable) (line : ℕ) (s : Replanned) (text : List ℕ) (asks : Bool) (r : Reply Replanned) → RowOf names line s text asks r → KeepsCarried s r
-row-of names line s text true r h = asked-advance line s (asked_moment text) r h
-row-of names line s text false r h = asked-session names line s (command_of text) (nat_lt 0 s.moment && asks_of_people names (command_of text)) r h
+row-of : (names : NameTable) (line : ℕ) (s : Replanned) (q : Result Request TextFault) (r : Reply Replanned) → RowOf names line s q r → KeepsCarried s r
+row-of names line s (Err fault) r h = stays-there s _ r h
+row-of names line s (Ok (requests.Advance p)) r h = advanced-to line s p (bars_moment s p) r h
+row-of names line s (Ok (requests.Session c)) r h = asked-session names line s c (nat_lt 0 s.moment && asks_of_people names c) r h
 
 carried-lines : (names : NameTable) (m : Model) (before : ℕ) (s : Replanned) (lines : List (List ℕ)) (r : Reply Replanned) → RepliesTo (replan names m).Gets before s lines r
     → RepliesTo (λ line s text r. ReplanReplies names line s text r × KeepsCarried s r) before s lines r
 unfolding RepliesTo
 carried-lines names m before s [] r h = h
 carried-lines names m before s (line ∷ lines) r h =
-    (h.0, (h.1, row-of names (before + 1) s line (asks_advance line) h.0 h.1), (h.2.0, carried-lines names m (before + 1) h.0.after lines h.2.0 h.2.1, h.2.2))
+    (h.0, (h.1, row-of names (before + 1) s (request_of line) h.0 h.1), (h.2.0, carried-lines names m (before + 1) h.0.after lines h.2.0 h.2.1, h.2.2))
 
 replans-keep : (d : Description) (last : ℕ) (lines : List Line) (x : Account) → TalkRun (replan (names_of d) d.model) last lines (spoken x) → KeepsReplan d last lines x
 replans-keep d last lines x run =

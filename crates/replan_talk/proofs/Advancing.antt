@@ -1,5 +1,5 @@
 -- A plan that was carried out is answered by who is gone and by the block of what is left.
-use Rattle.std.proofs.Common.{◌≡◌, ℕ, ◌+◌, ◌<◌, ◌≤◌, ◌^◌, Bool, true, false, List, ◌++◌, Result, Ok, Err, refl, sym, ap, ◌∙◌, subst, arith}
+use Rattle.std.proofs.Common.{◌≡◌, ℕ, ◌+◌, ◌<◌, ◌≤◌, ◌^◌, Bool, true, false, List, ◌++◌, refl, sym, ap, subst, arith}
 use Rattle.std.specs.declared.option.Option.{Option}
 use Rattle.evac_law.specs.declared.code.Code.{Code}
 use Rattle.evac_law.specs.declared.code.Code.TheVariants as codes
@@ -8,8 +8,6 @@ use Rattle.line_io.specs.Causes.{Count}
 use Rattle.line_io.specs.Line.{input_limit}
 use Rattle.line_io.specs.Writer.{Writes}
 use Rattle.line_io.specs.declared.writer.Writer.{Writer}
-use Rattle.model_text.specs.declared.fault.TextFault.{TextFault}
-use Rattle.model_text.specs.Codes.{text_fault_code}
 use Rattle.certificate_text.specs.Block.{number_field_limit}
 use Rattle.certificate_text.specs.BlockLaws.{BlockReadsBack}
 use Rattle.certificate_text.specs.BlockText.{refusal_line}
@@ -19,11 +17,11 @@ use Rattle.session_talk.specs.Desks.{DeskView}
 use Rattle.session_talk.proofs.Bridge.{answer_of}
 use Rattle.session_talk.proofs.Saying.{few_blocks}
 use Rattle.replan_talk.specs.declared.speaker.ReplanTalk.{ReplanTalk}
-use Rattle.replan_talk.specs.Desks.{AnswersSome, replanned, shown_replan}
-use Rattle.replan_talk.specs.ReplanTalks.{AdvancesTo, AsksAdvance, CarriesOut, IsLastGone, Replanned, WantsMemory, asks_advance, gone_text, bars_moment, asked_moment}
+use Rattle.replan_talk.specs.Desks.{replanned, shown_replan}
+use Rattle.replan_talk.specs.ReplanTalks.{AdvancesTo, CarriesOut, IsLastGone, Replanned, gone_text, bars_moment}
 use Rattle.replan_talk.specs.Talking.{GoesUpTo}
 use Rattle.replan_talk.proofs.Carrying.{code_said}
-use Rattle.talk.specs.Speaking.{PutsSome, Speaking}
+use Rattle.talk.specs.Speaking.{PutsSome}
 use Rattle.talk.specs.Talks.{Reply, refuses}
 
 few_numbers : (index line : ℕ) → index < line → line ≤ input_limit → index + 1 < 2 ^ 32
@@ -84,25 +82,3 @@ barred_said {X} {H} {F} line code p steps n k t t' a b barred desk replan none c
     let K : ℕ → Type 0 = λ i. PutsSome H F Gets (shown_replan t.desk t.replan a n) (shown_replan t.desk t.replan b i) in
     let same : k ≡ n = omega (arith, counted, none) in
     subst D (sym desk) (subst V (sym replan) (subst K (sym same) (code_said Gets line code n t.desk t.replan codes.BadMoment a b is gets put)))
-
--- ---- what a line asks for
-
-pub asks_moment : {N X E : Type 0} (H : X → Option (List ℕ)) (F : X → Count) (line : ℕ) (s : Replanned) (text : List ℕ) (p : ℕ) (named : Result ℕ TextFault) (result : Result (Unit {0}) E) (x y : Speaking N Replanned X)
-    → asks_advance text ≡ true → named ≡ Ok p → named ≡ asked_moment text → AnswersSome H F (AdvancesTo line s p (bars_moment s p)) (bars_moment s p ≡ false) result x y
-    → AnswersSome H F (AsksAdvance line s (asked_moment text)) (WantsMemory s text) result x y
-asks_moment {N} {X} {E} H F line s text p named result x y asks ok is h =
-    let e : asked_moment text ≡ Ok p = sym is ∙ ok in
-    let P : Result ℕ TextFault → Type 0 = λ m. AnswersSome H F (AsksAdvance line s m) (WantsMemory s text) result x y in
-    subst P (sym e) (by_result result h)
-  where
-    by_result : (result : Result (Unit {0}) E) → AnswersSome H F (AdvancesTo line s p (bars_moment s p)) (bars_moment s p ≡ false) result x y
-        → AnswersSome H F (AdvancesTo line s p (bars_moment s p)) (WantsMemory s text) result x y
-    by_result (Ok done) h = h
-    by_result (Err fault) h = (record { moment = p; asks = asks; named = sym is ∙ ok; free = h.0 }, h.1)
-
--- a line that asks for it and has a fault
-pub asks_fault : (line : ℕ) (s : Replanned) (text : List ℕ) (fault : TextFault) (named : Result ℕ TextFault) → named ≡ Err fault → named ≡ asked_moment text
-    → AsksAdvance line s (asked_moment text) (refuses s (text_fault_code fault) line)
-asks_fault line s text fault named err is =
-    let e : asked_moment text ≡ Err fault = sym is ∙ err in
-    let P : Result ℕ TextFault → Type 0 = λ m. AsksAdvance line s m (refuses s (text_fault_code fault) line) in subst P (sym e) refl

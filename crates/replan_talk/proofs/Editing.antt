@@ -11,7 +11,6 @@ use Rattle.line_io.specs.declared.writer.Writer.{Writer}
 use Rattle.model_text.specs.declared.command.Command.{Command}
 use Rattle.model_text.specs.declared.command.Command.TheVariants as commands
 use Rattle.model_text.specs.declared.command.Report.{Report}
-use Rattle.model_text.specs.declared.fault.TextFault.{TextFault}
 use Rattle.building_table.specs.Names.{NameTable}
 use Rattle.certificate_text.specs.BlockText.{refusal_line}
 use Rattle.edit_session.specs.declared.faults.EditRefusal.{EditRefusal}
@@ -46,13 +45,13 @@ module _ {X : Type 0} {H : X → Option (List ℕ)} {F : X → Count} (line n k 
   pub undone_said : (names : NameTable) (undone : Result Work UndoRefusal) → ReplanUndoes v undone v' n → w ≡ v'.session → k ≡ steps + n
       → (UndoEnds v.session undone w n
       → PutsSome H F (Undoes line (desk_state d v.session) v.session.state.former) (shown_of d v.session a steps) (shown_of d' w b (steps + n)))
-      → PutsSome H F (SessionRow names line (replanned d v) (Ok commands.Undo)) (shown_replan d v a steps) (shown_replan d' v' b k)
+      → PutsSome H F (SessionRow names line (replanned d v) commands.Undo) (shown_replan d v a steps) (shown_replan d' v' b k)
   undone_said names undone ends stands counted says =
       let Gets = Undoes line (desk_state d v.session) v.session.state.former in
       let P : SessionView → Type 0 = λ x. UndoEnds v.session undone x n → PutsSome H F Gets (shown_of d v.session a steps) (shown_of d' x b (steps + n)) in
       let Q : ℕ → Type 0 = λ i. PutsSome H F Gets (shown_of d v.session a steps) (shown_of d' v'.session b i) in
       let said = subst Q (sym counted) (subst P stands says ends.0) in
-      widened _ _ _ _ (session_row names line (replanned d v) (Ok commands.Undo) refl) (lifted Gets d d' v v' a b steps k ends.1.moment ends.1.gone said)
+      widened _ _ _ _ (session_row names line (replanned d v) commands.Undo refl) (lifted Gets d d' v v' a b steps k ends.1.moment ends.1.gone said)
 
 -- an edit that comes too late
 pub late_said : {X : Type 0} {H : X → Option (List ℕ)} {F : X → Count} (line : ℕ) (code : Code) (n k : ℕ) (d : DeskView) (v v' : ReplanView) (e : Edit) (a b : Writer X) → is_committed v e ≡ true → v' ≡ v
@@ -82,18 +81,18 @@ undo_stands v undone w w' n is h = let P : SessionView → Type 0 = λ x. UndoEn
 pub report_said : {X : Type 0} {H : X → Option (List ℕ)} {F : X → Count} (names : NameTable) (line n : ℕ) (report : Report) (d d' : DeskView) (v : ReplanView) (w : SessionView) (a b : Writer X)
     → w ≡ v.session
     → PutsSome H F (Reports names (desk_state d w) report) (shown_of d w a n) (shown_of d' w b n)
-    → PutsSome H F (SessionRow names line (replanned d v) (Ok (commands.Report report))) (shown_replan d v a n) (shown_replan d' v b n)
+    → PutsSome H F (SessionRow names line (replanned d v) (commands.Report report)) (shown_replan d v a n) (shown_replan d' v b n)
 report_said {X} {H} {F} names line n report d d' v w a b is says =
     let P : SessionView → Type 0 = λ x. PutsSome H F (Reports names (desk_state d x) report) (shown_of d x a n) (shown_of d' x b n) in
-    widened _ _ _ _ (session_row names line (replanned d v) (Ok (commands.Report report)) refl)
+    widened _ _ _ _ (session_row names line (replanned d v) (commands.Report report) refl)
     (lifted (Reports names (desk_state d v.session) report) d d' v v a b n n refl refl (subst P is says))
 
 -- a text that a line which is no edit gets
-pub text_said : {X : Type 0} {H : X → Option (List ℕ)} {F : X → Count} (names : NameTable) (line n : ℕ) (c : Result Command TextFault) (text : List ℕ) (d : DeskView) (v : ReplanView) (a b : Writer X)
-    → asks_of_people names c ≡ false → Replies names line (desk_state d v.session) c (says (desk_state d v.session) text)
+pub text_said : {X : Type 0} {H : X → Option (List ℕ)} {F : X → Count} (names : NameTable) (line n : ℕ) (c : Command) (text : List ℕ) (d : DeskView) (v : ReplanView) (a b : Writer X)
+    → asks_of_people names c ≡ false → Replies names line (desk_state d v.session) (Ok c) (says (desk_state d v.session) text)
     → Writes H F a text b
     → PutsSome H F (SessionRow names line (replanned d v) c) (shown_replan d v a n) (shown_replan d v b n)
 text_said {X} {H} {F} names line n c text d v a b none gets put =
     widened _ _ _ _ (session_row names line (replanned d v) c none)
-    (lifted (Replies names line (desk_state d v.session) c) d d v v a b n n refl refl
-    (saying.text_said (Replies names line (desk_state d v.session) c) text n d d v.session a b (saying.same_desk d) gets put))
+    (lifted (Replies names line (desk_state d v.session) (Ok c)) d d v v a b n n refl refl
+    (saying.text_said (Replies names line (desk_state d v.session) (Ok c)) text n d d v.session a b (saying.same_desk d) gets put))

@@ -6,8 +6,6 @@ use Rattle.evac_law.specs.Edits.{applied}
 use Rattle.model_text.specs.declared.command.Command.{Command}
 use Rattle.model_text.specs.declared.command.Command.TheVariants as commands
 use Rattle.model_text.specs.declared.named_edit.NamedEdit.{NamedEdit}
-use Rattle.model_text.specs.declared.fault.TextFault.{TextFault}
-use Rattle.model_text.specs.Codes.{text_fault_code}
 use Rattle.building_table.specs.declared.faults.NameFault.{NameFault}
 use Rattle.building_table.specs.Built.{name_code}
 use Rattle.building_table.specs.EditNames.{edit_named}
@@ -25,42 +23,38 @@ never false = refl
 
 -- ---- a row by whether it comes too late
 
-free-row : (names : NameTable) (line : ℕ) (s : Replanned) (c : Result Command TextFault) (people : Bool) (r : Reply Replanned) → people ≡ false → Carries s (Replies names line s.session c) r
+free-row : (names : NameTable) (line : ℕ) (s : Replanned) (c : Command) (people : Bool) (r : Reply Replanned) → people ≡ false → Carries s (Replies names line s.session (Ok c)) r
     → AsksSession names line s c (nat_lt 0 s.moment && people) r
 free-row names line s c people r none h =
     let P : Bool → Type 0 = λ b. AsksSession names line s c b r in subst P (sym (ap (λ (b : Bool). nat_lt 0 s.moment && b) none ∙ never (nat_lt 0 s.moment))) h
 
 -- a line that is no edit of people gets what a session says
-pub session_row : (names : NameTable) (line : ℕ) (s : Replanned) (c : Result Command TextFault) → asks_of_people names c ≡ false → (r : Reply Replanned)
-    → Carries s (Replies names line s.session c) r → SessionRow names line s c r
+pub session_row : (names : NameTable) (line : ℕ) (s : Replanned) (c : Command) → asks_of_people names c ≡ false → (r : Reply Replanned)
+    → Carries s (Replies names line s.session (Ok c)) r → SessionRow names line s c r
 session_row names line s c none r h = free-row names line s c (asks_of_people names c) r none h
-
-pub fault_row : (names : NameTable) (line : ℕ) (s : Replanned) (fault : TextFault) → SessionRow names line s (Err fault) (refuses s (text_fault_code fault) line)
-fault_row names line s fault =
-    free-row names line s (Err fault) false (refuses s (text_fault_code fault) line) refl (refuses s.session (text_fault_code fault) line, refl, refl)
 
 -- ---- an edit by names, by what they name
 
 edit-row : (names : NameTable) (line : ℕ) (s : Replanned) (c : NamedEdit) (late : Bool) (e : Edit) (r : Reply Replanned) → edit_named names c ≡ Ok e → EditsUnless line s e late r
-    → AsksSession names line s (Ok (commands.Edit c)) late r
+    → AsksSession names line s (commands.Edit c) late r
 edit-row names line s c true e r named h = h
 edit-row names line s c false e r named h =
     let P : Result Edit NameFault → Type 0 = λ x. AsksEdit line s.session x h.0 in (h.0, subst P (sym named) h.1, h.2)
 
 pub named_row : (names : NameTable) (line : ℕ) (s : Replanned) (c : NamedEdit) (e : Edit) (made : Result Edit NameFault) → made ≡ Ok e → made ≡ edit_named names c → (r : Reply Replanned)
-    → EditsUnless line s e (nat_lt 0 s.moment && is_of_people e) r → SessionRow names line s (Ok (commands.Edit c)) r
+    → EditsUnless line s e (nat_lt 0 s.moment && is_of_people e) r → SessionRow names line s (commands.Edit c) r
 named_row names line s c e made ok edit r h =
     let named : edit_named names c ≡ Ok e = sym edit ∙ ok in
-    let P : Result Edit NameFault → Type 0 = λ x. AsksSession names line s (Ok (commands.Edit c)) (nat_lt 0 s.moment && is_named_of_people x) r in
+    let P : Result Edit NameFault → Type 0 = λ x. AsksSession names line s (commands.Edit c) (nat_lt 0 s.moment && is_named_of_people x) r in
     subst P (sym named) (edit-row names line s c (nat_lt 0 s.moment && is_of_people e) e r named h)
 
 pub unknown_row : (names : NameTable) (line : ℕ) (s : Replanned) (c : NamedEdit) (fault : NameFault) (made : Result Edit NameFault) → made ≡ Err fault → made ≡ edit_named names c
-    → SessionRow names line s (Ok (commands.Edit c)) (refuses s (name_code fault) line)
+    → SessionRow names line s (commands.Edit c) (refuses s (name_code fault) line)
 unknown_row names line s c fault made err edit =
     let named : edit_named names c ≡ Err fault = sym edit ∙ err in
     let q = refuses s.session (name_code fault) line in
     let P : Result Edit NameFault → Type 0 = λ x. AsksEdit line s.session x q in
-    session_row names line s (Ok (commands.Edit c)) (ap is_named_of_people named) (refuses s (name_code fault) line) (q, subst P (sym named) refl, refl)
+    session_row names line s (commands.Edit c) (ap is_named_of_people named) (refuses s (name_code fault) line) (q, subst P (sym named) refl, refl)
 
 -- an edit that doesn't come too late, and one that does
 pub edits_now : (line : ℕ) (s : Replanned) (e : Edit) (late : Bool) → late ≡ false → (r : Reply Replanned) → Carries s (Edits line s.session (applied s.session.standing.model e)) r → EditsUnless line s e late r

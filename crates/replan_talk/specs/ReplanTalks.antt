@@ -1,5 +1,5 @@
 -- A replan over lines: what each line gets, by what it asks for. The rows of a session come after those of a replan.
-use Rattle.std.specs.Prelude.{◌≡◌, ◌≢◌, ℕ, ◌+◌, ◌<◌, ◌≤◌, Bool, true, false, ◌&&◌, nat_lt, List, [], ◌∷◌, ◌++◌, length, slice_index, codes, decimal, Result, Ok, Err, IsTrue, IsFalse}
+use Rattle.std.specs.Prelude.{◌≡◌, ◌≢◌, ℕ, ◌+◌, ◌<◌, ◌≤◌, Bool, true, false, ◌&&◌, nat_lt, List, [], ◌∷◌, ◌++◌, length, slice_index, codes, decimal, Result, Ok, Err, IsFalse}
 use Rattle.std.specs.List.{flat_map}
 use Rattle.std.specs.Str.{bytes_eq}
 use Rattle.evac_law.specs.declared.code.Code.TheVariants.{BadMoment, Committed}
@@ -25,6 +25,8 @@ use Rattle.replan.specs.Replans.{is_bad_moment, is_of_people, nobody_gone}
 use Rattle.replan.specs.Rest.{rest}
 use Rattle.replan.specs.RestLaws.{IsBestFrom}
 use Rattle.session_talk.specs.Sessions.{IsAnswerText, Opens, Replies, State}
+use Rattle.replan_talk.specs.declared.request.Request.{Request}
+use Rattle.replan_talk.specs.declared.request.Request.TheVariants.{Advance, Session}
 use Rattle.talk.specs.Short.{OpensShort}
 use Rattle.talk.specs.Talks.{Reply, Talk, refuses}
 
@@ -45,16 +47,27 @@ abbrev pub asks_advance : List ℕ → Bool
 asks_advance line = is_advance_word (fields_of line)
 
 -- the moment that it names, or the first fault of the line
+abbrev pub moment_of : List (List ℕ) → Result ℕ TextFault
+moment_of fields = one_field fields >>= λ f. number_field f
+
 abbrev pub asked_moment : List ℕ → Result ℕ TextFault
-asked_moment line = one_field (fields_of (behind_field line)) >>= λ f. number_field f
+asked_moment line = moment_of (fields_of (behind_field line))
+
+-- what a line asks for: to carry the plan out, or what a line of a session commands
+abbrev pub request_by : Bool → List ℕ → Result Request TextFault
+request_by true line = asked_moment line >>= λ p. Ok (Advance p)
+request_by false line = command_of line >>= λ c. Ok (Session c)
+
+abbrev pub request_of : List ℕ → Result Request TextFault
+request_of line = request_by (asks_advance line) line
 
 -- whether a command names an edit of people, and all its names are there
 abbrev pub is_named_of_people : Result Edit NameFault → Bool
 is_named_of_people (Ok e) = is_of_people e
 is_named_of_people (Err fault) = false
 
-abbrev pub asks_of_people : NameTable → Result Command TextFault → Bool
-asks_of_people names (Ok (commands.Edit edit)) = is_named_of_people (edit_named names edit)
+abbrev pub asks_of_people : NameTable → Command → Bool
+asks_of_people names (commands.Edit edit) = is_named_of_people (edit_named names edit)
 asks_of_people names other = false
 
 -- ---- texts
@@ -104,30 +117,26 @@ abbrev pub AdvancesTo : ℕ → Replanned → ℕ → Bool → Reply Replanned �
 AdvancesTo line s p true r = r ≡ refuses s BadMoment line
 AdvancesTo line s p false r = CarriesOut s p r
 
--- a line that asks to carry the plan out, by what it names
-abbrev pub AsksAdvance : ℕ → Replanned → Result ℕ TextFault → Reply Replanned → Type 0
-AsksAdvance line s (Err fault) r = r ≡ refuses s (text_fault_code fault) line
-AsksAdvance line s (Ok p) r = AdvancesTo line s p (bars_moment s p) r
-
 -- what a session says, with all that was carried out as before
 abbrev pub carried_on : Replanned → Reply State → Reply Replanned
 carried_on s r = record { text = r.text; after = record s { session = r.after }; steps = r.steps }
 
--- any other line, by whether it is an edit of people that comes too late: it gets what a session says
-abbrev pub AsksSession : NameTable → ℕ → Replanned → Result Command TextFault → Bool → Reply Replanned → Type 0
+-- a command, by whether it is an edit of people that comes too late: it gets what a session says
+abbrev pub AsksSession : NameTable → ℕ → Replanned → Command → Bool → Reply Replanned → Type 0
 AsksSession names line s command true r = r ≡ refuses s Committed line
-AsksSession names line s command false r = (q : Reply State) × Replies names line s.session command q × (r ≡ carried_on s q)
+AsksSession names line s command false r = (q : Reply State) × Replies names line s.session (Ok command) q × (r ≡ carried_on s q)
 
-abbrev pub SessionRow : NameTable → ℕ → Replanned → Result Command TextFault → Reply Replanned → Type 0
+abbrev pub SessionRow : NameTable → ℕ → Replanned → Command → Reply Replanned → Type 0
 SessionRow names line s command r = AsksSession names line s command (nat_lt 0 s.moment && asks_of_people names command) r
 
--- a line, by whether it asks to carry the plan out
-abbrev pub RowOf : NameTable → ℕ → Replanned → List ℕ → Bool → Reply Replanned → Type 0
-RowOf names line s text true r = AsksAdvance line s (asked_moment text) r
-RowOf names line s text false r = SessionRow names line s (command_of text) r
+-- a line, by what it asks for
+abbrev pub RowOf : NameTable → ℕ → Replanned → Result Request TextFault → Reply Replanned → Type 0
+RowOf names line s (Err fault) r = r ≡ refuses s (text_fault_code fault) line
+RowOf names line s (Ok (Advance p)) r = AdvancesTo line s p (bars_moment s p) r
+RowOf names line s (Ok (Session command)) r = SessionRow names line s command r
 
 abbrev pub ReplanReplies : NameTable → ℕ → Replanned → List ℕ → Reply Replanned → Type 0
-ReplanReplies names line s text r = RowOf names line s text (asks_advance text) r
+ReplanReplies names line s text r = RowOf names line s (request_of text) r
 
 -- ---- runs
 
@@ -142,8 +151,7 @@ ReplanOpens m r = (q : Reply State) × Opens m q × (r ≡ record { text = q.tex
 -- a line at which memory may be wanting: it asks to carry the plan out up to a moment that isn't barred
 pub record WantsMemory (s : Replanned) (text : List ℕ) : Type 0 where
   pub moment : ℕ
-  pub asks : IsTrue (asks_advance text)
-  pub named : asked_moment text ≡ Ok moment
+  pub asks : request_of text ≡ Ok (Advance moment)
   pub free : IsFalse (bars_moment s moment)
 
 -- a replan on a model, whose commands name by these names

@@ -1,30 +1,39 @@
 //! What a line of a replan asks for.
 ghost use Rattle.std.specs.Prelude.{◌≡◌};
-ghost use Rattle.replan_talk.specs.ReplanTalks.{asks_advance, asked_moment};
+ghost use Rattle.model_text.specs.Fields.{fields_of};
+ghost use Rattle.replan_talk.specs.ReplanTalks.{moment_of, request_of};
 
-use model_text::{Fields, TextFault, is_word, read_number};
+use model_text::{Command, Fields, TextFault, is_word, read_command, read_number};
 
-/// Whether a line asks to carry the plan out: its first field is the word for it.
-pub(crate) fn asks_advance(line: &[u8]) -> bool
-    ensures { result ≡ asks_advance line.now }
-{
-    match Fields::new(line).next() {
-        Some(word) => is_word(word, b"advance"),
-        None => false,
-    }
+/// What a line of a replan asks for.
+#[derive(Clone, Copy)]
+pub enum Request {
+    /// To carry the plan out up to a moment.
+    Advance(u32),
+    /// What a line of a session commands.
+    Session(Command),
 }
 
-/// The moment that such a line names, or its first fault.
-pub(crate) fn read_moment(line: &[u8]) -> Result<u32, TextFault>
-    ensures { result ≡ asked_moment line.now }
+// The moment that fields name, or their first fault.
+fn moment_of<'a>(mut fields: Fields<'a>) -> Result<u32, TextFault>
+    ensures { result ≡ moment_of (fields_of fields.entry) }
 {
-    let mut fields = Fields::new(line);
-    let _word = fields.next();
     let (Some(field), None) = (fields.next(), fields.next()) else {
         return Err(TextFault::FieldCount);
     };
     match read_number(field) {
         Some(moment) => Ok(moment),
         None => Err(TextFault::BadNumber),
+    }
+}
+
+/// What a line asks for, or its first fault.
+pub(crate) fn read_request(line: &[u8]) -> Result<Request, TextFault>
+    ensures { result ≡ request_of line.now }
+{
+    let mut fields = Fields::new(line);
+    match fields.next() {
+        Some(word) if is_word(word, b"advance") => Ok(Request::Advance(moment_of(fields)?)),
+        _ => Ok(Request::Session(read_command(line)?)),
     }
 }

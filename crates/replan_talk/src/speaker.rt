@@ -1,5 +1,5 @@
 //! A replan answers the lines of a talk.
-ghost use Rattle.std.specs.Prelude.{◌≡◌, ◌<◌, ◌≤◌, ◌+◌, ◌++◌, ◌&&◌, ℕ, nat_lt, Ok, OnOk, IsTrue, IsFalse};
+ghost use Rattle.std.specs.Prelude.{◌≡◌, ◌<◌, ◌≤◌, ◌+◌, ◌++◌, ◌&&◌, ℕ, nat_lt, OnOk, IsFalse};
 ghost use Rattle.evac_law.specs.Edits.{IsEditOf};
 ghost use Rattle.line_io.specs.Line.{input_limit};
 ghost use Rattle.line_io.specs.Writer.{Writes};
@@ -7,17 +7,17 @@ ghost use Rattle.replan.specs.Replans.{is_of_people};
 ghost use Rattle.session_text.specs.StateTexts.{block_text};
 ghost use Rattle.session_talk.specs.Desks.{IsDesk};
 ghost use Rattle.replan_talk.specs.Desks.{AnswersSome, EditsUnless, replanned, shown_replan};
-ghost use Rattle.replan_talk.specs.ReplanTalks.{AdvancesTo, AsksAdvance, IsLastGone, SessionRow, WantsMemory, asks_advance, gone_text, bars_moment, asked_moment};
+ghost use Rattle.replan_talk.specs.ReplanTalks.{AdvancesTo, IsLastGone, SessionRow, bars_moment, gone_text};
 ghost use Rattle.talk.specs.Speaking.{KeepsSink, PutsSome};
 
 use crate::gone::put_gone;
-use crate::request::{asks_advance, read_moment};
+use crate::request::{Request, read_request};
 use building_table::Building;
 use certificate_text::put_refusal;
 use edit_session::BeginFault;
 use evac_law::{Code, Edit, Steps};
 use line_io::{Heard, Sink, Writer};
-use model_text::{Command, NamedEdit, read_command};
+use model_text::{Command, NamedEdit};
 use replan::{AdvanceFault, Replan, ReplanRefusal};
 use session_talk::{Desk, reply_cut, reply_edited, reply_report, reply_undone};
 use session_text::put_work;
@@ -93,33 +93,6 @@ fn reply_moment<K: Sink, L: Ledger>(
     }
 }
 
-// A line that asks to carry the plan out.
-fn reply_advance<K: Sink, L: Ledger>(
-    talk: &mut ReplanTalk,
-    writer: &mut Writer<'_, K>,
-    steps: &mut Steps<L>,
-    text: &[u8],
-    line: u32,
-) -> Result<(), AllocError>
-    requires desk { IsDesk talk.old.desk talk.old.replan.session }
-    requires asks { IsTrue (asks_advance text.now) }
-    requires line { line ≤ input_limit }
-    ensures says { talk.old.desk.index < line → let s = replanned talk.old.desk talk.old.replan in
-        AnswersSome K.held K.faults (AsksAdvance line s (asked_moment text.now)) (WantsMemory s text.now) result
-        (shown_replan talk.old.desk talk.old.replan writer.old steps.old)
-        (shown_replan talk.new.desk talk.new.replan writer.new steps.new) }
-    ensures same { KeepsSink writer.old writer.new }
-    ensures desk { OnOk result (IsDesk talk.new.desk talk.new.replan.session) }
-{
-    match read_moment(text) {
-        Ok(moment) => reply_moment(talk, writer, steps, moment, line),
-        Err(fault) => {
-            put_refusal(writer, fault.code(), line);
-            Ok(())
-        }
-    }
-}
-
 // An edit gets the next block, or a refusal with all as it was.
 fn reply_edit<K: Sink, L: Ledger>(
     talk: &mut ReplanTalk,
@@ -161,7 +134,7 @@ fn reply_named<K: Sink, L: Ledger>(
 )
     requires desk { IsDesk talk.old.desk talk.old.replan.session }
     requires line { line ≤ input_limit }
-    ensures says { talk.old.desk.index < line → PutsSome K.held K.faults (SessionRow talk.old.desk.names line (replanned talk.old.desk talk.old.replan) (Ok (Command.Edit named)))
+    ensures says { talk.old.desk.index < line → PutsSome K.held K.faults (SessionRow talk.old.desk.names line (replanned talk.old.desk talk.old.replan) (Command.Edit named))
         (shown_replan talk.old.desk talk.old.replan writer.old steps.old)
         (shown_replan talk.new.desk talk.new.replan writer.new steps.new) }
     ensures same { KeepsSink writer.old writer.new }
@@ -182,7 +155,7 @@ fn reply_undo<K: Sink, L: Ledger>(
 )
     requires desk { IsDesk talk.old.desk talk.old.replan.session }
     requires line { line ≤ input_limit }
-    ensures says { talk.old.desk.index < line → PutsSome K.held K.faults (SessionRow talk.old.desk.names line (replanned talk.old.desk talk.old.replan) (Ok Command.Undo))
+    ensures says { talk.old.desk.index < line → PutsSome K.held K.faults (SessionRow talk.old.desk.names line (replanned talk.old.desk talk.old.replan) Command.Undo)
         (shown_replan talk.old.desk talk.old.replan writer.old steps.old)
         (shown_replan talk.new.desk talk.new.replan writer.new steps.new) }
     ensures same { KeepsSink writer.old writer.new }
@@ -252,34 +225,34 @@ impl Speaker for ReplanTalk {
         text: &[u8],
         line: u32,
     ) -> Result<Heard, AllocError> {
-        if asks_advance(text) {
-            reply_advance(self, writer, steps, text, line)?;
-            return Ok(Heard::More);
-        }
         let session = self.replan.session();
-        match read_command(text) {
-            Ok(Command::Blank) => Ok(Heard::More),
-            Ok(Command::Edit(named)) => {
+        match read_request(text) {
+            Ok(Request::Advance(moment)) => {
+                reply_moment(self, writer, steps, moment, line)?;
+                Ok(Heard::More)
+            }
+            Ok(Request::Session(Command::Blank)) => Ok(Heard::More),
+            Ok(Request::Session(Command::Edit(named))) => {
                 reply_named(self, writer, steps, named, line);
                 Ok(Heard::More)
             }
-            Ok(Command::Undo) => {
+            Ok(Request::Session(Command::Undo)) => {
                 reply_undo(self, writer, steps, line);
                 Ok(Heard::More)
             }
-            Ok(Command::Cut { period }) => {
+            Ok(Request::Session(Command::Cut { period })) => {
                 reply_cut(writer, session, period, line);
                 Ok(Heard::More)
             }
-            Ok(Command::Report(report)) => {
+            Ok(Request::Session(Command::Report(report))) => {
                 reply_report(&mut self.desk, session, writer, report);
                 Ok(Heard::More)
             }
-            Ok(Command::Work) => {
+            Ok(Request::Session(Command::Work)) => {
                 put_work(writer, session);
                 Ok(Heard::More)
             }
-            Ok(Command::Quit) => Ok(Heard::Last),
+            Ok(Request::Session(Command::Quit)) => Ok(Heard::Last),
             Err(fault) => {
                 put_refusal(writer, fault.code(), line);
                 Ok(Heard::More)

@@ -14,12 +14,12 @@ pub returns-in-Ok-clause-says : goal.returns-in-Ok-clause-says
 returns-in-Ok-clause-says g c =
     let t = c.args.talk.now in
     let s = replanned t.desk t.replan in
-    λ before. widened _ (λ r. SessionRow t.desk.names c.args.line s (Ok (commands.Edit c.args.named)) r) _ _
+    λ before. widened _ (λ r. SessionRow t.desk.names c.args.line s (commands.Edit c.args.named) r) _ _
     (λ r. named_row t.desk.names c.args.line s c.args.named c.in-Ok.edit (Ok c.in-Ok.edit) refl c.in-Ok.ensures.edit r) (c.reply_edit.ensures.says before)
 
 pub returns-in-Err-clause-says : goal.returns-in-Err-clause-says
 returns-in-Err-clause-says g c =
     let t = c.args.talk.now in
     let s = replanned t.desk t.replan in
-    λ before. code_said (λ r. SessionRow t.desk.names c.args.line s (Ok (commands.Edit c.args.named)) r) c.args.line _ _ t.desk t.replan _ _ _ c.code.ensures
+    λ before. code_said (λ r. SessionRow t.desk.names c.args.line s (commands.Edit c.args.named) r) c.args.line _ _ t.desk t.replan _ _ _ c.code.ensures
     (unknown_row t.desk.names c.args.line s c.args.named c.in-Err.fault (Err c.in-Err.fault) refl c.in-Err.ensures.edit) c.put_refusal.ensures
