@@ -5,73 +5,54 @@ ghost use Rattle.building_table.specs.Names.{NamesFit};
 
 use building_table::{Building, NameFault};
 use edit_session::Session;
-use evac_law::{Code, EditFault, Kind, NodeName, Steps};
+use evac_law::{Code, EditFault, Steps};
+use model_text::read_name;
 use plan_checker::Verdict;
 use sample_buildings::{OFFICE, TRAPPED, building_of};
 use std::alloc::Global;
 use std::marker::Brand;
-use std::process::Abort;
 use std::sync::ledger::{Blank, Ledger};
 use std::test::Fail;
 use what_if::{Answer, WhatIfFault, check_plan, what_if};
 
-// A name on the ground floor.
-fn ground(kind: Kind, number: u16) -> NodeName {
-    NodeName {
-        kind,
-        number,
-        floor: 1,
-    }
-}
-
 // What is answered of shutting an exit of the office, or a node that is none.
 #[test]
-fn an_exit_of_the_office_is_shut(rt: HostRuntime) {
-    for (kind, number, want) in [
-        (
-            Kind::Exit,
-            2,
-            Ok(Answer::Cleared {
-                before: 28,
-                after: 50,
-            }),
-        ),
-        (
-            Kind::Exit,
-            1,
-            Ok(Answer::NotCleared {
-                before: 28,
-                people: 240,
-                most: 180,
-            }),
-        ),
-        (
-            Kind::Exit,
-            3,
-            Err(WhatIfFault::Name(NameFault::UnknownNode)),
-        ),
-        (Kind::Work, 1, Err(WhatIfFault::Edit(EditFault::NotExit))),
+fn an_exit_of_the_office_is_shut(rt: HostRuntime) -> Result<(), Fail> {
+    let cleared = Answer::Cleared {
+        before: 28,
+        after: 50,
+    };
+    let not_cleared = Answer::NotCleared {
+        before: 28,
+        people: 240,
+        most: 180,
+    };
+    for (name, want) in [
+        ("DS2.1", Ok(cleared)),
+        ("DS1.1", Ok(not_cleared)),
+        ("DS3.1", Err(WhatIfFault::Name(NameFault::UnknownNode))),
+        ("WP1.1", Err(WhatIfFault::Edit(EditFault::NotExit))),
     ] {
-        let answer = what_if(rt.alloc(), OFFICE.as_bytes(), ground(kind, number));
-        assert_eq!(rt; answer, want);
+        let exit = read_name(name.as_bytes()).ok_or(name)?;
+        assert_eq!(rt; what_if(rt.alloc(), OFFICE.as_bytes(), exit), want);
     }
+    Ok(())
 }
 
 #[test]
-fn texts_without_an_answer(rt: HostRuntime) {
+fn texts_without_an_answer(rt: HostRuntime) -> Result<(), Fail> {
+    let no_end = WhatIfFault::Text {
+        code: Code::MissingEnd,
+        line: 3,
+    };
+    let exit = read_name(b"DS1.1").ok_or("a name")?;
     for (text, want) in [
         (TRAPPED, WhatIfFault::NeverCleared { most: 0 }),
-        (
-            "evacplan 1\n# no more\n",
-            WhatIfFault::Text {
-                code: Code::MissingEnd,
-                line: 3,
-            },
-        ),
+        ("evacplan 1\n# no more\n", no_end),
     ] {
-        let answer = what_if(rt.alloc(), text.as_bytes(), ground(Kind::Exit, 1));
-        assert_eq!(rt; answer, Err(want));
+        assert_eq!(rt; what_if(rt.alloc(), text.as_bytes(), exit), Err(want));
     }
+    Ok(())
 }
 
 fn verdict_counted<L: Ledger>(alloc: Global, building: Building, blank: Blank) -> Option<Verdict>

@@ -5,16 +5,14 @@ ghost use Rattle.evac_law.specs.Building.{IsValid};
 use block_reader::read_block;
 use building_table::Building;
 use line_io::{CleanSource, Lines};
-use plan_checker::{Verdict, check};
+use plan_checker::Verdict::{
+    self, CutWrong, HeldBroken, NotAllOut, OutWrong, PeopleWrong, RateBroken, Yes,
+};
+use plan_checker::check;
 use sample_buildings::{ONE_ROOM, building_of};
 use std::alloc::{AllocError, Global};
 use std::process::Abort;
 use std::test::Fail;
-
-// Two people are out by the first period, and the third by the second.
-const CURVE: &str = "cleared 2\nout 0 0\nout 1 2\nout 2 3\n";
-
-const MOVES: &str = "move 0 WP1.1 DS1.1 2\nmove 1 WP1.1 DS1.1 1\n";
 
 // The verdict on the block of a text, which has no fault.
 fn verdict_on(
@@ -26,29 +24,16 @@ fn verdict_on(
     requires valid { IsValid building.now.model }
     requires names { NamesFit building.now.names building.now.model }
 {
+    let (model, names) = (&building.model, &building.names);
     let mut source = CleanSource::new(alloc, text.as_bytes())?;
     let mut lines = Lines::new(alloc)?;
-    match read_block(
-        alloc,
-        &mut lines,
-        &mut source,
-        &building.model,
-        &building.names,
-    ) {
-        Ok(block) => check(alloc, &building.model, &block),
+    match read_block(alloc, &mut lines, &mut source, model, names) {
+        Ok(block) => check(alloc, model, &block),
         Err(_) => panic!(rt; "a fault in {text}"),
     }
 }
 
-// The verdict on the block of a text, in one room.
-fn verdict_in_room(rt: &impl Abort, alloc: Global, text: &str) -> Result<Verdict, Fail> {
-    let building = building_of(alloc, ONE_ROOM)?;
-    let verdict = verdict_on(rt, alloc, &building, text);
-    drop(building);
-    Ok(verdict?)
-}
-
-// The verdict on a block: its people, its curve, one label for the room, and its moves.
+// The verdict on a block for one room: its people, its curve, one label for the room, and its moves.
 fn verdict(
     rt: &(impl Abort + AllocGlobal),
     people: u32,
@@ -56,20 +41,27 @@ fn verdict(
     label: u16,
     moves: &str,
 ) -> Result<Verdict, Fail> {
+    let building = building_of(rt.alloc(), ONE_ROOM)?;
     let text = format!(in rt.alloc();
         "answer 0\npeople {people}\n{curve}label WP1.1 0 {label}\n{moves}end\n"
     )?;
-    verdict_in_room(rt, rt.alloc(), text.as_str())
+    let verdict = verdict_on(rt, rt.alloc(), &building, text.as_str())?;
+    Ok(verdict)
 }
+
+// Two people are out by the first period, and the third by the second.
+const CURVE: &str = "cleared 2\nout 0 0\nout 1 2\nout 2 3\n";
 
 const SLOWER: &str = "cleared 2\nout 0 0\nout 1 1\nout 2 3\n";
 
+const MOVES: &str = "move 0 WP1.1 DS1.1 2\nmove 1 WP1.1 DS1.1 1\n";
+
 // The people, the curve and the label of a block, and the verdict.
 const STATED: &[(u32, &str, u16, Verdict)] = &[
-    (3, CURVE, 2, Verdict::Yes),
-    (4, CURVE, 2, Verdict::PeopleWrong),
-    (3, SLOWER, 2, Verdict::OutWrong { period: 1 }),
-    (3, CURVE, 1, Verdict::CutWrong { period: 1 }),
+    (3, CURVE, 2, Yes),
+    (4, CURVE, 2, PeopleWrong),
+    (3, SLOWER, 2, OutWrong { period: 1 }),
+    (3, CURVE, 1, CutWrong { period: 1 }),
 ];
 
 #[test]
@@ -94,20 +86,10 @@ const LONGER: &str = "cleared 3\nout 0 0\nout 1 2\nout 2 3\nout 3 3\n";
 
 // The curve, the label and the moves of a block, and the verdict.
 const WRONG_PLANS: &[(&str, u16, &str, Verdict)] = &[
-    (
-        CURVE,
-        2,
-        OVER_RATE,
-        Verdict::RateBroken { moment: 1, arc: 0 },
-    ),
-    (
-        CURVE,
-        2,
-        MORE_THAN_THERE,
-        Verdict::HeldBroken { moment: 1, node: 0 },
-    ),
-    (SHORTER, 1, ONE_INSIDE, Verdict::NotAllOut),
-    (LONGER, 2, MOVES, Verdict::NotAllOut),
+    (CURVE, 2, OVER_RATE, RateBroken { moment: 1, arc: 0 }),
+    (CURVE, 2, MORE_THAN_THERE, HeldBroken { moment: 1, node: 0 }),
+    (SHORTER, 1, ONE_INSIDE, NotAllOut),
+    (LONGER, 2, MOVES, NotAllOut),
 ];
 
 #[test]

@@ -1,8 +1,7 @@
 //! People taken off their way, and given back.
 ghost use Rattle.std.specs.Prelude.{◌≡◌, ◌+◌, ◌<◌, ◌≤◌, length};
 
-use crate::moments::settled_text;
-use crate::nets::arrived;
+use crate::nets::{arrived, settle_moments};
 use evac_law::Steps;
 use residual_net::{Net, Path, Place};
 use sample_buildings::TWO_ROOMS;
@@ -42,14 +41,11 @@ fn close_in(rt: &(impl Abort + AllocGlobal), net: &mut Net) -> Result<(), Fail> 
     let mut path = Path::new(rt.alloc(), 22)?;
     assert!(rt; net.shape().ends().len() > 2 && net.horizon() <= 20);
     close_the_way::<Brand>(rt, net, &mut path, Blank::new(1));
-    drop(path);
     Ok(())
 }
 
 #[test]
 fn cancels_and_restores(rt: HostRuntime) -> Result<(), Fail> {
-    let mut settled = settled_text(&rt, rt.alloc(), TWO_ROOMS, 3)?;
-    let closed = close_in(&rt, &mut settled.net);
-    drop(settled);
-    closed
+    let mut settled = settle_moments(&rt, rt.alloc(), TWO_ROOMS, 3, false)?;
+    close_in(&rt, &mut settled.net)
 }

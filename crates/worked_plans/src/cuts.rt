@@ -1,16 +1,19 @@
-//! The cuts of three worked buildings.
+//! What the cuts of worked buildings are worth, and of which items they are: by the definitions, and as a program sums them.
+ghost use Rattle.std.specs.Prelude.{◌≤◌};
 ghost use Rattle.evac_law.specs.Building.{IsValid};
 ghost use Rattle.evac_law.specs.Certificates.{IsTableOf};
+ghost use Rattle.plain_plan.specs.Sizes.{IsSmall};
 
-use crate::labels::{LabelRun, labels_of, run};
+use crate::labels::{LabelRun, labels_of, small_model};
 use cut_witness::{CutValues, crossing, cut_value};
 use evac_law::{CutItem, Labels, Model};
-use sample_buildings::{OFFICE, THROUGH_HALL, TWO_EXITS, model_of};
+use plain_plan::{cut_items, sum_of_items};
+use sample_buildings::{OFFICE, THROUGH_HALL, TWO_EXITS};
 use std::alloc::{AllocError, Global};
 use std::process::Abort;
 use std::test::Fail;
 
-// The two ways to sum cuts agree at each period.
+// The two ways of a program to sum cuts agree at each period.
 #[tactic(auto, unfolding(evac_law::specs::Limits::horizon_limit))]
 fn agree(rt: &(impl Abort + AllocGlobal), model: &Model, labels: &Labels) -> Result<(), Fail>
     requires valid { IsValid model.now }
@@ -24,68 +27,87 @@ fn agree(rt: &(impl Abort + AllocGlobal), model: &Model, labels: &Labels) -> Res
     Ok(())
 }
 
-// The cuts of the first periods have the wanted values.
-fn expect_values(rt: &impl Abort, model: &Model, labels: &Labels, wanted: &[u64])
+// What the cut of a period is worth, by the definitions.
+fn value(
+    rt: &(impl Abort + AllocGlobal),
+    model: &Model,
+    labels: &Labels,
+    k: u16,
+) -> Result<u64, AllocError>
+    requires sizes { IsSmall model.now }
+    requires table { IsTableOf model.now labels.now }
+    requires k_in { k ≤ model.now.horizon }
+{
+    let items = cut_items(rt.alloc(), model, labels, k)?;
+    assert!(rt; items.len() < 1000);
+    Ok(sum_of_items(&items))
+}
+
+// The cuts of the first periods are worth what is wanted, by the definitions and as a program sums them.
+fn expect_values(
+    rt: &(impl Abort + AllocGlobal),
+    model: &Model,
+    labels: &Labels,
+    wanted: &[u64],
+) -> Result<(), Fail>
     requires valid { IsValid model.now }
+    requires sizes { IsSmall model.now }
     requires table { IsTableOf model.now labels.now }
 {
     for (period, want) in wanted.iter().enumerate() {
         assert!(rt; period <= usize::from(model.horizon));
-        assert_eq!(rt;
-            cut_value(model, labels, period as u16),
-            *want,
-            "at {period}"
-        );
+        let k = period as u16;
+        assert_eq!(rt; value(rt, model, labels, k)?, *want, "at {k}");
+        assert_eq!(rt; cut_value(model, labels, k), *want, "at {k}");
     }
+    agree(rt, model, labels)
 }
 
-// The cuts of the labels of runs have the wanted values, by both ways to sum them.
-fn check_labels(
+/// The same for the labels of runs.
+pub(crate) fn check_cuts(
     rt: &(impl Abort + AllocGlobal),
     model: &Model,
     runs: &[LabelRun],
     wanted: &[u64],
 ) -> Result<(), Fail>
-    requires { IsValid model.now }
+    requires valid { IsValid model.now }
+    requires sizes { IsSmall model.now }
 {
     let labels = labels_of(rt.alloc(), model, runs)?;
-    expect_values(rt, model, &labels, wanted);
-    agree(rt, model, &labels)
+    expect_values(rt, model, &labels, wanted)
 }
 
 // The same in the building of a text.
-fn check_cuts(
+fn check_values(
     rt: &(impl Abort + AllocGlobal),
     text: &str,
     runs: &[LabelRun],
     wanted: &[u64],
 ) -> Result<(), Fail> {
-    let model = model_of(rt.alloc(), text)?;
-    let checked = check_labels(rt, &model, runs, wanted);
-    drop(model);
-    checked
+    let model = small_model(rt.alloc(), text)?;
+    check_cuts(rt, &model, runs, wanted)
 }
 
-// The items of the cut of a period.
-fn items_of(
-    rt: &(impl Abort + AllocGlobal),
+// The items of the cut of a period, as a program comes to them.
+fn crossed(
+    alloc: Global,
     model: &Model,
     labels: &Labels,
     k: u16,
 ) -> Result<Vec<CutItem>, AllocError>
     requires valid { IsValid model.now }
     requires table { IsTableOf model.now labels.now }
+    requires k_in { k ≤ model.now.horizon }
 {
-    assert!(rt; k <= model.horizon);
     let mut crossing = crossing(model, labels, k);
-    let mut items = Vec::new(rt.alloc());
+    let mut items = Vec::new(alloc);
     while let Some(item) = crossing.next() {
         items.push(item)?;
     }
     Ok(items)
 }
 
-// The cut of a period has these items.
+// The cut of a period is of these items, by the definitions and as a program comes to them.
 fn expect_items(
     rt: &(impl Abort + AllocGlobal),
     model: &Model,
@@ -94,14 +116,18 @@ fn expect_items(
     wanted: &[CutItem],
 ) -> Result<(), Fail>
     requires valid { IsValid model.now }
+    requires sizes { IsSmall model.now }
     requires table { IsTableOf model.now labels.now }
 {
-    let items = items_of(rt, model, labels, k)?;
+    assert!(rt; k <= model.horizon);
+    let items = cut_items(rt.alloc(), model, labels, k)?;
+    assert_eq!(rt; items.as_slice(), wanted);
+    let items = crossed(rt.alloc(), model, labels, k)?;
     assert_eq!(rt; items.as_slice(), wanted);
     Ok(())
 }
 
-// The cut of the labels of a run at a period has these items, in the building of a text.
+// The same for the labels of a run in the building of a text.
 fn check_items(
     rt: &(impl Abort + AllocGlobal),
     text: &str,
@@ -109,103 +135,61 @@ fn check_items(
     k: u16,
     wanted: &[CutItem],
 ) -> Result<(), Fail> {
-    let model = model_of(rt.alloc(), text)?;
+    let model = small_model(rt.alloc(), text)?;
     let labels = labels_of(rt.alloc(), &model, &[run])?;
-    let checked = expect_items(rt, &model, &labels, k, wanted);
-    drop(labels);
-    drop(model);
-    checked
+    expect_items(rt, &model, &labels, k, wanted)
+}
+
+fn arc(arc: u32, moment: u16, rate: u32) -> CutItem {
+    CutItem::Arc { arc, moment, rate }
 }
 
 #[test]
-fn near_and_narrow_against_far_and_wide(rt: HostRuntime) -> Result<(), Fail> {
-    let waits = run(0, 0, 3, 3);
-    check_cuts(&rt, TWO_EXITS, &[waits], &[0, 1, 2, 8, 9, 10, 16])?;
-    let everybody = [CutItem::Entry { node: 0, people: 8 }];
-    check_items(&rt, TWO_EXITS, waits, 3, &everybody)
+fn cuts_are_of_a_narrow_way_or_of_everybody(rt: HostRuntime) -> Result<(), Fail> {
+    let waits = (0, 0, 3, 3);
+    check_items(&rt, TWO_EXITS, waits, 2, &[arc(0, 0, 1), arc(0, 1, 1)])?;
+    let everybody = CutItem::Entry { node: 0, people: 8 };
+    check_items(&rt, TWO_EXITS, waits, 3, &[everybody])
 }
 
+// The hall is in the cut of period 1 at moment 0 alone.
 #[test]
-fn a_hall_where_nobody_may_stay(rt: HostRuntime) -> Result<(), Fail> {
-    let runs = [run(0, 0, 5, 5), run(1, 0, 1, 1), run(1, 1, 5, 5)];
-    check_cuts(&rt, THROUGH_HALL, &runs, &[0, 0, 1, 2, 3, 4])
-}
-
-const HALL_ITEMS: &[CutItem] = &[
-    CutItem::Hold {
+fn items_of_a_cut(rt: HostRuntime) -> Result<(), Fail> {
+    let hall = CutItem::Hold {
         node: 1,
         moment: 0,
         capacity: 0,
-    },
-    CutItem::Arc {
-        arc: 0,
-        moment: 0,
-        rate: 3,
-    },
-    CutItem::Arc {
-        arc: 1,
-        moment: 0,
-        rate: 1,
-    },
-];
-
-#[test]
-fn items_of_a_cut(rt: HostRuntime) -> Result<(), Fail> {
-    // the hall is in the cut of period 1 at moment 0 alone
-    let crossed = run(1, 1, 2, 1);
-    check_items(&rt, THROUGH_HALL, crossed, 1, HALL_ITEMS)?;
-    check_cuts(&rt, THROUGH_HALL, &[crossed], &[0, 4])
+    };
+    let items = [hall, arc(0, 0, 3), arc(1, 0, 1)];
+    check_items(&rt, THROUGH_HALL, (1, 1, 2, 1), 1, &items)?;
+    check_values(&rt, THROUGH_HALL, &[(1, 1, 2, 1)], &[0, 4])
 }
 
-// The labels of a plan for the office: a node, the first moment with the label, and the label.
-const OFFICE_LABELS: &[[u16; 3]] = &[
-    [0, 0, 13],
-    [0, 12, 14],
-    [0, 13, 15],
-    [0, 14, 16],
-    [0, 15, 17],
-    [0, 16, 18],
-    [0, 17, 19],
-    [0, 18, 20],
-    [0, 19, 21],
-    [0, 20, 22],
-    [0, 21, 23],
-    [0, 22, 24],
-    [0, 23, 25],
-    [0, 24, 26],
-    [0, 25, 27],
-    [0, 26, 28],
-    [1, 0, 1],
-    [1, 1, 13],
-    [1, 13, 14],
-    [1, 14, 15],
-    [1, 15, 16],
-    [1, 16, 17],
-    [1, 17, 18],
-    [1, 18, 19],
-    [1, 19, 20],
-    [1, 20, 21],
-    [1, 21, 22],
-    [1, 22, 23],
-    [1, 23, 24],
-    [1, 24, 25],
-    [1, 25, 26],
-    [1, 26, 27],
-    [1, 27, 28],
-    [4, 0, 28],
-    [5, 0, 28],
-    [6, 0, 5],
-    [6, 1, 28],
-    [7, 0, 13],
-    [7, 2, 28],
-    [8, 0, 4],
-    [8, 1, 5],
-    [8, 2, 28],
-    [9, 0, 28],
-    [10, 0, 28],
-    [11, 0, 28],
-    [12, 0, 28],
-    [13, 0, 28],
+// The label 5 everywhere makes a cut of period 1 that is worth 1, and nobody is out by then.
+#[test]
+fn a_cut_is_worth_more_than_are_out(rt: HostRuntime) -> Result<(), Fail> {
+    check_values(&rt, THROUGH_HALL, &[(0, 0, 5, 5), (1, 0, 5, 5)], &[0, 1])
+}
+
+// The labels of a plan for the office, but for those on the ground floor that go up with the moment.
+const OFFICE_LABELS: &[LabelRun] = &[
+    (0, 0, 12, 13),
+    (1, 0, 1, 1),
+    (1, 1, 12, 13),
+    (4, 0, 28, 28),
+    (5, 0, 28, 28),
+    (6, 0, 1, 5),
+    (6, 1, 28, 28),
+    (7, 0, 2, 13),
+    (7, 2, 28, 28),
+    (8, 0, 1, 4),
+    (8, 1, 2, 5),
+    (8, 2, 28, 28),
+    (9, 0, 28, 28),
+    (10, 0, 28, 28),
+    (11, 0, 28, 28),
+    (12, 0, 28, 28),
+    (13, 0, 28, 28),
 ];
 
 // The people who are out of the office by each period before the last.
@@ -215,9 +199,10 @@ const OFFICE_OUTS: &[u64] = &[
 ];
 
 fn office_runs(alloc: Global) -> Result<Vec<LabelRun>, AllocError> {
-    let mut runs = Vec::new(alloc);
-    for row in OFFICE_LABELS {
-        runs.push(run(u32::from(row[0]), row[1], 28, row[2]))?;
+    let mut runs = OFFICE_LABELS.to_vec(alloc)?;
+    for moment in 12..28 {
+        runs.push((0, moment, moment + 1, (moment + 2).min(28)))?;
+        runs.push((1, moment, moment + 1, moment + 1))?;
     }
     Ok(runs)
 }
@@ -225,5 +210,5 @@ fn office_runs(alloc: Global) -> Result<Vec<LabelRun>, AllocError> {
 #[test]
 fn the_plan_of_an_office(rt: HostRuntime) -> Result<(), Fail> {
     let runs = office_runs(rt.alloc())?;
-    check_cuts(&rt, OFFICE, &runs, OFFICE_OUTS)
+    check_values(&rt, OFFICE, &runs, OFFICE_OUTS)
 }

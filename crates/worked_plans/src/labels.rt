@@ -1,37 +1,34 @@
-//! Labels that a case gives.
+//! Small buildings, and labels that a case gives.
 ghost use Rattle.std.specs.Prelude.{◌≡◌, IfOk};
 ghost use Rattle.evac_law.specs.Building.{IsValid};
 ghost use Rattle.evac_law.specs.Certificates.{IsTableOf};
+ghost use Rattle.plain_plan.specs.Sizes.{IsSmall};
 
+use building_table::ModelFault;
 use evac_law::{Labels, Model};
+use sample_buildings::model_of;
 use std::alloc::{AllocError, Global};
 
-/// A label of a node from a first moment up to before an end.
-#[derive(Clone, Copy)]
-pub(crate) struct LabelRun {
-    node: u32,
-    first: u16,
-    end: u16,
-    label: u16,
+/// The model of a text, which is small enough to be summed up plainly.
+#[tactic(auto, using(crate::proofs::Small::small))]
+pub(crate) fn small_model(alloc: Global, text: &str) -> Result<Model, ModelFault>
+    ensures valid { IfOk result IsValid }
+    ensures sizes { IfOk result IsSmall }
+{
+    model_of(alloc, text)
 }
 
-/// A run of a label, as short as a table wants it.
-pub(crate) fn run(node: u32, first: u16, end: u16, label: u16) -> LabelRun {
-    LabelRun {
-        node,
-        first,
-        end,
-        label,
-    }
-}
+/// A node, the first moment at which it has a label, the first at which it hasn't any more, and the label.
+pub(crate) type LabelRun = (u32, u16, u16, u16);
 
-fn set_run(labels: &mut Labels, run: &LabelRun)
+fn set_run(labels: &mut Labels, run: LabelRun)
     ensures nodes { labels.new.nodes ≡ labels.old.nodes }
     ensures horizon { labels.new.horizon ≡ labels.old.horizon }
 {
-    for moment in run.first..run.end {
-        if run.node < labels.nodes() && moment <= labels.horizon() {
-            labels.set(run.node, moment, run.label);
+    let (node, first, end, label) = run;
+    for moment in first..end {
+        if node < labels.nodes() && moment <= labels.horizon() {
+            labels.set(node, moment, label);
         }
     }
 }
@@ -47,7 +44,7 @@ pub(crate) fn labels_of(
 {
     let mut labels = Labels::new(alloc, model.node_count(), model.horizon)?;
     for run in runs {
-        set_run(&mut labels, run);
+        set_run(&mut labels, *run);
     }
     Ok(labels)
 }

@@ -19,5 +19,3 @@ mod labels;
 mod moments;
 #[cfg(test)]
 mod nets;
-#[cfg(test)]
-mod outcomes;

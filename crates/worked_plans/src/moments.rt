@@ -1,125 +1,81 @@
-//! Moments settled one after another.
-ghost use Rattle.std.specs.Prelude.{◌≡◌, ◌≤◌};
-ghost use Rattle.evac_law.specs.Building.{IsValid};
-ghost use Rattle.residual_net.specs.Network.{IsWithinLimits};
-ghost use Rattle.terminal_augment.specs.Settled.{IsLabelsOf, IsSearchOf, IsSettledBelow, IsUnsetFrom};
-
-use crate::nets::{Settled, arrived, label, moved};
-use evac_law::{Labels, Model, Steps};
+//! Moments settled one after another, or all at once.
+use crate::nets::{arrived, label, moved, settle_moments};
+use evac_law::Labels;
+use lex_flow::Outcome;
 use residual_net::Net;
-use sample_buildings::{ONE_ROOM, TWO_ROOMS, model_of};
-use std::alloc::{AllocError, Global};
-use std::marker::Brand;
+use sample_buildings::{ONE_ROOM, THROUGH_HALL, TOO_SHORT, TWO_ROOMS};
+use std::alloc::Global;
 use std::process::Abort;
-use std::sync::ledger::{Blank, Ledger};
 use std::test::Fail;
-use terminal_augment::{Search, settle};
 
-/// Settles the moments below a number.
-pub(crate) fn settle_below<L: Ledger>(
-    net: &mut Net,
-    labels: &mut Labels,
-    search: &mut Search,
-    end: u16,
-    steps: &mut Steps<L>,
-)
-    requires labels { IsLabelsOf net.old.site labels.old }
-    requires search { IsSearchOf net.old.site search.old }
-    requires within { IsWithinLimits net.old }
-    requires unset { IsUnsetFrom labels.old 0 }
-    requires end { end ≤ net.old.site.shape.horizon }
-    ensures settled { IsSettledBelow net.new labels.new end }
-    ensures search { IsSearchOf net.new.site search.new }
-{
-    for k in 0..end {
-        settle(net, labels, search, k, steps);
+// As many people of a net as is wanted are out by each moment from 0 on.
+fn expect_arrived(rt: &impl Abort, net: &Net, wanted: &[u32]) {
+    for (moment, want) in (0..).zip(wanted) {
+        assert_eq!(rt; arrived(rt, net, moment), *want, "by {moment}");
     }
 }
 
-fn settle_counted<L: Ledger>(
-    alloc: Global,
-    model: &Model,
-    end: u16,
-    blank: Blank,
-) -> Result<Settled, AllocError>
-    requires valid { IsValid model.now }
-    requires end { end ≤ model.now.horizon }
-    requires name { blank.name ≡ L.name }
-    requires parts { blank.parts ≡ L.parts }
-    requires one { blank.parts ≡ 1 }
-{
-    let mut net = Net::new(alloc, model)?;
-    let mut labels = Labels::new(alloc, model.node_count(), model.horizon)?;
-    let mut search = Search::new(alloc, model)?;
-    let mut steps = Steps::<L>::new(blank);
-    settle_below(&mut net, &mut labels, &mut search, end, &mut steps);
-    drop(search);
-    Ok(Settled { net, labels })
+// The first node has a label at each moment below a number, and none from there on.
+fn expect_label(rt: &impl Abort, labels: &Labels, wanted: u16, end: u16) {
+    for moment in 0..21 {
+        let want = if moment < end { wanted } else { Labels::UNSET };
+        assert_eq!(rt; label(rt, labels, 0, moment), want, "at {moment}");
+    }
 }
 
-fn settled_below(alloc: Global, model: &Model, end: u16) -> Result<Settled, AllocError>
-    requires valid { IsValid model.now }
-    requires end { end ≤ model.now.horizon }
-{
-    settle_counted::<Brand>(alloc, model, end, Blank::new(1))
-}
-
-/// The net of a text, with the moments below a number settled.
-pub(crate) fn settled_text(
-    rt: &impl Abort,
-    alloc: Global,
-    text: &str,
-    end: u16,
-) -> Result<Settled, Fail> {
-    let model = model_of(alloc, text)?;
-    assert!(rt; end <= model.horizon);
-    let settled = settled_below(alloc, &model, end);
-    drop(model);
-    Ok(settled?)
-}
-
+// The moments before the last arrival are labelled.
 #[test]
 fn settles_a_room_and_an_exit(rt: HostRuntime) -> Result<(), Fail> {
-    let settled = settled_text(&rt, rt.alloc(), ONE_ROOM, 3)?;
-    for (k, want) in [(0, 0), (1, 2), (2, 3)] {
-        assert_eq!(rt; arrived(&rt, &settled.net, k), want);
-    }
-    for (moment, want) in [(0, 2), (1, 2), (2, Labels::UNSET), (20, Labels::UNSET)] {
-        assert_eq!(rt; label(&rt, &settled.labels, 0, moment), want);
-    }
-    drop(settled);
+    let settled = settle_moments(&rt, rt.alloc(), ONE_ROOM, 3, false)?;
+    expect_arrived(&rt, &settled.net, &[0, 2, 3]);
+    expect_label(&rt, &settled.labels, 2, 2);
     Ok(())
 }
 
 #[test]
 fn labels_nothing_while_people_are_left(rt: HostRuntime) -> Result<(), Fail> {
-    let settled = settled_text(&rt, rt.alloc(), ONE_ROOM, 2)?;
-    for moment in [0, 1, 2, 20] {
-        assert_eq!(rt; label(&rt, &settled.labels, 0, moment), Labels::UNSET);
-    }
-    drop(settled);
+    let settled = settle_moments(&rt, rt.alloc(), ONE_ROOM, 2, false)?;
+    expect_label(&rt, &settled.labels, Labels::UNSET, 0);
     Ok(())
 }
 
 #[test]
 fn turns_the_first_person_round(rt: HostRuntime) -> Result<(), Fail> {
-    let settled = settled_text(&rt, rt.alloc(), TWO_ROOMS, 3)?;
-    assert_eq!(rt; arrived(&rt, &settled.net, 1), 0);
-    assert_eq!(rt; arrived(&rt, &settled.net, 2), 2);
+    let settled = settle_moments(&rt, rt.alloc(), TWO_ROOMS, 3, false)?;
+    expect_arrived(&rt, &settled.net, &[0, 0, 2]);
     for (arc, moment, want) in [(0, 0, 0), (1, 0, 1), (2, 0, 1), (3, 1, 1)] {
         assert_eq!(rt; moved(&rt, &settled.net, arc, moment), want);
     }
-    drop(settled);
+    Ok(())
+}
+
+// Clears the hall with all moments from one on settled at once, for which so many pushes are needed.
+fn clear_hall(rt: &impl Abort, alloc: Global, from: u16, pushes: u64) -> Result<(), Fail> {
+    let settled = settle_moments(rt, alloc, THROUGH_HALL, from, true)?;
+    let cleared = Outcome::Cleared { moment: 5, pushes };
+    assert_eq!(rt; settled.outcome, Some(cleared));
+    expect_arrived(rt, &settled.net, &[0, 0, 1, 2, 3, 4]);
+    assert_eq!(rt; label(rt, &settled.labels, 1, 0), 1);
+    assert_eq!(rt; label(rt, &settled.labels, 1, 1), Labels::UNSET);
+    expect_label(rt, &settled.labels, Labels::UNSET, 0);
     Ok(())
 }
 
 #[test]
-fn labels_the_moments_before_the_last_arrival(rt: HostRuntime) -> Result<(), Fail> {
-    let settled = settled_text(&rt, rt.alloc(), ONE_ROOM, 3)?;
-    for moment in 0..21u16 {
-        let want = if moment < 2 { 2 } else { Labels::UNSET };
-        assert_eq!(rt; label(&rt, &settled.labels, 0, moment), want, "at {moment}");
-    }
-    drop(settled);
+fn clears_a_hall_where_nobody_may_stay(rt: HostRuntime) -> Result<(), Fail> {
+    clear_hall(&rt, rt.alloc(), 0, 4)
+}
+
+#[test]
+fn clears_the_hall_from_a_moment_on(rt: HostRuntime) -> Result<(), Fail> {
+    clear_hall(&rt, rt.alloc(), 3, 3)
+}
+
+#[test]
+fn shows_that_a_horizon_is_too_short(rt: HostRuntime) -> Result<(), Fail> {
+    let settled = settle_moments(&rt, rt.alloc(), TOO_SHORT, 0, true)?;
+    let short = Outcome::Short { most: 2, pushes: 1 };
+    assert_eq!(rt; settled.outcome, Some(short));
+    assert_eq!(rt; label(&rt, &settled.labels, 0, 0), Labels::UNSET);
     Ok(())
 }

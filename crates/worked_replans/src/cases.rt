@@ -1,118 +1,119 @@
 //! Plans are carried out, and what is left of their buildings.
-use crate::calls::{advance, begin_on, make};
-use evac_law::{Edit, Entrant};
+ghost use Rattle.std.specs.Prelude.{◌≡◌};
+ghost use Rattle.evac_law.specs.Building.{IsValid};
+
+use building_table::{Building, Names};
+use evac_law::{Entrant, Model, Steps};
 use replan::Replan;
-use sample_buildings::{FOUR_LATE, NEAR_AND_FAR, THROUGH_HALL, TWO_EXITS};
+use sample_buildings::{FOUR_LATE, NEAR_AND_FAR, THROUGH_HALL, TWO_EXITS, building_of, edit_said};
 use std::alloc::Global;
+use std::marker::Brand;
 use std::process::Abort;
+use std::sync::ledger::{Blank, Ledger};
 use std::test::Fail;
 
-// Who comes into what is left of a building once its plan is carried out up to a moment, after an edit where there is one.
+// Who comes into what is left of a building once its plan is carried out up to a moment, after edits: the places of nodes, with moments and
+// people.
 struct Rest {
     text: &'static str,
-    edit: Option<Edit>,
+    edits: &'static [&'static str],
     moment: u16,
-    entrants: &'static [Entrant],
+    comers: &'static [(u32, u16, u32)],
 }
 
-// Six of eight leave the room for good, and one of the other two is out.
-const AFTER_AN_EDIT: Rest = Rest {
-    text: TWO_EXITS,
-    edit: Some(Edit::Leave { node: 0, people: 6 }),
-    moment: 1,
-    entrants: &[Entrant {
-        node: 0,
+const RESTS: &[Rest] = &[
+    // six of eight leave the room for good, and one of the other two is out
+    Rest {
+        text: TWO_EXITS,
+        edits: &["leave WP1.1 6"],
         moment: 1,
-        people: 1,
-    }],
-};
-
-// One of three who are left stands in the hall, in which nobody can wait.
-const IN_THE_HALL: Rest = Rest {
-    text: THROUGH_HALL,
-    edit: None,
-    moment: 2,
-    entrants: &[
-        Entrant {
-            node: 0,
-            moment: 2,
-            people: 2,
-        },
-        Entrant {
-            node: 1,
-            moment: 2,
-            people: 1,
-        },
-    ],
-};
-
-// One stands in the hall, one is under way to it, and two are still in the far room.
-const UNDER_WAY: Rest = Rest {
-    text: NEAR_AND_FAR,
-    edit: None,
-    moment: 1,
-    entrants: &[
-        Entrant {
-            node: 1,
-            moment: 1,
-            people: 2,
-        },
-        Entrant {
-            node: 2,
-            moment: 1,
-            people: 1,
-        },
-        Entrant {
-            node: 2,
-            moment: 5,
-            people: 1,
-        },
-    ],
-};
-
-// Two are out, one is left in the room, and four come later.
-const STILL_TO_COME: Rest = Rest {
-    text: FOUR_LATE,
-    edit: None,
-    moment: 1,
-    entrants: &[
-        Entrant {
-            node: 0,
-            moment: 1,
-            people: 1,
-        },
-        Entrant {
-            node: 0,
-            moment: 2,
-            people: 4,
-        },
-    ],
-};
+        comers: &[(0, 1, 1)],
+    },
+    // one of three who are left stands in the hall, in which nobody can wait
+    Rest {
+        text: THROUGH_HALL,
+        edits: &[],
+        moment: 2,
+        comers: &[(0, 2, 2), (1, 2, 1)],
+    },
+    // one stands in the hall, one is under way to it, and two are still in the far room
+    Rest {
+        text: NEAR_AND_FAR,
+        edits: &[],
+        moment: 1,
+        comers: &[(1, 1, 2), (2, 1, 1), (2, 5, 1)],
+    },
+    // two are out, one is left in the room, and four come later
+    Rest {
+        text: FOUR_LATE,
+        edits: &[],
+        moment: 1,
+        comers: &[(0, 1, 1), (0, 2, 4)],
+    },
+];
 
 // Edits a building, and carries its plan out.
-fn carry_out(rt: &impl Abort, alloc: Global, replan: &mut Replan, rest: &Rest) {
-    if let Some(edit) = rest.edit {
-        assert!(rt; make(rt, replan, edit).is_ok());
+fn carry_out<L: Ledger>(
+    alloc: Global,
+    replan: &mut Replan,
+    names: &Names,
+    rest: &Rest,
+    steps: &mut Steps<L>,
+) -> Result<(), Fail> {
+    for line in rest.edits {
+        let edit = edit_said(replan.session().model(), names, line)?;
+        replan.edit(edit, steps)?;
     }
-    assert!(rt; advance(replan, alloc, rest.moment).is_ok());
+    replan.advance(alloc, rest.moment, steps)?;
+    Ok(())
+}
+
+// Just these people come into a building.
+fn expect_comers(rt: &impl Abort, entrants: &[Entrant], comers: &[(u32, u16, u32)]) {
+    assert_eq!(rt; entrants.len(), comers.len());
+    for (entrant, comer) in entrants.iter().zip(comers) {
+        assert_eq!(rt; (entrant.node, entrant.moment, entrant.people), *comer);
+    }
+}
+
+fn check_counted<L: Ledger>(
+    rt: &impl Abort,
+    alloc: Global,
+    model: Model,
+    names: &Names,
+    rest: &Rest,
+    blank: Blank,
+) -> Result<(), Fail>
+    requires valid { IsValid model }
+    requires name { blank.name ≡ L.name }
+    requires parts { blank.parts ≡ L.parts }
+    requires one { blank.parts ≡ 1 }
+{
+    let mut steps = Steps::<L>::new(blank);
+    let Ok(mut replan) = Replan::begin(alloc, model, &mut steps) else {
+        panic!(rt; "a building has a plan");
+    };
+    assert_eq!(rt; replan.moment(), 0);
+    let carried = carry_out(alloc, &mut replan, names, rest, &mut steps);
+    assert_eq!(rt; replan.moment(), rest.moment);
+    expect_comers(
+        rt,
+        replan.session().model().entrants.as_slice(),
+        rest.comers,
+    );
+    drop(replan);
+    carried
 }
 
 // Just the people who are left come into what is left of a building.
 fn check_rest(rt: &impl Abort, alloc: Global, rest: &Rest) -> Result<(), Fail> {
-    let Ok(mut replan) = begin_on(alloc, rest.text)? else {
-        panic!(rt; "a building has a plan");
-    };
-    assert_eq!(rt; replan.moment(), 0);
-    carry_out(rt, alloc, &mut replan, rest);
-    assert_eq!(rt; replan.moment(), rest.moment);
-    assert!(rt; replan.session().model().entrants.as_slice() == rest.entrants);
-    drop(replan);
-    Ok(())
+    let Building { model, names } = building_of(alloc, rest.text)?;
+    check_counted::<Brand>(rt, alloc, model, &names, rest, Blank::new(1))
 }
 
 #[test]
 fn those_who_are_left_come_later(rt: HostRuntime) -> Result<(), Fail> {
-    for rest in [&AFTER_AN_EDIT, &IN_THE_HALL, &UNDER_WAY, &STILL_TO_COME] {
+    for rest in RESTS {
         check_rest(&rt, rt.alloc(), rest)?;
     }
     Ok(())

@@ -1,25 +1,39 @@
 //! What a building comes to without each open exit.
-use crate::calls::{open_after, study};
+ghost use Rattle.std.specs.Prelude.{◌≡◌, IsTrue};
+ghost use Rattle.exit_study.specs.Exits.{IsOpenExit};
+
 use edit_session::Session;
-use evac_law::{Edit, Standing};
-use exit_study::ExitRow;
-use sample_buildings::TWO_EXITS;
-use std::alloc::{AllocError, Global};
+use evac_law::{Model, Standing, Steps};
+use exit_study::{ExitRow, study_exit};
+use sample_buildings::{Editor, TWO_EXITS};
+use std::marker::Brand;
 use std::process::Abort;
+use std::sync::ledger::{Blank, Ledger};
 use std::test::Fail;
 
-// Nobody gets out without the exit that is open.
-const ROWS: &[(u32, ExitRow)] = &[(2, ExitRow::Short { people: 8, most: 0 })];
-
-// What the building comes to without each open exit.
-fn study_all(alloc: Global, session: &mut Session) -> Result<Vec<(u32, ExitRow)>, AllocError> {
-    let mut rows = Vec::new(alloc);
-    for node in 0..session.model().node_count() {
-        if let Some(row) = study(session, node) {
-            rows.push((node, row))?;
-        }
+// Whether a node of a model is an exit that isn't shut.
+fn is_open_exit(model: &Model, node: u32) -> bool
+    ensures { IsTrue result → IsOpenExit model.now node }
+{
+    if node as usize >= model.nodes.len() {
+        return false;
     }
-    Ok(rows)
+    let row = model.node(node);
+    row.name.kind.is_exit() && !row.shut
+}
+
+// What the building comes to without a node, if that is an open exit.
+fn study<L: Ledger>(session: &mut Session, node: u32, blank: Blank) -> Option<ExitRow>
+    requires name { blank.name ≡ L.name }
+    requires parts { blank.parts ≡ L.parts }
+    requires one { blank.parts ≡ 1 }
+{
+    let mut steps = Steps::<L>::new(blank);
+    if is_open_exit(session.model(), node) {
+        Some(study_exit(session, node, &mut steps))
+    } else {
+        None
+    }
 }
 
 // Whether a session stands as it does once the first exit is shut.
@@ -27,21 +41,26 @@ fn stands(session: &Session) -> bool {
     session.cleared() == 4 && session.kept() == 1
 }
 
-// Studies all open exits of a building, which stands as before.
-fn compare(rt: &impl Abort, alloc: Global, session: &mut Session) -> Result<(), Fail> {
+// Nobody gets out without the exit that is open.
+const ROWS: &[(u32, Option<ExitRow>)] = &[
+    (0, None),
+    (1, None),
+    (2, Some(ExitRow::Short { people: 8, most: 0 })),
+];
+
+// Studies all nodes of a building, which stands as before.
+fn study_all(rt: &impl Abort, session: &mut Session) {
     assert!(rt; stands(session));
-    let rows = study_all(alloc, session)?;
-    assert!(rt; rows.as_slice() == ROWS);
-    assert!(rt; stands(session));
-    Ok(())
+    for (node, want) in ROWS {
+        assert_eq!(rt; study::<Brand>(session, *node, Blank::new(1)), *want);
+        assert!(rt; stands(session));
+    }
 }
 
 // An exit that is shut already is not studied, and there is none besides the other.
 #[test]
 fn a_shut_exit_is_passed_over(rt: HostRuntime) -> Result<(), Fail> {
-    let shut = Edit::ShutExit { node: 1 };
-    let mut session = open_after(&rt, rt.alloc(), TWO_EXITS, shut)?;
-    let compared = compare(&rt, rt.alloc(), &mut session);
-    drop(session);
-    compared
+    let mut editor = Editor::open(rt.alloc(), TWO_EXITS, &["shutexit DS1.1"])?;
+    study_all(&rt, &mut editor.session);
+    Ok(())
 }

@@ -5,10 +5,6 @@
 #![tactic(auto)]
 
 #[cfg(test)]
-mod calls;
-#[cfg(test)]
 mod exits;
-#[cfg(test)]
-mod shortfalls;
 #[cfg(test)]
 mod trials;

@@ -7,10 +7,10 @@ use Rattle.terminal_augment.proofs.KeptLemmas.{net_of_kept}
 use Rattle.worked_cases.proofs.repairs.is_settled.Goals as goal
 
 pub returns-in-Cleared-clause-standing : goal.returns-in-Cleared-clause-standing
-returns-in-Cleared-clause-standing c _ =
+returns-in-Cleared-clause-standing g c _ =
     let m = c.args.model.now in
-    let u = c.settle_counted.new.net in
-    let l = c.settle_counted.new.labels in
+    let u = c.settle_all.new.net in
+    let l = c.settle_all.new.labels in
     let done = c.in-Cleared.ensures in
     let answer = done.answer m c.requires.valid c.requires.of in
     let of = net_of_kept m c.args.net.now u done.net.limits c.requires.of in

@@ -1,8 +1,0 @@
-use Rattle.std.proofs.Common.{subst, sym}
-use Rattle.evac_law.specs.LabelTable.{LabelTable}
-use Rattle.terminal_augment.specs.Settled.{IsUnsetFrom}
-use Rattle.worked_plans.proofs.Unset.{new_unset}
-use Rattle.worked_plans.proofs.moments.settle_counted.Goals as goal
-
-pub settle_below-requires-clause-unset : goal.settle_below-requires-clause-unset
-settle_below-requires-clause-unset g c = subst (λ (l : LabelTable). IsUnsetFrom l 0) (sym c.in_ok-labels.ensures) (new_unset _ _)
