@@ -6,7 +6,7 @@
 - In the tables below a heading that names crates each name in the right column must be a definition, a function, a clause or a field of one of them.
 - In DEFINITIONS.md each name must be defined in a file that its row links.
 - EDITS.md must have just the edits of each crate's must-fail/, and each name there must be in that crate, or be a definition.
-- In LAWS.md each block of definitions must stand so in the file that is linked last before it.
+- In LAWS.md each block of definitions must be in the file that is linked last before it.
 - The files of lemmas that CONTRIBUTING.md maps must be in `proofs/` of the crate named before them.
 - In every document each link must lead to a file, and to a heading of it.
 - The tables of codes and of statuses in FORMATS.md must have just the numbers of `Code` and of `Status`, and these have each number once.
@@ -16,7 +16,7 @@ And it checks what can be told from the text alone:
 
 - The table of crates in ARCHITECTURE.md must be that of the crates, and each definition must have words above it (`tables.py`).
 - A crate of `crates.txt` must use each crate that its line lists.
-- A source file must have at most 400 lines, and a function's body at most 50, but for those that stand here as too long.
+- A source file must have at most 400 lines, and a function's body at most 50, but for those that are listed here as too long.
 
     python3 docs/check_promises.py
 
@@ -184,8 +184,8 @@ def missing_statements(document):
 def edits_of(document):
     """For each crate of EDITS.md its edits, each with the names of what refuses it."""
     sections = [section.split("\n") for section in re.split(r"(?m)^## ", document.read_text())[1:]]
-    rows = {lines[0]: [line.strip("| ").split(" | ") for line in lines if line.startswith("| ")][1:] for lines in sections}
-    return {crate: {edit: NAME.findall(refused) for edit, refused in edits} for crate, edits in rows.items()}
+    listed = {lines[0]: [line[2:].split(": ", 1) for line in lines if line.startswith("- ")] for lines in sections}
+    return {crate: {edit: NAME.findall(refused) for edit, refused in edits} for crate, edits in listed.items()}
 
 
 def wrong_edits(document):
@@ -230,7 +230,7 @@ def wrong_numbers(title, specification, function, document):
     cases = [int(number) for number in re.findall(rf"(?m)^{function} \w+ = (\d+)$", (TOP / "crates" / specification).read_text())]
     if not cases:
         yield f"{specification}: no number of {function}"
-    yield from (f"{specification}: {number} stands twice in {function}" for number in sorted(set(cases)) if cases.count(number) > 1)
+    yield from (f"{specification}: {number} is twice in {function}" for number in sorted(set(cases)) if cases.count(number) > 1)
     rows = rows_of(document, title)
     yield from (f"{document.name}: no row {number} in a table headed {title}" for number in sorted(set(cases) - set(rows)))
     yield from (f"{document.name}: {function} has no {number}, which a table headed {title} has" for number in sorted(set(rows) - set(cases)))
@@ -271,8 +271,8 @@ def wrong_names(document):
     found = names_of_two()
     for name in sorted(set(found) | set(listed)):
         if found.get(name) != listed.get(name):
-            stands = f"stands in {', '.join(sorted(found[name]))}" if name in found else "has one module"
-            yield f"{document.name}: {name} {stands}, and the table of names says otherwise"
+            where = f"is in {', '.join(sorted(found[name]))}" if name in found else "has one module"
+            yield f"{document.name}: {name} {where}, and the table of names says otherwise"
 
 
 def unused_crates():
@@ -300,7 +300,7 @@ def bodies(text):
 
 
 def too_long():
-    """Source files and bodies that are longer than the house allows, and what stands as too long and isn't."""
+    """Source files and bodies that are longer than the house allows, and what is listed as too long and isn't."""
     found = set()
     for _, file, text in sources("src/*.rt"):
         if len(text.splitlines()) > FILE_LIMIT:

@@ -1,10 +1,10 @@
 #!/usr/bin/env python3
-"""Prints for each promise of PROVED.md where it stands, and the must-fail edits that its clauses refuse.
+"""Prints for each promise of PROVED.md and ALGORITHM.md where it is carried, and the must-fail edits that its clauses refuse.
 
     python3 docs/edits_of_promises.py [--missing]
 
 Which clauses refuse an edit is in EDITS.md. An edit of a crate of the promise's section goes with the promise where all names of one of its clauses
-stand in the promise's row, and an edit of another crate where they are definitions there. A law is a function without a body, so no edit can turn
+are in the promise's row, and an edit of another crate where they are definitions there. A law is a function without a body, so no edit can turn
 it. EDITS.md lists the other promises that no body can turn. With --missing only the promises with no edit are printed, and rows of that list that
 aren't needed; the status is 1 where there are any.
 """
@@ -12,7 +12,7 @@ import collections
 import re
 import sys
 
-from check_promises import NAME, TOP, code_of
+from check_promises import NAME, ROWS, TOP, code_of
 
 NO_EDIT, NO_BODY, A_LAW = ["no edit"], ["no body can turn it"], ["a law"]
 
@@ -33,19 +33,19 @@ def clauses_of_edits(document):
     for section in re.split(r"(?m)^## ", document)[1:]:
         crate, *lines = section.split("\n")
         for line in lines:
-            if line.startswith("| ") and not line.startswith("| Edit |"):
-                edit, refused = line.strip("| ").split(" | ")
+            if line.startswith("- "):
+                edit, refused = line[2:].split(": ", 1)
                 yield from ((crate, edit, NAME.findall(clause)) for clause in refused.split("; "))
 
 
 def without_body(document):
-    """The names where the promises stand that no body can turn: the table before the first section of EDITS.md."""
+    """The names that carry the promises that no body can turn: the table before the first section of EDITS.md."""
     rows = [line.strip("| ").split(" | ") for line in re.split(r"(?m)^## ", document)[0].split("\n") if line.startswith("| `")]
     return [NAME.findall(names) for names, _ in rows]
 
 
-def stands_in(name, names):
-    """Whether a name stands in a row, which names an owner once for all that is the owner's."""
+def is_in(name, names):
+    """Whether a name is in a row, which names an owner once for all that is the owner's."""
     owner, member = parts(name)
     if owner is None:
         return any(parts(other)[1] == member for other in names)
@@ -53,14 +53,14 @@ def stands_in(name, names):
 
 
 def is_shown(crate, clause, spoken_of, names):
-    """Whether a clause of a crate is one of a promise that stands in these names, in a section that speaks of some crates."""
+    """Whether a clause of a crate is one of a promise that these names carry, in a section that speaks of some crates."""
     if crate not in spoken_of and not all(name[0].isupper() and "::" not in name for name in clause):
         return False
-    return all(stands_in(name, names) for name in clause)
+    return all(is_in(name, names) for name in clause)
 
 
 def promises(proved, edits):
-    """Each promise of PROVED.md, with the names where it stands, and what shows it."""
+    """Each promise of a document, with the names where it is carried, and what shows it."""
     clauses, bodiless = list(clauses_of_edits(edits)), without_body(edits)
     for section in re.split(r"(?m)^### ", proved)[1:]:
         spoken_of = re.findall(r"\w+", section.split("\n")[0].split(":")[0])
@@ -75,8 +75,8 @@ def promises(proved, edits):
 
 
 def main():
-    proved, edits = (TOP / "docs/PROVED.md").read_text(), (TOP / "docs/EDITS.md").read_text()
-    found = list(promises(proved, edits))
+    edits = (TOP / "docs/EDITS.md").read_text()
+    found = [promise for document in ROWS for promise in promises((TOP / "docs" / document).read_text(), edits)]
     missing = [f"no edit for the promise in {', '.join(names)}" for _, names, shown in found if shown == NO_EDIT]
     needed = [names for _, names, shown in found if shown == NO_BODY]
     missing += [f"EDITS.md: no promise needs the row {', '.join(names)}" for names in without_body(edits) if names not in needed]
