@@ -110,13 +110,9 @@ clipped f k (suc n) =
       | inl late ↦ omega (arith, step, ap (λ z. cond z (f n) 0) (lt-leb n k late), clipped f k n)
       | inr in_time ↦
           let one : cond (leb n k) (f n) 0 ≡ f n = ap (λ z. cond z (f n) 0) (le-leb n k in_time) in
-          let first = termwise (λ s. cond (leb s k) (f s) 0) f n (λ t l. at_most (leb t k) (f t)) in
+          let first = termwise (λ s. cond (leb s k) (f s) 0) f n (λ t l. grind arith) in
           omega (arith, step, one, first, sum_below-suc f n, longer f (suc n) (k + 1) (omega arith))
     ]
-  where
-    at_most : (b : Bool) (w : ℕ) → cond b w 0 ≤ w
-    at_most true w = omega arith
-    at_most false w = omega arith
 
 ended : (f : ℕ → ℕ) (d k n : ℕ)
     → sum_by (λ t. cond (leb (t + d) k) (f (t + d)) 0) (below n) ≤ sum_by (λ s. cond (leb s k) (f s) 0) (below (n + d))

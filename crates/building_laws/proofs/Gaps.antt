@@ -8,11 +8,11 @@ use Rattle.evac_law.specs.declared.model.Model.{Model}
 use Rattle.evac_law.specs.Building.{arc_at, capacity, entry, head, is_exit_at, no_node, people, rate, start, tail}
 use Rattle.evac_law.specs.Cuts.{cut_value, leaves_cut}
 use Rattle.evac_law.specs.Sums.{below, moments_to, places}
-use Rattle.evac_law.proofs.SumLemmas.{sum_below-pick, sum_by-nothing, sum_by-same, sum_places}
+use Rattle.evac_law.proofs.SumLemmas.{sum_below-pick, sum_by-same, sum_places}
 use Rattle.building_laws.specs.Rooms.{HasSteadyRates}
 use Rattle.building_laws.proofs.Counts.{count, longer, run_all, run_count, termwise}
 use Rattle.building_laws.proofs.Plain.{start_alone}
-use Rattle.building_laws.proofs.WaitingCut.{at_rate, from_moments, into_exit, into_node, leaves, nodes_and_arcs, of_arc, of_node}
+use Rattle.building_laws.proofs.WaitingCut.{at_rate, from_moments, into_exit, into_node, leaves, no_holds, nodes_and_arcs, of_arc, of_node}
 
 -- ---- arcs
 
@@ -43,13 +43,6 @@ arc_worth m steady f k a l i few =
     ∙ ap (λ c. rate m a 0 * c) (gap_is (is_exit_at m (head m a)) k (arc_at m a).travel (f (tail m a)) (f (head m a)) (few (head m a)))
 
 -- ---- nodes
-
-no_hold : (f t c : ℕ) → cond (leb f t && not (leb f (t + 1))) c 0 ≡ 0
-no_hold f t c = grind (arith, nat_tests)
-
--- whoever waits in the cut stays in it
-pub no_holds : (f k c : ℕ) → sum_by (λ t. cond (leb f t && not (leb f (t + 1))) c 0) (below k) ≡ 0
-no_holds f k c = sum_by-same (λ t. cond (leb f t && not (leb f (t + 1))) c 0) (λ _. 0) (below k) (λ t. no_hold f t c) ∙ sum_by-nothing (below k)
 
 module _ (m : Model) (nobody : m.entrants ≡ []) where
   pub people_start : people m ≡ sum_by (start m) (places m.nodes)

@@ -1,7 +1,7 @@
 -- Buildings with no smaller rates and capacities, and edits that make one.
 use Rattle.std.proofs.Common.{◌≡◌, ℕ, ◌+◌, ◌<◌, ◌≤◌, Bool, true, false, cond, ◌&&◌, ◌||◌, eqb, leb, List, [], ◌∷◌, length, refl, ap, ap₂, sym, ◌∙◌, subst, arith, inl, inr, Ok, pos, ◌-ℤ◌, ◌≤ℤ◌}
 use Rattle.std.specs.List.{All, sum_by}
-use Rattle.std.proofs.lemmas.Bool.{both_ways, cases_eq, or_cases}
+use Rattle.std.proofs.lemmas.Bool.{both_ways, cases_eq, or_cases, or_right}
 use Rattle.std.proofs.lemmas.Int.{ints}
 use Rattle.std.proofs.lemmas.List.{length-set, get_or-set_same, get_or-set_other}
 use Rattle.evac_law.specs.declared.edit.Edit.{Edit}
@@ -134,18 +134,14 @@ closed_more : (v : ClosureWindow) (vs : List ClosureWindow) (w : ClosureWindow) 
     → is_closed_at (without_window (v ∷ vs) w) t ≡ true → is_closed_at (v ∷ vs) t ≡ true
 closed_more v vs w t before e = by_case (is_same_window v w) refl
   where
-    second : (b c : Bool) → c ≡ true → (b || c) ≡ true
-    second true c h = refl
-    second false c h = h
-
     first_or_later : is_closed_at (v ∷ without_window vs w) t ≡ true → is_closed_at (v ∷ vs) t ≡ true
     first_or_later h = elim (or_cases (is_within v t) (is_closed_at (without_window vs w) t) h) [
       | inl now ↦ ap (λ b. b || is_closed_at vs t) now
-      | inr later ↦ second (is_within v t) (is_closed_at vs t) (before later)
+      | inr later ↦ or_right (is_within v t) (is_closed_at vs t) (before later)
     ]
 
     by_case : (b : Bool) → is_same_window v w ≡ b → is_closed_at (v ∷ vs) t ≡ true
-    by_case true same = second (is_within v t) (is_closed_at vs t) (sym (ap (λ b. is_closed_at (cond b vs (v ∷ without_window vs w)) t) same) ∙ e)
+    by_case true same = or_right (is_within v t) (is_closed_at vs t) (sym (ap (λ b. is_closed_at (cond b vs (v ∷ without_window vs w)) t) same) ∙ e)
     by_case false other = first_or_later (sym (ap (λ b. is_closed_at (cond b vs (v ∷ without_window vs w)) t) other) ∙ e)
 
 still_closed : (ws : List ClosureWindow) (w : ClosureWindow) (t : ℕ) → is_closed_at (without_window ws w) t ≡ true → is_closed_at ws t ≡ true

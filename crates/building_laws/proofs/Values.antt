@@ -22,9 +22,6 @@ module _ (m m' : Model) (x : Cut) (k : ℕ) where
   entry_le : (i : Bool) (p q : ℕ) → (i ≡ false → p ≤ q) → cond (i || eqb p 0) 0 p ≤ cond (i || eqb q 0) 0 q
   entry_le i p q h = grind (arith, nat_tests)
 
-  when_le : (b : Bool) (p q : ℕ) → (b ≡ true → p ≤ q) → cond b p 0 ≤ cond b q 0
-  when_le b p q h = grind arith
-
   both_le : (b c : Bool) (p q : ℕ) → (b ≡ true → (c ≡ true) × (p ≤ q)) → cond b p 0 ≤ cond c q 0
   both_le true c p q h = let two = h refl in rw two.0 two.1
   both_le false c p q h = omega arith
@@ -38,7 +35,7 @@ module _ (m m' : Model) (x : Cut) (k : ℕ) where
       let holds = sum_by-le_all
       (λ n. sum_by (λ t. cond (x n t && not (x n (t + 1))) (capacity m' n) 0) (below k))
       (λ n. sum_by (λ t. cond (x n t && not (x n (t + 1))) (capacity m n) 0) (below k)) (places m'.nodes)
-      (All-below _ (length m'.nodes) (λ n i. termwise _ _ k (λ t l. when_le (x n t && not (x n (t + 1))) (capacity m' n) (capacity m n) (less.holds n t i)))) in
+      (All-below _ (length m'.nodes) (λ n i. termwise _ _ k (λ t l. both_le (x n t && not (x n (t + 1))) (x n t && not (x n (t + 1))) (capacity m' n) (capacity m n) (λ e. (e, less.holds n t i e))))) in
       let crossed = termwise
       (λ t. sum_by (λ a. cond (leaves_cut m' x k t a) (rate m' a t) 0) (places m'.arcs))
       (λ t. sum_by (λ a. cond (leaves_cut m x k t a) (rate m a t) 0) (places m'.arcs)) (k + 1)

@@ -23,6 +23,13 @@ from_moments f n t = leb (f n) t
 
 -- ---- a node
 
+no_hold : (f t c : ℕ) → cond (leb f t && not (leb f (t + 1))) c 0 ≡ 0
+no_hold f t c = grind (arith, nat_tests)
+
+-- whoever waits in the cut stays in it
+pub no_holds : (f k c : ℕ) → sum_by (λ t. cond (leb f t && not (leb f (t + 1))) c 0) (below k) ≡ 0
+no_holds f k c = sum_by-same (λ t. cond (leb f t && not (leb f (t + 1))) c 0) (λ _. 0) (below k) (λ t. no_hold f t c) ∙ sum_by-nothing (below k)
+
 module _ (b : ℕ → Bool) (cap : ℕ) where
   -- what it takes to hold people who are in the cut back to where they aren't
   abbrev pub drop : ℕ → ℕ
@@ -80,24 +87,16 @@ module _ (b : ℕ → Bool) (cap : ℕ) where
     ]
   ]
 
-  cond_le : (x : Bool) (w : ℕ) → cond x 0 w ≤ w
-  cond_le true w = omega arith
-  cond_le false w = omega arith
-
-  stays : (f t c : ℕ) → cond (leb f t && not (leb f (t + 1))) c 0 ≡ 0
-  stays f t c = grind (arith, nat_tests)
-
   pub node_le : (e : ℕ → ℕ) (k : ℕ) → sum_by e (moments_to k) ≤ cap
       → sum_by (λ t. cond (leb (misses b (k + 1)) t || eqb (e t) 0) 0 (e t)) (moments_to k)
       + sum_by (λ t. cond (leb (misses b (k + 1)) t && not (leb (misses b (k + 1)) (t + 1))) cap 0) (below k)
       ≤ sum_by (λ t. cond (b t || eqb (e t) 0) 0 (e t)) (moments_to k) + sum_by drop (below k)
   node_le e k fits =
       let f = misses b (k + 1) in
-      let nothing : sum_by (λ t. cond (leb f t && not (leb f (t + 1))) cap 0) (below k) ≡ 0 =
-      sum_by-same _ (λ _. 0) (below k) (λ t. stays f t cap) ∙ sum_by-nothing (below k) in
+      let nothing : sum_by (λ t. cond (leb f t && not (leb f (t + 1))) cap 0) (below k) ≡ 0 = no_holds f k cap in
       elim (drops k) [
         | inl paid ↦
-            let most = termwise (λ t. cond (leb f t || eqb (e t) 0) 0 (e t)) e (k + 1) (λ t l. cond_le (leb f t || eqb (e t) 0) (e t)) in
+            let most = termwise (λ t. cond (leb f t || eqb (e t) 0) 0 (e t)) e (k + 1) (λ t l. grind arith) in
             omega (arith, nothing, most, fits, paid)
         | inr s ↦
             let same = termwise (λ t. cond (leb f t || eqb (e t) 0) 0 (e t)) (λ t. cond (b t || eqb (e t) 0) 0 (e t)) (k + 1)

@@ -1,5 +1,5 @@
 -- Numbers for periods, kept as what they rise and fall by at each period.
-use Rattle.std.specs.Prelude.{◌≡◌, ℕ, ◌+◌, Bool, ◌&&◌, nat_le, nat_lt, List, length, sum, take}
+use Rattle.std.specs.Prelude.{◌≡◌, ℕ, ◌+◌, ◌<◌, ◌≤◌, Bool, ◌&&◌, nat_le, nat_lt, List, length, sum, take}
 use Rattle.cut_witness.specs.declared.span.Span.{Span}
 
 -- what is added at each period, and what is taken off
@@ -22,3 +22,9 @@ turnover c = sum c.rises + sum c.falls
 -- whether a period is one of a span
 abbrev pub in_span : Span → ℕ → Bool
 in_span s k = nat_le s.from k && nat_lt k s.to
+
+-- the number of each period rises by that of a function, by changes of at most so many people in all
+pub record IsRaised (f : ℕ → ℕ) (most : ℕ) (c c' : Changes) : Type 0 where
+  pub periods : length c'.rises ≡ length c.rises
+  pub net : (k v : ℕ) → k < length c.rises → IsBalance c k v → IsBalance c' k (v + f k)
+  pub bounded : turnover c' ≤ turnover c + most

@@ -4,6 +4,7 @@ ghost use Rattle.evac_law.specs.Building.{IsValid};
 ghost use Rattle.evac_law.specs.Certificates.{IsTableOf, label_cut};
 ghost use Rattle.evac_law.specs.Cuts.{cut_items};
 
+use crate::position::{Part, Position};
 use crate::walk::Crossing;
 use evac_law::{Labels, Model};
 
@@ -14,5 +15,14 @@ pub fn crossing<'a>(model: &'a Model, labels: &'a Labels, k: u16) -> Crossing<'a
     requires k_in { k ≤ model.now.horizon }
     ensures { result ≡ cut_items model.now (label_cut model.now labels.now k) k }
 {
-    Crossing::new(model, labels, k)
+    Crossing {
+        model,
+        labels,
+        k,
+        place: Position {
+            part: Part::Entries,
+            row: 0,
+            column: 0,
+        },
+    }
 }

@@ -5,17 +5,17 @@
 //! an arc or a hold of a moment is an item.
 #![tactic(auto)]
 
+mod all_cuts;
 mod begin;
 mod differences;
 mod membership;
+mod one_cut;
 mod position;
 mod span;
-mod value;
-mod values;
 mod walk;
 
+pub use all_cuts::CutValues;
 pub use begin::crossing;
+pub use one_cut::cut_value;
 pub use span::{Span, arc_span, hold_span};
-pub use value::cut_value;
-pub use values::CutValues;
 pub use walk::Crossing;

@@ -10,7 +10,7 @@ use crate::membership::{in_cut, leaves_cut};
 use evac_law::{CutItem, Labels, Model};
 
 /// The kind of the items that a walk is at.
-#[derive(Clone, Copy, PartialEq, Eq, Debug)]
+#[derive(Clone, Copy)]
 pub enum Part {
     Entries,
     Holds,
@@ -30,7 +30,7 @@ impl Part {
 }
 
 /// Where a walk is: entries and holds have a row a node and a column a moment, arcs a row a moment and a column an arc.
-#[derive(Clone, Copy, PartialEq, Eq, Debug)]
+#[derive(Clone, Copy)]
 pub struct Position {
     pub part: Part,
     pub row: u32,

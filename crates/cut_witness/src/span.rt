@@ -8,7 +8,7 @@ ghost use Rattle.cut_witness.specs.Changes.{in_span};
 use evac_law::{Labels, Model};
 
 /// The periods from a first one up to before another; none where that isn't later.
-#[derive(Clone, Copy, PartialEq, Eq, Debug)]
+#[derive(Clone, Copy)]
 pub struct Span {
     pub from: u16,
     pub to: u16,

@@ -1,19 +1,16 @@
 //! The walk through the items of a cut.
-ghost use Rattle.std.specs.Prelude.{◌≡◌, ◌≤◌, [], ◌∷◌, IfNone, IfSome};
-ghost use Rattle.evac_law.specs.Building.{IsValid};
-ghost use Rattle.evac_law.specs.Certificates.{IsTableOf, label_cut};
-ghost use Rattle.evac_law.specs.Cuts.{cut_items};
+ghost use Rattle.std.specs.Prelude.{◌≡◌, [], ◌∷◌, IfNone, IfSome};
 
-use crate::position::{Part, Position, has_steps, step};
+use crate::position::{Position, has_steps, step};
 use evac_law::{CutItem, Labels, Model};
 
 /// The items of a cut that are still to come: entries above 0 by node and moment, holds by node and moment, arcs by moment and arc.
 #[derive(Drop)]
 pub struct Crossing<'a> {
-    model: &'a Model,
-    labels: &'a Labels,
-    k: u16,
-    place: Position,
+    pub(crate) model: &'a Model,
+    pub(crate) labels: &'a Labels,
+    pub(crate) k: u16,
+    pub(crate) place: Position,
 }
 
 impl<'a> std::marker::Model for Crossing<'a> {
@@ -30,25 +27,6 @@ impl<'a> std::marker::Model for Crossing<'a> {
 }
 
 impl<'a> Crossing<'a> {
-    /// A walk at its start.
-    pub(crate) fn new(model: &'a Model, labels: &'a Labels, k: u16) -> Crossing<'a>
-        requires valid { IsValid model.now }
-        requires table { IsTableOf model.now labels.now }
-        requires k_in { k ≤ model.now.horizon }
-        ensures { result ≡ cut_items model.now (label_cut model.now labels.now k) k }
-    {
-        Crossing {
-            model,
-            labels,
-            k,
-            place: Position {
-                part: Part::Entries,
-                row: 0,
-                column: 0,
-            },
-        }
-    }
-
     /// The next item.
     pub fn next(&mut self) -> Option<CutItem>
         ensures none { IfNone result (self.old ≡ []) }

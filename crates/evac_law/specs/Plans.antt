@@ -3,7 +3,7 @@ use Rattle.std.specs.Prelude.{◌≡◌, ℕ, ◌+◌, ◌-◌, ◌*◌, ◌<◌
 use Rattle.std.specs.List.{sum_by, All}
 use Rattle.evac_law.specs.declared.model.Model.{Model}
 use Rattle.evac_law.specs.declared.plan.Move.{Move}
-use Rattle.evac_law.specs.Building.{is_exit_at, capacity, tail, head, arrival, rate, entry}
+use Rattle.evac_law.specs.Building.{is_exit_at, capacity, tail, head, arrival, rate, entry, people}
 use Rattle.evac_law.specs.Sums.{moments_to, places}
 
 -- the people who enter an arc at a moment
@@ -42,6 +42,11 @@ pub record IsFeasible (m : Model) (p : List Move) (k : ℕ) : Type 0 where
 -- the people who are out by moment k: those of the moves into exits that arrive by then
 unfoldable pub out_by : Model → List Move → ℕ → ℕ
 out_by m p k = sum_by (λ v. if is_exit_at m (head m v.arc) && nat_le (arrival m v.arc v.moment) k then v.people else 0) p
+
+-- a plan is feasible up to the horizon, and has everybody out by then
+pub record TakesAllOut (m : Model) (p : List Move) : Type 0 where
+  pub feasible : IsFeasible m p m.horizon
+  pub all_out : out_by m p m.horizon ≡ people m
 
 -- at moment k nobody is in a node that is no exit, nobody who has entered an arc is still on it, and nobody comes in later
 pub record NobodyIsLeft (m : Model) (p : List Move) (k : ℕ) : Type 0 where

@@ -3,8 +3,8 @@ use Rattle.std.specs.Prelude.{◌≡◌, ℕ, ◌<◌, ◌≤◌, ◌⊎◌, Lis
 use Rattle.std.specs.List.{All, AllPairs}
 use Rattle.evac_law.specs.declared.model.Model.{Model}
 use Rattle.evac_law.specs.declared.plan.Move.{Move}
-use Rattle.evac_law.specs.Building.{is_exit_at}
-use Rattle.evac_law.specs.Plans.{held, last_arrival}
+use Rattle.evac_law.specs.Building.{IsValid, is_exit_at}
+use Rattle.evac_law.specs.Plans.{TakesAllOut, held, last_arrival}
 
 -- a plan as callers see it: its sizes, its moves, the people in each node at each moment, and its last moment
 pub record Stand : Type 0 where
@@ -34,3 +34,9 @@ pub record Fits (m : Model) (s : Stand) : Type 0 where
   pub inside : (n t : ℕ) → n < s.nodes → t ≤ s.horizon → IsFalse (is_exit_at m n) → pos (s.contents n t) ≡ held m s.plan n t
   pub exits_hold_none : (n t : ℕ) → n < s.nodes → t ≤ s.horizon → IsTrue (is_exit_at m n) → s.contents n t ≡ 0
   pub last_same : s.last ≡ last_arrival m s.plan
+
+-- what stands is a plan of a valid model that takes everybody out
+pub record Stands (m : Model) (s : Stand) : Type 0 where
+  pub valid : IsValid m
+  pub fits : Fits m s
+  pub plan : TakesAllOut m s.plan

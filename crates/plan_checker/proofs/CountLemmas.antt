@@ -15,7 +15,7 @@ use Rattle.evac_law.proofs.Curve.{arriving, out_is_sum}
 use Rattle.evac_law.proofs.Entries.{entries_le}
 use Rattle.evac_law.proofs.SumLemmas.{All-below, sum_by-le_all, sum_by-same_all, sum_moments-suc, sum_moments-zero}
 use Rattle.evac_law.proofs.WeakDuality.{came-suc, came-zero, left-suc, left-zero}
-use Rattle.plan_checker.specs.Counts.{Counts, IsCountedWell, all_moved, arriving_at, came_by, coming_at, count, leaving_at, left_by}
+use Rattle.plan_checker.specs.Counts.{Counts, IsCountedWell, all_moved, arriving_at, came_by, count, left_by}
 use Rattle.plan_checker.specs.Parts.{IsHeldWell}
 
 -- ---- a place that grows
@@ -33,25 +33,17 @@ left_is : (m : Model) (p : List Move) (n t : ℕ) → left m p n t ≡ sum_by (l
 left_is m p n zero = left-zero m p n ∙ sym (sum_moments-zero (leaving m p n))
 left_is m p n (suc t) = omega (arith, left-suc m p n t, left_is m p n t, sum_moments-suc (leaving m p n) t)
 
-coming_same : (m : Model) (p : List Move) (n t : ℕ) → coming m p n t ≡ coming_at m p n t
-unfolding coming
-coming_same m p n t = refl
-
-leaving_same : (m : Model) (p : List Move) (n t : ℕ) → leaving m p n t ≡ leaving_at m p n t
-unfolding leaving
-leaving_same m p n t = refl
-
-pub came_counted : (m : Model) (p : List Move) (c : Counts) (n t : ℕ) → ((s : ℕ) → s ≤ t → count c n s ≡ coming_at m p n s) → came_by m c n t ≡ came m p n t
+pub came_counted : (m : Model) (p : List Move) (c : Counts) (n t : ℕ) → ((s : ℕ) → s ≤ t → count c n s ≡ coming m p n s) → came_by m c n t ≡ came m p n t
 came_counted m p c n t h =
     sum_by-same_all _ _ (moments_to t)
     (All-below (λ s. entry m n s + count c n s ≡ entry m n s + coming m p n s) (t + 1)
-    (λ s l. ap (λ z. entry m n s + z) (h s (omega (arith, l)) ∙ sym (coming_same m p n s))))
+    (λ s l. ap (λ z. entry m n s + z) (h s (omega (arith, l)))))
     ∙ sym (came_is m p n t)
 
-pub left_counted : (m : Model) (p : List Move) (c : Counts) (n t : ℕ) → ((s : ℕ) → s ≤ t → count c n s ≡ leaving_at m p n s) → left_by c n t ≡ left m p n t
+pub left_counted : (m : Model) (p : List Move) (c : Counts) (n t : ℕ) → ((s : ℕ) → s ≤ t → count c n s ≡ leaving m p n s) → left_by c n t ≡ left m p n t
 left_counted m p c n t h =
     sum_by-same_all _ _ (moments_to t)
-    (All-below (λ s. count c n s ≡ leaving m p n s) (t + 1) (λ s l. h s (omega (arith, l)) ∙ sym (leaving_same m p n s)))
+    (All-below (λ s. count c n s ≡ leaving m p n s) (t + 1) (λ s l. h s (omega (arith, l))))
     ∙ sym (left_is m p n t)
 
 -- a node holds well by the counts exactly where it does by the plan
@@ -91,12 +83,14 @@ left_fits m p n t few =
     )
 
 -- what is counted so far and the next move's people are within all
-pub leaving_room : (m : Model) (p : List Move) (i n t : ℕ) (d : Move) → i < length p → leaving_at m (take i p) n t + (get_or p i d).people ≤ all_moved p
+pub leaving_room : (m : Model) (p : List Move) (i n t : ℕ) (d : Move) → i < length p → leaving m (take i p) n t + (get_or p i d).people ≤ all_moved p
+unfolding leaving
 leaving_room m p i n t d l =
     sum_by_more_le_part (λ (v : Move). cond (eqb (tail m v.arc) n && eqb v.moment t) v.people 0) (λ (v : Move). v.people) p i d l
     (λ v. if_le (eqb (tail m v.arc) n && eqb v.moment t) v.people)
 
-pub coming_room : (m : Model) (p : List Move) (i n t : ℕ) (d : Move) → i < length p → coming_at m (take i p) n t + (get_or p i d).people ≤ all_moved p
+pub coming_room : (m : Model) (p : List Move) (i n t : ℕ) (d : Move) → i < length p → coming m (take i p) n t + (get_or p i d).people ≤ all_moved p
+unfolding coming
 coming_room m p i n t d l =
     sum_by_more_le_part (λ (v : Move). cond (eqb (head m v.arc) n && eqb (arrival m v.arc v.moment) t) v.people 0) (λ (v : Move). v.people) p i d l
     (λ v. if_le (eqb (head m v.arc) n && eqb (arrival m v.arc v.moment) t) v.people)
@@ -108,14 +102,16 @@ arriving_room m p i t d l =
 
 -- one move more
 pub leaving_more : (m : Model) (p : List Move) (i n t : ℕ) (d : Move) → i < length p
-    → leaving_at m (take (i + 1) p) n t
-    ≡ leaving_at m (take i p) n t + cond (eqb (tail m (get_or p i d).arc) n && eqb (get_or p i d).moment t) (get_or p i d).people 0
+    → leaving m (take (i + 1) p) n t
+    ≡ leaving m (take i p) n t + cond (eqb (tail m (get_or p i d).arc) n && eqb (get_or p i d).moment t) (get_or p i d).people 0
+unfolding leaving
 leaving_more m p i n t d l = sum_by_more (λ (v : Move). cond (eqb (tail m v.arc) n && eqb v.moment t) v.people 0) p i d l
 
 pub coming_more : (m : Model) (p : List Move) (i n t : ℕ) (d : Move) → i < length p
-    → coming_at m (take (i + 1) p) n t
-    ≡ coming_at m (take i p) n t
+    → coming m (take (i + 1) p) n t
+    ≡ coming m (take i p) n t
     + cond (eqb (head m (get_or p i d).arc) n && eqb (arrival m (get_or p i d).arc (get_or p i d).moment) t) (get_or p i d).people 0
+unfolding coming
 coming_more m p i n t d l = sum_by_more (λ (v : Move). cond (eqb (head m v.arc) n && eqb (arrival m v.arc v.moment) t) v.people 0) p i d l
 
 pub arriving_more : (m : Model) (p : List Move) (i t : ℕ) (d : Move) → i < length p

@@ -1,10 +1,10 @@
 -- The first node and moment that don't hold well by counts are the first by the plan.
-use Rattle.std.proofs.Common.{◌≡◌, ℕ, ◌<◌, ◌≤◌, ◌^◌, List, length, arith, Option, None, Some, IsFalse, IfSome, MatchOption, inl, inr}
+use Rattle.std.proofs.Common.{◌≡◌, ℕ, ◌<◌, ◌≤◌, ◌^◌, List, length, arith, ◌∙◌, Option, None, Some, IsFalse, IfSome, MatchOption, inl, inr}
 use Rattle.evac_law.specs.declared.model.Model.{Model}
 use Rattle.evac_law.specs.declared.plan.Move.{Move}
 use Rattle.evac_law.specs.Building.{IsValid, is_exit_at}
-use Rattle.evac_law.specs.Plans.{came, left}
-use Rattle.plan_checker.specs.Counts.{Counts, IsCountedWell, all_moved, came_by, coming_at, count, leaving_at, left_by}
+use Rattle.evac_law.specs.Plans.{came, coming, leaving, left}
+use Rattle.plan_checker.specs.Counts.{Counts, IsCountOf, IsCountedWell, all_moved, came_by, count, left_by}
 use Rattle.plan_checker.specs.Parts.{Earlier, HoldsKept, IsFirstHold}
 use Rattle.plan_checker.proofs.CountLemmas.{came_counted, came_fits, counted_from_held, held_from_counted, left_counted, left_fits}
 
@@ -14,17 +14,28 @@ pub record AreCounts (m : Model) (p : List Move) (came' left' : Counts) (last : 
   pub came_nodes : came'.rows ≡ length m.nodes
   pub left_last : left'.last ≡ last
   pub left_nodes : left'.rows ≡ length m.nodes
-  pub coming : (n t : ℕ) → n < came'.rows → t ≤ came'.last → count came' n t ≡ coming_at m p n t
-  pub leaving : (n t : ℕ) → n < left'.rows → t ≤ left'.last → count left' n t ≡ leaving_at m p n t
+  pub comings : (n t : ℕ) → n < came'.rows → t ≤ came'.last → count came' n t ≡ coming m p n t
+  pub leavings : (n t : ℕ) → n < left'.rows → t ≤ left'.last → count left' n t ≡ leaving m p n t
+
+pub are_counts : {m : Model} {p : List Move} {c c' d d' : Counts} {last : ℕ} → IsCountOf (coming m p) c c' → IsCountOf (leaving m p) d d' → c.last ≡ last → c.rows ≡ length m.nodes
+    → d.last ≡ last → d.rows ≡ length m.nodes → AreCounts m p c' d' last
+are_counts comings leavings came_last came_nodes left_last left_nodes = record {
+  came_last = comings.last ∙ came_last;
+  came_nodes = comings.nodes ∙ came_nodes;
+  left_last = leavings.last ∙ left_last;
+  left_nodes = leavings.nodes ∙ left_nodes;
+  comings = λ n t h k. comings.counts n t (omega (arith, h, comings.nodes)) (omega (arith, k, comings.last));
+  leavings = λ n t h k. leavings.counts n t (omega (arith, h, leavings.nodes)) (omega (arith, k, leavings.last));
+}
 
 module _ (m : Model) (p : List Move) (came' left' : Counts) (last : ℕ) (are : AreCounts m p came' left' last) where
   came_same : (n t : ℕ) → n < length m.nodes → t ≤ last → came_by m came' n t ≡ came m p n t
   came_same n t l k =
-      came_counted m p came' n t (λ s h. are.coming n s (omega (arith, l, are.came_nodes)) (omega (arith, h, k, are.came_last)))
+      came_counted m p came' n t (λ s h. are.comings n s (omega (arith, l, are.came_nodes)) (omega (arith, h, k, are.came_last)))
 
   left_same : (n t : ℕ) → n < length m.nodes → t ≤ last → left_by left' n t ≡ left m p n t
   left_same n t l k =
-      left_counted m p left' n t (λ s h. are.leaving n s (omega (arith, l, are.left_nodes)) (omega (arith, h, k, are.left_last)))
+      left_counted m p left' n t (λ s h. are.leavings n s (omega (arith, l, are.left_nodes)) (omega (arith, h, k, are.left_last)))
 
   pub counts_fit : IsValid m → all_moved p < 2 ^ 62 → (n t : ℕ) → n < length m.nodes → t ≤ came'.last
       → (came_by m came' n t < 2 ^ 63) × (left_by left' n t < 2 ^ 63)

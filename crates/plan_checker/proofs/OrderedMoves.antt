@@ -12,7 +12,7 @@ use Rattle.evac_law.specs.Limits.{cell_limit}
 use Rattle.evac_law.specs.Plans.{moved}
 use Rattle.evac_law.specs.Stands.{Before, IsOrdered}
 use Rattle.certificate_text.specs.Block.{number_field_limit}
-use Rattle.plan_checker.specs.Counts.{all_moved}
+use Rattle.plan_checker.specs.Counts.{AreCountable, all_moved}
 use Rattle.plan_checker.specs.Parts.{Earlier}
 
 -- ---- at most one term
@@ -176,12 +176,15 @@ few_moves n h p o = split (cases_lt 0 (length p))
           mul-add-lt v.moment n v.arc (h + 1) moment (o.in_range i no_move l).0,
         )
 
-pub moves_fit : (m : Model) (p : List Move) → IsValid m → IsOrdered (length m.arcs) m.horizon p → All (λ v. v.people ≤ number_field_limit) p
+moves_fit : (m : Model) (p : List Move) → IsValid m → IsOrdered (length m.arcs) m.horizon p → All (λ v. v.people ≤ number_field_limit) p
     → all_moved p < 2 ^ 62
 unfolding cell_limit number_field_limit
 moves_fit m p valid o few =
     let arcs : length m.arcs * (m.horizon + 1) ≤ (length m.nodes + length m.arcs) * (m.horizon + 1) = mul-le-mul_right (m.horizon + 1) (omega arith) in
     omega (arith, sum_by-le (λ (v : Move). v.people) number_field_limit p few, few_moves (length m.arcs) m.horizon p o, arcs, valid.cells_fit)
+
+pub countable : (m : Model) (p : List Move) → IsValid m → IsOrdered (length m.arcs) m.horizon p → All (λ v. v.people ≤ number_field_limit) p → AreCountable m p
+countable m p valid ordered few = record { valid = valid; ordered = ordered; few = moves_fit m p valid ordered few }
 
 -- ---- rates that the moves keep are kept
 

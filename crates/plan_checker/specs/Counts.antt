@@ -4,7 +4,7 @@ use Rattle.std.specs.List.{sum_by}
 use Rattle.tables.specs.Tables.{TableView, item_at}
 use Rattle.evac_law.specs.declared.model.Model.{Model}
 use Rattle.evac_law.specs.declared.plan.Move.{Move}
-use Rattle.evac_law.specs.Building.{IsValid, is_exit_at, capacity, tail, head, arrival, entry}
+use Rattle.evac_law.specs.Building.{IsValid, is_exit_at, capacity, head, arrival, entry}
 use Rattle.evac_law.specs.Stands.{IsOrdered}
 use Rattle.evac_law.specs.Sums.{moments_to}
 
@@ -20,13 +20,7 @@ count = item_at 0
 abbrev pub all_moved : List Move → ℕ
 all_moved p = sum_by (λ v. v.people) p
 
--- the people who leave a node at a moment, who come to it then, and who arrive at exits then
-abbrev pub leaving_at : Model → List Move → ℕ → ℕ → ℕ
-leaving_at m p n t = sum_by (λ v. if tail m v.arc == n && v.moment == t then v.people else 0) p
-
-abbrev pub coming_at : Model → List Move → ℕ → ℕ → ℕ
-coming_at m p n t = sum_by (λ v. if head m v.arc == n && arrival m v.arc v.moment == t then v.people else 0) p
-
+-- the people who arrive at exits at a moment
 abbrev pub arriving_at : Model → List Move → ℕ → ℕ
 arriving_at m p t = sum_by (λ v. if is_exit_at m (head m v.arc) && arrival m v.arc v.moment == t then v.people else 0) p
 
@@ -41,13 +35,23 @@ left_by left n t = sum_by (count left n) (moments_to t)
 abbrev pub IsCountedWell : Model → Counts → Counts → ℕ → ℕ → Type 0
 IsCountedWell m came left n t = (left_by left n t ≤ came_by m came n t) × (came_by m came n t ≤ left_by left n t + capacity m n)
 
--- what a count of moves starts from: a valid model, moves in order and few enough, and the number 0 for each node at each moment
-pub record IsCountable (m : Model) (p : List Move) (c : Counts) : Type 0 where
+-- moves that can be counted: of a valid model, in order, and few enough
+pub record AreCountable (m : Model) (p : List Move) : Type 0 where
   pub valid : IsValid m
   pub ordered : IsOrdered (length m.arcs) m.horizon p
   pub few : all_moved p < 2 ^ 62
+
+-- what a count of such moves starts from: the number 0 for each node at each moment
+pub record IsCountable (m : Model) (p : List Move) (c : Counts) : Type 0 where
+  pub moves : AreCountable m p
   pub nodes : c.rows ≡ length m.nodes
   pub blank : (n t : ℕ) → count c n t ≡ 0
+
+-- a table of the same size whose numbers are those of a function
+pub record IsCountOf (f : ℕ → ℕ → ℕ) (c c' : Counts) : Type 0 where
+  pub nodes : c'.rows ≡ c.rows
+  pub last : c'.last ≡ c.last
+  pub counts : (n t : ℕ) → n < c.rows → t ≤ c.last → count c' n t ≡ f n t
 
 -- counts of who comes and who leaves that reach every node of a valid model at every moment before one
 pub record AreTallies (m : Model) (came left : Counts) (until : ℕ) : Type 0 where

@@ -5,7 +5,7 @@ ghost use Rattle.evac_law.specs.Building.{IsValid, arrival};
 ghost use Rattle.evac_law.specs.Plans.{out_by};
 ghost use Rattle.evac_law.specs.Stands.{IsOrdered};
 ghost use Rattle.evac_law.specs.Sums.{below, moments_to};
-ghost use Rattle.plan_checker.specs.Counts.{all_moved, arriving_at};
+ghost use Rattle.plan_checker.specs.Counts.{AreCountable, arriving_at};
 ghost use Rattle.plan_checker.specs.Parts.{IsAllOut};
 
 use evac_law::{Model, Move};
@@ -14,9 +14,7 @@ use std::alloc::{AllocError, Global};
 // Adds the people who arrive at exits to the numbers of the moments.
 #[tactic(auto, unfolding(evac_law::specs::Limits::horizon_limit, evac_law::specs::Limits::travel_limit))]
 fn count_arriving(numbers: &mut [u64], model: &Model, moves: &[Move])
-    requires valid { IsValid model.now }
-    requires ordered { IsOrdered (length model.now.arcs) model.now.horizon moves.now }
-    requires few { all_moved moves.now < 2 ^ 62 }
+    requires moves { AreCountable model.now moves.now }
     requires blank { (t : ℕ) → t < length numbers.old → slice_index numbers.old t ≡ 0 }
     ensures { (t : ℕ) → t < length numbers.old → slice_index numbers.new t ≡ arriving_at model.now moves.now t }
 {
@@ -44,9 +42,7 @@ fn sum_up(numbers: &mut [u64])
 
 // Puts the people out by each moment into a list of zeros.
 fn write_curve(numbers: &mut [u64], model: &Model, moves: &[Move])
-    requires valid { IsValid model.now }
-    requires ordered { IsOrdered (length model.now.arcs) model.now.horizon moves.now }
-    requires few { all_moved moves.now < 2 ^ 62 }
+    requires moves { AreCountable model.now moves.now }
     requires blank { (t : ℕ) → t < length numbers.old → slice_index numbers.old t ≡ 0 }
     ensures { (k : ℕ) → k < length numbers.old → slice_index numbers.new k ≡ out_by model.now moves.now k }
 {
@@ -61,9 +57,7 @@ pub fn curve_of(
     moves: &[Move],
     last: u16,
 ) -> Result<Vec<u64>, AllocError>
-    requires valid { IsValid model.now }
-    requires ordered { IsOrdered (length model.now.arcs) model.now.horizon moves.now }
-    requires few { all_moved moves.now < 2 ^ 62 }
+    requires { AreCountable model.now moves.now }
     ensures periods { IfOk result (λ v. length v.items ≡ last + 1) }
     ensures outs { IfOk result (λ v. (k : ℕ) → k ≤ last → slice_index v.items k ≡ out_by model.now moves.now k) }
 {

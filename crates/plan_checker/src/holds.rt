@@ -1,8 +1,7 @@
 //! Whether a plan keeps the capacities.
 ghost use Rattle.std.specs.Prelude.{ℕ, ◌+◌, ◌<◌, ◌≤◌, ◌^◌, IfOk, IsFalse, IfSome, MatchOption, length};
-ghost use Rattle.evac_law.specs.Building.{IsValid, is_exit_at};
-ghost use Rattle.evac_law.specs.Stands.{IsOrdered};
-ghost use Rattle.plan_checker.specs.Counts.{AreTallies, IsCountedWell, all_moved, came_by, left_by};
+ghost use Rattle.evac_law.specs.Building.{is_exit_at};
+ghost use Rattle.plan_checker.specs.Counts.{AreCountable, AreTallies, IsCountedWell, came_by, left_by};
 ghost use Rattle.plan_checker.specs.Parts.{Earlier, HoldsKept, IsFirstHold};
 
 use crate::tally::{count_coming, count_leaving};
@@ -71,9 +70,7 @@ pub fn first_broken_hold(
     moves: &[Move],
     last: u16,
 ) -> Result<Option<(u16, u32)>, AllocError>
-    requires valid { IsValid model.now }
-    requires ordered { IsOrdered (length model.now.arcs) model.now.horizon moves.now }
-    requires few { all_moved moves.now < 2 ^ 62 }
+    requires moves { AreCountable model.now moves.now }
     requires last_in { last ≤ model.now.horizon }
     ensures { IfOk result (λ o. MatchOption o (HoldsKept model.now moves.now last) (λ r. IsFirstHold model.now moves.now last r.0 r.1)) }
 {

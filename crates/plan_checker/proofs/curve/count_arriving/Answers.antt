@@ -11,6 +11,6 @@ overflow_add-numbers c =
       arith,
       c.loop-step.invariant c.from-arrival.result c.if-arrival-numbers.true,
       arriving_room c.args.model.now p i c.from-arrival.result no_move c.loop-step-test.true,
-      c.requires.few,
+      c.requires.moves.few,
       c.from.ensures,
     )

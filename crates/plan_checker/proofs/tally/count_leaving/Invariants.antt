@@ -1,10 +1,7 @@
-use Rattle.std.proofs.Common.{◌≡◌, ℕ, ◌<◌, ◌≤◌, take}
-use Rattle.plan_checker.specs.Counts.{count, leaving_at}
+use Rattle.std.proofs.Common.{take}
+use Rattle.evac_law.specs.Plans.{leaving}
+use Rattle.plan_checker.specs.Counts.{IsCountOf}
 use Rattle.plan_checker.proofs.tally.count_leaving.Given as goal
 
 abbrev pub invariant-loop-step : goal.invariant-loop-step
-invariant-loop-step l = record {
-  nodes : l.tally.rows ≡ l.fn.tally.rows;
-  last : l.tally.last ≡ l.fn.tally.last;
-  counts : (n t : ℕ) → n < l.fn.tally.rows → t ≤ l.fn.tally.last → count l.tally n t ≡ leaving_at l.model (take l.step-index l.moves) n t;
-}
+invariant-loop-step l = IsCountOf (leaving l.model (take l.step-index l.moves)) l.fn.tally l.tally

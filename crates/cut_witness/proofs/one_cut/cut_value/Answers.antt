@@ -3,7 +3,7 @@ use Rattle.std.specs.List.{sum_by}
 use Rattle.evac_law.specs.Certificates.{label_cut}
 use Rattle.evac_law.specs.Cuts.{cut_value, number_of}
 use Rattle.evac_law.proofs.WeakDuality.{out_le_value}
-use Rattle.cut_witness.proofs.value.cut_value.Goals as goal
+use Rattle.cut_witness.proofs.one_cut.cut_value.Goals as goal
 
 pub loop-item-init : goal.loop-item-init
 unfolding cut_value

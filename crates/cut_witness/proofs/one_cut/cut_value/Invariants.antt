@@ -2,7 +2,7 @@ use Rattle.std.proofs.Common.{◌≡◌, ◌+◌, ◌*◌, ◌^◌, ◌≤◌, l
 use Rattle.std.specs.List.{sum_by}
 use Rattle.evac_law.specs.Certificates.{label_cut}
 use Rattle.evac_law.specs.Cuts.{cut_items, cut_value, number_of}
-use Rattle.cut_witness.proofs.value.cut_value.Given as goal
+use Rattle.cut_witness.proofs.one_cut.cut_value.Given as goal
 
 abbrev pub invariant-loop-item : goal.invariant-loop-item
 invariant-loop-item l = record {

@@ -1,7 +1,7 @@
 use Rattle.evac_law.specs.Certificates.{label_cut}
 use Rattle.cut_witness.specs.Crossing.{rest_at}
 use Rattle.cut_witness.proofs.CrossingLemmas.{items_start}
-use Rattle.cut_witness.proofs.walk.Crossing.new.Goals as goal
+use Rattle.cut_witness.proofs.begin.crossing.Goals as goal
 
 pub returns : goal.returns
 unfolding rest_at

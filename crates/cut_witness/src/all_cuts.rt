@@ -6,7 +6,7 @@ ghost use Rattle.evac_law.specs.Certificates.{IsTableOf, label_cut};
 ghost use Rattle.evac_law.specs.Cuts.{cut_value};
 ghost use Rattle.evac_law.specs.Limits.{arc_limit, node_limit};
 ghost use Rattle.evac_law.specs.Sums.{places};
-ghost use Rattle.cut_witness.specs.Changes.{IsBalance, turnover};
+ghost use Rattle.cut_witness.specs.Changes.{IsRaised, turnover};
 ghost use Rattle.cut_witness.specs.Shares.{IsSummable, arc_shares, entry_shares, hold_shares};
 
 use crate::differences::Differences;
@@ -37,9 +37,7 @@ fn add_entries_of(differences: &mut Differences, model: &Model, labels: &Labels,
     requires summable { IsSummable model.now labels.now differences.old }
     requires node_in { node < length model.now.nodes }
     requires room { turnover differences.old < 2 ^ 62 }
-    ensures periods { length differences.new.rises ≡ length differences.old.rises }
-    ensures net { (k v : ℕ) → k ≤ model.now.horizon → IsBalance differences.old k v → IsBalance differences.new k (v + entry_shares model.now labels.now k node) }
-    ensures turnover { turnover differences.new ≤ turnover differences.old + 2 ^ 49 }
+    ensures { IsRaised (λ k. entry_shares model.now labels.now k node) (2 ^ 49) differences.old differences.new }
 {
     for moment in 0..model.horizon + 1 {
         let span = entry_span(model, labels, node, moment);
@@ -53,9 +51,7 @@ fn add_holds_of(differences: &mut Differences, model: &Model, labels: &Labels, n
     requires summable { IsSummable model.now labels.now differences.old }
     requires node_in { node < length model.now.nodes }
     requires room { turnover differences.old < 2 ^ 62 }
-    ensures periods { length differences.new.rises ≡ length differences.old.rises }
-    ensures net { (k v : ℕ) → k ≤ model.now.horizon → IsBalance differences.old k v → IsBalance differences.new k (v + hold_shares model.now labels.now k node) }
-    ensures turnover { turnover differences.new ≤ turnover differences.old + 2 ^ 49 }
+    ensures { IsRaised (λ k. hold_shares model.now labels.now k node) (2 ^ 49) differences.old differences.new }
 {
     let capacity = model.node(node).capacity;
     for moment in 0..model.horizon {
@@ -70,9 +66,7 @@ fn add_arcs_of(differences: &mut Differences, model: &Model, labels: &Labels, ar
     requires summable { IsSummable model.now labels.now differences.old }
     requires arc_in { arc < length model.now.arcs }
     requires room { turnover differences.old < 2 ^ 62 }
-    ensures periods { length differences.new.rises ≡ length differences.old.rises }
-    ensures net { (k v : ℕ) → k ≤ model.now.horizon → IsBalance differences.old k v → IsBalance differences.new k (v + arc_shares model.now labels.now k arc) }
-    ensures turnover { turnover differences.new ≤ turnover differences.old + 2 ^ 49 }
+    ensures { IsRaised (λ k. arc_shares model.now labels.now k arc) (2 ^ 49) differences.old differences.new }
 {
     for moment in 0..model.horizon + 1 {
         let span = arc_span(model, labels, arc, moment);
@@ -85,10 +79,7 @@ fn add_arcs_of(differences: &mut Differences, model: &Model, labels: &Labels, ar
 fn add_entries(differences: &mut Differences, model: &Model, labels: &Labels)
     requires summable { IsSummable model.now labels.now differences.old }
     requires room { turnover differences.old < 2 ^ 61 }
-    ensures periods { length differences.new.rises ≡ length differences.old.rises }
-    ensures net { (k v : ℕ) → k ≤ model.now.horizon → IsBalance differences.old k v
-        → IsBalance differences.new k (v + sum_by (entry_shares model.now labels.now k) (places model.now.nodes)) }
-    ensures turnover { turnover differences.new ≤ turnover differences.old + node_limit * 2 ^ 49 }
+    ensures { IsRaised (λ k. sum_by (entry_shares model.now labels.now k) (places model.now.nodes)) (node_limit * 2 ^ 49) differences.old differences.new }
 {
     for node in 0..model.node_count() {
         add_entries_of(differences, model, labels, node);
@@ -100,10 +91,7 @@ fn add_entries(differences: &mut Differences, model: &Model, labels: &Labels)
 fn add_holds(differences: &mut Differences, model: &Model, labels: &Labels)
     requires summable { IsSummable model.now labels.now differences.old }
     requires room { turnover differences.old < 2 ^ 61 }
-    ensures periods { length differences.new.rises ≡ length differences.old.rises }
-    ensures net { (k v : ℕ) → k ≤ model.now.horizon → IsBalance differences.old k v
-        → IsBalance differences.new k (v + sum_by (hold_shares model.now labels.now k) (places model.now.nodes)) }
-    ensures turnover { turnover differences.new ≤ turnover differences.old + node_limit * 2 ^ 49 }
+    ensures { IsRaised (λ k. sum_by (hold_shares model.now labels.now k) (places model.now.nodes)) (node_limit * 2 ^ 49) differences.old differences.new }
 {
     for node in 0..model.node_count() {
         add_holds_of(differences, model, labels, node);
@@ -115,10 +103,7 @@ fn add_holds(differences: &mut Differences, model: &Model, labels: &Labels)
 fn add_arcs(differences: &mut Differences, model: &Model, labels: &Labels)
     requires summable { IsSummable model.now labels.now differences.old }
     requires room { turnover differences.old < 2 ^ 61 }
-    ensures periods { length differences.new.rises ≡ length differences.old.rises }
-    ensures net { (k v : ℕ) → k ≤ model.now.horizon → IsBalance differences.old k v
-        → IsBalance differences.new k (v + sum_by (arc_shares model.now labels.now k) (places model.now.arcs)) }
-    ensures turnover { turnover differences.new ≤ turnover differences.old + arc_limit * 2 ^ 49 }
+    ensures { IsRaised (λ k. sum_by (arc_shares model.now labels.now k) (places model.now.arcs)) (arc_limit * 2 ^ 49) differences.old differences.new }
 {
     for arc in 0..model.arc_count() {
         add_arcs_of(differences, model, labels, arc);
@@ -130,10 +115,7 @@ fn add_arcs(differences: &mut Differences, model: &Model, labels: &Labels)
 fn add_items(differences: &mut Differences, model: &Model, labels: &Labels)
     requires summable { IsSummable model.now labels.now differences.old }
     requires room { turnover differences.old < 2 ^ 60 }
-    ensures periods { length differences.new.rises ≡ length differences.old.rises }
-    ensures net { (k v : ℕ) → k ≤ model.now.horizon → IsBalance differences.old k v
-        → IsBalance differences.new k (v + cut_value model.now (label_cut model.now labels.now k) k) }
-    ensures turnover { turnover differences.new < turnover differences.old + 2 ^ 62 }
+    ensures { IsRaised (λ k. cut_value model.now (label_cut model.now labels.now k) k) (2 ^ 62) differences.old differences.new }
 {
     add_entries(differences, model, labels);
     add_holds(differences, model, labels);
