@@ -7,5 +7,5 @@ use Rattle.residual_ways.specs.declared.sizes.Sizes.{Sizes}
 
 -- the step of an admissible way is one of the building, and begins no later than a moment if it is forwards; a label is one
 abbrev pub IsLookWithin : Sizes → ℕ → Look → Type 0
-IsLookWithin sizes moment (Admissible number step) = IsStepWithin sizes step × (IsFalse step.back → step.moment ≤ moment)
-IsLookWithin sizes moment (Least label number) = label ≤ 65535
+IsLookWithin sizes moment (Admissible index step) = IsStepWithin sizes step × (IsFalse step.back → step.moment ≤ moment)
+IsLookWithin sizes moment (Least label index) = label ≤ 65535

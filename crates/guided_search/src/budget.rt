@@ -1,10 +1,10 @@
 //! How much a search for shortest paths may cost in a net from which people were taken.
 ghost use Rattle.std.specs.Prelude.{◌<◌};
 
-use crate::tuning::{CROWD_SHARE, EARNED_SHARE, FIRST_SHARE};
+use crate::tuning::{CROWD_SHARE, EARNED_SHARE};
 
-/// How many pairs may still be relabelled globally. The same pairs would be relabelled again and again there, so these are few at
-/// first, and more for each person who is sent.
+/// How many pairs may still be relabelled globally. The same pairs would be relabelled again and again there, so these are as many as
+/// there are at first, and more for each person who is sent.
 #[derive(Clone, Copy)]
 pub struct Budget {
     /// How many pairs there are.
@@ -34,7 +34,7 @@ impl Budget {
 
     /// How many pairs may still be relabelled.
     pub fn left(&self) -> usize {
-        let first = (self.pairs / FIRST_SHARE).saturating_add(self.people / CROWD_SHARE);
+        let first = self.pairs.saturating_add(self.people / CROWD_SHARE);
         let earned = self.pairs.saturating_mul(self.sent) / self.people / EARNED_SHARE;
         first.saturating_add(earned).saturating_sub(self.spent) as usize
     }

@@ -17,8 +17,8 @@ pub struct Distances {
     sizes: Sizes,
     /// The distance label of each pair.
     labels: Vec<u16>,
-    /// The current arc of each pair: the number of the way into it that is to be tried next. Past 255 ways it begins again, which is
-    /// slower for such a node and no less right.
+    /// The current arc of each pair: the index of the way into it that is to be tried next. Past 255 ways it begins again, which is slower
+    /// for such a node and no less right.
     current_arcs: Vec<u8>,
     /// Of each node the moment after the last at which unsent people come into it.
     unsent_until: Vec<u32>,
@@ -57,13 +57,13 @@ impl Distances {
     }
 
     /// Gives a pair a distance label and a current arc.
-    pub fn set(&mut self, pair: u32, label: u32, number: usize)
+    pub fn set(&mut self, pair: u32, label: u32, index: usize)
         requires pair { pair < self.old.sizes.pairs }
         requires label { label ≤ 65535 }
         ensures { self.new.sizes ≡ self.old.sizes }
     {
         self.labels[pair as usize] = label as u16;
-        self.set_current_arc(pair, number);
+        self.set_current_arc(pair, index);
     }
 
     /// The current arc of a pair.
@@ -74,11 +74,11 @@ impl Distances {
     }
 
     /// Makes a way the current arc of a pair.
-    pub fn set_current_arc(&mut self, pair: u32, number: usize)
+    pub fn set_current_arc(&mut self, pair: u32, index: usize)
         requires { pair < self.old.sizes.pairs }
         ensures { self.new.sizes ≡ self.old.sizes }
     {
-        self.current_arcs[pair as usize] = (number % 256) as u8;
+        self.current_arcs[pair as usize] = (index % 256) as u8;
     }
 
     /// Whether unsent people come into a node at a moment.
@@ -146,6 +146,32 @@ impl Distances {
         }
     }
 
+    /// Lets all pairs before a moment be dead.
+    pub fn kill_until(&mut self, end: u32)
+        ensures { self.new.sizes ≡ self.old.sizes }
+    {
+        let count = end.min(self.sizes.moments) as usize;
+        self.current_arcs.as_mut_slice().fill(0);
+        for node in 0..self.sizes.nodes {
+            let first = self.sizes.first_pair(node) as usize;
+            self.labels[first..first + count].fill(FAR as u16);
+        }
+    }
+
+    /// How many pairs aren't dead.
+    pub fn count_living(&self) -> usize {
+        let labels = self.labels.as_slice();
+        labels.iter().filter(|label| **label < FAR as u16).count()
+    }
+
+    /// The moment after the last at which unsent people come into a node.
+    pub fn unsent_until(&self, node: u32) -> u32
+        requires { node < self.now.sizes.nodes }
+        ensures { result ≤ self.now.sizes.moments }
+    {
+        self.unsent_until[node as usize].min(self.sizes.moments)
+    }
+
     /// From no pair that the net labels below a moment can one get out.
     pub fn close(&mut self, labels: &Labels, k: u16)
         requires nodes { labels.now.nodes ≡ self.old.sizes.nodes }
@@ -153,7 +179,7 @@ impl Distances {
         ensures { self.new.sizes ≡ self.old.sizes }
     {
         for pair in 0..self.sizes.pairs {
-            let (node, moment) = self.sizes.parts(pair);
+            let (node, moment) = self.sizes.node_and_moment(pair);
             if labels.get(node, moment as u16) < k {
                 self.labels[pair as usize] = FAR as u16;
             }

@@ -1,33 +1,64 @@
 //! Global relabelling: the distance labels of relabelled pairs, computed anew.
 //!
-//! Relabelling one pair after another can go on for long where many pairs raise each other by 1. So after some vain tries all
-//! relabelled pairs get the labels that those around them allow, as in a search for shortest paths by levels. What the pairs around
-//! don't reach is dead.
+//! Relabelling one pair after another can go on for long where many pairs raise each other by 1. So after too many relabels without a
+//! push all relabelled pairs get the labels that the pairs around them allow: a breadth-first search from these, level by level. The
+//! pairs that it doesn't reach are dead. At times all ancestors of theirs are relabelled with them; or, where others were sent before, all
+//! pairs are, from the unsent people on.
 ghost use Rattle.std.specs.Prelude.{◌≡◌, ◌<◌, ◌≤◌};
 
 use crate::look::least_label;
-use crate::search::Search;
+use crate::search::BackwardSearch;
 use crate::tuning::FAR;
-use residual_ways::{Residual, is_open, is_open_back};
+use residual_ways::{Residual, is_open, is_open_back, unsent};
 
-impl Search {
+impl BackwardSearch {
     /// Computes the labels of the relabelled pairs anew, leaves those of them that aren't dead, and lets the search begin anew.
     pub fn relabel_all(&mut self, residual: Residual<'_>)
         requires { residual.ways.now.sizes ≡ self.old.sizes }
         ensures { self.new.sizes ≡ self.old.sizes }
     {
         self.unlabel();
-        self.look_around(residual);
-        self.sort();
-        self.spread_all(residual);
+        self.find_seeds(residual);
+        self.scan_levels(residual);
         self.leave_living();
         self.path.clear();
-        self.vain = 0;
+        self.relabels = 0;
     }
 
-    /// Adds the pairs from which steps lead to those relabelled, and from which to these again: no pair is left around them but dead
+    /// Computes the labels of all pairs before a moment anew, from the unsent people on, and lets the search begin anew. The pairs to which
+    /// these can't come are dead. The answer is how many pairs aren't.
+    pub fn relabel_from_unsent(&mut self, residual: Residual<'_>, end: u32) -> usize
+        requires { residual.ways.now.sizes ≡ self.old.sizes }
+        ensures { self.new.sizes ≡ self.old.sizes }
+    {
+        self.distances.kill_until(end);
+        self.levels.clear();
+        for node in 0..self.sizes.nodes {
+            self.seed_unsent(residual, node);
+        }
+        self.scan_levels(residual);
+        self.path.clear();
+        self.forget();
+        self.distances.count_living()
+    }
+
+    // Lets the pairs at which unsent people come into a node have the label 0.
+    fn seed_unsent(&mut self, residual: Residual<'_>, node: u32)
+        requires residual { residual.ways.now.sizes ≡ self.old.sizes }
+        requires node { node < self.old.sizes.nodes }
+        ensures { self.new.sizes ≡ self.old.sizes }
+    {
+        for moment in 0..self.distances.unsent_until(node) {
+            if unsent(residual.cells, self.sizes, node, moment) > 0 {
+                self.levels
+                    .add_seed(0, self.sizes.first_pair(node) + moment);
+            }
+        }
+    }
+
+    /// Adds the ancestors of the relabelled pairs: those from which steps lead to them, and from which to these again, but for the dead
     /// ones.
-    pub fn add_behind(&mut self, residual: Residual<'_>)
+    pub fn add_ancestors(&mut self, residual: Residual<'_>)
         requires { residual.ways.now.sizes ≡ self.old.sizes }
         ensures { self.new.sizes ≡ self.old.sizes }
     {
@@ -36,12 +67,12 @@ impl Search {
                 return;
             }
             let pair = self.relabelled.pairs.get(at);
-            self.add_into(residual, pair);
+            self.add_parents(residual, pair);
         }
     }
 
     // Adds the pairs from which steps lead to a pair, but for the dead ones.
-    fn add_into(&mut self, residual: Residual<'_>, pair: u32)
+    fn add_parents(&mut self, residual: Residual<'_>, pair: u32)
         requires residual { residual.ways.now.sizes ≡ self.old.sizes }
         requires pair { pair < self.old.sizes.pairs }
         ensures { self.new.sizes ≡ self.old.sizes }
@@ -69,97 +100,90 @@ impl Search {
         }
     }
 
-    // Finds the labels that the pairs around the relabelled ones allow these.
-    fn look_around(&mut self, residual: Residual<'_>)
+    // Finds the labels that the relabelled pairs get from others, the lowest first.
+    fn find_seeds(&mut self, residual: Residual<'_>)
         requires { residual.ways.now.sizes ≡ self.old.sizes }
         ensures { self.new.sizes ≡ self.old.sizes }
     {
-        self.borders.clear();
+        self.levels.clear();
         for at in 0..self.relabelled.pairs.len() {
             let pair = self.relabelled.pairs.get(at);
-            let label = self.border(residual, pair);
-            if label < FAR && self.borders.len() < self.borders.capacity() {
-                self.borders.push_reserved((label, pair));
+            let label = self.seed_label(residual, pair);
+            if label < FAR {
+                self.levels.add_seed(label, pair);
             }
         }
+        self.levels.sort();
     }
 
     // The least label that a pair may have by the steps to it.
-    fn border(&self, residual: Residual<'_>, pair: u32) -> u32
+    fn seed_label(&self, residual: Residual<'_>, pair: u32) -> u32
         requires residual { residual.ways.now.sizes ≡ self.now.sizes }
         requires pair { pair < self.now.sizes.pairs }
     {
-        let (node, moment) = self.sizes.parts(pair);
+        let (node, moment) = self.sizes.node_and_moment(pair);
         if self.distances.is_source(residual.cells, node, moment) {
             return 0;
         }
         let incoming = residual.incoming(node, moment);
-        least_label(&incoming, &self.distances, incoming.ways.len(), 0).0
+        least_label(&incoming, &self.distances, 0).0
     }
 
-    // Puts these labels in order.
-    fn sort(&mut self)
-        ensures { self.new.sizes ≡ self.old.sizes }
-    {
-        self.borders.as_mut_slice().sort_unstable();
-    }
-
-    // Spreads the labels, level by level.
-    fn spread_all(&mut self, residual: Residual<'_>)
+    // Hands the labels on, level by level.
+    fn scan_levels(&mut self, residual: Residual<'_>)
         requires { residual.ways.now.sizes ≡ self.old.sizes }
         ensures { self.new.sizes ≡ self.old.sizes }
     {
-        self.now.clear();
-        let mut joined = 0;
+        let mut seeded = 0;
         for level in 0..FAR {
-            joined = self.join(level, joined);
-            if self.now.len() == 0 && joined >= self.borders.len() {
+            seeded = self.seed(level, seeded);
+            if self.levels.frontier.len() == 0 && seeded >= self.levels.seeds.len() {
                 return;
             }
-            self.after.clear();
-            self.spread_level(residual, level);
-            std::mem::swap(&mut self.now, &mut self.after);
+            self.scan_level(residual, level);
+            self.levels.go_on();
         }
     }
 
-    // Adds the pairs to which those around allow a level, from one of them on. The answer is how many are done.
-    fn join(&mut self, level: u32, from: usize) -> usize
+    // Adds to a level the pairs that get it from others than those relabelled, from one of these labels on. The answer is how many are
+    // done.
+    fn seed(&mut self, level: u32, from: usize) -> usize
         requires { level < 65535 }
         ensures { self.new.sizes ≡ self.old.sizes }
     {
-        for at in from..self.borders.len() {
-            let (label, pair) = self.borders[at];
+        for at in from..self.levels.seeds.len() {
+            let (label, pair) = self.levels.seeds[at];
             if label != level {
                 return at;
             }
             if level < self.distances.get(pair) {
                 self.distances.set(pair, level, 0);
-                self.now.add(pair);
+                self.levels.frontier.add(pair);
             }
         }
-        self.borders.len()
+        self.levels.seeds.len()
     }
 
-    // Spreads from all pairs of a level, those that come to it meanwhile too.
-    fn spread_level(&mut self, residual: Residual<'_>, level: u32)
+    // Scans all pairs of a level, those that come to it meanwhile too.
+    fn scan_level(&mut self, residual: Residual<'_>, level: u32)
         requires residual { residual.ways.now.sizes ≡ self.old.sizes }
         requires level { level < 65535 }
         ensures { self.new.sizes ≡ self.old.sizes }
     {
         for at in 0..self.sizes.pairs as usize {
-            if at >= self.now.len() {
+            if at >= self.levels.frontier.len() {
                 return;
             }
-            let pair = self.now.get(at);
+            let pair = self.levels.frontier.get(at);
             if self.distances.get(pair) == level {
-                self.spread(residual, pair, level);
+                self.scan(residual, pair, level);
             }
         }
     }
 
-    // Lets the relabelled pairs to which steps lead from a pair have no higher label than it allows. The step that leads on to a pair
-    // goes over the cell of one that leads in from there, the other way.
-    fn spread(&mut self, residual: Residual<'_>, pair: u32, level: u32)
+    // Lets the pairs to which steps lead from a pair have no higher label than it allows. The step that leads on to a pair goes over the
+    // cell of one that leads in from there, the other way.
+    fn scan(&mut self, residual: Residual<'_>, pair: u32, level: u32)
         requires residual { residual.ways.now.sizes ≡ self.old.sizes }
         requires pair { pair < self.old.sizes.pairs }
         requires level { level < 65535 }
@@ -172,15 +196,12 @@ impl Search {
             };
             let other = step.pair;
             let label = level + !step.back as u32;
-            if self.relabelled.has(other)
-                && label < self.distances.get(other)
-                && is_open_back(residual.cells, step)
-            {
+            if label < self.distances.get(other) && is_open_back(residual.cells, step) {
                 self.distances.set(other, label, 0);
-                if label == level {
-                    self.now.add(other);
+                if step.back {
+                    self.levels.frontier.add(other);
                 } else {
-                    self.after.add(other);
+                    self.levels.next.add(other);
                 }
             }
         }
@@ -190,10 +211,9 @@ impl Search {
     fn leave_living(&mut self)
         ensures { self.new.sizes ≡ self.old.sizes }
     {
-        std::mem::swap(&mut self.now, &mut self.relabelled.pairs);
-        self.relabelled.clear();
-        for at in 0..self.now.len() {
-            let pair = self.now.get(at);
+        self.relabelled.swap(&mut self.levels.frontier);
+        for at in 0..self.levels.frontier.len() {
+            let pair = self.levels.frontier.get(at);
             if self.distances.get(pair) < FAR {
                 self.relabelled.add(pair);
             }

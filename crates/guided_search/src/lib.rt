@@ -15,6 +15,7 @@
 mod budget;
 mod distances;
 mod global_relabelling;
+mod levels;
 mod lists;
 mod look;
 mod partial_path;

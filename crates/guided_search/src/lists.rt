@@ -4,21 +4,23 @@ ghost use Rattle.std.specs.List.{All};
 
 use std::alloc::{AllocError, Global};
 
-/// Numbers below a limit, as pairs or nodes are, with room for each of them once.
+/// Pairs of a building, with room for each of them once.
 #[derive(Drop)]
-pub struct Numbers {
-    limit: u32,
+pub struct PairList {
+    /// How many pairs the building has.
+    count: u32,
+    /// Those in the list, in the order in which they came.
     list: Vec<u32>,
-    ghost within: { All (λ number. number < limit) list.items },
+    ghost within: { All (λ pair. pair < count) list.items },
 }
 
-impl Numbers {
-    /// None, and nothing of their memory is touched.
-    pub fn new(alloc: Global, limit: u32) -> Result<Numbers, AllocError>
-        ensures { IfOk result (λ numbers. numbers.limit ≡ limit) }
+impl PairList {
+    /// An empty list, of whose memory nothing is touched.
+    pub fn new(alloc: Global, count: u32) -> Result<PairList, AllocError>
+        ensures { IfOk result (λ pairs. pairs.count ≡ count) }
     {
-        let list = Vec::with_capacity(alloc, limit as usize)?;
-        Ok(Numbers { limit, list })
+        let list = Vec::with_capacity(alloc, count as usize)?;
+        Ok(PairList { count, list })
     }
 
     /// How many there are.
@@ -28,34 +30,27 @@ impl Numbers {
         self.list.len()
     }
 
-    /// The numbers, in the order in which they came.
-    pub fn as_slice(&self) -> &[u32]
-        ensures { All (λ number. number < self.now.limit) result.now }
-    {
-        self.list.as_slice()
-    }
-
     /// One of them.
     pub fn get(&self, at: usize) -> u32
         requires { at < vec_len self.now.list }
-        ensures { result < self.now.limit }
+        ensures { result < self.now.count }
     {
         self.list[at]
     }
 
-    /// Adds a number, while there is room.
-    pub fn add(&mut self, number: u32)
-        requires { number < self.old.limit }
-        ensures { self.new.limit ≡ self.old.limit }
+    /// Adds a pair, while there is room.
+    pub fn add(&mut self, pair: u32)
+        requires { pair < self.old.count }
+        ensures { self.new.count ≡ self.old.count }
     {
         if self.list.len() < self.list.capacity() {
-            self.list.push_reserved(number);
+            self.list.push_reserved(pair);
         }
     }
 
     /// Leaves none.
     pub fn clear(&mut self)
-        ensures { self.new.limit ≡ self.old.limit }
+        ensures { self.new.count ≡ self.old.count }
     {
         self.list.clear();
     }

@@ -1,83 +1,85 @@
 //! Looks at the ways into a pair, by distance labels.
-ghost use Rattle.std.specs.Prelude.{◌≡◌, ◌≤◌};
+ghost use Rattle.std.specs.Prelude.{◌≡◌, ◌<◌, ◌≤◌, IfSome, IsFalse};
+ghost use Rattle.residual_ways.specs.Steps.{IsStepWithin};
+ghost use Rattle.residual_ways.specs.Ways.{IsWayWithin};
 ghost use Rattle.guided_search.specs.Looks.{IsLookWithin};
 
 use crate::distances::Distances;
 use crate::tuning::FAR;
-use residual_ways::{Incoming, Step, is_open};
+use residual_ways::{Incoming, Step, Way, is_open};
 
 /// What a look at the ways into a pair finds.
 #[derive(Clone, Copy)]
 pub enum Look {
     /// An admissible way, and its step.
-    Admissible { number: usize, step: Step },
-    /// None; the least distance label that the ways allow the pair, and the number of a way that gives it.
-    Least { label: u32, number: usize },
+    Admissible { index: usize, step: Step },
+    /// None; the least distance label that the ways allow the pair, and the index of a way that gives it.
+    Least { label: u32, index: usize },
 }
 
-/// Looks for an admissible way from a number on: one over which the distance label falls by just its weight, and that has room.
+// The step of a way, if it is admissible: the distance label falls over it by just its weight, and it has room.
+fn admissible(incoming: &Incoming<'_>, distances: &Distances, way: Way, label: u32) -> Option<Step>
+    requires sizes { distances.now.sizes ≡ incoming.now.sizes }
+    requires way { IsWayWithin incoming.now.sizes way }
+    ensures { IfSome result (λ step. IsStepWithin incoming.now.sizes step × (IsFalse step.back → step.moment ≤ incoming.now.moment)) }
+{
+    let begun = way.begun(incoming.sizes, incoming.moment)?;
+    if distances.get(way.first_pair + begun) + way.weight() != label {
+        return None;
+    }
+    let step = way.step_between(begun, incoming.moment);
+    is_open(incoming.cells, step).then_some(step)
+}
+
+// The distance label that a way allows a pair, if it has room and the label is below another.
+fn allowed_below(
+    incoming: &Incoming<'_>,
+    distances: &Distances,
+    way: Way,
+    label: u32,
+) -> Option<u32>
+    requires sizes { distances.now.sizes ≡ incoming.now.sizes }
+    requires way { IsWayWithin incoming.now.sizes way }
+    ensures { IfSome result (λ allowed. allowed < label) }
+{
+    let begun = way.begun(incoming.sizes, incoming.moment)?;
+    let allowed = distances.get(way.first_pair + begun) + way.weight();
+    if allowed >= label {
+        return None;
+    }
+    let step = way.step_between(begun, incoming.moment);
+    is_open(incoming.cells, step).then_some(allowed)
+}
+
+/// Looks for an admissible way from an index on. Where there is none, the least label is sought among all ways.
 pub fn look_from(incoming: &Incoming<'_>, distances: &Distances, from: usize, label: u32) -> Look
     requires { distances.now.sizes ≡ incoming.now.sizes }
     ensures { IsLookWithin incoming.now.sizes incoming.now.moment result }
 {
-    let mut least = FAR;
-    let mut at = 0;
-    for number in from..incoming.ways.len() {
-        let way = incoming.ways[number];
-        if let Some(begun) = way.begun(incoming.sizes, incoming.moment) {
-            let allowed = distances.get(way.first_pair + begun) + way.weight();
-            if allowed < least {
-                let step = way.step_between(begun, incoming.moment);
-                if is_open(incoming.cells, step) {
-                    if allowed == label {
-                        return Look::Admissible { number, step };
-                    }
-                    least = allowed;
-                    at = number;
-                }
-            }
+    for index in from..incoming.ways.len() {
+        if let Some(step) = admissible(incoming, distances, incoming.ways[index], label) {
+            return Look::Admissible { index, step };
         }
     }
-    let before = least_label(incoming, distances, from, label.saturating_add(1));
-    if before.0 <= least {
-        Look::Least {
-            label: before.0,
-            number: before.1,
-        }
-    } else {
-        Look::Least {
-            label: least,
-            number: at,
-        }
-    }
+    let (label, index) = least_label(incoming, distances, label.saturating_add(1));
+    Look::Least { label, index }
 }
 
-/// The least distance label that the ways before a number allow, or the first one that is low enough, and the number of a way that gives
-/// it.
-pub fn least_label(
-    incoming: &Incoming<'_>,
-    distances: &Distances,
-    end: usize,
-    enough: u32,
-) -> (u32, usize)
+/// The least distance label that the ways allow, or the first one that is low enough, and the index of a way that gives it.
+pub fn least_label(incoming: &Incoming<'_>, distances: &Distances, enough: u32) -> (u32, usize)
     requires { distances.now.sizes ≡ incoming.now.sizes }
     ensures { result.0 ≤ 65535 }
 {
     let mut least = FAR;
-    let mut at = 0;
-    for (number, way) in incoming.ways.iter().enumerate().take(end) {
-        if let Some(begun) = way.begun(incoming.sizes, incoming.moment) {
-            let allowed = distances.get(way.first_pair + begun) + way.weight();
-            if allowed < least
-                && is_open(incoming.cells, way.step_between(begun, incoming.moment))
-            {
-                least = allowed;
-                at = number;
-                if least <= enough {
-                    return (least, at);
-                }
+    let mut least_at = 0;
+    for (index, way) in incoming.ways.iter().enumerate() {
+        if let Some(allowed) = allowed_below(incoming, distances, *way, least) {
+            least = allowed;
+            least_at = index;
+            if least <= enough {
+                return (least, index);
             }
         }
     }
-    (least, at)
+    (least, least_at)
 }

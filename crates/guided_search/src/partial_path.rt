@@ -13,7 +13,7 @@ use std::alloc::{AllocError, Global};
 pub struct PartialPath {
     /// How large the building is.
     sizes: Sizes,
-    /// Its stays, from its door on.
+    /// Its stays, from its exit way on.
     list: Vec<Stay>,
     ghost within: { All (IsStayWithin sizes) list.items },
 }
@@ -73,7 +73,7 @@ impl PartialPath {
         }
     }
 
-    /// Goes back to before its door.
+    /// Goes back to before its exit way.
     pub fn clear(&mut self)
         ensures { self.new.sizes ≡ self.old.sizes }
     {
@@ -113,7 +113,8 @@ impl PartialPath {
     {
         legs.clear();
         if let Some(supply) = self.supply() {
-            add(legs, Leg::of(supply.path_step(self.sizes)));
+            let step = supply.path_step(self.sizes);
+            add(legs, Leg { since: 0, step });
         }
         for stay in self.list.as_slice().iter().rev() {
             add(legs, stay.step.leg_since(self.sizes, stay.since));

@@ -1,4 +1,4 @@
-//! Who guesses at the next path: a search for shortest paths where people are unsent, else a target flow.
+//! What hints at the next path: a search for shortest paths where people are unsent, otherwise a target flow.
 ghost use Rattle.std.specs.Prelude.{◌≡◌, ◌<◌, ◌≤◌, IfOk, IsTrue, length};
 ghost use Rattle.std.specs.Coded.{Coded-set};
 ghost use Rattle.guided_search.specs.Labelled.{HasLabels};
@@ -17,15 +17,15 @@ use std::alloc::{AllocError, Global};
 enum Phase {
     // The net isn't what it was, or nothing is known of it yet.
     Unknown,
-    // Everybody was sent at the moment, and no search was worth it there.
-    Waiting,
+    // Everybody was sent at the moment, so that it began with a flood.
+    Flood,
     // It follows shortest paths. Along so many paths of others people were sent.
     ShortestPaths { missed: u32 },
     // It follows a target flow.
     TargetFlow,
 }
 
-/// Guesses at augmenting paths.
+/// Hints at augmenting paths.
 #[derive(Drop)]
 pub struct PathFinder {
     /// How large the building is.
@@ -34,11 +34,11 @@ pub struct PathFinder {
     shortest_paths: ShortestPaths,
     /// The flow that the net is led over to where shortest paths are dear.
     target_flow: TargetFlow,
-    /// The legs of the guess.
+    /// The legs of the hint.
     legs: Vec<Leg>,
-    /// Which of the two guesses.
+    /// Which of the two it follows.
     phase: Phase,
-    /// The moment with which it began last, or waited last.
+    /// The moment with which it began last.
     moment: u16,
     /// What the search for shortest paths may cost, if not as much as it likes.
     budget: Option<Budget>,
@@ -66,10 +66,10 @@ impl PathFinder {
         ensures nodes { IfOk result (λ finder. finder.sizes.nodes ≤ length model.now.nodes) }
         ensures arcs { IfOk result (λ finder. finder.sizes.arcs ≤ length model.now.arcs) }
     {
-        let shortest_paths = ShortestPaths::new(alloc, model)?;
-        let sizes = shortest_paths.sizes;
-        let target_flow = TargetFlow::new(alloc, sizes)?;
+        let sizes = Sizes::of(model);
         let legs = Vec::with_capacity(alloc, sizes.pairs as usize + 1)?;
+        let target_flow = TargetFlow::new(alloc, sizes)?;
+        let shortest_paths = ShortestPaths::new(alloc, model, sizes)?;
         Ok(PathFinder {
             sizes,
             shortest_paths,
@@ -88,24 +88,31 @@ impl PathFinder {
         self.phase = Phase::Unknown;
     }
 
+    /// Recalls the flow that a net saved last: where an edit is undone, the net comes to it again.
+    pub fn recall(&mut self, net: &Net)
+        ensures { self.new.sizes ≡ self.old.sizes }
+    {
+        self.target_flow.set(net.saved());
+    }
+
     // Whether a moment follows the one with which it began last.
     fn is_next(&self, k: u16) -> bool {
         k as u32 == self.moment as u32 + 1
     }
 
-    /// Whether everybody is sent and nothing is known yet, so that it is worth a search whether anybody can arrive sooner. Until
-    /// somebody is found by it, the moments after it need no further look.
-    pub fn waits(&mut self, net: &Net, k: u16) -> bool
+    /// Whether a moment begins with a flood: everybody is sent and nothing is known yet, so that perhaps nobody can arrive sooner. Until a
+    /// flood meets somebody, the moments after it begin with one too, with no further look.
+    pub fn floods_first(&mut self, net: &Net, k: u16) -> bool
         ensures { self.new.sizes ≡ self.old.sizes }
     {
         let cells = net.cells();
         let sent = match self.phase {
             Phase::ShortestPaths { .. } | Phase::TargetFlow if self.is_next(k) => return false,
-            Phase::Waiting if self.is_next(k) => true,
+            Phase::Flood if self.is_next(k) => true,
             _ => fits(cells, self.sizes) && is_all_sent(cells, self.sizes),
         };
         self.moment = k;
-        self.phase = if sent { Phase::Waiting } else { Phase::Unknown };
+        self.phase = if sent { Phase::Flood } else { Phase::Unknown };
         sent
     }
 
@@ -126,23 +133,27 @@ impl PathFinder {
         match self.phase {
             Phase::ShortestPaths { .. } if goes_on => self.shortest_paths.begin(k as u32),
             Phase::TargetFlow if goes_on => self.target_flow.begin(k as u32),
-            _ => self.start(cells, labels, k),
+            _ => self.start(cells, labels, k, net.last_arrival()),
         }
     }
 
-    // Starts with a net of which nothing is known.
-    fn start(&mut self, cells: &[Cell], labels: &Labels, k: u16)
+    // Starts with a net of which nothing is known but when the last of its people arrive.
+    fn start(&mut self, cells: &[Cell], labels: &Labels, k: u16, last_arrival: u16)
         requires cells { length cells.now ≡ self.old.sizes.cells }
         requires labels { HasLabels self.old.sizes labels.now }
         requires moment { k < self.old.sizes.moments }
         ensures { self.new.sizes ≡ self.old.sizes }
     {
+        if self.target_flow.has_limits_of(cells) {
+            self.follow();
+            return;
+        }
         self.shortest_paths.sort(cells);
         if is_all_sent(cells, self.sizes) {
             self.seek(cells);
             return;
         }
-        self.shortest_paths.renew(cells, labels, k);
+        self.shortest_paths.renew(cells, labels, k, last_arrival);
         self.shortest_paths.begin(k as u32);
         let sent = count_sent(cells, self.sizes);
         self.budget = Budget::new(self.sizes.pairs, sent, self.shortest_paths.unsent);
@@ -155,6 +166,14 @@ impl PathFinder {
         ensures { self.new.sizes ≡ self.old.sizes }
     {
         self.target_flow.seek(&mut self.shortest_paths, cells);
+        self.follow();
+    }
+
+    // Follows the target flow.
+    fn follow(&mut self)
+        ensures { self.new.sizes ≡ self.old.sizes }
+    {
+        self.target_flow.restart();
         self.target_flow.begin(self.moment as u32);
         self.phase = Phase::TargetFlow;
     }
@@ -215,19 +234,19 @@ impl PathFinder {
         requires { length cells.now ≡ self.old.sizes.cells }
         ensures { self.new.sizes ≡ self.old.sizes }
     {
-        let before = self.shortest_paths.relabels;
+        let before = self.shortest_paths.global_relabels;
         let most = before
             .saturating_add(self.left())
-            .min(self.shortest_paths.patience());
+            .min(self.shortest_paths.most_relabels());
         let found = self.shortest_paths.find(cells, most);
-        let spent = self.shortest_paths.relabels.saturating_sub(before);
+        let spent = self.shortest_paths.global_relabels.saturating_sub(before);
         if let Some(budget) = &mut self.budget {
             budget.spend(spent);
         }
         found
     }
 
-    /// The most people to send along the guess.
+    /// The most people to send along the hint.
     pub fn most(&self) -> u32 {
         match self.phase {
             Phase::TargetFlow => self.target_flow.most(),
@@ -235,7 +254,7 @@ impl PathFinder {
         }
     }
 
-    /// The legs of the guess.
+    /// The legs of the hint.
     pub fn lay(&mut self) -> &[Leg] {
         match self.phase {
             Phase::TargetFlow => self.target_flow.lay(&mut self.legs),
@@ -244,7 +263,7 @@ impl PathFinder {
         self.legs.as_slice()
     }
 
-    /// People were sent along the guess.
+    /// People were sent along the hint.
     pub fn sent(&mut self, net: &Net, people: u32)
         ensures { self.new.sizes ≡ self.old.sizes }
     {

@@ -3,15 +3,14 @@
 //! It advances while there is one. Where there is none it relabels the pair, and retreats a step.
 ghost use Rattle.std.specs.Prelude.{◌≡◌, ◌<◌, ◌≤◌, IfOk};
 ghost use Rattle.std.specs.Coded.{Coded-set};
-ghost use Rattle.std.specs.List.{All};
 ghost use Rattle.residual_ways.specs.Steps.{IsStepWithin};
 
 use crate::distances::Distances;
-use crate::lists::Numbers;
+use crate::levels::Levels;
 use crate::look::{Look, look_from};
 use crate::partial_path::PartialPath;
 use crate::relabelled::Relabelled;
-use crate::tuning::{FAR, PATH_LIMIT, VAIN_FACTOR, VAIN_LIMIT};
+use crate::tuning::{FAR, PATH_LIMIT, RELABEL_FACTOR, RELABEL_LIMIT};
 use residual_ways::{Residual, Sizes, Step};
 use std::alloc::{AllocError, Global};
 
@@ -22,7 +21,7 @@ pub enum Progress {
     Going,
     /// It has come to people who can be sent.
     Found,
-    /// Too many pairs were relabelled in vain.
+    /// Too many pairs were relabelled since people were last sent.
     Stale,
     /// It has come to an end without any.
     Exhausted,
@@ -32,59 +31,49 @@ pub enum Progress {
 
 /// A search, and what it knows of each pair from earlier ones.
 #[derive(Drop)]
-pub struct Search {
+pub struct BackwardSearch {
     /// How large the building is.
     pub sizes: Sizes,
     /// The distance labels and current arcs. They outlive the moments.
     pub distances: Distances,
     /// The path, as far as it has come.
     pub path: PartialPath,
-    /// The pairs relabelled in vain since people were last sent.
+    /// The pairs that were relabelled since people were last sent.
     pub relabelled: Relabelled,
-    /// How many times pairs were relabelled in vain.
-    pub vain: usize,
-    /// In a global relabelling, the labels that the pairs around allow, each before its pair.
-    pub borders: Vec<(u32, u32)>,
-    /// The pairs of a level there.
-    pub now: Numbers,
-    /// And those of the next level.
-    pub after: Numbers,
+    /// How many times pairs were relabelled one by one since then.
+    pub relabels: usize,
+    /// The levels of a global relabelling.
+    pub levels: Levels,
     ghost distances_fit: { distances.sizes ≡ sizes } by { Coded-set sizes-code distances.sizes sizes },
     ghost path_fits: { path.sizes ≡ sizes } by { Coded-set sizes-code path.sizes sizes },
-    ghost relabelled_fit: { relabelled.pairs.limit ≡ sizes.pairs },
-    ghost borders_within: { All (λ border. border.1 < sizes.pairs) borders.items },
-    ghost now_fits: { now.limit ≡ sizes.pairs },
-    ghost after_fits: { after.limit ≡ sizes.pairs },
+    ghost relabelled_fit: { relabelled.pairs.count ≡ sizes.pairs },
+    ghost levels_fit: { levels.pairs ≡ sizes.pairs },
 }
 
-impl Search {
+impl BackwardSearch {
     /// An empty path, with nothing known.
-    pub fn new(alloc: Global, sizes: Sizes) -> Result<Search, AllocError>
+    pub fn new(alloc: Global, sizes: Sizes) -> Result<BackwardSearch, AllocError>
         ensures { IfOk result (λ search. search.sizes ≡ sizes) }
     {
-        let distances = Distances::new(alloc, sizes)?;
         let path = PartialPath::new(alloc, sizes, (sizes.pairs as usize).min(PATH_LIMIT))?;
         let relabelled = Relabelled::new(alloc, sizes.pairs)?;
-        let borders = Vec::with_capacity(alloc, sizes.pairs as usize)?;
-        let now = Numbers::new(alloc, sizes.pairs)?;
-        let after = Numbers::new(alloc, sizes.pairs)?;
-        Ok(Search {
+        let levels = Levels::new(alloc, sizes.pairs)?;
+        let distances = Distances::new(alloc, sizes)?;
+        Ok(BackwardSearch {
             sizes,
             distances,
             path,
             relabelled,
-            vain: 0,
-            borders,
-            now,
-            after,
+            relabels: 0,
+            levels,
         })
     }
 
-    /// No pair was relabelled in vain.
+    /// Forgets which pairs were relabelled: people were sent since, or the search ends elsewhere.
     pub fn forget(&mut self)
         ensures { self.new.sizes ≡ self.old.sizes }
     {
-        self.vain = 0;
+        self.relabels = 0;
         if self.relabelled.pairs.len() > 0 {
             self.relabelled.clear();
         }
@@ -111,16 +100,16 @@ impl Search {
             let incoming = residual.incoming(last.step.node, last.since);
             let from = self.distances.current_arc(pair);
             match look_from(&incoming, &self.distances, from, label) {
-                Look::Admissible { number, step } => {
-                    self.distances.set_current_arc(pair, number);
-                    return self.advance(residual, label, number, step);
+                Look::Admissible { index, step } => {
+                    self.distances.set_current_arc(pair, index);
+                    return self.advance(residual, label, index, step);
                 }
-                Look::Least { label, number } => self.relabel(pair, label, number),
+                Look::Least { label, index } => self.relabel(pair, label, index),
             }
         }
         self.path.retreat();
-        let enough = self.relabelled.pairs.len().saturating_mul(VAIN_FACTOR);
-        if self.vain > enough.saturating_add(VAIN_LIMIT) {
+        let enough = self.relabelled.pairs.len().saturating_mul(RELABEL_FACTOR);
+        if self.relabels > enough.saturating_add(RELABEL_LIMIT) {
             Progress::Stale
         } else {
             Progress::Going
@@ -128,7 +117,7 @@ impl Search {
     }
 
     // Takes an admissible step into the last pair: a wait makes its stay longer, another step begins a stay.
-    fn advance(&mut self, residual: Residual<'_>, label: u32, number: usize, step: Step) -> Progress
+    fn advance(&mut self, residual: Residual<'_>, label: u32, index: usize, step: Step) -> Progress
         requires residual { residual.ways.now.sizes ≡ self.old.sizes }
         requires step { IsStepWithin self.old.sizes step }
         ensures { self.new.sizes ≡ self.old.sizes }
@@ -140,7 +129,8 @@ impl Search {
                 Progress::Full
             };
         }
-        let since = if number == 0 {
+        // A run of waits is taken at once where the wait is the first way into its node.
+        let since = if index == 0 {
             self.distances.wait_back(residual, step, label)
         } else {
             step.moment
@@ -150,15 +140,15 @@ impl Search {
     }
 
     // Raises the distance label of a pair to what its ways allow.
-    fn relabel(&mut self, pair: u32, label: u32, number: usize)
+    fn relabel(&mut self, pair: u32, label: u32, index: usize)
         requires pair { pair < self.old.sizes.pairs }
         requires label { label ≤ 65535 }
         ensures { self.new.sizes ≡ self.old.sizes }
     {
-        self.distances.set(pair, label, number);
+        self.distances.set(pair, label, index);
         if label < FAR {
             self.relabelled.add(pair);
         }
-        self.vain = self.vain.saturating_add(1);
+        self.relabels = self.relabels.saturating_add(1);
     }
 }

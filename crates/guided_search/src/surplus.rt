@@ -34,7 +34,7 @@ impl Surplus<'_> {
         }
     }
 
-    /// How many more people are to go over a step, and over others from a number on.
+    /// How many more people are to go over a step, and over others from an index on.
     pub fn along(&self, step: Step, others: &[Step], first: usize) -> u32
         requires step { step.cell < self.now.net.ways.now.sizes.cells }
         requires others { All (IsStepWithin self.now.net.ways.now.sizes) others.now }
@@ -46,7 +46,7 @@ impl Surplus<'_> {
         people
     }
 
-    /// The number of the first of some steps, from a number on, over which no more people are to go; or how many steps there are.
+    /// The index of the first of some steps, from an index on, over which no more people are to go; or how many steps there are.
     pub fn first_done(&self, steps: &[Step], first: usize) -> usize
         requires { All (IsStepWithin self.now.net.ways.now.sizes) steps.now }
     {
@@ -58,17 +58,17 @@ impl Surplus<'_> {
         steps.len()
     }
 
-    /// The first way from a number on over which more people are to go into a moment, and its step.
+    /// The index of the first way, from an index on, over which more people are to go into a moment, and its step.
     pub fn wanted(&self, ways: &[Way], from: usize, moment: u32) -> Option<(usize, Step)>
         requires ways { All (IsWayWithin self.now.net.ways.now.sizes) ways.now }
         requires moment { moment < self.now.net.ways.now.sizes.moments }
         ensures { IfSome result (λ found. IsStepWithin self.now.net.ways.now.sizes found.1) }
     {
         let sizes = self.net.sizes();
-        for number in from..ways.len() {
-            if let Some(step) = ways[number].step(sizes, moment) {
+        for index in from..ways.len() {
+            if let Some(step) = ways[index].step(sizes, moment) {
                 if self.over(step) > 0 {
-                    return Some((number, step));
+                    return Some((index, step));
                 }
             }
         }
@@ -86,7 +86,7 @@ impl Surplus<'_> {
         if self.over(supply) > 0 {
             return Some(supply);
         }
-        for way in self.net.ways.doors_of(at.node) {
+        for way in self.net.ways.exit_ways_of(at.node) {
             let arrival = at.moment + way.travel();
             if arrival < sizes.moments && arrival > moment {
                 let cell = way.first_cell + at.moment;
@@ -112,7 +112,7 @@ pub fn lower(target: &mut [Cell], step: Step, people: u32)
     send(target, Step { back, ..step }, people);
 }
 
-/// Lets fewer people go over some steps from a number on.
+/// Lets fewer people go over some steps from an index on.
 pub fn lower_all(target: &mut [Cell], steps: &[Step], first: usize, people: u32)
     requires { All (λ step. step.cell < length target.old) steps.now }
 {

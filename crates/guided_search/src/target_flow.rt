@@ -2,8 +2,9 @@
 //!
 //! Where people are sent already, a search from no flow tells how many can arrive by each moment, and by which ways. What its
 //! flow has more than the net's at some places and less at others is made of paths that bring people to a moment, from later
-//! arrivals or from unsent people, and of circles: so each path brings people straight to where they are to arrive.
-ghost use Rattle.std.specs.Prelude.{◌≡◌, ◌<◌, ◌≤◌, IfOk, IfSome, IsTrue, length, vec_capacity};
+//! arrivals or from unsent people, and of circles: so each path brings people straight to where they are to arrive. Where an edit is
+//! undone, that flow is known already: it is the one before the edit.
+ghost use Rattle.std.specs.Prelude.{◌≡◌, ◌<◌, ◌≤◌, IfOk, IfSome, IsTrue, length, vec_capacity, vec_len};
 ghost use Rattle.std.specs.List.{All};
 ghost use Rattle.residual_ways.specs.Steps.{IsStepWithin};
 
@@ -20,13 +21,13 @@ use std::alloc::{AllocError, Global};
 struct Visit {
     // 0 until nobody at the pair may be sent, and then 1 more than its current arc. Past 254 ways it begins again.
     current_arc: u8,
-    // The number of the steps up to it on the path, and 0 where it isn't on it.
+    // How many steps lead up to it on the path, and 0 where it isn't on it.
     height: u32,
 }
 
 /// A flow to come to, and how far a search along its surplus has come.
 ///
-/// Its memory isn't touched before a target flow is sought, and that of the path only as far as searches go.
+/// Its memory isn't touched before a target flow is sought or set, and that of the path only as far as searches go.
 #[derive(Drop)]
 pub struct TargetFlow {
     /// How large the building is.
@@ -35,10 +36,10 @@ pub struct TargetFlow {
     cells: Vec<Cell>,
     /// How far searches have come at each pair.
     visits: Vec<Visit>,
-    /// The steps of the path, from its door on.
+    /// The steps of the path, from its exit way on.
     steps: Vec<Step>,
-    /// The number of the door at which the path ends.
-    door: usize,
+    /// The index of the exit way at which the path ends.
+    exit_way: usize,
     /// The arrival moment.
     moment: u32,
     /// The step by which people come to the path, once there is one.
@@ -50,7 +51,7 @@ pub struct TargetFlow {
 }
 
 impl TargetFlow {
-    ghost use Rattle.guided_search.specs.Targets.{IsSought};
+    ghost use Rattle.guided_search.specs.Targets.{IsReady};
 
     /// No flow yet.
     pub fn new(alloc: Global, sizes: Sizes) -> Result<TargetFlow, AllocError>
@@ -64,19 +65,48 @@ impl TargetFlow {
             cells,
             visits,
             steps,
-            door: 0,
+            exit_way: 0,
             moment: 0,
             origin: None,
             most: 0,
         })
     }
 
-    // Whether a flow was sought, with memory for it.
-    fn is_sought(&self) -> bool
-        ensures { IsTrue result → IsSought self.now.sizes self.now }
+    // Whether a search along it may begin: a flow is set or was sought, and there is memory for both.
+    fn is_ready(&self) -> bool
+        ensures { IsTrue result → IsReady self.now.sizes self.now }
     {
         self.cells.len() == self.sizes.cells as usize
             && self.visits.len() == self.sizes.pairs as usize
+    }
+
+    /// Makes the flow of some cells the one to come to. Whether there is memory for it.
+    pub fn set(&mut self, cells: &[Cell]) -> bool
+        ensures sizes { self.new.sizes ≡ self.old.sizes }
+        ensures cells { IsTrue result → (vec_len self.new.cells ≡ length cells.now) }
+    {
+        self.cells.clear();
+        self.cells.extend_from_slice(cells).is_ok()
+    }
+
+    /// Whether its limits are those of a net: then it is known, and needn't be sought.
+    pub fn has_limits_of(&self, cells: &[Cell]) -> bool {
+        let own = self.cells.as_slice();
+        own.len() == cells.len()
+            && own
+                .iter()
+                .zip(cells)
+                .all(|(cell, now)| cell.limit == now.limit)
+    }
+
+    /// Forgets how far searches came. Whether there is memory for one.
+    pub fn restart(&mut self) -> bool
+        ensures { self.new.sizes ≡ self.old.sizes }
+    {
+        let pairs = self.sizes.pairs as usize;
+        self.steps.clear();
+        self.visits.clear();
+        self.visits.resize(pairs, Visit::default()).is_ok()
     }
 
     /// Finds the flow to come to, by a search from no flow, as far as there is memory for it.
@@ -86,13 +116,7 @@ impl TargetFlow {
         ensures sizes { self.new.sizes ≡ self.old.sizes }
         ensures shortest_paths { shortest_paths.new.sizes ≡ shortest_paths.old.sizes }
     {
-        self.steps.clear();
-        self.visits.clear();
-        self.cells.clear();
-        let pairs = self.sizes.pairs as usize;
-        if self.visits.resize(pairs, Visit::default()).is_ok()
-            && self.cells.extend_from_slice(cells).is_ok()
-        {
+        if self.set(cells) {
             empty(self.cells.as_mut_slice());
             shortest_paths.send_all(self.cells.as_mut_slice());
         }
@@ -102,10 +126,10 @@ impl TargetFlow {
     pub fn begin(&mut self, k: u32)
         ensures { self.new.sizes ≡ self.old.sizes }
     {
-        if self.is_sought() {
+        if self.is_ready() {
             self.leave(0);
         }
-        self.door = 0;
+        self.exit_way = 0;
         self.moment = k;
     }
 
@@ -114,7 +138,7 @@ impl TargetFlow {
         requires { net.ways.now.sizes ≡ self.old.sizes }
         ensures { self.new.sizes ≡ self.old.sizes }
     {
-        if !self.is_sought() {
+        if !self.is_ready() {
             return false;
         }
         for _ in 0..net.ways.rounds() {
@@ -127,10 +151,10 @@ impl TargetFlow {
         false
     }
 
-    // Advances a step, or retreats where no way leads on. Where the path is empty it begins anew, at the next door.
+    // Advances a step, or retreats where no way leads on. Where the path is empty it begins anew, at the next exit way.
     fn step_on(&mut self, net: Residual<'_>) -> Progress
-        requires { IsSought net.ways.now.sizes self.old }
-        ensures { IsSought net.entry.ways.now.sizes self.new }
+        requires { IsReady net.ways.now.sizes self.old }
+        ensures { IsReady net.entry.ways.now.sizes self.new }
     {
         let Some(last) = self.steps.as_slice().last().copied() else {
             return self.open(net);
@@ -143,37 +167,37 @@ impl TargetFlow {
         let from = current_arc.saturating_sub(1);
         let target = self.cells.as_slice();
         let wanted = Surplus { target, net }.wanted(ways, from, last.moment);
-        let Some((number, step)) = wanted else {
+        let Some((index, step)) = wanted else {
             self.retreat(net, last);
             return Progress::Going;
         };
-        self.visits[last.pair as usize].current_arc = ((number % 256 + 1) % 256) as u8;
+        self.visits[last.pair as usize].current_arc = ((index % 256 + 1) % 256) as u8;
         self.advance(net, step)
     }
 
-    // Begins a path at the next door by which more people are to arrive at the moment.
+    // Begins a path at the next exit way by which more people are to arrive at the moment.
     fn open(&mut self, net: Residual<'_>) -> Progress
-        requires { IsSought net.ways.now.sizes self.old }
-        ensures { IsSought net.entry.ways.now.sizes self.new }
+        requires { IsReady net.ways.now.sizes self.old }
+        ensures { IsReady net.entry.ways.now.sizes self.new }
     {
         if self.moment >= self.sizes.moments {
             return Progress::Exhausted;
         }
-        let doors = net.ways.doors();
+        let ways = net.ways.exit_ways();
         let target = self.cells.as_slice();
-        let wanted = Surplus { target, net }.wanted(doors, self.door, self.moment);
+        let wanted = Surplus { target, net }.wanted(ways, self.exit_way, self.moment);
         let Some((at, step)) = wanted else {
             return Progress::Exhausted;
         };
-        self.door = at;
+        self.exit_way = at;
         self.push(step)
     }
 
     // Finds people at the pair of a step who may be sent, and how many are to go the whole path. Whether there are any.
     fn arrive(&mut self, net: Residual<'_>, last: Step) -> bool
-        requires sought { IsSought net.ways.now.sizes self.old }
+        requires sought { IsReady net.ways.now.sizes self.old }
         requires last { IsStepWithin net.ways.now.sizes last }
-        ensures { IsSought net.entry.ways.now.sizes self.new }
+        ensures { IsReady net.entry.ways.now.sizes self.new }
     {
         let target = self.cells.as_slice();
         let surplus = Surplus { target, net };
@@ -187,9 +211,9 @@ impl TargetFlow {
 
     // Takes a step into the last pair. Where that closes a circle with the path, the circle is taken out of the flow.
     fn advance(&mut self, net: Residual<'_>, step: Step) -> Progress
-        requires sought { IsSought net.ways.now.sizes self.old }
+        requires sought { IsReady net.ways.now.sizes self.old }
         requires step { IsStepWithin net.ways.now.sizes step }
-        ensures { IsSought net.entry.ways.now.sizes self.new }
+        ensures { IsReady net.entry.ways.now.sizes self.new }
     {
         let height = self.visits[step.pair as usize].height as usize;
         if height == 0 {
@@ -201,9 +225,9 @@ impl TargetFlow {
 
     // Adds a step to the path, if there is room for it.
     fn push(&mut self, step: Step) -> Progress
-        requires sought { IsSought self.old.sizes self.old }
+        requires sought { IsReady self.old.sizes self.old }
         requires step { IsStepWithin self.old.sizes step }
-        ensures { IsSought self.old.sizes self.new }
+        ensures { IsReady self.old.sizes self.new }
     {
         if self.steps.len() >= self.sizes.pairs as usize {
             return Progress::Full;
@@ -215,24 +239,23 @@ impl TargetFlow {
 
     // Goes back a step, the last one. Nobody is to go over it any more.
     fn retreat(&mut self, net: Residual<'_>, last: Step)
-        requires sought { IsSought net.ways.now.sizes self.old }
+        requires sought { IsReady net.ways.now.sizes self.old }
         requires last { IsStepWithin net.ways.now.sizes last }
-        ensures { IsSought net.entry.ways.now.sizes self.new }
+        ensures { IsReady net.entry.ways.now.sizes self.new }
     {
         let target = self.cells.as_slice();
         let people = Surplus { target, net }.over(last);
         lower(self.cells.as_mut_slice(), last, people);
-        self.visits[last.pair as usize].height = 0;
-        // The step is let go.
-        let _ = self.steps.pop();
+        let left = self.steps.len().saturating_sub(1);
+        self.leave(left);
     }
 
-    // Takes a circle out of the flow: a step, and those of the path from a number on. The search goes on before the first of these
+    // Takes a circle out of the flow: a step, and those of the path from an index on. The search goes on before the first of these
     // over which nobody is to go then.
     fn unwind(&mut self, net: Residual<'_>, first: usize, closing: Step)
-        requires sought { IsSought net.ways.now.sizes self.old }
+        requires sought { IsReady net.ways.now.sizes self.old }
         requires closing { IsStepWithin net.ways.now.sizes closing }
-        ensures { IsSought net.entry.ways.now.sizes self.new }
+        ensures { IsReady net.entry.ways.now.sizes self.new }
     {
         let target = self.cells.as_slice();
         let people = Surplus { target, net }.along(closing, self.steps.as_slice(), first);
@@ -242,37 +265,38 @@ impl TargetFlow {
         self.go_back(net, first);
     }
 
-    // Goes back to the pair before the first step over which no more people are to go, from a number on.
+    // Goes back to the pair before the first step over which no more people are to go, from an index on.
     fn go_back(&mut self, net: Residual<'_>, first: usize)
-        requires { IsSought net.ways.now.sizes self.old }
-        ensures { IsSought net.entry.ways.now.sizes self.new }
+        requires { IsReady net.ways.now.sizes self.old }
+        ensures { IsReady net.entry.ways.now.sizes self.new }
     {
         let target = self.cells.as_slice();
         let left = Surplus { target, net }.first_done(self.steps.as_slice(), first);
         self.leave(left);
     }
 
-    // Goes back to a number of steps.
+    // Goes back to so many steps.
     fn leave(&mut self, count: usize)
-        requires { IsSought self.old.sizes self.old }
-        ensures { IsSought self.old.sizes self.new }
+        requires { IsReady self.old.sizes self.old }
+        ensures { IsReady self.old.sizes self.new }
     {
         clear_heights(self.visits.as_mut_slice(), self.steps.as_slice(), count);
         self.steps.truncate(count);
     }
 
-    /// The most people who are to be sent along the guess.
+    /// The most people who are to be sent along the hint.
     pub fn most(&self) -> u32 {
         self.most
     }
 
-    /// Fills a list with the legs of the guess.
+    /// Fills a list with the legs of the hint.
     pub fn lay(&self, legs: &mut Vec<Leg>)
         ensures { vec_capacity legs.new ≡ vec_capacity legs.old }
     {
         legs.clear();
         if let Some(origin) = self.origin {
-            add(legs, Leg::of(origin.path_step(self.sizes)));
+            let step = origin.path_step(self.sizes);
+            add(legs, Leg { since: 0, step });
         }
         let mut waited = None;
         for step in self.steps.as_slice().iter().rev() {
@@ -286,12 +310,12 @@ impl TargetFlow {
         }
     }
 
-    /// People were sent along the guess: goes back to the pair before the first step over which no more are to go.
+    /// People were sent along the hint: goes back to the pair before the first step over which no more are to go.
     pub fn sent(&mut self, net: Residual<'_>)
         requires { net.ways.now.sizes ≡ self.old.sizes }
         ensures { self.new.sizes ≡ self.old.sizes }
     {
-        if self.is_sought() {
+        if self.is_ready() {
             self.go_back(net, 0);
         }
     }
@@ -304,7 +328,7 @@ fn empty(cells: &mut [Cell]) {
     }
 }
 
-// Takes the pairs of some steps, from a number on, off a path.
+// Takes the pairs of some steps, from an index on, off a path.
 fn clear_heights(visits: &mut [Visit], steps: &[Step], first: usize)
     requires { All (λ step. step.pair < length visits.old) steps.now }
 {

@@ -9,36 +9,34 @@ pub const FAR: u32 = 65_535;
 /// touched.
 pub const PATH_LIMIT: usize = 8_192;
 
-/// How many times pairs may be relabelled in vain, for each that was relabelled before, until there is a global relabelling: one after
-/// another they can go on for long, where many pairs raise each other by 1. With once in place of twice a hospital took 12 in 100 more
+/// How many times pairs may be relabelled one by one without a push, for each that was relabelled, until there is a global relabelling: one
+/// after another they can go on for long, where many pairs raise each other by 1. With once in place of twice a hospital took 12 in 100 more
 /// instructions and a line of platforms 13, but a tower whose people come in later 6 less.
-pub const VAIN_FACTOR: usize = 2;
+pub const RELABEL_FACTOR: usize = 2;
 
 /// How many times besides.
-pub const VAIN_LIMIT: usize = 20;
+pub const RELABEL_LIMIT: usize = 20;
 
 /// How many times all pairs may be relabelled globally at one moment, before others take over, where nobody comes in later. On some
 /// buildings, once an exit is shut, more would cost more than it saves.
 pub const GLOBAL_LIMIT: usize = 4;
 
-/// One of how many pairs are taken to lead to those relabelled, until all that do were counted. Part by part the same pairs are relabelled
-/// hundreds of times on ladders and on metro lines with few exits: a ladder that took 3.2 s takes 0.14 s since all are relabelled at once.
-/// With 8 a tower has no part in that, and with 128 a hospital takes 9 in 100 more instructions.
-pub const BEHIND_GUESS: usize = 32;
+/// One of how many pairs are taken to be ancestors of those relabelled, until they were counted. Without their ancestors the same pairs are
+/// relabelled hundreds of times on ladders and on metro lines with few exits: a ladder that took 3.2 s takes 0.14 s since all are relabelled
+/// at once. With 8 a tower has no part in that, and with 128 a hospital takes 9 in 100 more instructions.
+pub const ANCESTOR_GUESS: usize = 32;
 
-/// One of how many of them may be relabelled part by part, where people come in later, before all are at once. Where nobody does it is as
-/// many as there are.
-pub const BEHIND_SHARE: usize = 16;
+/// One of how many of them may be relabelled without their ancestors, where people come in later, before all are at once. Where nobody does
+/// it is as many as there are.
+pub const ANCESTOR_SHARE: usize = 16;
 
-/// Along how many paths of others people may be sent in a net before a target flow is sought. After an exit is opened again, one path
-/// after another cost many times a fresh plan on the buildings that were measured, and a target flow about one on most.
-pub const MISS_LIMIT: u32 = 4;
+/// Along how many paths of others people may be sent in a net with unsent people before a target flow is sought. Where some were taken off,
+/// others can arrive sooner in their place, and each of these costs a path: with 4 in place of 6 a refused edit of a hospital takes half as
+/// many instructions more, and with 16 one of a drill takes a quarter more.
+pub const MISS_LIMIT: u32 = 6;
 
-/// One of how many pairs may be relabelled globally in a net from which some people were taken, before a target flow is sought. On
-/// towers the same pairs were relabelled again and again, at up to 26 times the cost of a fresh plan.
-pub const FIRST_SHARE: u64 = 32;
-
-/// For one of how many people a pair more may be relabelled there: a target flow is dearer the more people there are.
+/// For one of how many people a pair more may be relabelled globally in a net from which some people were taken, before a target flow is
+/// sought: a target flow is dearer the more people there are.
 pub const CROWD_SHARE: u64 = 8;
 
 /// One of how many pairs may be relabelled there besides, if everybody is sent along shortest paths. Giving up after most are sent

@@ -23,7 +23,7 @@ fn is_over(net: &Net, k: u16) -> bool
 
 // How far a net is settled, and after how many pushes.
 #[derive(Clone, Copy)]
-struct Progress {
+struct Settled {
     next: u16,
     pushes: u64,
 }
@@ -37,7 +37,7 @@ fn settle_on<L: Ledger>(
     search: &mut Search,
     from: u16,
     steps: &mut Steps<L>,
-) -> Progress
+) -> Settled
     requires { IsSettleable net.old labels.old search.old from }
     ensures settled { IsSettledThrough net.old net.new labels.old labels.new from result.next result.pushes }
     ensures search { search.new ≡ search.old }
@@ -52,7 +52,7 @@ fn settle_on<L: Ledger>(
         pushes += settle(net, labels, search, next, steps) as u64;
         next += 1;
     }
-    Progress { next, pushes }
+    Settled { next, pushes }
 }
 
 // What a net comes to whose moments are settled.
@@ -73,7 +73,7 @@ fn outcome_of(net: &Net, pushes: u64) -> Outcome
 /// Unsets the labels that aren't below a moment, and settles moment after moment from that one on until everybody is sent and no
 /// later arrival is left, or to the horizon.
 ///
-/// Where everybody gets out, the plan of the net is the best at every period, and the labels prove it; else they show how many can
+/// Where everybody gets out, the plan of the net is the best at every period, and the labels prove it; otherwise they show how many can
 /// get out by the horizon.
 pub fn settle_all<L: Ledger>(
     net: &mut Net,
@@ -89,6 +89,6 @@ pub fn settle_all<L: Ledger>(
     ensures search { search.new ≡ search.old }
     ensures ticked { steps.new ≡ steps.old + pushes_of result }
 {
-    let progress = settle_on(net, labels, search, from, steps);
-    outcome_of(net, progress.pushes)
+    let settled = settle_on(net, labels, search, from, steps);
+    outcome_of(net, settled.pushes)
 }

@@ -32,13 +32,9 @@ use Rattle.residual_net.specs.Site.{Site, IsSite, IsPlace, End_test, all_cells, 
 use Rattle.residual_net.specs.declared.end.End.TheVariants.{Pair, Door}
 use Rattle.residual_net.specs.Network.{Network, IsKept, IsStored, no_cell, flow_at, flow_into, flow_out, limit_at, supply_limits}
 use Rattle.residual_net.specs.OfModel.{IsNetOf, model_limit, site_of}
-use Rattle.residual_net.specs.Start.{IsOpening, StartsAs, cell_at, emptied, is_kind, place_of, row_cells, row_of, rows_cells}
+use Rattle.residual_net.specs.Start.{IsOpening, StartsAs, cell_at, emptied, is_kind, place_of, row_cells, row_of, rows_cells, start_cells}
 use Rattle.residual_net.proofs.Places.{sum_places-same, sum_places-none}
 use Rattle.residual_net.proofs.Held.{arrival_is, exit_is, from_is, same_in}
-
--- the cells of all places: those of the arcs, the holds and the supplies
-abbrev pub start_cells : Model → List Cell
-start_cells m = (rows_cells m kinds.Arc (length m.arcs) ++ rows_cells m kinds.Hold (length m.nodes)) ++ rows_cells m kinds.Supply (length m.nodes)
 
 -- ---- the network of a valid model
 
@@ -79,16 +75,18 @@ valid_site m valid =
           ap (exit_at (site_of m)) (from_is m a in_arcs) ∙ exit_is m (tail m a) arc.from_in ∙ arc.from_no_exit;
     }
 
-pub site_made : (m : Model) (shape : Expansion) (n : ℕ) (ends : List Ends) (exits : List Bool) (travels : List ℕ)
-    → shape ≡ expanded n ends m.horizon → n ≡ length m.nodes → ends ≡ map (λ (a : ArcRow). joined a) m.arcs
+pub shape_made : (m : Model) (shape : Expansion) (n : ℕ) (ends : List Ends) → shape ≡ expanded n ends m.horizon → n ≡ length m.nodes
+    → ends ≡ map (λ (a : ArcRow). joined a) m.arcs → shape ≡ (site_of m).shape
+shape_made m shape n ends e f g =
+    e ∙ ap (λ (z : ℕ). expanded z ends m.horizon) f ∙ ap (λ (z : List Ends). expanded (length m.nodes) z m.horizon) g
+
+pub site_made : (m : Model) (shape : Expansion) (exits : List Bool) (travels : List ℕ) → shape ≡ (site_of m).shape
     → exits ≡ map (λ (r : NodeRow). is_exit r.name.kind) m.nodes → travels ≡ map (λ (a : ArcRow). a.travel) m.arcs
     → site_with shape exits travels ≡ site_of m
-site_made m shape n ends exits travels e f g h i =
+site_made m shape exits travels e f g =
     ap (λ (z : Expansion). site_with z exits travels) e
-    ∙ ap (λ (z : ℕ). site_with (expanded z ends m.horizon) exits travels) f
-    ∙ ap (λ (z : List Ends). site_with (expanded (length m.nodes) z m.horizon) exits travels) g
-    ∙ ap (λ (z : List Bool). site_with (site_of m).shape z travels) h
-    ∙ ap (λ (z : List ℕ). site_with (site_of m).shape (site_of m).exits z) i
+    ∙ ap (λ (z : List Bool). site_with (site_of m).shape z travels) f
+    ∙ ap (λ (z : List ℕ). site_with (site_of m).shape (site_of m).exits z) g
 
 -- ---- the places of a row at the moments so far
 

@@ -1,5 +1,5 @@
 -- Pushes over the legs of a path.
-use Rattle.std.proofs.Common.{◌≡◌, ◌≢◌, ℕ, zero, suc, ◌+◌, ◌-◌, ◌<◌, ◌≤◌, List, [], ◌∷◌, ◌++◌, length, map, take, drop, set, get_or, ap, sym, ◌∙◌, arith, subst, drop-cons, add-one, length-set}
+use Rattle.std.proofs.Common.{◌≡◌, ◌≢◌, ℕ, zero, suc, ◌+◌, ◌-◌, ◌<◌, ◌≤◌, List, [], ◌∷◌, ◌++◌, length, map, take, drop, set, get_or, refl, ap, sym, ◌∙◌, arith, subst, drop-cons, add-one, length-set}
 use Rattle.std.proofs.Math.Seq.{sets}
 use Rattle.std.specs.List.{All}
 use Rattle.std.proofs.lemmas.List.Elements.{All-cons}
@@ -9,10 +9,12 @@ use Rattle.residual_net.specs.declared.place.Cell.{Cell}
 use Rattle.residual_net.specs.declared.place.Place.{Place}
 use Rattle.residual_net.specs.declared.place.Place.TheVariants.{Hold}
 use Rattle.residual_net.specs.declared.place.PathStep.{PathStep}
-use Rattle.residual_net.specs.Legs.{IsShiftable, IsUnderwayBetween, steps_of_leg, steps_of_legs, wait_at, waits_at, with_more}
+use Rattle.residual_net.specs.Legs.{IsShiftable, IsUnderwayBetween, steps_of_leg, steps_of_legs, wait_at, waits_at, waits_to, with_more}
 use Rattle.residual_net.specs.Network.{Network, IsGrid, flow_at, limit_at, no_cell, residual_room, with_cell}
-use Rattle.residual_net.specs.Route.{IsPushable, IsPushed}
-use Rattle.residual_net.specs.Site.{Site, IsPlace, cell_of}
+use Rattle.residual_net.specs.Route.{IsOrigin, IsPushable, IsPushed, Leads}
+use Rattle.residual_net.specs.declared.end.End.{End}
+use Rattle.residual_net.specs.declared.end.End.TheVariants.{Source, Pair, Door}
+use Rattle.residual_net.specs.Site.{Site, IsPlace, cell_of, start_of}
 use Rattle.residual_net.proofs.Saving.{sets_more}
 use Rattle.residual_net.proofs.Steps.{added_none, cell_in, path_some, push_none, push_one, push_then, taken_none}
 use Rattle.time_expansion.specs.Expansion.{hold_cell}
@@ -109,6 +111,11 @@ shiftable_place w r q x a = a.places 0 r (omega arith)
 pub shiftable_room : (w : Network) (r : PathStep) (q : List PathStep) (x : ℕ) → IsShiftable w (r ∷ q) x → x ≤ residual_room w r
 shiftable_room w r q x a = a.room 0 r (omega arith)
 
+-- the last of some steps is over a place of the network
+pub shiftable_step : (w : Network) (p : List PathStep) (r : PathStep) (x : ℕ) → IsShiftable w (p ++ r ∷ []) x → IsPlace w.site r.place
+shiftable_step w p r x a =
+    subst (λ (y : PathStep). IsPlace w.site y.place) (get_or-append-add p (r ∷ []) 0 r) (a.places (length p + 0) r (omega (arith, length-append p (r ∷ []))))
+
 pub shiftable_path : (w : Network) (path : List PathStep) (x : ℕ) → IsPushable w path x → IsShiftable w path x
 shiftable_path w path x p = record { places = p.2.places; room = p.2.room; apart = p.2.apart }
 
@@ -184,43 +191,65 @@ between_places v arrivals first last x u = (placed 0 first (u.first_step first) 
 
 -- ---- legs
 
-pub legs_more : (gs : List Leg) (g : Leg) → steps_of_legs (gs ++ g ∷ []) ≡ steps_of_legs gs ++ steps_of_leg g
-legs_more [] g = append-nil (steps_of_leg g)
-legs_more (h ∷ gs) g = ap (λ z. steps_of_leg h ++ z) (legs_more gs g) ∙ sym (append_assoc (steps_of_leg h) (steps_of_legs gs) (steps_of_leg g))
+-- people are sent on over no wait
+pub waits_no : (k : ℕ) (e : End) (since : ℕ) → IsOrigin k e → waits_to e since ≡ []
+waits_no k Source since origin = refl
+waits_no k (Pair n t) since origin = absurd origin
+waits_no k (Door j) since origin = refl
+
+pub legs_more : (s : Site) (gs : List Leg) (g : Leg) → steps_of_legs s (gs ++ g ∷ []) ≡ steps_of_legs s gs ++ steps_of_leg s g
+legs_more s [] g = append-nil (steps_of_leg s g)
+legs_more s (h ∷ gs) g =
+    ap (λ z. steps_of_leg s h ++ z) (legs_more s gs g) ∙ sym (append_assoc (steps_of_leg s h) (steps_of_legs s gs) (steps_of_leg s g))
 
 -- the legs from one on
-pub legs_from : (gs : List Leg) (i : ℕ) (d : Leg) → i < length gs → steps_of_legs (drop i gs) ≡ steps_of_leg (get_or gs i d) ++ steps_of_legs (drop (i + 1) gs)
-legs_from gs i d l =
-    ap steps_of_legs (drop-cons gs i d l) ∙ ap (λ j. steps_of_leg (get_or gs i d) ++ steps_of_legs (drop j gs)) (sym (add-one i))
+pub legs_from : (s : Site) (gs : List Leg) (i : ℕ) (d : Leg) → i < length gs
+    → steps_of_legs s (drop i gs) ≡ steps_of_leg s (get_or gs i d) ++ steps_of_legs s (drop (i + 1) gs)
+legs_from s gs i d l =
+    ap (steps_of_legs s) (drop-cons gs i d l) ∙ ap (λ j. steps_of_leg s (get_or gs i d) ++ steps_of_legs s (drop j gs)) (sym (add-one i))
 
-leg_some : (g : Leg) → 0 < length (steps_of_leg g)
-leg_some g = omega (arith, length-append (waits_at g.node g.from (g.to - g.from)) (g.step ∷ []))
+leg_some : (s : Site) (g : Leg) → 0 < length (steps_of_leg s g)
+leg_some s g = omega (arith, length-append (waits_to (start_of s g.step) g.since) (g.step ∷ []))
 
-pub legs_some : (w : Network) (gs : List Leg) (x : ℕ) → IsPushable w (steps_of_legs gs) x → 0 < length gs
+pub legs_some : (w : Network) (gs : List Leg) (x : ℕ) → IsPushable w (steps_of_legs w.site gs) x → 0 < length gs
 legs_some w [] x p = absurd (omega (arith, path_some w [] x p))
 legs_some w (g ∷ gs) x p = omega arith
 
+-- a step is the first one of a path that begins where people are sent on from: no wait comes before it
+first_of : (s : Site) (k since : ℕ) (o e f : End) (y : PathStep) (rest : List PathStep) (d : PathStep) → IsOrigin k o
+    → Leads s o ((waits_to e since ++ y ∷ []) ++ rest) f → get_or ((waits_to e since ++ y ∷ []) ++ rest) 0 d ≡ y
+first_of s k since o Source f y rest d origin leads = refl
+first_of s k since o (Pair n t) f y rest d origin leads = by (t - since) leads
+  where
+    by : (c : ℕ) → Leads s o ((waits_at n since c ++ y ∷ []) ++ rest) f → get_or ((waits_at n since c ++ y ∷ []) ++ rest) 0 d ≡ y
+    by zero l = refl
+    by (suc c) l = absurd (subst (IsOrigin k) (sym l.0) origin)
+first_of s k since o (Door j) f y rest d origin leads = refl
+
 -- the first step of legs is that of the first leg
-pub legs_first : (gs : List Leg) (b : Leg) (d : PathStep) → 0 < length gs → get_or (steps_of_legs gs) 0 d ≡ get_or (steps_of_leg (get_or gs 0 b)) 0 d
-legs_first [] b d l = absurd (omega (arith, l))
-legs_first (g ∷ gs) b d l = get_or_append_left (steps_of_leg g) (steps_of_legs gs) d 0 (leg_some g)
+pub legs_first : (w : Network) (gs : List Leg) (x : ℕ) (b : Leg) (d : PathStep) → IsPushable w (steps_of_legs w.site gs) x
+    → get_or (steps_of_legs w.site gs) 0 d ≡ (get_or gs 0 b).step
+legs_first w [] x b d p = absurd (omega (arith, path_some w [] x p))
+legs_first w (g ∷ gs) x b d p =
+    first_of w.site p.1 g.since p.0 (start_of w.site g.step) (Door p.1) g.step (steps_of_legs w.site gs) d p.2.origin p.2.leads
 
 -- the last step of a leg is its step
-leg_last : (g : Leg) (d : PathStep) → get_or (steps_of_leg g) (length (steps_of_leg g) - 1) d ≡ g.step
-leg_last g d =
-    let waits = waits_at g.node g.from (g.to - g.from) in
-    let at : length (steps_of_leg g) - 1 ≡ length waits + 0 = omega (arith, length-append waits (g.step ∷ [])) in
-    ap (λ i. get_or (steps_of_leg g) i d) at ∙ get_or-append-add waits (g.step ∷ []) 0 d
+leg_last : (s : Site) (g : Leg) (d : PathStep) → get_or (steps_of_leg s g) (length (steps_of_leg s g) - 1) d ≡ g.step
+leg_last s g d =
+    let waits = waits_to (start_of s g.step) g.since in
+    let at : length (steps_of_leg s g) - 1 ≡ length waits + 0 = omega (arith, length-append waits (g.step ∷ [])) in
+    ap (λ i. get_or (steps_of_leg s g) i d) at ∙ get_or-append-add waits (g.step ∷ []) 0 d
 
 -- the last step of legs is that of the last leg
-pub legs_last : (gs : List Leg) (b : Leg) (d : PathStep) → 0 < length gs
-    → get_or (steps_of_legs gs) (length (steps_of_legs gs) - 1) d ≡ (get_or gs (length gs - 1) b).step
-legs_last [] b d l = absurd (omega (arith, l))
-legs_last (g ∷ []) b d l = ap (λ z. get_or z (length z - 1) d) (append-nil (steps_of_leg g)) ∙ leg_last g d
-legs_last (g ∷ h ∷ gs) b d l =
-    let rest = steps_of_legs (h ∷ gs) in
-    let some : 0 < length rest = omega (arith, length-append (steps_of_leg h) (steps_of_legs gs), leg_some h) in
+pub legs_last : (s : Site) (gs : List Leg) (b : Leg) (d : PathStep) → 0 < length gs
+    → get_or (steps_of_legs s gs) (length (steps_of_legs s gs) - 1) d ≡ (get_or gs (length gs - 1) b).step
+legs_last s [] b d l = absurd (omega (arith, l))
+legs_last s (g ∷ []) b d l = ap (λ z. get_or z (length z - 1) d) (append-nil (steps_of_leg s g)) ∙ leg_last s g d
+legs_last s (g ∷ h ∷ gs) b d l =
+    let rest = steps_of_legs s (h ∷ gs) in
+    let some : 0 < length rest = omega (arith, length-append (steps_of_leg s h) (steps_of_legs s gs), leg_some s h) in
     let up : length (g ∷ h ∷ gs) - 1 ≡ suc (length (h ∷ gs) - 1) = omega arith in
-    let at : length (steps_of_leg g ++ rest) - 1 ≡ length (steps_of_leg g) + (length rest - 1) = omega (arith, some, length-append (steps_of_leg g) rest) in
-    ap (λ i. get_or (steps_of_leg g ++ rest) i d) at ∙ get_or-append-add (steps_of_leg g) rest (length rest - 1) d
-    ∙ legs_last (h ∷ gs) b d (omega arith) ∙ sym (ap (λ i. (get_or (g ∷ h ∷ gs) i b).step) up)
+    let at : length (steps_of_leg s g ++ rest) - 1 ≡ length (steps_of_leg s g) + (length rest - 1) =
+    omega (arith, some, length-append (steps_of_leg s g) rest) in
+    ap (λ i. get_or (steps_of_leg s g ++ rest) i d) at ∙ get_or-append-add (steps_of_leg s g) rest (length rest - 1) d
+    ∙ legs_last s (h ∷ gs) b d (omega arith) ∙ sym (ap (λ i. (get_or (g ∷ h ∷ gs) i b).step) up)

@@ -7,7 +7,9 @@ use Rattle.residual_net.specs.declared.place.PathStep.{PathStep}
 use Rattle.residual_net.specs.declared.place.Place.TheVariants.{Hold}
 use Rattle.residual_net.specs.Network.{Network, residual_room}
 use Rattle.residual_net.specs.Route.{IsUnderway}
-use Rattle.residual_net.specs.Site.{IsPlace}
+use Rattle.residual_net.specs.declared.end.End.{End}
+use Rattle.residual_net.specs.declared.end.End.TheVariants.{Source, Pair, Door}
+use Rattle.residual_net.specs.Site.{Site, IsPlace, start_of}
 
 -- the wait in a node from a moment to the next
 abbrev pub wait_at : ℕ → ℕ → PathStep
@@ -18,14 +20,20 @@ abbrev pub waits_at : ℕ → ℕ → ℕ → List PathStep
 waits_at n t zero = []
 waits_at n t (suc c) = wait_at n t ∷ waits_at n (t + 1) c
 
--- the steps of a leg
-abbrev pub steps_of_leg : Leg → List PathStep
-steps_of_leg g = waits_at g.node g.from (g.to - g.from) ++ g.step ∷ []
+-- the waits in a node since a moment up to an end, or none where that is no pair
+abbrev pub waits_to : End → ℕ → List PathStep
+waits_to Source since = []
+waits_to (Pair n t) since = waits_at n since (t - since)
+waits_to (Door j) since = []
+
+-- the steps of a leg: the waits before its step, and that one
+abbrev pub steps_of_leg : Site → Leg → List PathStep
+steps_of_leg s g = waits_to (start_of s g.step) g.since ++ g.step ∷ []
 
 -- the steps of legs, one leg after another
-abbrev pub steps_of_legs : List Leg → List PathStep
-steps_of_legs [] = []
-steps_of_legs (g ∷ gs) = steps_of_leg g ++ steps_of_legs gs
+abbrev pub steps_of_legs : Site → List Leg → List PathStep
+steps_of_legs s [] = []
+steps_of_legs s (g ∷ gs) = steps_of_leg s g ++ steps_of_legs s gs
 
 -- a cell with more people over its place
 abbrev pub with_more : ℕ → Cell → Cell

@@ -1,5 +1,5 @@
 -- A flow with its limits.
-use Rattle.std.specs.Prelude.{◌≡◌, ℕ, ◌+◌, ◌-◌, ◌≤◌, if◌then◌else◌, List, length, slice_index_or, slice_set, Option, Some, None, IsTrue}
+use Rattle.std.specs.Prelude.{◌≡◌, ℕ, ◌+◌, ◌-◌, ◌<◌, ◌≤◌, false, if◌then◌else◌, List, length, slice_index_or, slice_set, Option, Some, None, IsTrue}
 use Rattle.residual_net.specs.declared.place.Place.{Place}
 use Rattle.residual_net.specs.declared.place.Place.TheVariants.{Supply}
 use Rattle.residual_net.specs.declared.place.PathStep.{PathStep}
@@ -7,6 +7,7 @@ use Rattle.residual_net.specs.declared.place.Cell.{Cell}
 use Rattle.residual_net.specs.declared.place.Transit.{Transit}
 use Rattle.residual_net.specs.Limits.{supply_limit}
 use Rattle.residual_net.specs.Site.{Site, IsSite, IsPlace, End_test, at, is_door, is_source, door_by, head_of, tail_of, start_of, stop_of, is_barred, sum_places, cell_of, all_cells}
+use Rattle.residual_net.specs.declared.end.End.{End}
 use Rattle.residual_net.specs.declared.end.End.TheVariants.{Pair, Door}
 
 -- a net as contracts see it: its network, the flow and the limit at its places, and what was saved of these; only `flow_at` and `limit_at` look into the cells
@@ -43,6 +44,15 @@ residual_room w x = if x.back then flow_at w x.place else limit_at w x.place - f
 abbrev pub IsTransit : Network → PathStep → Option Transit → Type 0
 IsTransit w x None = IsPlace w.site x.place → ⊥
 IsTransit w x (Some p) = IsPlace w.site x.place × (p ≡ record { start = start_of w.site x; stop = stop_of w.site x; room = residual_room w x })
+
+-- the step forwards over a place
+abbrev pub step_over : Place → PathStep
+step_over p = record { place = p; back = false }
+
+-- where the step over a place that leads to an end starts and the people who may go over it, or none where the place isn't the network's, leads elsewhere or has no room
+abbrev pub IsLeading : Network → Place → End → Option Transit → Type 0
+IsLeading w p e None = IsPlace w.site p → head_of w.site p ≡ e → residual_room w (step_over p) ≡ 0
+IsLeading w p e (Some r) = IsTransit w (step_over p) (Some r) × (r.stop ≡ e) × (0 < r.room)
 
 -- the people of a node and moment who aren't sent yet
 abbrev pub unsent_at : Network → ℕ → ℕ → ℕ

@@ -1,5 +1,5 @@
 -- How a net of a model begins.
-use Rattle.std.specs.Prelude.{◌≡◌, ℕ, zero, suc, ◌+◌, ◌<◌, ◌≤◌, Bool, true, false, if◌then◌else◌, List, [], ◌++◌, map}
+use Rattle.std.specs.Prelude.{◌≡◌, ℕ, zero, suc, ◌+◌, ◌<◌, ◌≤◌, Bool, true, false, if◌then◌else◌, List, [], ◌++◌, length, map}
 use Rattle.evac_law.specs.Sums.{below}
 use Rattle.evac_law.specs.declared.model.Model.{Model}
 use Rattle.residual_net.specs.declared.place.Place.{Place}
@@ -57,6 +57,10 @@ row_cells m k n = map (cell_at m k n) (below (m.horizon + 1))
 abbrev pub rows_cells : Model → Kind → ℕ → List Cell
 rows_cells m k zero = []
 rows_cells m k (suc n) = rows_cells m k n ++ row_cells m k n
+
+-- the cells of all places: those of the arcs, the holds and the supplies
+abbrev pub start_cells : Model → List Cell
+start_cells m = (rows_cells m kinds.Arc (length m.arcs) ++ rows_cells m kinds.Hold (length m.nodes)) ++ rows_cells m kinds.Supply (length m.nodes)
 
 -- no flow, the limits of a model, and saved as it is
 pub record StartsAs (m : Model) (w : Network) : Type 0 where

@@ -2,8 +2,8 @@
 ghost use Rattle.std.specs.Prelude.{◌≡◌, ◌∷◌, [], ◌≤◌, ◌<◌, ◌+◌, ◌-◌, ◌↔◌, IfOk, IsTrue, length, map, vec_capacity};
 ghost use Rattle.std.specs.List.{All};
 ghost use Rattle.residual_net.specs.Site.{IsSite, IsPlace, all_cells, arrival_at, cell_of, exit_at, head_of, start_of, stop_of, tail_of};
-ghost use Rattle.residual_net.specs.Network.{IsGrid, flow_at, limit_at, residual_room, saved_of, with_cell, with_saved};
-ghost use Rattle.residual_net.specs.Legs.{IsShiftable, waits_at, with_more};
+ghost use Rattle.residual_net.specs.Network.{IsGrid, flow_at, limit_at, residual_room, saved_of, step_over, with_cell, with_saved};
+ghost use Rattle.residual_net.specs.Legs.{IsShiftable, steps_of_leg, waits_at, waits_to, with_more};
 ghost use Rattle.residual_net.specs.Route.{IsPushed};
 ghost use Rattle.residual_net.specs.Change.{IsLimitSet};
 ghost use Rattle.residual_net.specs.Start.{emptied, saved_cells};
@@ -124,7 +124,8 @@ impl Grid {
     /// The traversal time of an arc.
     pub fn travel(&self, arc: u32) -> u16
         requires { arc < length self.now.site.shape.ends }
-        ensures { arrival_at self.now.site arc 0 ≡ result }
+        ensures travel { arrival_at self.now.site arc 0 ≡ result }
+        ensures grid { IsGrid self.now }
     {
         self.travels[arc as usize]
     }
@@ -134,14 +135,12 @@ impl Grid {
         requires { IsPlace self.now.site (Arc arc moment) }
         ensures { result ≡ arrival_at self.now.site arc moment }
     {
-        // The network's sizes bound the sum.
-        let _ = self.shape();
         moment + self.travel(arc)
     }
 
     // The number of the cell of a place.
     #[tactic(auto, using(crate::proofs::Steps::cell_in), unfolding(crate::specs::Site::cell_of))]
-    fn place(&self, place: Place) -> usize
+    fn cell_number(&self, place: Place) -> usize
         requires { IsPlace self.now.site place }
         ensures cell { result ≡ cell_of self.now.site place }
         ensures within { result < length self.now.cells }
@@ -156,59 +155,26 @@ impl Grid {
         }
     }
 
-    // The flow and the limit at a place, by the number of its cell.
-    #[tactic(auto, using(crate::proofs::Steps::cell_in), unfolding(crate::specs::Network::flow_at, crate::specs::Network::limit_at))]
-    fn get_at(&self, at: usize, place: Place) -> Cell
-        requires place { IsPlace self.now.site place }
-        requires cell { at ≡ cell_of self.now.site place }
-        ensures flow { result.flow ≡ flow_at self.now place }
-        ensures limit { result.limit ≡ limit_at self.now place }
-        ensures grid { IsGrid self.now }
-    {
-        let _ = self.shape();
-        self.cells[at]
-    }
-
     /// The flow and the limit at a place.
+    #[tactic(auto, unfolding(crate::specs::Network::flow_at, crate::specs::Network::limit_at))]
     pub fn get(&self, place: Place) -> Cell
         requires { IsPlace self.now.site place }
         ensures flow { result.flow ≡ flow_at self.now place }
         ensures limit { result.limit ≡ limit_at self.now place }
         ensures grid { IsGrid self.now }
     {
-        let at = self.place(place);
-        self.get_at(at, place)
+        self.cells[self.cell_number(place)]
     }
 
-    // Puts a cell with the same limit in the place of another, by the number of that one.
-    #[tactic(auto, using(crate::proofs::Steps::cell_in))]
-    fn put_at(&mut self, at: usize, place: Place, cell: Cell)
+    // Puts a cell with the same limit in that of a place.
+    fn put(&mut self, place: Place, cell: Cell)
         requires place { IsPlace self.old.site place }
-        requires cell { at ≡ cell_of self.old.site place }
         requires limit { cell.limit ≡ limit_at self.old place }
-        ensures { self.new ≡ with_cell self.old place cell }
-    {
-        let _ = self.shape();
-        self.cells[at] = cell;
-    }
-
-    // Sends people over a step, by the number of its place's cell.
-    fn shift_at(&mut self, at: usize, step: PathStep, people: u32)
-        requires place { IsPlace self.old.site step.place }
-        requires cell { at ≡ cell_of self.old.site step.place }
-        requires room { people ≤ residual_room self.old step }
-        ensures pushed { IsPushed self.old self.new (step ∷ []) people }
+        ensures put { self.new ≡ with_cell self.old place cell }
         ensures grid { IsGrid self.new }
     {
-        let cell = self.get_at(at, step.place);
-        let flow = if step.back {
-            cell.flow - people
-        } else {
-            cell.flow + people
-        };
-        let limit = cell.limit;
-        self.put_at(at, step.place, Cell { flow, limit });
-        let _ = &self.cells;
+        let at = self.cell_number(place);
+        self.cells[at] = cell;
     }
 
     /// Sends people over a step.
@@ -218,18 +184,23 @@ impl Grid {
         ensures pushed { IsPushed self.old self.new (step ∷ []) people }
         ensures grid { IsGrid self.new }
     {
-        let at = self.place(step.place);
-        self.shift_at(at, step, people);
+        let cell = self.get(step.place);
+        let flow = if step.back {
+            cell.flow - people
+        } else {
+            cell.flow + people
+        };
+        let limit = cell.limit;
+        self.put(step.place, Cell { flow, limit });
     }
 
-    /// Lets more people wait in a node, at each moment from one up to another.
-    pub fn shift_waits(&mut self, node: u32, from: u16, to: u16, people: u32)
-        requires { IsShiftable self.old (waits_at node from (to - from)) people }
+    // Lets more people wait in a node, at each moment from one up to another.
+    fn shift_waits(&mut self, node: u32, from: u16, to: u16, people: u32)
+        requires grid { IsGrid self.old }
+        requires shiftable { IsShiftable self.old (waits_at node from (to - from)) people }
         ensures pushed { IsPushed self.old self.new (waits_at node from (to - from)) people }
         ensures grid { IsGrid self.new }
     {
-        // Its cells are those of a grid, with no waits too.
-        let _ = &self.cells;
         if to <= from {
             return;
         }
@@ -239,6 +210,48 @@ impl Grid {
         raise_all(waits, people);
     }
 
+    // Sends people over a place forwards.
+    fn raise(&mut self, place: Place, people: u32)
+        requires place { IsPlace self.old.site place }
+        requires room { people ≤ residual_room self.old (step_over place) }
+        ensures pushed { IsPushed self.old self.new (step_over place ∷ []) people }
+        ensures grid { IsGrid self.new }
+    {
+        let cell = self.get(place);
+        let flow = cell.flow + people;
+        let limit = cell.limit;
+        self.put(place, Cell { flow, limit });
+    }
+
+    /// Sends people over an arc, and lets them wait before in the node at which it begins, at each moment since one.
+    pub fn shift_arc(&mut self, arc: u32, moment: u16, since: u16, people: u32)
+        requires grid { IsGrid self.old }
+        requires shiftable { IsShiftable self.old (steps_of_leg self.old.site (record { since = since; step = step_over (Arc arc moment) })) people }
+        ensures pushed { IsPushed self.old self.new (steps_of_leg self.old.site (record { since = since; step = step_over (Arc arc moment) })) people }
+        ensures grid { IsGrid self.new }
+    {
+        if since < moment {
+            let node = self.shape().ends()[arc as usize].from;
+            self.shift_waits(node, since, moment, people);
+        }
+        self.raise(Place::Arc { arc, moment }, people);
+    }
+
+    /// Lets more people wait in the node at which a step starts, at each moment since one up to that of the step.
+    pub fn shift_waits_to(&mut self, step: PathStep, since: u16, people: u32)
+        requires grid { IsGrid self.old }
+        requires place { IsPlace self.old.site step.place }
+        requires shiftable { IsShiftable self.old (waits_to (start_of self.old.site step) since) people }
+        ensures pushed { IsPushed self.old self.new (waits_to (start_of self.old.site step) since) people }
+        ensures grid { IsGrid self.new }
+    {
+        match self.start(step) {
+            End::Pair { node, moment } => self.shift_waits(node, since, moment, people),
+            End::Source => {}
+            End::Door(_) => {}
+        }
+    }
+
     /// Gives a place another limit.
     pub fn set_limit(&mut self, place: Place, limit: u32)
         requires { IsPlace self.old.site place }
@@ -246,7 +259,7 @@ impl Grid {
         ensures grid { IsGrid self.new }
     {
         let flow = self.get(place).flow;
-        let at = self.place(place);
+        let at = self.cell_number(place);
         write_saved(&mut self.saved, self.cells.as_slice(), self.is_saved);
         self.is_saved = true;
         self.cells[at] = Cell { flow, limit };
@@ -259,6 +272,11 @@ impl Grid {
         write_saved(&mut self.saved, &self.cells, self.is_saved);
         self.is_saved = true;
         self.saved.as_mut_slice().copy_from_slice(&self.cells);
+    }
+
+    /// The cells that were saved, if any were.
+    pub fn saved(&self) -> &[Cell] {
+        self.saved.as_slice()
     }
 
     /// Gives back the cells that were saved.

@@ -10,6 +10,7 @@ mod cancel;
 mod end;
 mod grid;
 mod laws;
+mod leads;
 mod legs;
 mod limits;
 mod net;

@@ -3,7 +3,7 @@ ghost use Rattle.std.specs.Prelude.{◌≡◌, ℕ, ◌+◌, ◌-◌, ◌<◌, �
 ghost use Rattle.evac_law.specs.Building.{IsValid};
 ghost use Rattle.residual_net.specs.Limits.{supply_limit};
 ghost use Rattle.residual_net.specs.Site.{IsOpenEnd, IsPlace, arrival_at, exit_at, head_of, is_barred, start_of, stop_of, tail_of};
-ghost use Rattle.residual_net.specs.Network.{IsAllSent, IsGrid, IsNet, IsStored, IsTransit, IsWithinLimits, arrived_by, excess_at, flow_at, limit_at, residual_room, saved_of, unsent_at, with_saved};
+ghost use Rattle.residual_net.specs.Network.{IsAllSent, IsGrid, IsLeading, IsNet, IsStored, IsTransit, IsWithinLimits, arrived_by, excess_at, flow_at, limit_at, residual_room, saved_of, unsent_at, with_saved};
 ghost use Rattle.residual_net.specs.Route.{IsPushable, IsPushed};
 ghost use Rattle.residual_net.specs.Legs.{IsShiftable, IsUnderwayBetween, steps_of_leg, steps_of_legs};
 ghost use Rattle.residual_net.specs.Change.{IsCancelled, IsFewerBy, IsLimitSet, IsLowering, supply_limits_with};
@@ -15,6 +15,7 @@ ghost use Rattle.residual_net.specs.declared.place.Place.TheVariants.{Arc, Hold,
 use crate::cancel::{find_path, least, take_all};
 use crate::end::End;
 use crate::grid::Grid;
+use crate::leads::leads;
 use crate::legs::Leg;
 use crate::path::Path;
 use crate::place::{Cell, PathStep, Place, Transit};
@@ -66,19 +67,25 @@ fn shift_all(grid: &mut Grid, path: &[PathStep], people: u32)
 // Sends people over a leg.
 fn shift_leg(grid: &mut Grid, leg: Leg, people: u32)
     requires grid { IsGrid grid.old }
-    requires shiftable { IsShiftable grid.old (steps_of_leg leg) people }
-    ensures pushed { IsPushed grid.old grid.new (steps_of_leg leg) people }
+    requires shiftable { IsShiftable grid.old (steps_of_leg grid.old.site leg) people }
+    ensures pushed { IsPushed grid.old grid.new (steps_of_leg grid.old.site leg) people }
     ensures grid { IsGrid grid.new }
 {
-    grid.shift_waits(leg.node, leg.from, leg.to, people);
+    if !leg.step.back {
+        if let Place::Arc { arc, moment } = leg.step.place {
+            grid.shift_arc(arc, moment, leg.since, people);
+            return;
+        }
+    }
+    grid.shift_waits_to(leg.step, leg.since, people);
     grid.shift(leg.step, people);
 }
 
 // Sends people over each leg in turn.
 fn shift_legs(grid: &mut Grid, legs: &[Leg], people: u32)
     requires grid { IsGrid grid.old }
-    requires shiftable { IsShiftable grid.old (steps_of_legs legs.now) people }
-    ensures pushed { IsPushed grid.old grid.new (steps_of_legs legs.now) people }
+    requires shiftable { IsShiftable grid.old (steps_of_legs grid.old.site legs.now) people }
+    ensures pushed { IsPushed grid.old grid.new (steps_of_legs grid.old.site legs.now) people }
     ensures grid { IsGrid grid.new }
 {
     for leg in legs {
@@ -137,10 +144,10 @@ impl Net {
         ensures empty { IfOk result (λ w. (p : Place) → IsPlace w.site p → flow_at w p ≡ 0) }
         ensures saved { IfOk result (λ w. saved_of w ≡ w) }
     {
-        let grid = grid_of(alloc, model)?;
         let moments = model.horizon as usize + 1;
         let arrivals = vec![in alloc; 0u32; moments]?;
         let saved_arrivals = vec![in alloc; 0u32; moments]?;
+        let grid = grid_of(alloc, model)?;
         let supplies = model.people();
         Ok(Net {
             grid,
@@ -242,6 +249,18 @@ impl Net {
         } else {
             None
         }
+    }
+
+    /// Where a step forwards over a place starts that stops at an end, and the people who may go over it.
+    ///
+    /// None where the place isn't one of the net's, leads elsewhere or has no room.
+    pub fn leads(&self, place: Place, end: End) -> Option<Transit>
+        requires within { IsWithinLimits self.now }
+        requires open { IsOpenEnd self.now.site end }
+        ensures leads { IsLeading self.now place end result }
+        ensures open { MatchOption result (Unit {0}) (λ p. IsOpenEnd self.now.site p.start) }
+    {
+        leads(&self.grid, place, end)
     }
 
     /// The people who may go over a step.
@@ -356,21 +375,20 @@ impl Net {
             people,
         );
         steps.tick();
-        let _ = &self.grid;
     }
 
     /// Sends people along a path by its legs, which is quicker than by its steps. Takes time in proportion to the path.
     pub fn push_legs<L: Ledger>(&mut self, legs: &[Leg], people: u32, steps: &mut Steps<L>)
         requires within { IsWithinLimits self.old }
         requires some { 1 ≤ people }
-        requires path { IsPushable self.old (steps_of_legs legs.now) people }
-        ensures pushed { IsPushed self.old self.new (steps_of_legs legs.now) people }
+        requires path { IsPushable self.old (steps_of_legs self.old.site legs.now) people }
+        ensures pushed { IsPushed self.old self.new (steps_of_legs self.old.site legs.now) people }
         ensures within { IsWithinLimits self.new }
         ensures net { IsNet self.new }
         ensures ticked { steps.new ≡ steps.old + 1 }
     {
         shift_legs(&mut self.grid, legs, people);
-        let first = legs[0].first();
+        let first = legs[0].step;
         let last = legs[legs.len() - 1].step;
         move_arrivals(
             self.arrivals.as_mut_slice(),
@@ -380,7 +398,6 @@ impl Net {
             people,
         );
         steps.tick();
-        let _ = &self.grid;
     }
 
     // The limits of all supplies together, with another limit at a place.
@@ -438,6 +455,11 @@ impl Net {
             .as_mut_slice()
             .copy_from_slice(self.arrivals.as_slice());
         self.saved_supplies = self.supplies;
+    }
+
+    /// The cells that were saved last, if any were.
+    pub fn saved(&self) -> &[Cell] {
+        self.grid.saved()
     }
 
     /// Gives back the flow and the limits that were saved last, and where nothing was saved those of the new net.

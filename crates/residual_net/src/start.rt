@@ -4,7 +4,7 @@ ghost use Rattle.evac_law.specs.Building.{IsValid};
 ghost use Rattle.evac_law.specs.Names.{is_exit};
 ghost use Rattle.residual_net.specs.Site.{IsPlace};
 ghost use Rattle.residual_net.specs.OfModel.{model_limit, site_of};
-ghost use Rattle.residual_net.specs.Start.{IsOpening, StartsAs, place_of, row_cells, rows_cells};
+ghost use Rattle.residual_net.specs.Start.{IsOpening, StartsAs, place_of, row_cells, rows_cells, start_cells};
 
 use crate::grid::Grid;
 use crate::place::{Cell, Place};
@@ -13,7 +13,7 @@ use std::alloc::{AllocError, Global};
 use time_expansion::{Ends, Shape};
 
 /// The kinds of places.
-#[derive(Clone, Copy, PartialEq, Eq, Debug)]
+#[derive(Clone, Copy)]
 pub enum Kind {
     Arc,
     Hold,
@@ -102,7 +102,7 @@ pub fn place_of(kind: Kind, number: u32, moment: u16) -> Place
 }
 
 // The limit at the first moments of some places, and how many these are. At the later ones it is 0.
-#[derive(Clone, Copy, PartialEq, Eq, Debug)]
+#[derive(Clone, Copy)]
 struct Opening {
     moments: u16,
     limit: u32,
@@ -194,22 +194,40 @@ fn add_rows(cells: &mut Vec<Cell>, model: &Model, kind: Kind, count: u32) -> Res
     Ok(())
 }
 
+// The network of a model.
+fn shape_of(alloc: Global, model: &Model) -> Result<Shape, AllocError>
+    requires { IsValid model.now }
+    ensures { IfOk result (λ s. s ≡ (site_of model.now).shape) }
+{
+    let ends = ends_of(alloc, model)?;
+    let shape = Shape::new(alloc, model.node_count(), ends.as_slice(), model.horizon)?;
+    Ok(shape)
+}
+
+// The cells of all places, with no flow and the model's limits.
+fn cells_of(alloc: Global, model: &Model) -> Result<Vec<Cell>, AllocError>
+    requires { IsValid model.now }
+    ensures { IfOk result (λ cells. cells.items ≡ start_cells model.now) }
+{
+    let nodes = model.node_count();
+    let arcs = model.arc_count();
+    let rows = arcs as usize + 2 * nodes as usize;
+    let mut cells = Vec::with_capacity(alloc, rows * (model.horizon as usize + 1))?;
+    add_rows(&mut cells, model, Kind::Arc, arcs)?;
+    add_rows(&mut cells, model, Kind::Hold, nodes)?;
+    add_rows(&mut cells, model, Kind::Supply, nodes)?;
+    Ok(cells)
+}
+
 /// The cells of a net with no flow and the limits of a model.
 pub fn grid_of(alloc: Global, model: &Model) -> Result<Grid, AllocError>
     requires { IsValid model.now }
     ensures { IfOk result (StartsAs model.now) }
 {
-    let ends = ends_of(alloc, model)?;
-    let nodes = model.nodes.len() as u32;
-    let arcs = model.arcs.len() as u32;
-    let shape = Shape::new(alloc, nodes, ends.as_slice(), model.horizon)?;
     let exits = exits_of(alloc, model)?;
     let travels = travels_of(alloc, model)?;
-    let supplies = nodes as usize * (model.horizon as usize + 1);
-    let mut cells = Vec::with_capacity(alloc, shape.cells() as usize + supplies)?;
-    add_rows(&mut cells, model, Kind::Arc, arcs)?;
-    add_rows(&mut cells, model, Kind::Hold, nodes)?;
-    add_rows(&mut cells, model, Kind::Supply, nodes)?;
+    let cells = cells_of(alloc, model)?;
+    let shape = shape_of(alloc, model)?;
     let grid = Grid::new(alloc, shape, exits, travels, cells)?;
     Ok(grid)
 }

@@ -1,13 +1,13 @@
 //! The ways of a building in the order of their lists.
 //!
-//! Each node has a list of the ways into it, which has the number of the node. After these lists each node has one of its doors: the
-//! ways from it over an arc into an exit. In a list ways forwards come first, and each direction goes by the rows, in file order.
+//! Each node has a list of the ways into it, which has the number of the node. After these lists each node has one of its exit ways:
+//! those from it over an arc into an exit. In a list ways forwards come first, and each direction goes by the rows, in file order.
 ghost use Rattle.std.specs.Prelude.{◌≡◌, ◌<◌, ◌≤◌, IfOk, length};
 ghost use Rattle.std.specs.List.{All};
 ghost use Rattle.residual_ways.specs.Ways.{IsWayWithin};
 
 use crate::sizes::Sizes;
-use crate::way::{Turn, Way};
+use crate::way::{Rank, Way};
 use evac_law::{ArcRow, Model as Building};
 use std::alloc::{AllocError, Global};
 
@@ -69,7 +69,7 @@ fn add_arc(
     add(ways, sizes, outgoing(model, sizes, arc, row))
 }
 
-// The way over an arc at the node where it begins: a door where it leads into an exit, else the way backwards.
+// The way over an arc at the node where it begins: an exit way where it leads into an exit, otherwise the way backwards.
 fn outgoing(model: &Building, sizes: Sizes, arc: &ArcRow, row: u32) -> Way
     requires nodes { sizes.nodes ≤ length model.now.nodes }
     requires from { arc.now.from < sizes.nodes }
@@ -78,8 +78,8 @@ fn outgoing(model: &Building, sizes: Sizes, arc: &ArcRow, row: u32) -> Way
     ensures { IsWayWithin sizes result }
 {
     if is_exit(model, arc.to) {
-        let doors = sizes.doors_list(arc.from);
-        return Way::forwards(sizes, doors, arc.from, row, arc.travel);
+        let list = sizes.exit_list(arc.from);
+        return Way::forwards(sizes, list, arc.from, row, arc.travel);
     }
     Way::backwards(sizes, arc.from, arc.to, row, arc.travel)
 }
@@ -93,12 +93,12 @@ fn add_waits(ways: &mut Vec<Way>, model: &Building, sizes: Sizes) -> Result<(), 
     for node in 0..sizes.nodes {
         let row = sizes.wait_row(node);
         let wait = Way::forwards(sizes, node, node, row, 1);
-        let turn = if is_entered(model, node) {
-            Turn::First
+        let rank = if is_entered(model, node) {
+            Rank::First
         } else {
-            Turn::ByRow
+            Rank::ByRow
         };
-        add(ways, sizes, Way { turn, ..wait })?;
+        add(ways, sizes, Way { rank, ..wait })?;
         add(ways, sizes, Way::backwards(sizes, node, node, row, 1))?;
     }
     Ok(())

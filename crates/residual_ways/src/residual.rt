@@ -63,7 +63,7 @@ impl<'a> Residual<'a> {
         requires { pair < self.now.ways.now.sizes.pairs }
         ensures { result.sizes ≡ self.now.ways.now.sizes }
     {
-        let (node, moment) = self.sizes().parts(pair);
+        let (node, moment) = self.sizes().node_and_moment(pair);
         self.incoming(node, moment)
     }
 }

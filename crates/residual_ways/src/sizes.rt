@@ -83,7 +83,7 @@ impl Sizes {
     }
 
     /// The node and the moment of a pair.
-    pub fn parts(&self, pair: u32) -> (u32, u32)
+    pub fn node_and_moment(&self, pair: u32) -> (u32, u32)
         requires { pair < self.now.pairs }
         ensures pair { result.0 * self.now.moments + result.1 ≡ pair }
         ensures within { IsPair self.now result.0 result.1 }
@@ -91,8 +91,8 @@ impl Sizes {
         (pair / self.moments, pair % self.moments)
     }
 
-    /// The number of the list of a node's doors.
-    pub(crate) fn doors_list(&self, node: u32) -> u32
+    /// The number of the list of a node's exit ways.
+    pub(crate) fn exit_list(&self, node: u32) -> u32
         requires { node < self.now.nodes }
         ensures { result ≡ self.now.nodes + node }
     {
@@ -136,7 +136,7 @@ impl Sizes {
     }
 
     /// The place of a cell.
-    pub(crate) fn place(&self, cell: u32) -> Place
+    pub(crate) fn place_of(&self, cell: u32) -> Place
         ensures { (site : Site) → AreSizesOf site self.now → cell_of site result ≡ cell }
     {
         let row = cell / self.moments;

@@ -54,23 +54,20 @@ impl Step {
         ensures cell { (site : Site) → AreSizesOf site sizes → cell_of site result.place ≡ self.now.cell }
         ensures back { result.back ≡ self.now.back }
     {
-        let place = sizes.place(self.cell);
+        let place = sizes.place_of(self.cell);
         let back = self.back;
         PathStep { place, back }
     }
 
-    /// The waits in its node since a moment, and then the step.
+    /// The waits since a moment where the step starts, and then the step.
     pub fn leg_since(&self, sizes: Sizes, since: u32) -> Leg
-        requires since { since < sizes.moments }
-        requires step { IsStepWithin sizes self.now }
-        ensures waits { result ≡ record { node = self.now.node; from = since; to = self.now.moment; step = result.step } }
+        requires { since < sizes.moments }
+        ensures since { result.since ≡ since }
         ensures cell { (site : Site) → AreSizesOf site sizes → cell_of site result.step.place ≡ self.now.cell }
         ensures back { result.step.back ≡ self.now.back }
     {
         Leg {
-            node: self.node,
-            from: since as u16,
-            to: self.moment as u16,
+            since: since as u16,
             step: self.path_step(sizes),
         }
     }

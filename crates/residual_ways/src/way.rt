@@ -6,9 +6,9 @@ ghost use Rattle.residual_ways.specs.Ways.{IsBegun, IsStepInto, IsWayWithin, ste
 use crate::sizes::Sizes;
 use crate::step::Step;
 
-/// When a way has its turn among those of its list that lead as it does, forwards or backwards.
+/// When a way is tried among those of its list that lead as it does, forwards or backwards.
 #[derive(Clone, Copy, PartialEq, Eq, PartialOrd, Ord)]
-pub enum Turn {
+pub enum Rank {
     /// Before all others.
     First,
     /// By its row.
@@ -20,12 +20,12 @@ pub enum Turn {
 /// The order of the fields is that of the ways.
 #[derive(Clone, Copy, PartialEq, Eq, PartialOrd, Ord)]
 pub struct Way {
-    /// The number of its list: the node into which it leads, but for doors.
+    /// The number of its list: the node into which it leads, but for exit ways.
     pub(crate) list: u32,
     /// Whether it leads backwards.
     pub back: bool,
-    /// When it has its turn in its list.
-    pub(crate) turn: Turn,
+    /// Its rank in its list.
+    pub(crate) rank: Rank,
     /// The row of its cells.
     pub(crate) row: u32,
     /// The cell of that row at moment 0.
@@ -50,7 +50,7 @@ impl Way {
         Way {
             list,
             back: false,
-            turn: Turn::ByRow,
+            rank: Rank::ByRow,
             row,
             first_cell: sizes.first_cell(row),
             node,
@@ -101,8 +101,8 @@ impl Way {
         ensures within { IfSome result (λ begun. begun < sizes.moments) }
         ensures forwards { IfSome result (λ begun. self.now.shift ≤ℤ pos 0 → begun ≤ moment) }
     {
-        let begun = moment as i64 + self.shift as i64;
-        if begun < 0 || begun >= sizes.moments as i64 {
+        let begun = (moment as i64 + self.shift as i64).cast_unsigned();
+        if begun >= sizes.moments as u64 {
             return None;
         }
         Some(begun as u32)

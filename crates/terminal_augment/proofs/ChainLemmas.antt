@@ -1,7 +1,7 @@
 -- The way on from a pair that was met leads to an arrival, and comes to no pair twice.
-use Rattle.std.proofs.Common.{◌≡◌, ℕ, zero, suc, ◌<◌, true, false, ◌&&◌, eqb, List, [], ◌∷◌, drop, ap, sym, ◌⊎◌, arith, inl, inr}
+use Rattle.std.proofs.Common.{◌≡◌, ℕ, zero, suc, ◌<◌, true, false, true≢false, ◌&&◌, eqb, List, [], ◌∷◌, drop, ap, sym, ◌∙◌, ◌⊎◌, arith, inl, inr}
 use Rattle.std.specs.List.{All}
-use Rattle.std.proofs.lemmas.Bool.{cases_Bool, and_parts, eqb-true, or_cases}
+use Rattle.std.proofs.lemmas.Bool.{cases_Bool, and_parts, eqb-true, or_cases, or_left, or_right}
 use Rattle.residual_net.specs.declared.place.PathStep.{PathStep}
 use Rattle.residual_net.specs.Network.{Network, residual_room}
 use Rattle.residual_net.specs.declared.end.End.{End}
@@ -11,7 +11,6 @@ use Rattle.terminal_augment.specs.declared.spot.Met.{Met}
 use Rattle.terminal_augment.specs.declared.spot.Spot.{Spot}
 use Rattle.terminal_augment.specs.Chains.{AreMet, IsAmong, IsChain, IsLink, is_at, spots, steps_of, top_end, way_on}
 use Rattle.terminal_augment.specs.Spots.{has}
-use Rattle.terminal_augment.proofs.SpotLemmas.{differs, or_here, or_later}
 
 pub at_same : (e : End) (p : Spot) → is_at e p ≡ true → e ≡ Pair p.node p.moment
 at_same Source p h = absurd (cc)
@@ -26,7 +25,7 @@ at_same (Door j) p h = absurd (cc)
 among_rest : (k : ℕ) (e : End) (m : Met) (ms : List Met) → is_at e m.spot ≡ false → IsAmong k (spots (m ∷ ms)) e → IsAmong k (spots ms) e
 among_rest k Source m ms off h = h
 among_rest k (Pair n t) m ms off h = elim (or_cases (eqb m.spot.node n && eqb m.spot.moment t) (has (spots ms) n t) h) [
-  | inl here ↦ absurd (differs _ here off)
+  | inl here ↦ absurd (true≢false (sym here ∙ off))
   | inr later ↦ later
 ]
 among_rest k (Door j) m ms off h = h
@@ -36,10 +35,10 @@ way_has : (s : Site) (e : End) (ms : List Met) (n t : ℕ) → has (spots (way_o
 way_has s e [] n t h = h
 way_has s e (m ∷ ms) n t h = elim (cases_Bool (is_at e m.spot)) [
   | inl q ↦ elim (or_cases (eqb m.spot.node n && eqb m.spot.moment t) (has (spots (way_on s (stop_of s m.step) ms)) n t) (rw q at h)) [
-    | inl here ↦ or_here _ _ here
-    | inr later ↦ or_later (eqb m.spot.node n && eqb m.spot.moment t) _ (way_has s (stop_of s m.step) ms n t later)
+    | inl here ↦ or_left _ _ here
+    | inr later ↦ or_right (eqb m.spot.node n && eqb m.spot.moment t) _ (way_has s (stop_of s m.step) ms n t later)
   ]
-  | inr q ↦ or_later (eqb m.spot.node n && eqb m.spot.moment t) _ (way_has s e ms n t (rw q at h))
+  | inr q ↦ or_right (eqb m.spot.node n && eqb m.spot.moment t) _ (way_has s e ms n t (rw q at h))
 ]
 
 -- the way on from an end among the pairs leads from that end to an arrival
@@ -68,7 +67,7 @@ leads_on w k e (m ∷ ms) met among = elim (cases_Bool (is_at e m.spot)) [
     not_met : (has (spots (way_on w.site (stop_of w.site m.step) ms)) m.spot.node m.spot.moment ≡ true)
         ⊎ (has (spots (way_on w.site (stop_of w.site m.step) ms)) m.spot.node m.spot.moment ≡ false)
         → has (spots (way_on w.site (stop_of w.site m.step) ms)) m.spot.node m.spot.moment ≡ false
-    not_met (inl h) = absurd (differs _ (way_has w.site (stop_of w.site m.step) ms m.spot.node m.spot.moment h) met.0.fresh)
+    not_met (inl h) = absurd (true≢false (sym (way_has w.site (stop_of w.site m.step) ms m.spot.node m.spot.moment h) ∙ met.0.fresh))
     not_met (inr h) = h
 
 pub met_steps : (w : Network) (k : ℕ) (ms : List Met) → AreMet w k ms → All (λ (m : Met). IsPlace w.site m.step.place × (0 < residual_room w m.step)) ms

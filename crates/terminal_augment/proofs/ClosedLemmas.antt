@@ -15,8 +15,8 @@ use Rattle.residual_net.specs.declared.place.Place.{Place}
 use Rattle.residual_net.specs.declared.place.Place.TheVariants.{Arc, Hold, Supply}
 use Rattle.residual_net.proofs.Walks.{start_open, stop_open}
 use Rattle.terminal_augment.specs.declared.spot.Met.{Met}
-use Rattle.terminal_augment.specs.Floods.{HaveSameLabels, AreDoorsDone, AreExpanded, IsDone, IsExpanded, IsFlooding, IsGrown, IsFloodOver}
-use Rattle.terminal_augment.specs.Piles.{Pile}
+use Rattle.terminal_augment.specs.Floods.{HaveSameLabels, IsSeededBelow, AreExpanded, IsDone, IsExpanded, IsFlooding, IsGrown, IsFloodOver}
+use Rattle.terminal_augment.specs.Queues.{Queue}
 use Rattle.terminal_augment.specs.Settled.{IsLabelled, IsSettledBelow, IsUnsetFrom}
 use Rattle.terminal_augment.proofs.SpotLemmas.{all_has}
 
@@ -36,13 +36,13 @@ closed_same w x y k net same closed r place room inside =
     from_end (Door j) q h = h
 
 -- the pairs labelled at most a moment before k are the same after a flood
-before_same : (k i : ℕ) (l m : LabelTable) (x y : Pile Met) (n t : ℕ) → IsGrown k l m x y → i < k → labelled m i n t ≡ labelled l i n t
+before_same : (k i : ℕ) (l m : LabelTable) (x y : Queue Met) (n t : ℕ) → IsGrown k l m x y → i < k → labelled m i n t ≡ labelled l i n t
 before_same k i l m x y n t g before = elim (g.labels n t) [
   | inl same ↦ ap (λ z. leb z i) same
   | inr new ↦ lt-leb _ _ (omega (arith, new.1, before)) ∙ sym (lt-leb _ _ (omega (arith, new.0, before)))
 ]
 
-pub labelled_after : (k : ℕ) (l m : LabelTable) (x y : Pile Met) → IsGrown k l m x y → IsUnsetFrom l k → IsLabelled l m k
+pub labelled_after : (k : ℕ) (l m : LabelTable) (x y : Queue Met) → IsGrown k l m x y → IsUnsetFrom l k → IsLabelled l m k
 labelled_after k l m x y g free = record {
   nodes = g.nodes;
   horizon = g.horizon;
@@ -64,8 +64,8 @@ earlier_reached l k i (Door j) q h = le-leb _ _ (omega (arith, leb-true _ _ h, q
 
 -- where each step is done into the pairs labelled k and into the arrivals at k, the pairs labelled at most k are closed
 now_closed : (w : Network) (m : LabelTable) (k : ℕ) → IsNet w → IsClosedBelow w m k → ((n t : ℕ) → IsOpenPair w.site n t → label_at m n t ≡ k → IsExpanded w m k n t)
-    → AreDoorsDone w m k (arc_count w.site) → IsClosed w (labelled m k) k
-now_closed w m k net closed expanded doors y place room inside = by (stop_of w.site y) refl inside
+    → IsSeededBelow w m k (arc_count w.site) → IsClosed w (labelled m k) k
+now_closed w m k net closed expanded seeded y place room inside = by (stop_of w.site y) refl inside
   where
     old : (i : ℕ) → i < k → reached (labelled m i) i (stop_of w.site y) ≡ true → reached (labelled m k) k (start_of w.site y) ≡ true
     old i q h = earlier_reached m k i (start_of w.site y) q (closed i q y place room h)
@@ -73,7 +73,7 @@ now_closed w m k net closed expanded doors y place room inside = by (stop_of w.s
     at_door : (p : Place) (b : Bool) → IsPlace w.site p → 0 < residual_room w (record { place = p; back = b }) → stop_of w.site (record { place = p; back = b }) ≡ Door k
         → reached (labelled m k) k (start_of w.site (record { place = p; back = b })) ≡ true
     at_door (Arc a t) true at some q = absurd (cc)
-    at_door (Arc a t) false at some q = doors a t at.0 at q some
+    at_door (Arc a t) false at some q = seeded a t at.0 at q some
     at_door (Hold n t) true at some q = absurd (cc)
     at_door (Hold n t) false at some q = absurd (cc)
     at_door (Supply n t) true at some q = absurd (cc)
@@ -95,20 +95,20 @@ now_closed w m k net closed expanded doors y place room inside = by (stop_of w.s
     ]
 
 -- a flood that came to nobody is over
-pub over_after : (w : Network) (l m : LabelTable) (k : ℕ) (x y : Pile Met) → IsNet w → IsSettledBelow w l k → IsGrown k l m x y → IsFlooding w m k y
-    → AreExpanded w m k (length y.list) y.list → AreDoorsDone w m k (arc_count w.site) → IsFloodOver w l m k
-over_after w l m k x y net settled g flooding all doors = record {
+pub over_after : (w : Network) (l m : LabelTable) (k : ℕ) (x y : Queue Met) → IsSettledBelow w l k → IsGrown k l m x y → IsFlooding w m k y
+    → AreExpanded w m k (length y.list) y.list → IsSeededBelow w m k (arc_count w.site) → IsFloodOver w l m k
+over_after w l m k x y settled g flooding all seeded = record {
   labels = labelled_after k l m x y g settled.unset;
   closed = λ i q. elim (cases_lt i k) [
     | inl before ↦ earlier i before
     | inr after ↦
         let same : k ≡ i = omega (arith, after, q) in
-        subst (λ z. IsClosed w (labelled m z) z) same (now_closed w m k net earlier expanded doors)
+        subst (λ z. IsClosed w (labelled m z) z) same (now_closed w m k flooding.net earlier expanded seeded)
   ];
 }
   where
     earlier : IsClosedBelow w m k
-    earlier i before = closed_same w (labelled l i) (labelled m i) i net (λ n t a. before_same k i l m x y n t g before) (settled.closed i before)
+    earlier i before = closed_same w (labelled l i) (labelled m i) i flooding.net (λ n t a. before_same k i l m x y n t g before) (settled.closed i before)
 
     whole : All (λ r. IsExpanded w m k r.spot.node r.spot.moment) y.list
     whole = subst (λ (i : ℕ). All (λ r. IsExpanded w m k r.spot.node r.spot.moment) (drop i y.list)) (let none : length y.list - length y.list ≡ 0 = omega arith in none) all
@@ -117,7 +117,7 @@ over_after w l m k x y net settled g flooding all doors = record {
     expanded n t inside same = all_has (λ u v. IsExpanded w m k u v) y.list whole n t (sym (flooding.listed n t inside) ∙ eq-eqb _ _ same)
 
 -- the labels of a flood taken back are those before it
-pub alike_after : (k : ℕ) (l m v : LabelTable) (x y : Pile Met) → IsGrown k l m x y → IsUnsetFrom l k → length m.list ≡ m.nodes * (m.horizon + 1)
+pub alike_after : (k : ℕ) (l m v : LabelTable) (x y : Queue Met) → IsGrown k l m x y → IsUnsetFrom l k → length m.list ≡ m.nodes * (m.horizon + 1)
     → v ≡ unset_from m k → HaveSameLabels l v
 alike_after k l m v x y g free full same = record {
   nodes = ap (λ (z : LabelTable). z.nodes) same ∙ g.nodes;
@@ -172,16 +172,16 @@ alike_then l m v a b = record {
   labels = λ n t p q. b.labels n t (omega (arith, p, a.nodes)) (omega (arith, q, a.horizon)) ∙ a.labels n t p q;
 }
 
--- ---- doors
+-- ---- arcs into exits
 
 -- one more arc into an exit is done
-pub doors_more : (w : Network) (m : LabelTable) (k a : ℕ) → AreDoorsDone w m k a
+pub seeded_more : (w : Network) (m : LabelTable) (k a : ℕ) → IsSeededBelow w m k a
     → ((t : ℕ) → IsPlace w.site (Arc a t) → head_of w.site (Arc a t) ≡ Door k → IsDone w m k (record { place = Arc a t; back = false }))
-    → AreDoorsDone w m k (a + 1)
-doors_more w m k a doors here b t q place stop = elim (cases_eq b a) [
+    → IsSeededBelow w m k (a + 1)
+seeded_more w m k a seeded here b t q place stop = elim (cases_eq b a) [
   | inl same ↦
       let place_a : IsPlace w.site (Arc a t) = subst (λ z. IsPlace w.site (Arc z t)) same place in
       let stop_a : head_of w.site (Arc a t) ≡ Door k = subst (λ z. head_of w.site (Arc z t) ≡ Door k) same stop in
       subst (λ z. IsDone w m k (record { place = Arc z t; back = false })) (sym same) (here t place_a stop_a)
-  | inr other ↦ doors b t (omega (arith, q, other)) place stop
+  | inr other ↦ seeded b t (omega (arith, q, other)) place stop
 ]

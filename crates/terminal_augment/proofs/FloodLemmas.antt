@@ -1,7 +1,7 @@
 -- A search that goes on from all pairs that it has met.
 use Rattle.std.proofs.Common.{◌≡◌, ◌≢◌, ℕ, zero, suc, ◌+◌, ◌-◌, ◌*◌, ◌<◌, ◌≤◌, Bool, true, false, cond, ◌&&◌, ◌||◌, eqb, leb, List, [], ◌∷◌, length, get_or, drop, Option, Some, None, ap, sym, subst, ◌∙◌, ◌⊎◌, refl, arith, add-one, drop-cons, inl, inr}
 use Rattle.std.specs.List.{All}
-use Rattle.std.proofs.lemmas.Bool.{and_from, cases_eq, cases_lt, eq-eqb, le-leb, ne_eqb}
+use Rattle.std.proofs.lemmas.Bool.{and_from, cases_eq, cases_lt, eq-eqb, le-leb, ne_eqb, or_left, or_right}
 use Rattle.std.proofs.lemmas.List.{drop-drop, get_or-set_other, get_or-set_same, length-set}
 use Rattle.evac_law.proofs.LabelLemmas.{label_within}
 use Rattle.evac_law.specs.LabelTable.{LabelTable, label_at, label_place, with_label}
@@ -17,18 +17,18 @@ use Rattle.residual_net.specs.declared.place.PathStep.{PathStep}
 use Rattle.residual_net.specs.declared.place.Place.TheVariants.{Arc, Hold}
 use Rattle.terminal_augment.specs.declared.spot.Met.{Met}
 use Rattle.terminal_augment.specs.Chains.{AreMet, IsAmong, spots}
-use Rattle.terminal_augment.specs.Floods.{AreDoorsDone, AreExpanded, IsDone, IsExpanded, IsFlooding, IsGrown, IsWayDone, open_count}
-use Rattle.terminal_augment.specs.Piles.{Pile}
+use Rattle.terminal_augment.specs.Floods.{IsSeededBelow, AreExpanded, IsDone, IsExpanded, IsFlooding, IsGrown, IsWayDone, open_count}
+use Rattle.terminal_augment.specs.Queues.{Queue}
 use Rattle.terminal_augment.specs.Settled.{IsSettledBelow}
 use Rattle.terminal_augment.specs.Spots.{has}
 use Rattle.terminal_augment.specs.Ways.{way_before, way_in}
-use Rattle.terminal_augment.proofs.ClosedLemmas.{doors_more}
+use Rattle.terminal_augment.proofs.ClosedLemmas.{seeded_more}
 use Rattle.terminal_augment.proofs.LabelLemmas.{label_set, open_few, open_labelled}
-use Rattle.terminal_augment.proofs.SpotLemmas.{all_cons, has_drop, or_here, or_later}
+use Rattle.terminal_augment.proofs.SpotLemmas.{all_cons, has_drop}
 
 -- ---- what was met grows
 
-pub grown_none : (k : ℕ) (l : LabelTable) (x : Pile Met) → IsGrown k l l x x
+pub grown_none : (k : ℕ) (l : LabelTable) (x : Queue Met) → IsGrown k l l x x
 grown_none k l x = record {
   nodes = refl;
   horizon = refl;
@@ -38,14 +38,14 @@ grown_none k l x = record {
   below = ap (λ i. drop i x.list) (let none : length x.list - length x.list ≡ 0 = omega arith in none);
 }
 
-below_grown : (k : ℕ) (l m : LabelTable) (x y : Pile Met) (j : ℕ) → IsGrown k l m x y → j ≤ length x.list → drop (length y.list - j) y.list ≡ drop (length x.list - j) x.list
+below_grown : (k : ℕ) (l m : LabelTable) (x y : Queue Met) (j : ℕ) → IsGrown k l m x y → j ≤ length x.list → drop (length y.list - j) y.list ≡ drop (length x.list - j) x.list
 below_grown k l m x y j g few =
     let sum : length y.list - j ≡ (length y.list - length x.list) + (length x.list - j) = omega (arith, g.more, few) in
     ap (λ i. drop i y.list) sum
     ∙ sym (drop-drop (length x.list - j) (length y.list - length x.list) y.list)
     ∙ ap (λ (z : List Met). drop (length x.list - j) z) g.below
 
-pub grown_then : (k : ℕ) (l m v : LabelTable) (x y z : Pile Met) → IsGrown k l m x y → IsGrown k m v y z → IsGrown k l v x z
+pub grown_then : (k : ℕ) (l m v : LabelTable) (x y z : Queue Met) → IsGrown k l m x y → IsGrown k m v y z → IsGrown k l v x z
 grown_then k l m v x y z g h = record {
   nodes = h.nodes ∙ g.nodes;
   horizon = h.horizon ∙ g.horizon;
@@ -62,11 +62,11 @@ grown_then k l m v x y z g h = record {
     both n t (inr a) (inl b) = inr (a.0, b ∙ a.1)
     both n t (inr a) (inr b) = absurd (omega (arith, a.1, b.0))
 
-pub has_later : (k : ℕ) (l m : LabelTable) (x y : Pile Met) (n t : ℕ) → IsGrown k l m x y → has (spots x.list) n t ≡ true → has (spots y.list) n t ≡ true
+pub has_later : (k : ℕ) (l m : LabelTable) (x y : Queue Met) (n t : ℕ) → IsGrown k l m x y → has (spots x.list) n t ≡ true → has (spots y.list) n t ≡ true
 has_later k l m x y n t g h = has_drop (length y.list - length x.list) y.list n t (subst (λ (z : List Met). has (spots z) n t ≡ true) (sym g.below) h)
 
 -- what is done stays so while labels are set
-pub done_later : (w : Network) (k : ℕ) (l m : LabelTable) (x y : Pile Met) (z : PathStep) → IsGrown k l m x y → IsDone w l k z → IsDone w m k z
+pub done_later : (w : Network) (k : ℕ) (l m : LabelTable) (x y : Queue Met) (z : PathStep) → IsGrown k l m x y → IsDone w l k z → IsDone w m k z
 done_later w k l m x y z g done room = reach (start_of w.site z) (done room)
   where
     reach : (e : End) → reached (labelled l k) k e ≡ true → reached (labelled m k) k e ≡ true
@@ -77,12 +77,12 @@ done_later w k l m x y z g done room = reach (start_of w.site z) (done room)
     ]
     reach (Door j) h = h
 
-pub way_later : (w : Network) (k : ℕ) (l m : LabelTable) (x y : Pile Met) (o : Option PathStep) → IsGrown k l m x y → IsWayDone w l k o → IsWayDone w m k o
+pub way_later : (w : Network) (k : ℕ) (l m : LabelTable) (x y : Queue Met) (o : Option PathStep) → IsGrown k l m x y → IsWayDone w l k o → IsWayDone w m k o
 way_later w k l m x y None g h = tt
 way_later w k l m x y (Some z) g h = done_later w k l m x y z g h
 
--- the wait before a pair is done after a look at the waits before it, the last of them first
-pub before_later : (w : Network) (k n t u : ℕ) (l m : LabelTable) (x y : Pile Met) → IsGrown k l m x y → 0 < u → u ≤ t → (u < t → IsWayDone w l k (way_before n t))
+-- the wait before a pair is done once the waits before it are gone through, the last of them first
+pub before_later : (w : Network) (k n t u : ℕ) (l m : LabelTable) (x y : Queue Met) → IsGrown k l m x y → 0 < u → u ≤ t → (u < t → IsWayDone w l k (way_before n t))
     → IsDone w m k (record { place = Hold n (u - 1); back = false }) → IsWayDone w m k (way_before n t)
 before_later w k n t u l m x y g some few old here = elim (cases_lt u t) [
   | inl before ↦ way_later w k l m x y (way_before n t) g (old before)
@@ -93,14 +93,15 @@ before_later w k n t u l m x y g some few old here = elim (cases_lt u t) [
       rw later there
 ]
 
-pub doors_later : (w : Network) (k n : ℕ) (l m : LabelTable) (x y : Pile Met) → IsGrown k l m x y → AreDoorsDone w l k n → AreDoorsDone w m k n
-doors_later w k n l m x y g h a t q place stop = done_later w k l m x y (record { place = Arc a t; back = false }) g (h a t q place stop)
+pub seeded_later : (w : Network) (k n : ℕ) (l m : LabelTable) (x y : Queue Met) → IsGrown k l m x y → IsSeededBelow w l k n → IsSeededBelow w m k n
+seeded_later w k n l m x y g h a t q place stop = done_later w k l m x y (record { place = Arc a t; back = false }) g (h a t q place stop)
 
 -- ---- a search begins
 
-pub flooding_begins : (w : Network) (l : LabelTable) (k : ℕ) (x y : Pile Met) → IsNet w → IsSettledBelow w l k → length l.list ≡ l.nodes * (l.horizon + 1)
+pub flooding_begins : (w : Network) (l : LabelTable) (k : ℕ) (x y : Queue Met) → IsNet w → IsSettledBelow w l k → length l.list ≡ l.nodes * (l.horizon + 1)
     → w.site.shape.nodes * (w.site.shape.horizon + 1) ≤ x.room → y ≡ record { list = []; room = x.room } → IsFlooding w l k y
-flooding_begins w l k x y net settled full room same = subst (λ (p : Pile Met). IsFlooding w l k p) (sym same) (record {
+flooding_begins w l k x y net settled full room same = subst (λ (p : Queue Met). IsFlooding w l k p) (sym same) (record {
+  net = net;
   within = settled.within;
   labels = settled.labels;
   full = full;
@@ -121,30 +122,31 @@ flooding_begins w l k x y net settled full room same = subst (λ (p : Pile Met).
 -- ---- a pair is met
 
 -- a pair that may be met by a step with room
-pub record IsNew (w : Network) (l : LabelTable) (k : ℕ) (p : Pile Met) (m : Met) : Type 0 where
+pub record IsNew (w : Network) (l : LabelTable) (k : ℕ) (p : Queue Met) (m : Met) : Type 0 where
   pub inside : IsOpenPair w.site m.spot.node m.spot.moment
   pub place : IsPlace w.site m.step.place
   pub start : start_of w.site m.step ≡ Pair m.spot.node m.spot.moment
   pub stop : IsAmong k (spots p.list) (stop_of w.site m.step)
   pub above : k < label_at l m.spot.node m.spot.moment
 
--- the labels and the pile with one more pair
+-- the labels and the queue with one more pair
 abbrev pub labelled_too : LabelTable → ℕ → Met → LabelTable
 labelled_too l k m = with_label l m.spot.node m.spot.moment k
 
-abbrev pub met_too : Pile Met → Met → Pile Met
+abbrev pub met_too : Queue Met → Met → Queue Met
 met_too p m = record { list = m ∷ p.list; room = p.room }
 
-one_less : (w : Network) (l : LabelTable) (k : ℕ) (p : Pile Met) (m : Met) → IsFlooding w l k p → IsNew w l k p m → open_count (labelled_too l k m) k + 1 ≡ open_count l k
+one_less : (w : Network) (l : LabelTable) (k : ℕ) (p : Queue Met) (m : Met) → IsFlooding w l k p → IsNew w l k p m → open_count (labelled_too l k m) k + 1 ≡ open_count l k
 one_less w l k p m h e =
     open_labelled l m.spot.node m.spot.moment k h.full (omega (arith, e.inside.node, h.labels.nodes)) (omega (arith, e.inside.moment, h.labels.horizon)) (omega (arith, e.above))
 
-pub met_room : (w : Network) (l : LabelTable) (k : ℕ) (p : Pile Met) (m : Met) → IsFlooding w l k p → IsNew w l k p m → length p.list < p.room
+pub met_room : (w : Network) (l : LabelTable) (k : ℕ) (p : Queue Met) (m : Met) → IsFlooding w l k p → IsNew w l k p m → length p.list < p.room
 met_room w l k p m h e = omega (arith, one_less w l k p m h e, h.room)
 
-noted_here : (w : Network) (l : LabelTable) (k : ℕ) (p : Pile Met) (m : Met) → IsFlooding w l k p → IsNew w l k p m → 0 < residual_room w m.step
+noted_here : (w : Network) (l : LabelTable) (k : ℕ) (p : Queue Met) (m : Met) → IsFlooding w l k p → IsNew w l k p m → 0 < residual_room w m.step
     → IsFlooding w (labelled_too l k m) k (met_too p m)
 noted_here w l k p m h e room = record {
+  net = h.net;
   within = h.within;
   labels = record { nodes = h.labels.nodes; horizon = h.labels.horizon };
   full = length-set l.list (label_place l m.spot.node m.spot.moment) k ∙ h.full;
@@ -164,12 +166,12 @@ noted_here w l k p m h e room = record {
     fresh : has (spots p.list) m.spot.node m.spot.moment ≡ false
     fresh = sym (h.listed m.spot.node m.spot.moment e.inside) ∙ ne_eqb _ _ (omega (arith, e.above))
 
-pub flooding_noted : (w : Network) (l v : LabelTable) (k : ℕ) (p q : Pile Met) (m : Met) → IsFlooding w l k p → IsNew w l k p m → 0 < residual_room w m.step
+pub flooding_noted : (w : Network) (l v : LabelTable) (k : ℕ) (p q : Queue Met) (m : Met) → IsFlooding w l k p → IsNew w l k p m → 0 < residual_room w m.step
     → v ≡ labelled_too l k m → q ≡ met_too p m → IsFlooding w v k q
 flooding_noted w l v k p q m h e room a b =
-    subst (λ (z : LabelTable). IsFlooding w z k q) (sym a) (subst (λ (z : Pile Met). IsFlooding w (labelled_too l k m) k z) (sym b) (noted_here w l k p m h e room))
+    subst (λ (z : LabelTable). IsFlooding w z k q) (sym a) (subst (λ (z : Queue Met). IsFlooding w (labelled_too l k m) k z) (sym b) (noted_here w l k p m h e room))
 
-grown_here : (k : ℕ) (l : LabelTable) (p : Pile Met) (m : Met) → k < label_at l m.spot.node m.spot.moment → label_place l m.spot.node m.spot.moment < length l.list
+grown_here : (k : ℕ) (l : LabelTable) (p : Queue Met) (m : Met) → k < label_at l m.spot.node m.spot.moment → label_place l m.spot.node m.spot.moment < length l.list
     → IsGrown k l (labelled_too l k m) p (met_too p m)
 grown_here k l p m above within = record {
   nodes = refl;
@@ -183,22 +185,22 @@ grown_here k l p m above within = record {
   below = ap (λ i. drop i (m ∷ p.list)) (let one : length (m ∷ p.list) - length p.list ≡ 1 = omega arith in one);
 }
 
-pub grown_noted : (w : Network) (l v : LabelTable) (k : ℕ) (p q : Pile Met) (m : Met) → IsFlooding w l k p → IsNew w l k p m → v ≡ labelled_too l k m → q ≡ met_too p m
+pub grown_noted : (w : Network) (l v : LabelTable) (k : ℕ) (p q : Queue Met) (m : Met) → IsFlooding w l k p → IsNew w l k p m → v ≡ labelled_too l k m → q ≡ met_too p m
     → IsGrown k l v p q
 grown_noted w l v k p q m h e a b =
     let within = label_within l m.spot.node m.spot.moment h.full (omega (arith, e.inside.node, h.labels.nodes)) (omega (arith, e.inside.moment, h.labels.horizon)) in
-    subst (λ (z : LabelTable). IsGrown k l z p q) (sym a) (subst (λ (z : Pile Met). IsGrown k l (labelled_too l k m) p z) (sym b) (grown_here k l p m e.above within))
+    subst (λ (z : LabelTable). IsGrown k l z p q) (sym a) (subst (λ (z : Queue Met). IsGrown k l (labelled_too l k m) p z) (sym b) (grown_here k l p m e.above within))
 
-pub done_noted : (w : Network) (l v : LabelTable) (k : ℕ) (p : Pile Met) (m : Met) → IsFlooding w l k p → IsNew w l k p m → v ≡ labelled_too l k m → IsDone w v k m.step
+pub done_noted : (w : Network) (l v : LabelTable) (k : ℕ) (p : Queue Met) (m : Met) → IsFlooding w l k p → IsNew w l k p m → v ≡ labelled_too l k m → IsDone w v k m.step
 done_noted w l v k p m h e a room =
     let within = label_within l m.spot.node m.spot.moment h.full (omega (arith, e.inside.node, h.labels.nodes)) (omega (arith, e.inside.moment, h.labels.horizon)) in
     let here : label_at v m.spot.node m.spot.moment ≡ k = ap (λ (z : LabelTable). label_at z m.spot.node m.spot.moment) a ∙ get_or-set_same l.list _ k 0 within in
     ap (reached (labelled v k) k) e.start ∙ le-leb _ _ (omega (arith, here))
 
-pub has_noted : (p q : Pile Met) (m : Met) → q ≡ met_too p m → has (spots q.list) m.spot.node m.spot.moment ≡ true
+pub has_noted : (p q : Queue Met) (m : Met) → q ≡ met_too p m → has (spots q.list) m.spot.node m.spot.moment ≡ true
 has_noted p q m same =
-    ap (λ (z : Pile Met). has (spots z.list) m.spot.node m.spot.moment) same
-    ∙ or_here _ _ (and_from _ _ (eq-eqb m.spot.node m.spot.node refl) (eq-eqb m.spot.moment m.spot.moment refl))
+    ap (λ (z : Queue Met). has (spots z.list) m.spot.node m.spot.moment) same
+    ∙ or_left _ _ (and_from _ _ (eq-eqb m.spot.node m.spot.node refl) (eq-eqb m.spot.moment m.spot.moment refl))
 
 -- a step that begins at a pair with a label of at most k is done
 pub done_passed : (w : Network) (l : LabelTable) (k n t : ℕ) (y : PathStep) → start_of w.site y ≡ Pair n t → label_at l n t ≤ k → IsDone w l k y
@@ -218,9 +220,9 @@ by_way w m k a t done when =
     subst (λ i. IsDone w m k (record { place = Arc a i; back = false })) same (rw early at done)
 
 -- one more arc is done, where it leads into an exit
-pub doors_next : (w : Network) (k a : ℕ) (l m : LabelTable) (x y : Pile Met) → IsGrown k l m x y
-    → (exit_at w.site (to_at w.site.shape a) ≡ true → IsWayDone w m k (way_in w.site a k)) → AreDoorsDone w l k a → AreDoorsDone w m k (a + 1)
-doors_next w k a l m x y g here old = doors_more w m k a (doors_later w k a l m x y g old) (λ t place stop. by_exit t (exit_at w.site (to_at w.site.shape a)) refl stop)
+pub seeded_next : (w : Network) (k a : ℕ) (l m : LabelTable) (x y : Queue Met) → IsGrown k l m x y
+    → (exit_at w.site (to_at w.site.shape a) ≡ true → IsWayDone w m k (way_in w.site a k)) → IsSeededBelow w l k a → IsSeededBelow w m k (a + 1)
+seeded_next w k a l m x y g here old = seeded_more w m k a (seeded_later w k a l m x y g old) (λ t place stop. by_exit t (exit_at w.site (to_at w.site.shape a)) refl stop)
   where
     by_exit : (t : ℕ) (e : Bool) → exit_at w.site (to_at w.site.shape a) ≡ e
         → cond e (Door (arrival_at w.site a t)) (Pair (to_at w.site.shape a) (arrival_at w.site a t)) ≡ Door k
@@ -232,15 +234,15 @@ doors_next w k a l m x y g here old = doors_more w m k a (doors_later w k a l m 
 
 pub has_each : (ms : List Met) (i : ℕ) (d : Met) → i < length ms → has (spots ms) (get_or ms i d).spot.node (get_or ms i d).spot.moment ≡ true
 has_each [] i d q = absurd (omega (arith, q))
-has_each (m ∷ ms) zero d q = or_here _ _ (and_from _ _ (eq-eqb m.spot.node m.spot.node refl) (eq-eqb m.spot.moment m.spot.moment refl))
-has_each (m ∷ ms) (suc i) d q = or_later _ _ (has_each ms i d (omega (arith, q)))
+has_each (m ∷ ms) zero d q = or_left _ _ (and_from _ _ (eq-eqb m.spot.node m.spot.node refl) (eq-eqb m.spot.moment m.spot.moment refl))
+has_each (m ∷ ms) (suc i) d q = or_right _ _ (has_each ms i d (omega (arith, q)))
 
 pub inside_each : (w : Network) (k : ℕ) (ms : List Met) (i : ℕ) (d : Met) → AreMet w k ms → i < length ms → IsOpenPair w.site (get_or ms i d).spot.node (get_or ms i d).spot.moment
 inside_each w k [] i d met q = absurd (omega (arith, q))
 inside_each w k (m ∷ ms) zero d met q = met.0.inside
 inside_each w k (m ∷ ms) (suc i) d met q = inside_each w k ms i d met.1 (omega (arith, q))
 
-pub expanded_more : (w : Network) (k done : ℕ) (l m : LabelTable) (x y : Pile Met) (blank : Met) → IsGrown k l m x y → done < length x.list → AreExpanded w l k done x.list
+pub expanded_more : (w : Network) (k done : ℕ) (l m : LabelTable) (x y : Queue Met) (blank : Met) → IsGrown k l m x y → done < length x.list → AreExpanded w l k done x.list
     → IsExpanded w m k (get_or x.list (length x.list - done - 1) blank).spot.node (get_or x.list (length x.list - done - 1) blank).spot.moment
     → AreExpanded w m k (done + 1) y.list
 expanded_more w k done l m x y blank g q old here =

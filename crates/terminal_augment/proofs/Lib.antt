@@ -5,7 +5,7 @@ pub mod ChainLemmas
 pub mod SendLemmas
 pub mod LabelLemmas
 pub mod ClosedLemmas
-pub mod GuessLemmas
+pub mod HintLemmas
 pub mod FloodLemmas
 pub mod KeptLemmas
-pub mod WorkLemmas
+pub mod BufferLemmas

@@ -1,7 +1,7 @@
 -- A push along what a search found.
-use Rattle.std.proofs.Common.{◌≡◌, ◌≢◌, ℕ, zero, suc, ◌+◌, ◌<◌, ◌≤◌, Bool, true, false, cond, ◌&&◌, eqb, leb, List, [], ◌∷◌, ap, sym, subst, ◌∙◌, ◌⊎◌, refl, arith, inl, inr}
+use Rattle.std.proofs.Common.{◌≡◌, ◌≢◌, ℕ, zero, suc, ◌+◌, ◌<◌, ◌≤◌, Bool, true, false, true≢false, cond, ◌&&◌, eqb, leb, List, [], ◌∷◌, ap, sym, subst, ◌∙◌, ◌⊎◌, refl, arith, inl, inr}
 use Rattle.std.specs.List.{All, AllPairs}
-use Rattle.std.proofs.lemmas.Bool.{cases_Bool, cases_lt, le-leb, lt-leb, and_from, eq-eqb}
+use Rattle.std.proofs.lemmas.Bool.{cases_Bool, cases_lt, le-leb, lt-leb, and_from, eq-eqb, or_parts}
 use Rattle.std.proofs.lemmas.List.Kept.{AllPairs-cons}
 use Rattle.residual_net.specs.declared.place.PathStep.{PathStep}
 use Rattle.evac_law.specs.LabelTable.{LabelTable}
@@ -12,8 +12,10 @@ use Rattle.residual_net.specs.Route.{IsAugmentingPath, IsOrigin, IsPushed, Leads
 use Rattle.residual_net.specs.declared.end.End.{End}
 use Rattle.residual_net.specs.declared.end.End.TheVariants.{Source, Pair, Door}
 use Rattle.residual_net.specs.Site.{Site, IsPlace, door_by, head_of, start_of, stop_of, tail_of}
+use Rattle.time_expansion.specs.declared.limits.TheConstants.{HORIZON_LIMIT}
 use Rattle.time_expansion.proofs.Cells.{sizes}
 use Rattle.residual_net.specs.Limits.{supply_limit}
+use Rattle.residual_net.proofs.Places.{cond_most}
 use Rattle.residual_net.proofs.Arrivals.{arrived_all, arrivals_fit}
 use Rattle.residual_net.proofs.Effects.{push_moves}
 use Rattle.residual_net.proofs.Survive.{closed_survives}
@@ -23,7 +25,7 @@ use Rattle.terminal_augment.specs.Settled.{IsCountedOn, IsLabelsOf, IsPushedOn, 
 use Rattle.terminal_augment.specs.Spots.{has}
 use Rattle.terminal_augment.proofs.ChainLemmas.{leads_on}
 use Rattle.terminal_augment.proofs.KeptLemmas.{limits_stay, limits_then}
-use Rattle.terminal_augment.proofs.SpotLemmas.{all_cons, all_rest, differs, or_none}
+use Rattle.terminal_augment.proofs.SpotLemmas.{all_cons, all_rest}
 
 -- ---- the path
 
@@ -70,10 +72,10 @@ off_places s k (m ∷ ms) y c o (suc j) d l e = off_places s k ms y c.1 o.1 j d 
 pair_off : (k : ℕ) (ms : List Met) (n t : ℕ) → has (spots ms) n t ≡ false → IsOff k ms (Pair n t)
 pair_off k [] n t h = λ e. cc
 pair_off k (m ∷ ms) n t h =
-    let both = or_none (eqb m.spot.node n && eqb m.spot.moment t) (has (spots ms) n t) h in (
+    let both = or_parts (eqb m.spot.node n && eqb m.spot.moment t) (has (spots ms) n t) h in (
       (λ q. let node : m.spot.node ≡ n = cc in
           let moment : m.spot.moment ≡ t = cc in
-          differs (eqb m.spot.node n && eqb m.spot.moment t) (and_from _ _ (eq-eqb _ _ node) (eq-eqb _ _ moment)) both.0),
+          true≢false (sym (and_from _ _ (eq-eqb _ _ node) (eq-eqb _ _ moment)) ∙ both.0)),
       pair_off k ms n t both.1,
     )
 
@@ -143,10 +145,6 @@ cond_all : (b : Bool) (x : ℕ) → b ≡ true → cond b x 0 ≡ x
 cond_all true x e = refl
 cond_all false x e = absurd (cc)
 
-cond_most : (b : Bool) (x : ℕ) → cond b x 0 ≤ x
-cond_most true x = omega arith
-cond_most false x = omega arith
-
 pub pushed_on : (w v : Network) (path : List PathStep) (x : ℕ) (e : End) (k : ℕ) → IsNet v → IsWithinLimits v → 1 ≤ x
     → IsAugmentingPath w path x e k → IsPushed w v path x → IsPushedOn w v k 1
 pushed_on w v path x e k net within one p a = record {
@@ -207,7 +205,7 @@ pub few_by : (w : Network) (k : ℕ) → IsNet w → arrived_by w k ≤ supply_l
 few_by w k n = omega (arith, arrived_all w k, arrivals_fit w (k + 1) n)
 
 -- how late a net's last moment may be
-pub horizon_small : (w : Network) → IsNet w → w.site.shape.horizon ≤ 1200
+pub horizon_small : (w : Network) → IsNet w → w.site.shape.horizon ≤ HORIZON_LIMIT
 horizon_small w n = (sizes w.site.shape n.site.shape).horizon
 
 -- what is settled stays so by pushes to the moment after

@@ -1,25 +1,10 @@
--- Tests joined, lists, and pairs in them.
-use Rattle.std.proofs.Common.{◌≡◌, ℕ, zero, suc, Bool, true, false, ◌&&◌, ◌||◌, eqb, List, [], ◌∷◌, drop, subst, refl, arith, inl, inr}
+-- Lists, and pairs in them.
+use Rattle.std.proofs.Common.{◌≡◌, ℕ, zero, suc, true, ◌&&◌, eqb, List, [], ◌∷◌, drop, subst, arith, inl, inr}
 use Rattle.std.specs.List.{All}
-use Rattle.std.proofs.lemmas.Bool.{eqb-true, and_parts, or_cases}
+use Rattle.std.proofs.lemmas.Bool.{eqb-true, and_parts, or_cases, or_right}
 use Rattle.terminal_augment.specs.declared.spot.Met.{Met}
 use Rattle.terminal_augment.specs.Chains.{spots}
 use Rattle.terminal_augment.specs.Spots.{has}
-
-pub or_here : (b c : Bool) → b ≡ true → (b || c) ≡ true
-or_here true c e = refl
-or_here false c e = absurd (cc)
-
-pub or_later : (b c : Bool) → c ≡ true → (b || c) ≡ true
-or_later true c e = refl
-or_later false c e = e
-
-pub or_none : (a b : Bool) → (a || b) ≡ false → (a ≡ false) × (b ≡ false)
-or_none true b e = absurd (cc)
-or_none false b e = (refl, e)
-
-pub differs : (b : Bool) → b ≡ true → b ≡ false → ⊥
-differs b e f = cc
 
 pub all_rest : {A : Type 0} (P : A → Type 0) (x : A) (xs : List A) → All P (x ∷ xs) → All P xs
 all_rest P x xs all j d l = all (suc j) d (omega arith)
@@ -46,4 +31,4 @@ all_has P (m ∷ ms) all n t e = elim (or_cases (eqb m.spot.node n && eqb m.spot
 pub has_drop : (i : ℕ) (ms : List Met) (n t : ℕ) → has (spots (drop i ms)) n t ≡ true → has (spots ms) n t ≡ true
 has_drop zero ms n t e = e
 has_drop (suc i) [] n t e = e
-has_drop (suc i) (m ∷ ms) n t e = or_later (eqb m.spot.node n && eqb m.spot.moment t) _ (has_drop i ms n t e)
+has_drop (suc i) (m ∷ ms) n t e = or_right (eqb m.spot.node n && eqb m.spot.moment t) _ (has_drop i ms n t e)

@@ -6,13 +6,13 @@ use Rattle.residual_net.specs.declared.place.PathStep.{PathStep}
 use Rattle.residual_net.specs.declared.place.Place.TheVariants.{Arc}
 use Rattle.residual_net.specs.Closed.{reached}
 use Rattle.residual_net.specs.Labelled.{IsClosedBelow, IsLabelsOf}
-use Rattle.residual_net.specs.Network.{Network, IsWithinLimits, residual_room}
+use Rattle.residual_net.specs.Network.{Network, IsNet, IsWithinLimits, residual_room}
 use Rattle.residual_net.specs.NetLaws.{labelled}
 use Rattle.residual_net.specs.Site.{IsOpenPair, IsPlace, start_of, stop_of}
 use Rattle.residual_net.specs.declared.end.End.TheVariants.{Door, Pair}
 use Rattle.terminal_augment.specs.declared.spot.Met.{Met}
 use Rattle.terminal_augment.specs.Chains.{AreMet, IsFound, spots}
-use Rattle.terminal_augment.specs.Piles.{Pile}
+use Rattle.terminal_augment.specs.Queues.{Queue}
 use Rattle.terminal_augment.specs.Settled.{IsLabelled}
 use Rattle.terminal_augment.specs.Spots.{has}
 
@@ -21,17 +21,18 @@ unfoldable pub open_count : LabelTable → ℕ → ℕ
 open_count l k = count_by (λ x. not (x == k)) l.list
 
 -- a net is within its limits, labels are for its nodes and moments, and those that are k are of pairs that were met by steps with room
-pub record IsFlooding (w : Network) (l : LabelTable) (k : ℕ) (p : Pile Met) : Type 0 where
+pub record IsFlooding (w : Network) (l : LabelTable) (k : ℕ) (q : Queue Met) : Type 0 where
+  pub net : IsNet w
   pub within : IsWithinLimits w
   pub labels : IsLabelsOf w.site l
   pub full : length l.list ≡ l.nodes * (l.horizon + 1)
   pub moment : k ≤ w.site.shape.horizon
-  pub room : open_count l k + length p.list ≤ p.room
-  pub listed : (n t : ℕ) → IsOpenPair w.site n t → (label_at l n t == k) ≡ has (spots p.list) n t
-  pub met : AreMet w k p.list
+  pub room : open_count l k + length q.list ≤ q.room
+  pub listed : (n t : ℕ) → IsOpenPair w.site n t → (label_at l n t == k) ≡ has (spots q.list) n t
+  pub met : AreMet w k q.list
 
 -- each label is as before, or was above k and is k, and what was met lies below what has been met since
-pub record IsGrown (k : ℕ) (l m : LabelTable) (x y : Pile Met) : Type 0 where
+pub record IsGrown (k : ℕ) (l m : LabelTable) (x y : Queue Met) : Type 0 where
   pub nodes : m.nodes ≡ l.nodes
   pub horizon : m.horizon ≡ l.horizon
   pub labels : (n t : ℕ) → (label_at m n t ≡ label_at l n t) ⊎ ((k < label_at l n t) × (label_at m n t ≡ k))
@@ -53,11 +54,11 @@ IsExpanded w l k n t = (y : PathStep) → IsPlace w.site y.place → stop_of w.s
 
 -- each step is done into the pairs that were met first, so many of them
 abbrev pub AreExpanded : Network → LabelTable → ℕ → ℕ → List Met → Type 0
-AreExpanded w l k done ms = All (λ m. IsExpanded w l k m.spot.node m.spot.moment) (drop (length ms - done) ms)
+AreExpanded w l k front ms = All (λ m. IsExpanded w l k m.spot.node m.spot.moment) (drop (length ms - front) ms)
 
--- each step over an arc of a smaller number into an arrival at k is done
-abbrev pub AreDoorsDone : Network → LabelTable → ℕ → ℕ → Type 0
-AreDoorsDone w l k n = (a t : ℕ) → a < n → IsPlace w.site (Arc a t) → stop_of w.site (record { place = Arc a t; back = false }) ≡ Door k
+-- the flood has begun at the arcs of smaller numbers: each step over one of them into an arrival at k is done
+abbrev pub IsSeededBelow : Network → LabelTable → ℕ → ℕ → Type 0
+IsSeededBelow w l k n = (a t : ℕ) → a < n → IsPlace w.site (Arc a t) → stop_of w.site (record { place = Arc a t; back = false }) ≡ Door k
     → IsDone w l k (record { place = Arc a t; back = false })
 
 -- the same labels

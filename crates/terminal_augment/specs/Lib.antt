@@ -5,11 +5,11 @@ pub use Rattle.residual_net.specs.OfModel
 pub use Rattle.residual_net.specs.Route
 pub use Rattle.residual_net.specs.Site
 pub mod Spots
-pub mod Piles
+pub mod Queues
 pub mod Marking
 pub mod Ways
 pub mod Chains
 pub mod Settled
 pub mod Floods
-pub mod Guesses
+pub mod Hints
 pub mod Searches

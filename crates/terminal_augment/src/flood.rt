@@ -3,14 +3,15 @@ ghost use Rattle.std.specs.Prelude.{◌≡◌, ℕ, ◌+◌, ◌*◌, ◌<◌, �
 ghost use Rattle.time_expansion.specs.Expansion.{arcs_from, arcs_to};
 ghost use Rattle.residual_net.specs.declared.place.Place.TheVariants.{Arc, Hold};
 ghost use Rattle.residual_net.specs.declared.end.End.TheVariants.{Pair};
+ghost use Rattle.residual_net.specs.Network.{IsNet};
 ghost use Rattle.residual_net.specs.Site.{IsOpenPair, IsPlace, arc_count, start_of, stop_of, tail_of};
 ghost use Rattle.terminal_augment.specs.Chains.{IsAmong, IsFound, spots};
-ghost use Rattle.terminal_augment.specs.Floods.{AreDoorsDone, AreExpanded, IsDone, IsExpanded, IsFlooded, IsFlooding, IsGrown, IsWayDone};
+ghost use Rattle.terminal_augment.specs.Floods.{IsSeededBelow, AreExpanded, IsDone, IsExpanded, IsFlooded, IsFlooding, IsGrown, IsWayDone};
 ghost use Rattle.terminal_augment.specs.Settled.{IsSettledBelow};
 ghost use Rattle.terminal_augment.specs.Spots.{has};
 ghost use Rattle.terminal_augment.specs.Ways.{IsArcAt, in_count, out_count, way_before, way_in};
 
-use crate::pile::Pile;
+use crate::queue::Queue;
 use crate::spot::{Met, Spot};
 use crate::steps::{back, forth};
 use evac_law::Labels;
@@ -20,7 +21,7 @@ use residual_net::{End, Net, PathStep, Place};
 fn meet(
     net: &Net,
     labels: &mut Labels,
-    met: &mut Pile<Met>,
+    queue: &mut Queue<Met>,
     spot: Spot,
     step: PathStep,
     k: u16,
@@ -28,12 +29,12 @@ fn meet(
     requires place { IsPlace net.now.site step.place }
     requires start { start_of net.now.site step ≡ Pair spot.node spot.moment }
     requires inside { IsOpenPair net.now.site spot.node spot.moment }
-    requires stop { IsAmong k (spots met.old.list) (stop_of net.now.site step) }
-    requires flooding { IsFlooding net.now labels.old k met.old }
-    ensures flooding { IsFlooding net.now labels.new k met.new }
-    ensures grown { IsGrown k labels.old labels.new met.old met.new }
+    requires stop { IsAmong k (spots queue.old.list) (stop_of net.now.site step) }
+    requires flooding { IsFlooding net.now labels.old k queue.old }
+    ensures flooding { IsFlooding net.now labels.new k queue.new }
+    ensures grown { IsGrown k labels.old labels.new queue.old queue.new }
     ensures done { IsDone net.now labels.new k step }
-    ensures met { IsTrue result → IsTrue (has (spots met.new.list) spot.node spot.moment) }
+    ensures met { IsTrue result → IsTrue (has (spots queue.new.list) spot.node spot.moment) }
 {
     if labels.get(spot.node, spot.moment) <= k {
         return false;
@@ -42,17 +43,17 @@ fn meet(
         return false;
     }
     labels.set(spot.node, spot.moment, k);
-    met.push(Met { spot, step });
+    queue.push(Met { spot, step });
     true
 }
 
 // Meets the pair at which an arc begins by which people come to its end at a moment.
-fn meet_in(net: &Net, labels: &mut Labels, met: &mut Pile<Met>, arc: u32, moment: u16, k: u16)
+fn meet_in(net: &Net, labels: &mut Labels, queue: &mut Queue<Met>, arc: u32, moment: u16, k: u16)
     requires arc { IsArcAt net.now.site arc moment }
-    requires stop { MatchOption (way_in net.now.site arc moment) (Unit {0}) (λ y. IsAmong k (spots met.old.list) (stop_of net.now.site y)) }
-    requires flooding { IsFlooding net.now labels.old k met.old }
-    ensures flooding { IsFlooding net.now labels.new k met.new }
-    ensures grown { IsGrown k labels.old labels.new met.old met.new }
+    requires stop { MatchOption (way_in net.now.site arc moment) (Unit {0}) (λ y. IsAmong k (spots queue.old.list) (stop_of net.now.site y)) }
+    requires flooding { IsFlooding net.now labels.old k queue.old }
+    ensures flooding { IsFlooding net.now labels.new k queue.new }
+    ensures grown { IsGrown k labels.old labels.new queue.old queue.new }
     ensures done { IsWayDone net.now labels.new k (way_in net.now.site arc moment) }
 {
     let travel = net.travel(arc);
@@ -63,32 +64,32 @@ fn meet_in(net: &Net, labels: &mut Labels, met: &mut Pile<Met>, arc: u32, moment
     let node = net.shape().ends()[arc as usize].from;
     let spot = Spot { node, moment };
     let step = forth(Place::Arc { arc, moment });
-    meet(net, labels, met, spot, step, k);
+    meet(net, labels, queue, spot, step, k);
 }
 
 // Meets the pairs at which the arcs begin by which people come to a pair.
-fn expand_in(net: &Net, labels: &mut Labels, met: &mut Pile<Met>, spot: Spot, k: u16)
+fn expand_in(net: &Net, labels: &mut Labels, queue: &mut Queue<Met>, spot: Spot, k: u16)
     requires inside { IsOpenPair net.now.site spot.node spot.moment }
-    requires met { IsTrue (has (spots met.old.list) spot.node spot.moment) }
-    requires flooding { IsFlooding net.now labels.old k met.old }
-    ensures flooding { IsFlooding net.now labels.new k met.new }
-    ensures grown { IsGrown k labels.old labels.new met.old met.new }
+    requires met { IsTrue (has (spots queue.old.list) spot.node spot.moment) }
+    requires flooding { IsFlooding net.now labels.old k queue.old }
+    ensures flooding { IsFlooding net.now labels.new k queue.new }
+    ensures grown { IsGrown k labels.old labels.new queue.old queue.new }
     ensures done { (i : ℕ) → i < in_count net.now.site spot.node → IsWayDone net.now labels.new k (way_in net.now.site (slice_index (arcs_to net.now.site.shape spot.node) i) spot.moment) }
 {
     let entering = net.shape().entering(spot.node);
     for i in 0..entering.len() {
-        meet_in(net, labels, met, entering[i], spot.moment, k);
+        meet_in(net, labels, queue, entering[i], spot.moment, k);
     }
 }
 
 // Meets the pairs at which the waits before a pair begin, one after another, as far as they may be taken. Pairs that lie together are
-// looked at together so.
-fn meet_before(net: &Net, labels: &mut Labels, met: &mut Pile<Met>, spot: Spot, k: u16)
+// met together so.
+fn meet_before(net: &Net, labels: &mut Labels, queue: &mut Queue<Met>, spot: Spot, k: u16)
     requires inside { IsOpenPair net.now.site spot.node spot.moment }
-    requires met { IsTrue (has (spots met.old.list) spot.node spot.moment) }
-    requires flooding { IsFlooding net.now labels.old k met.old }
-    ensures flooding { IsFlooding net.now labels.new k met.new }
-    ensures grown { IsGrown k labels.old labels.new met.old met.new }
+    requires met { IsTrue (has (spots queue.old.list) spot.node spot.moment) }
+    requires flooding { IsFlooding net.now labels.old k queue.old }
+    ensures flooding { IsFlooding net.now labels.new k queue.new }
+    ensures grown { IsGrown k labels.old labels.new queue.old queue.new }
     ensures done { IsWayDone net.now labels.new k (way_before spot.node spot.moment) }
 {
     let node = spot.node;
@@ -97,23 +98,21 @@ fn meet_before(net: &Net, labels: &mut Labels, met: &mut Pile<Met>, spot: Spot, 
         moment -= 1;
         let spot = Spot { node, moment };
         let step = forth(Place::Hold { node, moment });
-        if !meet(net, labels, met, spot, step, k) {
+        if !meet(net, labels, queue, spot, step, k) {
             return;
         }
     }
 }
 
 // Meets the pair to which a wait after a pair leads.
-fn meet_after(net: &Net, labels: &mut Labels, met: &mut Pile<Met>, spot: Spot, k: u16)
+fn meet_after(net: &Net, labels: &mut Labels, queue: &mut Queue<Met>, spot: Spot, k: u16)
     requires inside { IsOpenPair net.now.site spot.node spot.moment }
-    requires met { IsTrue (has (spots met.old.list) spot.node spot.moment) }
-    requires flooding { IsFlooding net.now labels.old k met.old }
-    ensures flooding { IsFlooding net.now labels.new k met.new }
-    ensures grown { IsGrown k labels.old labels.new met.old met.new }
+    requires met { IsTrue (has (spots queue.old.list) spot.node spot.moment) }
+    requires flooding { IsFlooding net.now labels.old k queue.old }
+    ensures flooding { IsFlooding net.now labels.new k queue.new }
+    ensures grown { IsGrown k labels.old labels.new queue.old queue.new }
     ensures done { IsDone net.now labels.new k (record { place = Hold spot.node spot.moment; back = true }) }
 {
-    // The net's sizes bound the moments.
-    let _ = net.shape();
     let node = spot.node;
     let moment = spot.moment;
     if net.held(node, moment) == 0 {
@@ -122,7 +121,7 @@ fn meet_after(net: &Net, labels: &mut Labels, met: &mut Pile<Met>, spot: Spot, k
     let step = back(Place::Hold { node, moment });
     let moment = moment + 1;
     let spot = Spot { node, moment };
-    meet(net, labels, met, spot, step, k);
+    meet(net, labels, queue, spot, step, k);
 }
 
 // Meets the pair to which an arc leads by which people leave a pair. A step by which somebody may be sent to that pair, if there is
@@ -130,17 +129,17 @@ fn meet_after(net: &Net, labels: &mut Labels, met: &mut Pile<Met>, spot: Spot, k
 fn meet_out(
     net: &Net,
     labels: &mut Labels,
-    met: &mut Pile<Met>,
+    queue: &mut Queue<Met>,
     arc: u32,
     moment: u16,
     k: u16,
 ) -> Option<PathStep>
     requires arc { IsArcAt net.now.site arc moment }
-    requires stop { IsAmong k (spots met.old.list) (tail_of net.now.site (Arc arc moment)) }
-    requires flooding { IsFlooding net.now labels.old k met.old }
-    ensures flooding { IsFlooding net.now labels.new k met.new }
-    ensures grown { IsGrown k labels.old labels.new met.old met.new }
-    ensures found { MatchOption result (IsDone net.now labels.new k (record { place = Arc arc moment; back = true })) (λ y. IsFound net.now k met.new.list y) }
+    requires stop { IsAmong k (spots queue.old.list) (tail_of net.now.site (Arc arc moment)) }
+    requires flooding { IsFlooding net.now labels.old k queue.old }
+    ensures flooding { IsFlooding net.now labels.new k queue.new }
+    ensures grown { IsGrown k labels.old labels.new queue.old queue.new }
+    ensures found { MatchOption result (IsDone net.now labels.new k (record { place = Arc arc moment; back = true })) (λ y. IsFound net.now k queue.new.list y) }
 {
     if net.moved(arc, moment) == 0 {
         return None;
@@ -149,7 +148,7 @@ fn meet_out(
     match net.start(step) {
         End::Pair { node, moment } => {
             let spot = Spot { node, moment };
-            meet(net, labels, met, spot, step, k);
+            meet(net, labels, queue, spot, step, k);
             None
         }
         End::Door(arrival) => (k < arrival).then_some(step),
@@ -162,23 +161,23 @@ fn meet_out(
 fn expand_out(
     net: &Net,
     labels: &mut Labels,
-    met: &mut Pile<Met>,
+    queue: &mut Queue<Met>,
     spot: Spot,
     k: u16,
 ) -> Option<PathStep>
     requires inside { IsOpenPair net.now.site spot.node spot.moment }
-    requires met { IsTrue (has (spots met.old.list) spot.node spot.moment) }
-    requires flooding { IsFlooding net.now labels.old k met.old }
-    ensures flooding { IsFlooding net.now labels.new k met.new }
-    ensures grown { IsGrown k labels.old labels.new met.old met.new }
+    requires met { IsTrue (has (spots queue.old.list) spot.node spot.moment) }
+    requires flooding { IsFlooding net.now labels.old k queue.old }
+    ensures flooding { IsFlooding net.now labels.new k queue.new }
+    ensures grown { IsGrown k labels.old labels.new queue.old queue.new }
     ensures found { MatchOption result
         ((i : ℕ) → i < out_count net.now.site spot.node → IsDone net.now labels.new k (record { place = Arc (slice_index (arcs_from net.now.site.shape spot.node) i) spot.moment; back = true }))
-        (λ y. IsFound net.now k met.new.list y) }
+        (λ y. IsFound net.now k queue.new.list y) }
 {
     let leaving = net.shape().leaving(spot.node);
     let moment = spot.moment;
     for i in 0..leaving.len() {
-        if let Some(found) = meet_out(net, labels, met, leaving[i], moment, k) {
+        if let Some(found) = meet_out(net, labels, queue, leaving[i], moment, k) {
             return Some(found);
         }
     }
@@ -189,88 +188,88 @@ fn expand_out(
 fn expand(
     net: &Net,
     labels: &mut Labels,
-    met: &mut Pile<Met>,
+    queue: &mut Queue<Met>,
     spot: Spot,
     k: u16,
 ) -> Option<PathStep>
     requires inside { IsOpenPair net.now.site spot.node spot.moment }
-    requires met { IsTrue (has (spots met.old.list) spot.node spot.moment) }
-    requires flooding { IsFlooding net.now labels.old k met.old }
-    ensures flooding { IsFlooding net.now labels.new k met.new }
-    ensures grown { IsGrown k labels.old labels.new met.old met.new }
-    ensures found { MatchOption result (IsExpanded net.now labels.new k spot.node spot.moment) (λ y. IsFound net.now k met.new.list y) }
+    requires met { IsTrue (has (spots queue.old.list) spot.node spot.moment) }
+    requires flooding { IsFlooding net.now labels.old k queue.old }
+    ensures flooding { IsFlooding net.now labels.new k queue.new }
+    ensures grown { IsGrown k labels.old labels.new queue.old queue.new }
+    ensures found { MatchOption result (IsExpanded net.now labels.new k spot.node spot.moment) (λ y. IsFound net.now k queue.new.list y) }
 {
     let node = spot.node;
     let moment = spot.moment;
     if net.unsent(node, moment) > 0 {
         return Some(forth(Place::Supply { node, moment }));
     }
-    expand_in(net, labels, met, spot, k);
-    meet_before(net, labels, met, spot, k);
-    meet_after(net, labels, met, spot, k);
-    expand_out(net, labels, met, spot, k)
+    expand_in(net, labels, queue, spot, k);
+    meet_before(net, labels, queue, spot, k);
+    meet_after(net, labels, queue, spot, k);
+    expand_out(net, labels, queue, spot, k)
 }
 
 // Meets the pair at which an arc begins by which people arrive at a moment.
-fn open(net: &Net, labels: &mut Labels, met: &mut Pile<Met>, arc: u32, k: u16)
+fn seed(net: &Net, labels: &mut Labels, queue: &mut Queue<Met>, arc: u32, k: u16)
     requires arc { IsArcAt net.now.site arc k }
-    requires flooding { IsFlooding net.now labels.old k met.old }
-    ensures flooding { IsFlooding net.now labels.new k met.new }
-    ensures grown { IsGrown k labels.old labels.new met.old met.new }
-    ensures doors { AreDoorsDone net.now labels.old k arc → AreDoorsDone net.now labels.new k (arc + 1) }
+    requires flooding { IsFlooding net.now labels.old k queue.old }
+    ensures flooding { IsFlooding net.now labels.new k queue.new }
+    ensures grown { IsGrown k labels.old labels.new queue.old queue.new }
+    ensures seeded { IsSeededBelow net.now labels.old k arc → IsSeededBelow net.now labels.new k (arc + 1) }
 {
     let node = net.shape().ends()[arc as usize].to;
     if net.is_exit(node) {
-        meet_in(net, labels, met, arc, k, k);
+        meet_in(net, labels, queue, arc, k, k);
     }
 }
 
 // Meets the pairs at which the arcs begin by which people arrive at a moment.
-fn open_all(net: &Net, labels: &mut Labels, met: &mut Pile<Met>, k: u16)
-    requires flooding { IsFlooding net.now labels.old k met.old }
-    ensures flooding { IsFlooding net.now labels.new k met.new }
-    ensures grown { IsGrown k labels.old labels.new met.old met.new }
-    ensures doors { AreDoorsDone net.now labels.new k (arc_count net.now.site) }
+fn seed_all(net: &Net, labels: &mut Labels, queue: &mut Queue<Met>, k: u16)
+    requires flooding { IsFlooding net.now labels.old k queue.old }
+    ensures flooding { IsFlooding net.now labels.new k queue.new }
+    ensures grown { IsGrown k labels.old labels.new queue.old queue.new }
+    ensures seeded { IsSeededBelow net.now labels.new k (arc_count net.now.site) }
 {
     let arcs = net.shape().ends().len() as u32;
     for arc in 0..arcs {
-        open(net, labels, met, arc, k);
+        seed(net, labels, queue, arc, k);
     }
 }
 
 // Meets all pairs from which steps lead to those that were met, until it comes to somebody who can be sent. The step by which it does.
-fn expand_all(net: &Net, labels: &mut Labels, met: &mut Pile<Met>, k: u16) -> Option<PathStep>
-    requires flooding { IsFlooding net.now labels.old k met.old }
-    ensures flooding { IsFlooding net.now labels.new k met.new }
-    ensures grown { IsGrown k labels.old labels.new met.old met.new }
-    ensures found { MatchOption result (AreExpanded net.now labels.new k (length met.new.list) met.new.list) (λ y. IsFound net.now k met.new.list y) }
+fn expand_all(net: &Net, labels: &mut Labels, queue: &mut Queue<Met>, k: u16) -> Option<PathStep>
+    requires flooding { IsFlooding net.now labels.old k queue.old }
+    ensures flooding { IsFlooding net.now labels.new k queue.new }
+    ensures grown { IsGrown k labels.old labels.new queue.old queue.new }
+    ensures found { MatchOption result (AreExpanded net.now labels.new k (length queue.new.list) queue.new.list) (λ y. IsFound net.now k queue.new.list y) }
 {
-    let mut done = 0;
-    while done < met.len() {
-        let place = met.len() - done - 1;
-        let spot = met.get(place).spot;
-        if let Some(found) = expand(net, labels, met, spot, k) {
+    let mut front = 0;
+    while front < queue.len() {
+        let after = queue.len() - front - 1;
+        let spot = queue.from_back(after).spot;
+        if let Some(found) = expand(net, labels, queue, spot, k) {
             return Some(found);
         }
-        done += 1;
+        front += 1;
     }
     None
 }
 
 /// Meets all pairs that reach an arrival at a moment, each by a step, and gives them the moment as their label. Where it comes to
 /// somebody who can be sent there, it answers with the step by which it does, and no pair keeps that label.
-pub fn flood(net: &Net, labels: &mut Labels, met: &mut Pile<Met>, k: u16) -> Option<PathStep>
+pub fn flood(net: &Net, labels: &mut Labels, queue: &mut Queue<Met>, k: u16) -> Option<PathStep>
+    requires net { IsNet net.now }
     requires settled { IsSettledBelow net.now labels.old k }
-    requires room { net.now.site.shape.nodes * (net.now.site.shape.horizon + 1) ≤ met.old.room }
-    ensures flooded { IsFlooded net.now labels.old labels.new k met.new.list result }
-    ensures room { met.new.room ≡ met.old.room }
-    ensures few { length met.new.list ≤ met.new.room }
+    requires room { net.now.site.shape.nodes * (net.now.site.shape.horizon + 1) ≤ queue.old.room }
+    ensures flooded { IsFlooded net.now labels.old labels.new k queue.new.list result }
+    ensures room { queue.new.room ≡ queue.old.room }
+    ensures few { length queue.new.list ≤ queue.new.room }
 {
-    let _ = net.shape();
     let _ = labels.nodes();
-    met.clear();
-    open_all(net, labels, met, k);
-    match expand_all(net, labels, met, k) {
+    queue.clear();
+    seed_all(net, labels, queue, k);
+    match expand_all(net, labels, queue, k) {
         None => None,
         Some(found) => {
             labels.unset_from(k);

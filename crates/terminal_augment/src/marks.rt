@@ -47,7 +47,6 @@ impl Marks {
         ensures place { result ≡ spot.node * (self.now.horizon + 1) + spot.moment }
         ensures within { result < length self.now.list }
     {
-        let _ = &self.stamps;
         spot.node as usize * (self.horizon as usize + 1) + spot.moment as usize
     }
 
@@ -69,7 +68,6 @@ impl Marks {
     {
         let place = self.place(spot);
         self.stamps[place] = self.stamp;
-        let _ = &self.stamps;
     }
 
     /// Takes all marks off.
@@ -85,6 +83,5 @@ impl Marks {
             self.stamp = 0;
         }
         self.stamp += 1;
-        let _ = &self.stamps;
     }
 }

@@ -3,6 +3,7 @@ use Rattle.std.proofs.Common.{ℕ, ◌+◌, ◌<◌, ◌≤◌, length, arith}
 use Rattle.std.proofs.Math.Nat.{mul_comm}
 use Rattle.std.proofs.lemmas.Nat.{same_from_place, mul-add-lt}
 use Rattle.time_expansion.specs.Limits.{node_limit, arc_limit, horizon_limit, cell_limit}
+use Rattle.time_expansion.specs.declared.limits.TheConstants.{NODE_LIMIT, ARC_LIMIT, HORIZON_LIMIT, CELL_LIMIT}
 use Rattle.time_expansion.specs.Expansion.{Expansion, IsExpansion, CellsAreApart, arc_cell, hold_cell, cells}
 
 pub arc_cell_below : (x : Expansion) (a t : ℕ) → a < length x.ends → t ≤ x.horizon → arc_cell x a t < cells x
@@ -31,12 +32,12 @@ cells_are_apart = record {
       omega (arith, both.0, l);
 }
 
--- the sizes as numbers
+-- the sizes keep the limits as numbers
 pub record Sizes (x : Expansion) : Type 0 where
-  pub nodes : x.nodes ≤ 400
-  pub arcs : length x.ends ≤ 1600
-  pub horizon : x.horizon ≤ 1200
-  pub cells : cells x ≤ 1000000
+  pub nodes : x.nodes ≤ NODE_LIMIT
+  pub arcs : length x.ends ≤ ARC_LIMIT
+  pub horizon : x.horizon ≤ HORIZON_LIMIT
+  pub cells : cells x ≤ CELL_LIMIT
 
 pub sizes : (x : Expansion) → IsExpansion x → Sizes x
 unfolding node_limit arc_limit horizon_limit cell_limit

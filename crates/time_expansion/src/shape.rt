@@ -3,7 +3,7 @@ ghost use Rattle.std.specs.Prelude.{◌≡◌, ◌+◌, ◌*◌, ◌<◌, ◌≤
 ghost use Rattle.time_expansion.specs.Expansion.{IsExpansion, arc_cell, arcs_from, arcs_to, cells, hold_cell};
 
 use crate::ends::Ends;
-use crate::index::{Index, index_of, keys_of, part};
+use crate::index::{Index, index_of};
 use std::alloc::{AllocError, Global};
 use std::marker::Model;
 
@@ -34,14 +34,12 @@ impl Shape {
         requires { IsExpansion (record { nodes = nodes; ends = ends.now; horizon = horizon }) }
         ensures { IfOk result (λ s. s ≡ record { nodes = nodes; ends = ends.now; horizon = horizon }) }
     {
-        let tails = keys_of(alloc, ends, true)?;
-        let heads = keys_of(alloc, ends, false)?;
-        let leaving = index_of(alloc, nodes, tails.as_slice())?;
-        let entering = index_of(alloc, nodes, heads.as_slice())?;
-        let ends = Vec::from_slice(alloc, ends)?;
+        let copy = Vec::from_slice(alloc, ends)?;
+        let leaving = index_of(alloc, nodes, ends, true)?;
+        let entering = index_of(alloc, nodes, ends, false)?;
         Ok(Shape {
             nodes,
-            ends,
+            ends: copy,
             horizon,
             leaving,
             entering,
@@ -103,9 +101,7 @@ impl Shape {
         requires { node < self.now.nodes }
         ensures { result.now ≡ arcs_from self.now node }
     {
-        let starts = self.leaving.starts.as_slice();
-        let items = self.leaving.items.as_slice();
-        part(items, starts[node as usize], starts[node as usize + 1])
+        self.leaving.list(node)
     }
 
     /// The arcs that enter a node, in file order.
@@ -113,8 +109,6 @@ impl Shape {
         requires { node < self.now.nodes }
         ensures { result.now ≡ arcs_to self.now node }
     {
-        let starts = self.entering.starts.as_slice();
-        let items = self.entering.items.as_slice();
-        part(items, starts[node as usize], starts[node as usize + 1])
+        self.entering.list(node)
     }
 }

@@ -1,5 +1,5 @@
 use Rattle.std.proofs.Common.{◌≤◌}
 use Rattle.guided_search.proofs.look.least_label.Given as goal
 
-abbrev pub invariant-loop-number : goal.invariant-loop-number
-invariant-loop-number l = l.least ≤ 65535
+abbrev pub invariant-loop-index : goal.invariant-loop-index
+invariant-loop-index l = l.least ≤ 65535

@@ -6,7 +6,7 @@ use Rattle.residual_net.proofs.net.shift_legs.Given as goal
 
 abbrev pub invariant-loop-leg : goal.invariant-loop-leg
 invariant-loop-leg l = record {
-  pushed : IsPushed l.fn.grid l.grid (steps_of_legs (take l.leg-index l.legs)) l.people;
-  left : IsShiftable l.grid (steps_of_legs (drop l.leg-index l.legs)) l.people;
+  pushed : IsPushed l.fn.grid l.grid (steps_of_legs l.fn.grid.site (take l.leg-index l.legs)) l.people;
+  left : IsShiftable l.grid (steps_of_legs l.fn.grid.site (drop l.leg-index l.legs)) l.people;
   grid : IsGrid l.grid;
 }

@@ -11,7 +11,7 @@ none_weaker (Some y) P Q R f h = h
 
 pub meet_before-requires-clause-met : goal.meet_before-requires-clause-met
 meet_before-requires-clause-met c =
-    has_later c.args.k c.args.labels.now c.expand_in.new.labels c.args.met.now c.expand_in.new.met c.args.spot.node c.args.spot.moment c.expand_in.ensures.grown c.requires.met
+    has_later c.args.k c.args.labels.now c.expand_in.new.labels c.args.queue.now c.expand_in.new.queue c.args.spot.node c.args.spot.moment c.expand_in.ensures.grown c.requires.met
 
 pub meet_after-requires-clause-met : goal.meet_after-requires-clause-met
 meet_after-requires-clause-met c =
@@ -19,8 +19,8 @@ meet_after-requires-clause-met c =
     let l = c.args.labels.now in
     let b = c.expand_in.new.labels in
     let d = c.meet_before.new.labels in
-    let both = grown_then k l b d c.args.met.now c.expand_in.new.met c.meet_before.new.met c.expand_in.ensures.grown c.meet_before.ensures.grown in
-    has_later k l d c.args.met.now c.meet_before.new.met c.args.spot.node c.args.spot.moment both c.requires.met
+    let both = grown_then k l b d c.args.queue.now c.expand_in.new.queue c.meet_before.new.queue c.expand_in.ensures.grown c.meet_before.ensures.grown in
+    has_later k l d c.args.queue.now c.meet_before.new.queue c.args.spot.node c.args.spot.moment both c.requires.met
 
 pub expand_out-requires-clause-met : goal.expand_out-requires-clause-met
 expand_out-requires-clause-met c =
@@ -29,10 +29,10 @@ expand_out-requires-clause-met c =
     let b = c.expand_in.new.labels in
     let d = c.meet_before.new.labels in
     let e = c.meet_after.new.labels in
-    let x = c.args.met.now in
-    let both = grown_then k l b d x c.expand_in.new.met c.meet_before.new.met c.expand_in.ensures.grown c.meet_before.ensures.grown in
-    let three = grown_then k l d e x c.meet_before.new.met c.meet_after.new.met both c.meet_after.ensures.grown in
-    has_later k l e x c.meet_after.new.met c.args.spot.node c.args.spot.moment three c.requires.met
+    let x = c.args.queue.now in
+    let both = grown_then k l b d x c.expand_in.new.queue c.meet_before.new.queue c.expand_in.ensures.grown c.meet_before.ensures.grown in
+    let three = grown_then k l d e x c.meet_before.new.queue c.meet_after.new.queue both c.meet_after.ensures.grown in
+    has_later k l e x c.meet_after.new.queue c.args.spot.node c.args.spot.moment three c.requires.met
 
 pub returns-clause-grown : goal.returns-clause-grown
 returns-clause-grown c =
@@ -42,10 +42,10 @@ returns-clause-grown c =
     let d = c.meet_before.new.labels in
     let e = c.meet_after.new.labels in
     let z = c.expand_out.new.labels in
-    let x = c.args.met.now in
-    let both = grown_then k l b d x c.expand_in.new.met c.meet_before.new.met c.expand_in.ensures.grown c.meet_before.ensures.grown in
-    let three = grown_then k l d e x c.meet_before.new.met c.meet_after.new.met both c.meet_after.ensures.grown in
-    grown_then k l e z x c.meet_after.new.met c.expand_out.new.met three c.expand_out.ensures.grown
+    let x = c.args.queue.now in
+    let both = grown_then k l b d x c.expand_in.new.queue c.meet_before.new.queue c.expand_in.ensures.grown c.meet_before.ensures.grown in
+    let three = grown_then k l d e x c.meet_before.new.queue c.meet_after.new.queue both c.meet_after.ensures.grown in
+    grown_then k l e z x c.meet_after.new.queue c.expand_out.new.queue three c.expand_out.ensures.grown
 
 pub returns-clause-found : goal.returns-clause-found
 returns-clause-found c =
@@ -55,10 +55,10 @@ returns-clause-found c =
     let d = c.meet_before.new.labels in
     let e = c.meet_after.new.labels in
     let z = c.expand_out.new.labels in
-    let ps = c.expand_in.new.met in
-    let qs = c.meet_before.new.met in
-    let rs = c.meet_after.new.met in
-    let zs = c.expand_out.new.met in
+    let ps = c.expand_in.new.queue in
+    let qs = c.meet_before.new.queue in
+    let rs = c.meet_after.new.queue in
+    let zs = c.expand_out.new.queue in
     let from_e = c.expand_out.ensures.grown in
     let from_d = grown_then k d e z qs rs zs c.meet_after.ensures.grown from_e in
     let from_b = grown_then k b d z ps qs zs c.meet_before.ensures.grown from_d in

@@ -6,7 +6,7 @@ use Rattle.terminal_augment.proofs.flood.expand_in.Given as goal
 
 abbrev pub invariant-loop-i : goal.invariant-loop-i
 invariant-loop-i l = record {
-  flooding : IsFlooding l.net l.labels l.k l.met;
-  grown : IsGrown l.k l.fn.labels l.labels l.fn.met l.met;
+  flooding : IsFlooding l.net l.labels l.k l.queue;
+  grown : IsGrown l.k l.fn.labels l.labels l.fn.queue l.queue;
   done : (j : ℕ) → j < l.i → IsWayDone l.net l.labels l.k (way_in l.net.site (get_or (arcs_to l.net.site.shape l.fn.spot.node) j 0) l.fn.spot.moment);
 }

@@ -1,11 +1,11 @@
 use Rattle.residual_net.specs.Site.{arc_count}
 use Rattle.terminal_augment.proofs.ClosedLemmas.{alike_after, over_after}
-use Rattle.terminal_augment.proofs.FloodLemmas.{doors_later, flooding_begins, grown_then}
+use Rattle.terminal_augment.proofs.FloodLemmas.{seeded_later, flooding_begins, grown_then}
 use Rattle.terminal_augment.proofs.flood.flood.Goals as goal
 
-pub open_all-requires : goal.open_all-requires
-open_all-requires c = record {
-  flooding = flooding_begins c.args.net.now c.args.labels.now c.args.k c.args.met.now c.clear.new.self c.shape.ensures.net c.requires.settled c.nodes.ensures.table.full
+pub seed_all-requires : goal.seed_all-requires
+seed_all-requires c = record {
+  flooding = flooding_begins c.args.net.now c.args.labels.now c.args.k c.args.queue.now c.clear.new.self c.requires.net c.requires.settled c.nodes.ensures.table.full
       c.requires.room c.clear.ensures;
 }
 
@@ -14,25 +14,25 @@ returns-in-None-clause-flooded c =
     let w = c.args.net.now in
     let k = c.args.k in
     let l = c.args.labels.now in
-    let m = c.open_all.new.labels in
+    let m = c.seed_all.new.labels in
     let v = c.expand_all.new.labels in
     let x = c.clear.new.self in
-    let y = c.open_all.new.met in
-    let z = c.expand_all.new.met in
-    over_after w l v k x z c.shape.ensures.net c.requires.settled (grown_then k l m v x y z c.open_all.ensures.grown c.expand_all.ensures.grown) c.expand_all.ensures.flooding
-    c.in-None.ensures.found (doors_later w k (arc_count w.site) m v y z c.expand_all.ensures.grown c.open_all.ensures.doors)
+    let y = c.seed_all.new.queue in
+    let z = c.expand_all.new.queue in
+    over_after w l v k x z c.requires.settled (grown_then k l m v x y z c.seed_all.ensures.grown c.expand_all.ensures.grown) c.expand_all.ensures.flooding
+    c.in-None.ensures.found (seeded_later w k (arc_count w.site) m v y z c.expand_all.ensures.grown c.seed_all.ensures.seeded)
 
 pub returns-in-Some-clause-flooded : goal.returns-in-Some-clause-flooded
 returns-in-Some-clause-flooded c =
     let k = c.args.k in
     let l = c.args.labels.now in
-    let m = c.open_all.new.labels in
+    let m = c.seed_all.new.labels in
     let v = c.expand_all.new.labels in
     let x = c.clear.new.self in
-    let y = c.open_all.new.met in
-    let z = c.expand_all.new.met in
+    let y = c.seed_all.new.queue in
+    let z = c.expand_all.new.queue in
     record {
-      alike = alike_after k l v c.unset_from.new.self x z (grown_then k l m v x y z c.open_all.ensures.grown c.expand_all.ensures.grown) c.requires.settled.unset
+      alike = alike_after k l v c.unset_from.new.self x z (grown_then k l m v x y z c.seed_all.ensures.grown c.expand_all.ensures.grown) c.requires.settled.unset
           c.expand_all.ensures.flooding.full c.unset_from.ensures.unset;
       met = c.expand_all.ensures.flooding.met;
       found = c.in-Some.ensures.found;

@@ -7,7 +7,7 @@ pub push-requires : goal.push-requires
 push-requires c =
     let w = c.args.net.now in
     let l = c.args.labels.now in
-    let p = c.args.met.now in
+    let p = c.args.queue.now in
     let m : Met = record { spot = c.args.spot; step = c.args.step } in
     let new : IsNew w l c.args.k p m = record {
       inside = c.requires.inside;
@@ -22,7 +22,7 @@ pub returns-clause-flooding : goal.returns-clause-flooding
 returns-clause-flooding c =
     let w = c.args.net.now in
     let l = c.args.labels.now in
-    let p = c.args.met.now in
+    let p = c.args.queue.now in
     let m : Met = record { spot = c.args.spot; step = c.args.step } in
     let new : IsNew w l c.args.k p m = record {
       inside = c.requires.inside;
@@ -37,7 +37,7 @@ pub returns-clause-grown : goal.returns-clause-grown
 returns-clause-grown c =
     let w = c.args.net.now in
     let l = c.args.labels.now in
-    let p = c.args.met.now in
+    let p = c.args.queue.now in
     let m : Met = record { spot = c.args.spot; step = c.args.step } in
     let new : IsNew w l c.args.k p m = record {
       inside = c.requires.inside;
@@ -52,7 +52,7 @@ pub returns-clause-done : goal.returns-clause-done
 returns-clause-done c =
     let w = c.args.net.now in
     let l = c.args.labels.now in
-    let p = c.args.met.now in
+    let p = c.args.queue.now in
     let m : Met = record { spot = c.args.spot; step = c.args.step } in
     let new : IsNew w l c.args.k p m = record {
       inside = c.requires.inside;
@@ -66,4 +66,4 @@ returns-clause-done c =
 pub returns-clause-met : goal.returns-clause-met
 returns-clause-met c _ =
     let m : Met = record { spot = c.args.spot; step = c.args.step } in
-    has_noted c.args.met.now c.push.new.self m c.push.ensures
+    has_noted c.args.queue.now c.push.new.self m c.push.ensures

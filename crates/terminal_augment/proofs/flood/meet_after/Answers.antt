@@ -8,10 +8,10 @@ pub overflow_add-moment : goal.overflow_add-moment
 overflow_add-moment c =
     let w = c.args.net.now in
     let inside = c.requires.inside in
-    omega (arith, inside.moment, (sizes w.site.shape c.shape.ensures.net.site.shape).horizon)
+    omega (arith, inside.moment, (sizes w.site.shape c.requires.flooding.net.site.shape).horizon)
 
 pub meet-requires-clause-inside : goal.meet-requires-clause-inside
 meet-requires-clause-inside c =
     let inside = c.requires.inside in
-    start_open c.args.net.now (record { place = Hold c.args.spot.node c.args.spot.moment; back = true }) c.shape.ensures.net (inside.node, inside.moment)
+    start_open c.args.net.now (record { place = Hold c.args.spot.node c.args.spot.moment; back = true }) c.requires.flooding.net (inside.node, inside.moment)
     (omega (arith, c.held.ensures, c.if-held-eq0.false))

@@ -13,7 +13,7 @@ pub returns-then-not-meet-clause-done : goal.returns-then-not-meet-clause-done
 returns-then-not-meet-clause-done c =
     let w = c.args.net.now in
     let old = c.loop-moment.invariant in
-    before_later w c.args.k c.args.spot.node c.args.spot.moment c.loop-moment.moment c.loop-moment.labels c.meet.new.labels c.loop-moment.met c.meet.new.met
+    before_later w c.args.k c.args.spot.node c.args.spot.moment c.loop-moment.moment c.loop-moment.labels c.meet.new.labels c.loop-moment.queue c.meet.new.queue
     c.meet.ensures.grown c.loop-moment-test.true old.within old.done
     (subst (λ (y : PathStep). IsDone w c.meet.new.labels c.args.k y) c.forth-step.ensures c.meet.ensures.done)
 
@@ -23,13 +23,13 @@ loop-moment-preserved c =
     let old = c.loop-moment.invariant in
     let l = c.loop-moment.labels in
     let m = c.meet.new.labels in
-    let x = c.loop-moment.met in
-    let y = c.meet.new.met in
+    let x = c.loop-moment.queue in
+    let y = c.meet.new.queue in
     record {
       within = omega (arith, old.within);
       flooding = c.meet.ensures.flooding;
       met = c.if-not-meet.ensures.met refl;
-      grown = grown_then c.args.k c.args.labels.now l m c.args.met.now x y old.grown c.meet.ensures.grown;
+      grown = grown_then c.args.k c.args.labels.now l m c.args.queue.now x y old.grown c.meet.ensures.grown;
       done = λ _. before_later w c.args.k c.args.spot.node c.args.spot.moment c.loop-moment.moment l m x y c.meet.ensures.grown c.loop-moment-test.true old.within old.done
           (subst (λ (z : PathStep). IsDone w m c.args.k z) c.forth-step.ensures c.meet.ensures.done);
     }

@@ -8,9 +8,9 @@ use Rattle.terminal_augment.proofs.flood.meet_before.Given as goal
 abbrev pub invariant-loop-moment : goal.invariant-loop-moment
 invariant-loop-moment l = record {
   within : l.moment ≤ l.fn.spot.moment;
-  flooding : IsFlooding l.net l.labels l.k l.met;
-  met : has (spots l.met.list) l.fn.spot.node l.moment ≡ true;
-  grown : IsGrown l.k l.fn.labels l.labels l.fn.met l.met;
+  flooding : IsFlooding l.net l.labels l.k l.queue;
+  met : has (spots l.queue.list) l.fn.spot.node l.moment ≡ true;
+  grown : IsGrown l.k l.fn.labels l.labels l.fn.queue l.queue;
   done : l.moment < l.fn.spot.moment → IsWayDone l.net l.labels l.k (way_before l.fn.spot.node l.fn.spot.moment);
 }
 

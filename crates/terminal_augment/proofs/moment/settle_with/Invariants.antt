@@ -2,7 +2,7 @@ use Rattle.std.proofs.Common.{◌-◌}
 use Rattle.residual_net.specs.Limits.{supply_limit}
 use Rattle.residual_net.specs.Network.{arrived_by}
 use Rattle.terminal_augment.specs.Floods.{HaveSameLabels}
-use Rattle.terminal_augment.specs.Searches.{IsWork}
+use Rattle.terminal_augment.specs.Searches.{AreBuffers}
 use Rattle.terminal_augment.specs.Settled.{IsCountedOn, IsSettledBelow}
 use Rattle.terminal_augment.proofs.moment.settle_with.Given as goal
 
@@ -10,7 +10,7 @@ abbrev pub invariant-loop-found : goal.invariant-loop-found
 invariant-loop-found g l = record {
   settled : IsSettledBelow l.net l.labels l.k;
   alike : HaveSameLabels l.fn.labels l.labels;
-  work : IsWork l.net.site.shape.nodes l.net.site.shape.horizon l.work;
+  buffers : AreBuffers l.net.site.shape.nodes l.net.site.shape.horizon l.buffers;
   counted : IsCountedOn l.fn.net l.net l.k l.pushes l.fn.steps l.steps;
 }
 

@@ -6,6 +6,6 @@ use Rattle.residual_net.proofs.grid.Grid.arrives.Goals as goal
 pub overflow_add-result : goal.overflow_add-result
 unfolding travel_limit
 overflow_add-result c =
-    let grid = c.shape.ensures.grid in
+    let grid = c.travel.ensures.grid in
     let short = grid.site.times c.args.arc 0 (omega (arith, c.requires.0, grid.site.travels)) in
-    omega (arith, c.requires.1, (sizes c.args.self.now.site.shape grid.site.shape).horizon, short.1, c.travel.ensures)
+    omega (arith, c.requires.1, (sizes c.args.self.now.site.shape grid.site.shape).horizon, short.1, c.travel.ensures.travel)

@@ -29,7 +29,7 @@ returns-then-to-from-clause-pushed c =
 
 pub hold_cell-first-requires-clause-node_in : goal.hold_cell-first-requires-clause-node_in
 hold_cell-first-requires-clause-node_in c =
-    let place = first_place c.args.self.now c.args.node c.args.from c.args.to c.args.people c.if-to-from.false c.requires in
+    let place = first_place c.args.self.now c.args.node c.args.from c.args.to c.args.people c.if-to-from.false c.requires.shiftable in
     subst (λ (z : Network). c.args.node < z.site.shape.nodes) (sym c.self.view_is) place.0
 
 pub slice_bounds-waits-end : goal.slice_bounds-waits-end
@@ -38,7 +38,7 @@ slice_bounds-waits-end c =
     let grid : IsGrid w = rw c.self.view_is at c.self.invariant.0 in
     let first = c.hold_cell-first.ensures.cell ∙ ap (λ (z : Network). hold_cell z.site.shape c.args.node 0) c.self.view_is in
     let cell = wait_cell w.site c.args.node c.args.from c.hold_cell-first.result first in
-    let fits = waits_fit (c.args.to - c.args.from) w c.args.node c.args.from c.args.people _ grid cell c.requires (omega (arith, c.if-to-from.false)) in
+    let fits = waits_fit (c.args.to - c.args.from) w c.args.node c.args.from c.args.people _ grid cell c.requires.shiftable (omega (arith, c.if-to-from.false)) in
     omega (arith, fits, c.if-to-from.false, ap (λ (z : Network). length z.cells) c.self.view_is, ap length c.as_mut_slice-cells.ensures.value)
 
 pub raise_all-requires : goal.raise_all-requires
@@ -48,7 +48,7 @@ raise_all-requires c =
     let i = c.hold_cell-first.result in
     let first = c.hold_cell-first.ensures.cell ∙ ap (λ (z : Network). hold_cell z.site.shape c.args.node 0) c.self.view_is in
     let cell = wait_cell w.site c.args.node c.args.from i first in
-    let rooms = waits_roomy (c.args.to - c.args.from) w c.args.node c.args.from c.args.people (i + c.args.from) grid cell c.requires in
+    let rooms = waits_roomy (c.args.to - c.args.from) w c.args.node c.args.from c.args.people (i + c.args.from) grid cell c.requires.shiftable in
     let count : c.args.to - c.args.from ≡ (i + c.args.to) - (i + c.args.from) = omega arith in
     let same : c.as_mut_slice-cells.result.now ≡ w.cells = c.as_mut_slice-cells.ensures.value ∙ ap (λ (z : Network). z.cells) c.self.view_is in
     subst (λ (z : List Cell). All (λ (x : Cell). c.args.people ≤ x.limit - x.flow) (take ((i + c.args.to) - (i + c.args.from)) (drop (i + c.args.from) z))) (sym same)
@@ -66,7 +66,7 @@ returns-clause-pushed c =
     let xs = c.as_mut_slice-cells.result.now in
     let first = c.hold_cell-first.ensures.cell ∙ ap (λ (z : Network). hold_cell z.site.shape c.args.node 0) c.self.view_is in
     let cell = wait_cell w.site c.args.node c.args.from i first in
-    let fits = waits_fit (c.args.to - c.args.from) w c.args.node c.args.from x a grid cell c.requires (omega (arith, c.if-to-from.false)) in
+    let fits = waits_fit (c.args.to - c.args.from) w c.args.node c.args.from x a grid cell c.requires.shiftable (omega (arith, c.if-to-from.false)) in
     let count : k ≡ c.args.to - c.args.from = omega arith in
     let same : xs ≡ w.cells = c.as_mut_slice-cells.ensures.value ∙ ap (λ (z : Network). z.cells) c.self.view_is in
     let within : a + k ≤ length xs = omega (arith, fits, count, ap length same) in
@@ -80,4 +80,4 @@ returns-clause-pushed c =
     ∙ ap (λ (z : List Cell). saved_cells g.is_saved z g.saved.items) c.as_mut_slice-cells.ensures.value ∙ ap (λ (z : Network). z.saved) c.self.view_is in
     subst (λ (z : Network). IsPushed w z (waits_at c.args.node c.args.from (c.args.to - c.args.from)) x)
     (sym (other_cells _ w cells (ap (λ (z : Network). z.site) c.self.view_is) changed saved))
-    (waits_pushed (c.args.to - c.args.from) w c.args.node c.args.from x a grid cell c.requires)
+    (waits_pushed (c.args.to - c.args.from) w c.args.node c.args.from x a grid cell c.requires.shiftable)

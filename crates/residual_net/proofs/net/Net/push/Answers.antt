@@ -30,6 +30,9 @@ move_arrivals-requires-clause-underway g c =
       last_step = λ d. get_or_default path (length path - 1) d blank (omega (arith, some));
     }
 
+pub returns-clause-net : goal.returns-clause-net
+returns-clause-net g c = c.move_arrivals.ensures.net
+
 pub invariant_of-self : goal.invariant_of-self
 invariant_of-self g c =
     let was = c.self.inside in

@@ -1,0 +1,5 @@
+use Rattle.std.proofs.Common.{◌≡◌}
+use Rattle.guided_search.proofs.search.BackwardSearch.add_parents.Given as goal
+
+abbrev pub invariant-loop-way : goal.invariant-loop-way
+invariant-loop-way l = (l.self.sizes ≡ l.initial.self.sizes)

@@ -1,0 +1,5 @@
+use Rattle.std.proofs.Common.{◌≡◌}
+use Rattle.guided_search.proofs.search.BackwardSearch.relabel_from_unsent.Given as goal
+
+abbrev pub invariant-loop-node : goal.invariant-loop-node
+invariant-loop-node l = (l.self.sizes ≡ l.initial.self.sizes)

@@ -1,5 +1,0 @@
-use Rattle.std.proofs.Common.{◌≡◌}
-use Rattle.guided_search.proofs.search.Search.spread.Given as goal
-
-abbrev pub invariant-loop-way : goal.invariant-loop-way
-invariant-loop-way l = (l.self.sizes ≡ l.initial.self.sizes)

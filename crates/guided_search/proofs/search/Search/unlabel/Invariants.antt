@@ -1,5 +1,0 @@
-use Rattle.std.proofs.Common.{◌≡◌, vec_len}
-use Rattle.guided_search.proofs.search.Search.unlabel.Given as goal
-
-abbrev pub invariant-loop-at : goal.invariant-loop-at
-invariant-loop-at l = (l.self.sizes ≡ l.initial.self.sizes) × (vec_len l.self.relabelled.pairs.list ≡ vec_len l.initial.self.relabelled.pairs.list)
