@@ -81,6 +81,18 @@ session_begun m w u l refused ring room x moment valid net of limits within clea
 
 -- ---- an edit is made
 
+-- scratch with other labels of the network
+pub scratch_with : (s : Site) (x : Scratch) (l : LabelTable) → IsScratchOf s x → IsLabelsOf s l
+    → IsScratchOf s (record { labels = l; search = x.search; path = x.path })
+scratch_with s x l h labels = record { labels = labels; search = h.search; room = h.room }
+
+-- and with those of the plan before
+pub scratch_after : (m m' : Model) (w v : Network) (l k y : LabelTable) (x : Scratch) (work : Work) → IsStanding m w l → IsCarried m' w v l k work → y ≡ l
+    → IsScratchOf v.site x → IsScratchOf v.site (record { labels = y; search = x.search; path = x.path })
+scratch_after m m' w v l k y x work h done same scratch =
+    scratch_with v.site x y scratch
+    (subst (λ (z : LabelTable). IsLabelsOf v.site z) (sym same) (subst (λ (s : Site). IsLabelsOf s l) (sym done.site) h.labels))
+
 pub repairable : (m m' : Model) (e e' : Edit) (w : Network) (l : LabelTable) → IsStanding m w l → IsEditOf m e → applied m e ≡ Ok (m', e')
     → IsRepairable m' e w l
 repairable m m' e e' w l h in_range accepted = record { before = m; inverse = e'; in_range = in_range; edited = accepted; standing = h }

@@ -4,13 +4,13 @@ use Rattle.evac_law.specs.declared.edit.Edit.{Edit}
 use Rattle.evac_law.specs.declared.model.Model.{Model}
 use Rattle.std.proofs.lemmas.Bool.{cases_Bool}
 use Rattle.evac_law.specs.Building.{IsValid, is_exit_at, people}
-use Rattle.evac_law.specs.Plans.{above, held}
+use Rattle.evac_law.specs.Plans.{TakesAllOut, above, held}
 use Rattle.evac_law.specs.Certificates.{IsClearable, IsShortfall, IsTableOf, label_cut}
 use Rattle.evac_law.specs.Edits.{IsEditOf, applied, edited}
 use Rattle.evac_law.specs.LabelTable.{LabelTable}
 use Rattle.evac_law.specs.Parts.{IsMost}
-use Rattle.evac_law.specs.Stands.{Fits, IsOrdered}
-use Rattle.evac_law.proofs.Optimal.{certified_is_clearable, shortfall_bars_clearing}
+use Rattle.evac_law.specs.Stands.{Fits, IsOrdered, Stands}
+use Rattle.evac_law.proofs.Optimal.{certified_is_clearable, certified_is_feasible, out_stays, shortfall_bars_clearing}
 use Rattle.residual_net.specs.Labelled.{IsLabelsOf}
 use Rattle.residual_net.specs.Network.{Network, flow_at, flow_into, flow_out, limit_at, supply_limits, with_saved}
 use Rattle.residual_net.specs.declared.place.Place.TheVariants.{Hold}
@@ -18,7 +18,7 @@ use Rattle.residual_net.specs.OfModel.{plan_of, stand_of}
 use Rattle.edit_session.specs.declared.work.Work.{Work}
 use Rattle.edit_session.specs.Kept.{former_of, state_of}
 use Rattle.edit_session.specs.Mended.{IsCarried, IsRefused, IsStanding, last_arrival_of}
-use Rattle.edit_session.specs.Sessions.{Begins, IsBarred, IsEdited, IsNetOfState, IsNotCleared, IsSolved, IsUndone, kept_limit, stand_of_state}
+use Rattle.edit_session.specs.Sessions.{Begins, IsBarred, IsEdited, IsNetOfState, IsNotCleared, IsSolved, IsUndone, SessionState, kept_limit, stand_of_state}
 use Rattle.edit_session.specs.Thrift.{IsSpent}
 use Rattle.lex_flow.specs.Settling.{arrivals_below}
 use Rattle.edit_session.proofs.Ring.{former_more}
@@ -47,6 +47,17 @@ pub clearable_by : (m : Model) (w : Network) (l : LabelTable) → IsStanding m w
 clearable_by m w l h = certified_is_clearable m (plan_of w) l (last_arrival_of w) h.valid h.cleared.certified
 
 -- ---- the session as a standing plan
+
+pub takes_all_out : (s : SessionState) → IsSolved s → TakesAllOut s.model s.plan
+takes_all_out s h =
+    let good = h.certified in record {
+      feasible = certified_is_feasible s.model s.plan s.labels s.last s.model.horizon h.valid good;
+      all_out = out_stays s.model s.plan s.last s.model.horizon good.in_horizon good.arrives ∙ good.all_out;
+    }
+
+pub stands_of : (s : SessionState) (m : Model) → m ≡ s.model → IsSolved s → Fits s.model (stand_of_state s) → Stands m (stand_of_state s)
+stands_of s m e h fits =
+    subst (λ (x : Model). Stands x (stand_of_state s)) (sym e) (record { valid = h.valid; fits = fits; plan = takes_all_out s h })
 
 -- what a whole number from 0 on is above 0
 pub above_none : (x : ℕ) (z : ℤ) → pos x ≡ z → above z 0 ≡ x

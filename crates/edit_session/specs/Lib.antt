@@ -14,4 +14,5 @@ pub mod Sessions
 pub mod Kept
 pub mod Mended
 pub mod Making
+pub mod Fresh
 pub mod Laws

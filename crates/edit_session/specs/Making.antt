@@ -9,7 +9,7 @@ use Rattle.residual_net.specs.Network.{Network}
 use Rattle.residual_net.specs.OfModel.{plan_of}
 use Rattle.edit_session.specs.declared.faults.EditRefusal.{EditRefusal}
 use Rattle.edit_session.specs.declared.faults.EditRefusal.TheVariants.{Fault, NotCleared}
-use Rattle.edit_session.specs.declared.made.Made.{Made}
+use Rattle.edit_session.specs.declared.make_edit.Made.{Made}
 use Rattle.edit_session.specs.Mended.{IsCarried, IsRefused}
 use Rattle.edit_session.specs.Thrift.{IsCounted, IsSpent}
 

@@ -13,8 +13,8 @@ use Rattle.residual_net.specs.OfModel.{IsNetOf, last_move, plan_of}
 use Rattle.residual_net.specs.Site.{Site}
 use Rattle.terminal_augment.specs.Settled.{IsSearchOf}
 use Rattle.lex_flow.specs.Outcomes.{IsCleared}
-use Rattle.edit_session.specs.declared.repaired.Repaired.{Repaired}
-use Rattle.edit_session.specs.declared.repaired.Repaired.TheVariants.{Cleared, Short}
+use Rattle.edit_session.specs.declared.repair.Repaired.{Repaired}
+use Rattle.edit_session.specs.declared.repair.Repaired.TheVariants.{Cleared, Short}
 use Rattle.edit_session.specs.declared.scratch.Scratch.{Scratch}
 use Rattle.edit_session.specs.declared.work.Work.{Work}
 use Rattle.edit_session.specs.Repairs.{IsRepairOf}

@@ -8,10 +8,9 @@
 mod faults;
 mod laws;
 mod limits;
-mod made;
-mod making;
-mod mend;
-mod repaired;
+mod make_edit;
+mod planned;
+mod repair;
 mod scratch;
 mod session;
 mod work;

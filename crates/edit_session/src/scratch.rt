@@ -25,8 +25,8 @@ impl Scratch {
     {
         Ok(Scratch {
             labels: Labels::new(alloc, model.node_count(), model.horizon)?,
-            search: Search::new(alloc, model)?,
             path: Path::new(alloc, model.horizon as usize + 2)?,
+            search: Search::new(alloc, model)?,
         })
     }
 }

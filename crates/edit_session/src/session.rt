@@ -6,30 +6,25 @@ ghost use Rattle.evac_law.specs.Edits.{IsEditOf};
 ghost use Rattle.evac_law.specs.Stands.{Fits};
 ghost use Rattle.edit_session.specs.Sessions.{BeginEnds, EditEnds, IsNetOfState, IsSolved, TrialEnds, UndoEnds, stand_of_state};
 
-use crate::faults::{BeginFault, EditRefusal, Short, UndoRefusal};
+use crate::faults::{BeginFault, EditRefusal, UndoRefusal};
 use crate::limits::KEPT_LIMIT;
-use crate::making::make_edit;
-use crate::mend::repair_net;
-use crate::repaired::Repaired;
-use crate::scratch::Scratch;
+use crate::planned::Planned;
+use crate::repair::Repaired;
 use crate::work::Work;
 use circular_buffer::HeapCircularBuffer;
 use evac_law::{Edit, Labels, Model, Standing, Steps, apply};
 use lex_flow::{Outcome, settle_all};
 use residual_net::Net;
 use std::alloc::Global;
+use std::mem::swap;
 use std::sync::ledger::Ledger;
 
 /// A model with its best plan, which is repaired after each edit. All memory that a session needs is taken when it begins.
 #[derive(Drop)]
 pub struct Session {
-    model: Model,
-    net: Net,
-    labels: Labels,
-    refused: Labels,
+    planned: Planned,
     ring: HeapCircularBuffer<Edit>,
     work: Work,
-    scratch: Scratch,
 }
 
 impl std::marker::Model for Session {
@@ -38,9 +33,9 @@ impl std::marker::Model for Session {
 
     ghost Value = { SessionView };
 
-    ghost view = { λ s. view_of s.model s.net s.labels s.refused s.ring.items s.work };
+    ghost view = { λ s. view_of s.planned.model s.planned.net s.planned.labels s.planned.refused s.ring.items s.work };
 
-    ghost invariant = { λ s. IsSession s.model s.net s.labels s.refused s.ring.items s.ring.capacity s.scratch };
+    ghost invariant = { λ s. IsSession s.planned.model s.planned.net s.planned.labels s.planned.refused s.ring.items s.ring.capacity s.planned.scratch };
 }
 
 impl Session {
@@ -53,39 +48,33 @@ impl Session {
         requires { IsValid model }
         ensures { (n : ℕ) × (steps.new ≡ steps.old + n) × BeginEnds model result n }
     {
-        let nodes = model.node_count();
-        let (Ok(mut net), Ok(mut labels), Ok(refused), Ok(mut scratch), Ok(ring)) = (
-            Net::new(alloc, &model),
-            Labels::new(alloc, nodes, model.horizon),
-            Labels::new(alloc, nodes, model.horizon),
-            Scratch::new(alloc, &model),
-            HeapCircularBuffer::with_capacity(alloc, KEPT_LIMIT),
-        ) else {
+        let Ok(ring) = HeapCircularBuffer::with_capacity(alloc, KEPT_LIMIT) else {
             return Err(BeginFault::Memory);
         };
-        match settle_all(&mut net, &mut labels, &mut scratch.search, 0, steps) {
+        let Ok(mut planned) = Planned::new(alloc, model) else {
+            return Err(BeginFault::Memory);
+        };
+        match settle_all(
+            &mut planned.net,
+            &mut planned.labels,
+            &mut planned.scratch.search,
+            0,
+            steps,
+        ) {
             Outcome::Cleared { pushes, .. } => {
                 // a net keeps its flow in balance
-                let _ = net.shape();
+                let _ = planned.net.shape();
                 let work = Work {
                     cancelled: 0,
                     pushes,
                 };
                 Ok(Session {
-                    model,
-                    net,
-                    labels,
-                    refused,
+                    planned,
                     ring,
                     work,
-                    scratch,
                 })
             }
-            Outcome::Short { most, .. } => Err(BeginFault::NotCleared(Short {
-                model,
-                labels,
-                most,
-            })),
+            Outcome::Short { most, .. } => Err(BeginFault::NotCleared(planned.into_short(most))),
         }
     }
 
@@ -95,16 +84,8 @@ impl Session {
         ensures ends { (n : ℕ) × (steps.new ≡ steps.old + n) × EditEnds self.old edit result self.new n }
         ensures unchanged { OnErr result (self.new.state ≡ self.old.state) }
     {
-        let made = make_edit(
-            &mut self.model,
-            &mut self.net,
-            &self.labels,
-            &mut self.refused,
-            &mut self.scratch,
-            edit,
-            steps,
-        )?;
-        self.labels.copy_from(&self.scratch.labels);
+        let made = self.planned.make_edit(edit, steps)?;
+        swap(&mut self.planned.labels, &mut self.planned.scratch.labels);
         self.ring.push_front(made.inverse);
         self.work = made.work;
         Ok(made.work)
@@ -116,19 +97,11 @@ impl Session {
         ensures ends { (n : ℕ) × (steps.new ≡ steps.old + n) × TrialEnds self.old edit result self.new n }
         ensures unchanged { self.new.state ≡ self.old.state }
     {
-        let made = make_edit(
-            &mut self.model,
-            &mut self.net,
-            &self.labels,
-            &mut self.refused,
-            &mut self.scratch,
-            edit,
-            steps,
-        )?;
-        let last = self.net.last_arrival();
-        self.net.restore();
+        let made = self.planned.make_edit(edit, steps)?;
+        let last = self.planned.net.last_arrival();
+        self.planned.net.restore();
         // the inverse of an edit that was just made is accepted
-        let _ = apply(&mut self.model, made.inverse);
+        let _ = apply(&mut self.planned.model, made.inverse);
         Ok(last)
     }
 
@@ -141,17 +114,10 @@ impl Session {
             return Err(UndoRefusal::NothingToUndo);
         };
         // a kept edit is accepted by the model that it is kept for
-        let _ = apply(&mut self.model, back);
-        match repair_net(
-            &mut self.net,
-            &self.model,
-            back,
-            &self.labels,
-            &mut self.scratch,
-            steps,
-        ) {
+        let _ = apply(&mut self.planned.model, back);
+        match self.planned.repair(back, steps) {
             Repaired::Cleared { work } => {
-                self.labels.copy_from(&self.scratch.labels);
+                swap(&mut self.planned.labels, &mut self.planned.scratch.labels);
                 self.work = work;
                 Ok(work)
             }
@@ -166,14 +132,14 @@ impl Session {
         ensures solved { IsSolved self.now.state }
         ensures stands { Fits self.now.state.model (stand_of_state self.now.state) }
     {
-        &self.model
+        &self.planned.model
     }
 
     /// The labels, which make a cut for each period.
     pub fn labels(&self) -> &Labels
         ensures { result.now ≡ self.now.state.labels }
     {
-        &self.labels
+        &self.planned.labels
     }
 
     /// How many edits can be undone.
@@ -195,14 +161,14 @@ impl Session {
         ensures labels { result.now ≡ self.now.refused }
         ensures table { IsTableOf self.now.state.model result.now }
     {
-        &self.refused
+        &self.planned.refused
     }
 
     /// The net that is repaired.
     pub fn net(&self) -> &Net
         ensures { IsNetOfState self.now.state result.now }
     {
-        &self.net
+        &self.planned.net
     }
 }
 
@@ -212,14 +178,14 @@ impl Standing for Session {
     ghost stand = { λ v. stand_of_state v.state };
 
     fn moved(&self, arc: u32, moment: u16) -> u32 {
-        self.net.moved(arc, moment)
+        self.planned.net.moved(arc, moment)
     }
 
     fn held(&self, node: u32, moment: u16) -> u32 {
-        self.net.held(node, moment)
+        self.planned.net.held(node, moment)
     }
 
     fn cleared(&self) -> u16 {
-        self.net.last_arrival()
+        self.planned.net.last_arrival()
     }
 }

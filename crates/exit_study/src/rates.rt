@@ -1,5 +1,6 @@
 //! The least rate of an arc.
 ghost use Rattle.std.specs.Prelude.{◌≡◌, ◌+◌, ◌<◌, ◌≤◌, ℕ, length};
+ghost use Rattle.evac_law.specs.Building.{IsValid};
 ghost use Rattle.evac_law.specs.Limits.{rate_limit};
 ghost use Rattle.exit_study.specs.Rates.{IsLeast, IsSearch, TellsEnough};
 
@@ -9,7 +10,7 @@ use evac_law::{Edit, Standing, Steps};
 use std::sync::ledger::Ledger;
 
 /// The least rate of an arc at which everybody is out by a moment, or that no rate is enough.
-#[derive(Clone, Copy, PartialEq, Eq, Debug)]
+#[derive(Clone, Copy)]
 pub enum Least {
     Rate { rate: u32 },
     Never,
@@ -46,7 +47,8 @@ struct Span {
 #[tactic(auto, unfolding(evac_law::specs::Limits::rate_limit))]
 fn first_span(session: &Session, arc: u32, by: u16) -> Span
     requires { arc < length session.now.state.model.arcs }
-    ensures { IsSearch session.now.state.model arc by result.low result.high }
+    ensures valid { IsValid session.now.state.model }
+    ensures search { IsSearch session.now.state.model arc by result.low result.high }
 {
     let rate = session.model().arc(arc).rate;
     if session.cleared() <= by {
@@ -93,8 +95,6 @@ pub fn least_rate<L: Ledger>(
     ensures unchanged { session.new.state ≡ session.old.state }
     ensures counted { (n : ℕ) × (steps.new ≡ steps.old + n) }
 {
-    // a session has a plan that is solved
-    let _ = session.model();
     let Span { mut low, mut high } = first_span(session, arc, by);
     let mut doublings = DOUBLINGS;
     while low < high {

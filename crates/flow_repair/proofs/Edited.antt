@@ -2,7 +2,7 @@
 use Rattle.std.proofs.Common.{◌≡◌, ◌≢◌, ℕ, ◌+◌, ◌-◌, ◌<◌, Bool, true, false, cond, ◌&&◌, ◌||◌, eqb, ltb, List, length, refl, ap, ap₂, sym, ◌∙◌, arith, subst, Ok}
 use Rattle.std.proofs.Math.Seq.{map-set_same}
 use Rattle.std.proofs.lemmas.List.{get_or-set_other, length-set, length-map}
-use Rattle.std.proofs.lemmas.Bool.{eqb-false}
+use Rattle.std.proofs.lemmas.Bool.{eqb-false, or_parts}
 use Rattle.evac_law.specs.declared.entrant.Entrant.{Entrant}
 use Rattle.evac_law.specs.declared.model.NodeRow.{NodeRow}
 use Rattle.evac_law.specs.declared.model.ArcRow.{ArcRow}
@@ -134,9 +134,6 @@ after_start m n s (places.Supply k t) e =
     let row = record (node_at m n) { start = s } in
     entry_kept m (with_node m n row) k t (ap (λ (r : NodeRow). r.start) (get_or-set_other m.nodes n k row no_node (not_number k n e))) refl
 
-neither : (b c : Bool) → (b || c) ≡ false → (b ≡ false) × (c ≡ false)
-neither b c e = (grind arith, grind arith)
-
 pub untouched : (m : Model) (e : Edit) (p : Place) → IsPlace (site_of m) p → touches (site_of m) e p ≡ false → model_limit (edited m e) p ≡ model_limit m p
 untouched m (Shut a) p i t = after_arc m a (record (arc_at m a) { shut = true }) p t
 untouched m (Reopen a) p i t = after_arc m a (record (arc_at m a) { shut = false }) p t
@@ -145,7 +142,7 @@ untouched m (ReopenExit n) p i t = after_exit m n false p i t
 untouched m (Rate a r) p i t = after_arc m a (record (arc_at m a) { rate = r }) p t
 untouched m (Room n c) p i t = after_room m n c p t
 untouched m (Shift a b x) p i t =
-    let none = neither (is_kind kinds.Supply p && eqb (row_of p) b) (is_kind kinds.Supply p && eqb (row_of p) a) t in
+    let none = or_parts (is_kind kinds.Supply p && eqb (row_of p) b) (is_kind kinds.Supply p && eqb (row_of p) a) t in
     after_start (with_start m a (start m a - x)) b (start m b + x) p none.0 ∙ after_start m a (start m a - x) p none.1
 untouched m (Enter n x) p i t = after_start m n (start m n + x) p t
 untouched m (Leave n x) p i t = after_start m n (start m n - x) p t

@@ -12,7 +12,7 @@ use Rattle.residual_net.specs.Change.{IsCancelled, IsLimitSet}
 use Rattle.residual_net.specs.OfModel.{model_limit}
 use Rattle.residual_net.proofs.Effects.{cancel_lowers, fewer_sent}
 use Rattle.residual_net.proofs.Kept.{into_same, out_same}
-use Rattle.residual_net.proofs.Places.{place-same, same-place, sum_places-add, sum_places-le, sum_places-pick, sum_places-same}
+use Rattle.residual_net.proofs.Places.{cond_most, place-same, same-place, sum_places-add, sum_places-le, sum_places-pick, sum_places-same}
 use Rattle.flow_repair.specs.declared.reshaped.Reshaped.{Reshaped}
 use Rattle.flow_repair.specs.Opened.{IsLabelsOf, IsLeastOpened, IsOpened, head_number}
 use Rattle.flow_repair.specs.Refit.{IsCancellable, IsRefitted, IsStepPerPerson, IsThinned, overrun}
@@ -21,9 +21,6 @@ use Rattle.flow_repair.proofs.Cancelling.{falls, less_over, on_path}
 use Rattle.flow_repair.proofs.Numbers.{least_of}
 
 -- ---- one cancel
-
-at_most : (b : Bool) (x : ℕ) → cond b x 0 ≤ x
-at_most b x = grind arith
 
 pub one_cancelled : (l : LabelTable) (w v : Network) (p : Place) (path : List PathStep) (x : ℕ) (before after : Reshaped)
     → IsCancelled w v p path x → after.cancelled ≡ before.cancelled + x
@@ -39,7 +36,7 @@ one_cancelled l w v p path x before after c sum most all one = record {
   more = omega (arith, sum);
   sent = omega (arith, sum, fewer_sent w v p path x c);
   bounded = omega (arith, sum, less_over w v p path x c);
-  arrivals = λ k. omega (arith, sum, cancel_lowers w v p path x c.arrives.0 c c.arrives.1 k, at_most (leb c.arrives.0 k) x);
+  arrivals = λ k. omega (arith, sum, cancel_lowers w v p path x c.arrives.0 c c.arrives.1 k, cond_most (leb c.arrives.0 k) x);
   idle = λ e. absurd (omega (arith, e, sum, c.some));
   least = record {
     most = most;
@@ -277,25 +274,7 @@ least_lowered m l w v p first set low = record {
   one = inl refl;
 }
 
--- a limit that is right already
-pub right_already : (m : Model) (l : LabelTable) (w : Network) (p : Place) (r : Reshaped) → limit_at w p ≡ model_limit m p → IsRefitted m l w w (same_place p) r r
-right_already m l w p r e = record {
-  site = refl;
-  saved = refl;
-  limits = λ q i. elim (cases_Bool (same_place p q)) [
-    | inl s ↦ rw s (subst (λ z. limit_at w z ≡ model_limit m z) (same-place p q s) e)
-    | inr s ↦ rw s refl
-  ];
-  flows = λ q i. omega arith;
-  more = omega arith;
-  sent = refl;
-  bounded = omega arith;
-  arrivals = λ k. omega arith;
-  idle = λ _ q i. refl;
-  least = least_none l w r.least_label;
-}
-
--- a limit that falls, and then as many people taken off as are above it
+-- a limit that doesn't rise, and then as many people taken off as are above it
 pub lowered_refits : (m : Model) (l : LabelTable) (w v u : Network) (p : Place) (r s : Reshaped) → IsLimitSet w v p (model_limit m p) → IsPlace w.site p
     → model_limit m p ≤ limit_at w p → IsThinned p l v u r s → IsRefitted m l w u (same_place p) r s
 lowered_refits m l w v u p r s set i low thin =

@@ -1,6 +1,6 @@
 -- The whole repair: the limits of the edited model, what it takes off, and the closed sets that stand.
-use Rattle.std.proofs.Common.{◌≡◌, ℕ, ◌+◌, ◌-◌, ◌<◌, ◌≤◌, Bool, true, false, cond, ◌||◌, eqb, ltb, length, ap, sym, ◌∙◌, arith, inl, inr, ◌⊎◌, subst}
-use Rattle.std.proofs.lemmas.Bool.{cases_Bool, cases_lt, leb-true}
+use Rattle.std.proofs.Common.{◌≡◌, ℕ, ◌+◌, ◌-◌, ◌<◌, ◌≤◌, Bool, true, false, cond, eqb, ltb, length, ap, sym, ◌∙◌, arith, inl, inr, ◌⊎◌, subst}
+use Rattle.std.proofs.lemmas.Bool.{cases_Bool, cases_lt, leb-true, or_right}
 use Rattle.std.proofs.lemmas.List.{length-map}
 use Rattle.evac_law.specs.declared.edit.Edit.{Edit}
 use Rattle.evac_law.specs.declared.model.Model.{Model}
@@ -130,13 +130,10 @@ module _ (m n : Model) (w : Network) (valid : IsValid m) (net : IsNet w) (of : I
       let place : IsPlace w.site (Hold k t) = (i, omega (arith, j)) in
       let fit = fits m w valid net of within all in
       let last : eqb t n.horizon ≡ true → flow_at w (Hold k t) ≡ 0 =
-      λ e. (net.barred (Hold k t) place (at_end (exit_at w.site k) (eqb t w.site.shape.horizon) (ap (λ z. eqb t z) horizon_now ∙ e))).0 in
+      λ e. (net.barred (Hold k t) place (or_right (exit_at w.site k) (eqb t w.site.shape.horizon) (ap (λ z. eqb t z) horizon_now ∙ e))).0 in
       let none = none_late (eqb t n.horizon) (flow_at w (Hold k t)) (capacity n k) 0 last in
       by (cases_Bool (is_exit_at m k)) fit none
     where
-      at_end : (b c : Bool) → c ≡ true → (b || c) ≡ true
-      at_end b c e = grind arith
-
       by : (is_exit_at m k ≡ true) ⊎ (is_exit_at m k ≡ false) → Fits m (stand_of w)
           → flow_at w (Hold k t) - model_limit n (Hold k t) ≤ flow_at w (Hold k t) - capacity n k
           → flow_at w (Hold k t) - model_limit n (Hold k t) ≤ cond (is_exit_at m k) 0 (above (held m (plan_of w) k t) (capacity n k))

@@ -1,68 +1,47 @@
 //! A net brought under the limits of an edited model.
 ghost use Rattle.std.specs.Prelude.{◌≡◌};
 ghost use Rattle.evac_law.specs.Edits.{IsEditOf};
-ghost use Rattle.residual_net.specs.Network.{IsWithinLimits};
-ghost use Rattle.flow_repair.specs.Refit.{IsFittable, IsRefitted, IsStepPerPerson};
+ghost use Rattle.flow_repair.specs.Repairing.{CanFit, Refits};
 ghost use Rattle.flow_repair.specs.Repairs.{IsReshapable, IsReshaped, IsStandingBelow, IsSteppedFor, IsTakenOff};
 ghost use Rattle.flow_repair.specs.Touched.{touches};
 
 use crate::reshaped::Reshaped;
-use crate::row::{fit_arcs_into, fit_row};
 use evac_law::{Edit, Labels, Model, Steps};
 use residual_net::{Kind, Net, Path};
 use std::sync::ledger::Ledger;
 
-// Brings what an edit changes under the edited model.
-fn fit_edit<L: Ledger>(
-    net: &mut Net,
-    model: &Model,
-    edit: Edit,
-    labels: &Labels,
-    path: &mut Path,
-    steps: &mut Steps<L>,
-    done: Reshaped,
-) -> Reshaped
-    requires fittable { IsFittable model.now net.old labels.now path.old.room done }
-    requires in_range { IsEditOf model.now edit }
-    ensures refitted { IsRefitted model.now labels.now net.old net.new (touches net.old.site edit) done result }
-    ensures within { IsWithinLimits net.new }
-    ensures room { path.new.room ≡ path.old.room }
-    ensures steps { IsStepPerPerson steps.old steps.new done result }
-{
-    match edit {
-        Edit::Shut { arc } => fit_row(net, model, labels, Kind::Arc, arc, path, steps, done),
-        Edit::Reopen { arc } => fit_row(net, model, labels, Kind::Arc, arc, path, steps, done),
-        Edit::Rate { arc, .. } => fit_row(net, model, labels, Kind::Arc, arc, path, steps, done),
-        Edit::Window { arc, .. } => fit_row(net, model, labels, Kind::Arc, arc, path, steps, done),
-        Edit::Unwindow { arc, .. } => {
-            fit_row(net, model, labels, Kind::Arc, arc, path, steps, done)
-        }
-        Edit::ShutExit { node } => fit_arcs_into(net, model, labels, node, path, steps, done),
-        Edit::ReopenExit { node } => fit_arcs_into(net, model, labels, node, path, steps, done),
-        Edit::Room { node, .. } => fit_row(net, model, labels, Kind::Hold, node, path, steps, done),
-        Edit::Enter { node, .. } => fit_row(
-            net,
-            model,
-            labels,
-            Kind::Supply,
-            node,
-            path,
-            steps,
-            done,
-        ),
-        Edit::Leave { node, .. } => fit_row(
-            net,
-            model,
-            labels,
-            Kind::Supply,
-            node,
-            path,
-            steps,
-            done,
-        ),
-        Edit::Shift { from, to, .. } => {
-            let left = fit_row(net, model, labels, Kind::Supply, from, path, steps, done);
-            fit_row(net, model, labels, Kind::Supply, to, path, steps, left)
+/// A net that comes under the limits of an edited model, the labels that proved it best before, a path to take people off, and what came of
+/// it so far.
+#[derive(Drop)]
+pub struct Repair<'a, L: Ledger> {
+    pub net: &'a mut Net,
+    pub model: &'a Model,
+    pub labels: &'a Labels,
+    pub path: &'a mut Path,
+    pub steps: &'a mut Steps<L>,
+    pub done: Reshaped,
+}
+
+impl<L: Ledger> Repair<'_, L> {
+    // Brings what an edit changes under the edited model.
+    fn fit_edit(&mut self, edit: Edit)
+        requires fittable { CanFit self.old }
+        requires in_range { IsEditOf self.old.model.now edit }
+        ensures { Refits (touches self.old.net.now.site edit) self.old self.new }
+    {
+        match edit {
+            Edit::Shut { arc }
+            | Edit::Reopen { arc }
+            | Edit::Rate { arc, .. }
+            | Edit::Window { arc, .. }
+            | Edit::Unwindow { arc, .. } => self.fit_row(Kind::Arc, arc),
+            Edit::ShutExit { node } | Edit::ReopenExit { node } => self.fit_arcs_into(node),
+            Edit::Room { node, .. } => self.fit_row(Kind::Hold, node),
+            Edit::Enter { node, .. } | Edit::Leave { node, .. } => self.fit_row(Kind::Supply, node),
+            Edit::Shift { from, to, .. } => {
+                self.fit_row(Kind::Supply, from);
+                self.fit_row(Kind::Supply, to);
+            }
         }
     }
 }
@@ -89,9 +68,17 @@ pub fn reshape<L: Ledger>(
 {
     let _ = net.shape();
     let first = net.last_arrival() + 1;
-    let none = Reshaped {
-        cancelled: 0,
-        least_label: first,
+    let mut repair = Repair {
+        net,
+        model,
+        labels,
+        path,
+        steps,
+        done: Reshaped {
+            cancelled: 0,
+            least_label: first,
+        },
     };
-    fit_edit(net, model, edit, labels, path, steps, none)
+    repair.fit_edit(edit);
+    repair.done
 }

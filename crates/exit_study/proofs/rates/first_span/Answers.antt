@@ -6,8 +6,8 @@ use Rattle.exit_study.specs.Rates.{IsSearch}
 use Rattle.exit_study.proofs.Trying.{search_from_enough, search_from_slow}
 use Rattle.exit_study.proofs.rates.first_span.Goals as goal
 
-pub returns-then-cleared-by : goal.returns-then-cleared-by
-returns-then-cleared-by c =
+pub returns-then-cleared-by-clause-search : goal.returns-then-cleared-by-clause-search
+returns-then-cleared-by-clause-search c =
     let s = c.args.session.now.state in
     let row : c.arc.result.now ≡ arc_at s.model c.args.arc = (let e = c.arc.ensures in let m = c.model.ensures.model in cc) in
     let last : c.cleared.result ≡ s.last = c.cleared.ensures in
@@ -15,9 +15,9 @@ returns-then-cleared-by c =
     subst (λ (z : ArcRow). IsSearch s.model c.args.arc c.args.by 0 z.rate) (sym row)
     (search_from_enough s c.args.arc c.args.by c.model.ensures.solved c.requires soon)
 
-pub returns-else-cleared-by : goal.returns-else-cleared-by
+pub returns-else-cleared-by-clause-search : goal.returns-else-cleared-by-clause-search
 unfolding rate_limit
-returns-else-cleared-by c =
+returns-else-cleared-by-clause-search c =
     let s = c.args.session.now.state in
     let row : c.arc.result.now ≡ arc_at s.model c.args.arc = (let e = c.arc.ensures in let m = c.model.ensures.model in cc) in
     let last : c.cleared.result ≡ s.last = c.cleared.ensures in

@@ -1,13 +1,14 @@
-use Rattle.std.proofs.Common.{ℕ, ◌+◌, ◌*◌, ◌≤◌, ap, replicate, subst, sym, refl, arith, ◌∙◌}
+use Rattle.std.proofs.Common.{ℕ, ◌+◌, ◌≤◌, ap, subst, sym, refl, arith, ◌∙◌}
+use Rattle.evac_law.specs.declared.model.Model.{Model}
 use Rattle.evac_law.specs.Certificates.{IsTableOf}
-use Rattle.evac_law.specs.LabelTable.{LabelTable, unset}
+use Rattle.evac_law.specs.LabelTable.{LabelTable}
 use Rattle.residual_net.specs.OfModel.{site_of}
 use Rattle.residual_net.specs.Site.{Site}
 use Rattle.terminal_augment.specs.Settled.{IsSearchOf, SearchSize}
 use Rattle.lex_flow.specs.Settling.{arrivals_below}
 use Rattle.edit_session.specs.declared.scratch.Scratch.{Scratch}
 use Rattle.edit_session.specs.declared.work.Work.{Work}
-use Rattle.edit_session.specs.Mended.{IsScratchOf, last_arrival_of}
+use Rattle.edit_session.specs.Mended.{IsScratchOf, IsStanding, last_arrival_of}
 use Rattle.edit_session.specs.Sessions.{kept_limit}
 use Rattle.edit_session.proofs.Going.{session_begun}
 use Rattle.edit_session.proofs.Standing.{begun_by, not_cleared_by}
@@ -16,16 +17,16 @@ use Rattle.edit_session.proofs.session.Session.begin.Goals as goal
 
 pub settle_all-requires : goal.settle_all-requires
 settle_all-requires g c =
-    let made = c.in-Ok-Ok-Ok-Ok-Ok in
-    let site = sym made.ensures.of.site in
+    let fresh = c.in-Ok-new.ensures in
+    let site = sym fresh.of.site in
     record {
       labels = record {
-        nodes = ap (λ (l : LabelTable). l.nodes) made.ensures' ∙ c.node_count-nodes.ensures.count ∙ ap (λ (s : Site). s.shape.nodes) site;
-        horizon = ap (λ (l : LabelTable). l.horizon) made.ensures' ∙ ap (λ (s : Site). s.shape.horizon) site;
+        nodes = ap (λ (l : LabelTable). l.nodes) fresh.labels ∙ ap (λ (s : Site). s.shape.nodes) site;
+        horizon = ap (λ (l : LabelTable). l.horizon) fresh.labels ∙ ap (λ (s : Site). s.shape.horizon) site;
       };
-      search = subst (λ (s : Site). IsSearchOf s made.scratch.search) site made.ensures'''.search;
+      search = subst (λ (s : Site). IsSearchOf s c.in-Ok-new.planned.scratch.search) site fresh.scratch.search;
       from = omega arith;
-      within = λ p i. omega (arith, made.ensures.empty p i);
+      within = λ p i. omega (arith, fresh.empty p i);
       closed = λ i q. absurd (omega (arith, q));
     }
 
@@ -33,62 +34,49 @@ pub invariant_of-result : goal.invariant_of-result
 unfolding kept_limit
 invariant_of-result g c =
     let m = c.args.model in
-    let made = c.in-Ok-Ok-Ok-Ok-Ok in
+    let planned = c.in-Ok-new.planned in
+    let fresh = c.in-Ok-new.ensures in
     let done = c.in-Cleared.ensures in
-    let table : IsTableOf m c.settle_all.new.labels = record {
-      nodes = done.labels.labels.nodes ∙ ap (λ (l : LabelTable). l.nodes) made.ensures' ∙ c.node_count-nodes.ensures.count;
-      horizon = done.labels.labels.horizon ∙ ap (λ (l : LabelTable). l.horizon) made.ensures';
+    let u = c.settle_all.new.net in
+    let l = c.settle_all.new.labels in
+    let table : IsTableOf m l = record {
+      nodes = done.labels.labels.nodes ∙ ap (λ (z : LabelTable). z.nodes) fresh.labels;
+      horizon = done.labels.labels.horizon ∙ ap (λ (z : LabelTable). z.horizon) fresh.labels;
     } in
-    let refused : IsTableOf m made.refused = record {
-      nodes = ap (λ (l : LabelTable). l.nodes) made.ensures'' ∙ c.node_count-nodes.ensures.count;
-      horizon = ap (λ (l : LabelTable). l.horizon) made.ensures'';
+    let refused : IsTableOf m planned.refused = record {
+      nodes = ap (λ (z : LabelTable). z.nodes) fresh.refused;
+      horizon = ap (λ (z : LabelTable). z.horizon) fresh.refused;
     } in
-    let x : Scratch = record { labels = made.scratch.labels; search = c.settle_all.new.search; path = made.scratch.path } in
+    let x : Scratch = record { labels = planned.scratch.labels; search = c.settle_all.new.search; path = planned.scratch.path } in
     let scratch : IsScratchOf (site_of m) x = record {
-      labels = made.ensures'''.labels;
-      search = subst (λ (z : SearchSize). IsSearchOf (site_of m) z) (sym done.search) made.ensures'''.search;
-      room = made.ensures'''.room;
+      labels = fresh.scratch.labels;
+      search = subst (λ (z : SearchSize). IsSearchOf (site_of m) z) (sym done.search) fresh.scratch.search;
+      room = fresh.scratch.room;
     } in
-    session_begun m made.net c.settle_all.new.net c.settle_all.new.labels made.refused made.ring.items made.ring.capacity x c.in-Cleared.moment c.requires
-    c.shape.ensures.net made.ensures.of done.net.limits done.net.within (done.answer m c.requires made.ensures.of) table done.labels.closed refused
-    (ap (λ z. z.items) made.ensures'''') (ap (λ z. z.capacity) made.ensures'''') scratch
+    rw fresh.model
+    (session_begun m planned.net u l planned.refused c.in-Ok.ring.items c.in-Ok.ring.capacity x c.in-Cleared.moment c.requires c.shape.ensures.net fresh.of
+    done.net.limits done.net.within (done.answer m c.requires fresh.of) table done.labels.closed refused (ap (λ z. z.items) c.in-Ok.ensures)
+    (ap (λ z. z.capacity) c.in-Ok.ensures) scratch)
 
 pub returns-in-Cleared : goal.returns-in-Cleared
-unfolding kept_limit
 returns-in-Cleared g c =
     let m = c.args.model in
-    let made = c.in-Ok-Ok-Ok-Ok-Ok in
+    let planned = c.in-Ok-new.planned in
+    let fresh = c.in-Ok-new.ensures in
     let done = c.in-Cleared.ensures in
-    let table : IsTableOf m c.settle_all.new.labels = record {
-      nodes = done.labels.labels.nodes ∙ ap (λ (l : LabelTable). l.nodes) made.ensures' ∙ c.node_count-nodes.ensures.count;
-      horizon = done.labels.labels.horizon ∙ ap (λ (l : LabelTable). l.horizon) made.ensures';
-    } in
-    let refused : IsTableOf m made.refused = record {
-      nodes = ap (λ (l : LabelTable). l.nodes) made.ensures'' ∙ c.node_count-nodes.ensures.count;
-      horizon = ap (λ (l : LabelTable). l.horizon) made.ensures'';
-    } in
-    let x : Scratch = record { labels = made.scratch.labels; search = c.settle_all.new.search; path = made.scratch.path } in
-    let scratch : IsScratchOf (site_of m) x = record {
-      labels = made.ensures'''.labels;
-      search = subst (λ (z : SearchSize). IsSearchOf (site_of m) z) (sym done.search) made.ensures'''.search;
-      room = made.ensures'''.room;
-    } in
     let u = c.settle_all.new.net in
-    let session =
-    session_begun m made.net c.settle_all.new.net c.settle_all.new.labels made.refused made.ring.items made.ring.capacity x c.in-Cleared.moment c.requires
-    c.shape.ensures.net made.ensures.of done.net.limits done.net.within (done.answer m c.requires made.ensures.of) table done.labels.closed refused
-    (ap (λ z. z.items) made.ensures'''') (ap (λ z. z.capacity) made.ensures'''') scratch in
     let pushes = c.in-Cleared.pushes in
-    let answer = done.answer m c.requires made.ensures.of in
-    let bounded : pushes + arrivals_below made.net (last_arrival_of u + 1) ≤ arrivals_below u (last_arrival_of u + 1) =
-    subst (λ (k : ℕ). pushes + arrivals_below made.net (k + 1) ≤ arrivals_below u (k + 1)) answer.last done.net.bounded in
-    let work : Work = record { cancelled = 0; pushes = pushes } in
-    let blank : ℕ → LabelTable = λ n. record { nodes = n; horizon = m.horizon; list = replicate (n * (m.horizon + 1)) unset } in (
+    let session = invariant_of-result g c in
+    let standing = subst (λ (z : Model). IsStanding z u c.settle_all.new.labels) fresh.model session.standing in
+    let answer = done.answer m c.requires fresh.of in
+    let bounded : pushes + arrivals_below planned.net (last_arrival_of u + 1) ≤ arrivals_below u (last_arrival_of u + 1) =
+    subst (λ (k : ℕ). pushes + arrivals_below planned.net (k + 1) ≤ arrivals_below u (k + 1)) answer.last done.net.bounded in
+    let work : Work = record { cancelled = 0; pushes = pushes } in (
       pushes,
       done.ticked,
-      (
-        begun_by m made.net u c.settle_all.new.labels made.ring.items work session.standing (ap (λ z. z.items) made.ensures'''') refl bounded,
-        made.ensures'' ∙ ap blank c.node_count-nodes.ensures.count,
+      rw fresh.model (
+        begun_by m planned.net u c.settle_all.new.labels c.in-Ok.ring.items work standing (ap (λ z. z.items) c.in-Ok.ensures) refl bounded,
+        fresh.refused,
         refl,
       ),
     )
@@ -96,24 +84,25 @@ returns-in-Cleared g c =
 pub returns-in-Short : goal.returns-in-Short
 returns-in-Short g c =
     let m = c.args.model in
-    let made = c.in-Ok-Ok-Ok-Ok-Ok in
+    let planned = c.in-Ok-new.planned in
+    let fresh = c.in-Ok-new.ensures in
     let done = c.in-Short.ensures in
     let u = c.settle_all.new.net in
     let pushes = c.in-Short.pushes in
     let most = c.in-Short.most in
-    let answer = done.answer m c.requires made.ensures.of in
-    let bound : pushes + arrivals_below made.net (m.horizon + 1) ≤ arrivals_below u (m.horizon + 1) =
-    subst (λ (h : ℕ). pushes + arrivals_below made.net (h + 1) ≤ arrivals_below u (h + 1))
-    (ap (λ (s : Site). s.shape.horizon) (done.net.limits.site ∙ made.ensures.of.site)) done.net.bounded in (
+    let answer = done.answer m c.requires fresh.of in
+    let bound : pushes + arrivals_below planned.net (m.horizon + 1) ≤ arrivals_below u (m.horizon + 1) =
+    subst (λ (h : ℕ). pushes + arrivals_below planned.net (h + 1) ≤ arrivals_below u (h + 1))
+    (ap (λ (s : Site). s.shape.horizon) (done.net.limits.site ∙ fresh.of.site)) done.net.bounded in (
       pushes,
       done.ticked,
-      (
-        refl,
+      rw c.into_short.ensures (
+        fresh.model,
         record {
-          nodes = done.labels.labels.nodes ∙ ap (λ (l : LabelTable). l.nodes) made.ensures' ∙ c.node_count-nodes.ensures.count;
-          horizon = done.labels.labels.horizon ∙ ap (λ (l : LabelTable). l.horizon) made.ensures';
+          nodes = done.labels.labels.nodes ∙ ap (λ (l : LabelTable). l.nodes) fresh.labels;
+          horizon = done.labels.labels.horizon ∙ ap (λ (l : LabelTable). l.horizon) fresh.labels;
         },
         not_cleared_by m c.settle_all.new.labels most c.requires answer.1 answer.2,
-        spent_opening m made.net u pushes most answer.0 bound,
+        spent_opening m planned.net u pushes most answer.0 bound,
       ),
     )

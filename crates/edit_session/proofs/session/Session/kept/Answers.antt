@@ -6,4 +6,4 @@ use Rattle.edit_session.proofs.session.Session.kept.Goals as goal
 pub returns : goal.returns
 returns c =
     let s = c.self.inside in
-    c.len.ensures.len ∙ sym (former_length s.model s.ring.items) ∙ ap (λ (z : SessionView). length z.state.former) c.self.view_is
+    c.len.ensures.len ∙ sym (former_length s.planned.model s.ring.items) ∙ ap (λ (z : SessionView). length z.state.former) c.self.view_is

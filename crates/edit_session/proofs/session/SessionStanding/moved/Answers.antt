@@ -9,7 +9,7 @@ use Rattle.edit_session.proofs.session.SessionStanding.moved.Goals as goal
 
 pub returns : goal.returns
 returns c =
-    let s = c.self.inside in
+    let s = c.self.inside.planned in
     let w = s.net in
     let a = c.args.arc in
     let t = c.args.moment in

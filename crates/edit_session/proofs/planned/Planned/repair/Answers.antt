@@ -20,16 +20,16 @@ use Rattle.edit_session.specs.Mended.{last_arrival_of}
 use Rattle.edit_session.proofs.Saved.{arrived_saved, edit_saved, flow_saved, of_saved, plan_saved, reshapable_saved, sources_saved}
 use Rattle.edit_session.proofs.RepairLemmas.{IsBrought, least_saved, repair_of}
 use Rattle.edit_session.proofs.Thrifty.{spent, thrifty}
-use Rattle.edit_session.proofs.mend.repair_net.Goals as goal
+use Rattle.edit_session.proofs.planned.Planned.repair.Goals as goal
 
 pub reshape-taken-requires : goal.reshape-taken-requires
 reshape-taken-requires g c =
-    rw c.save.ensures (reshapable_saved c.args.model.now c.args.edit c.args.net.now c.args.labels.now c.args.scratch.now.path.room c.requires.repairable
+    rw c.save.ensures (reshapable_saved c.args.self.now.model c.args.edit c.args.self.now.net c.args.self.now.labels c.args.self.now.scratch.path.room c.requires.repairable
     c.requires.scratch.room)
 
 pub settle_all-requires : goal.settle_all-requires
 settle_all-requires g c =
-    let w = c.args.net.now in
+    let w = c.args.self.now.net in
     let s = c.save.new.self in
     let taken = c.reshape-taken.ensures in
     let same : s.site ≡ w.site = ap (λ (z : Network). z.site) c.save.ensures in
@@ -43,18 +43,18 @@ settle_all-requires g c =
         horizon = ap (λ z. z.horizon) c.copy_from.ensures ∙ labels.horizon ∙ ap (λ (z : Site). z.shape.horizon) (sym site);
       };
       search = record {
-        nodes = c.requires.scratch.search.nodes ∙ ap (λ (z : Site). z.shape.nodes) (sym site);
-        horizon = c.requires.scratch.search.horizon ∙ ap (λ (z : Site). z.shape.horizon) (sym site);
+        nodes = ap (λ z. z.nodes) c.recall.ensures ∙ c.requires.scratch.search.nodes ∙ ap (λ (z : Site). z.shape.nodes) (sym site);
+        horizon = ap (λ z. z.horizon) c.recall.ensures ∙ c.requires.scratch.search.horizon ∙ ap (λ (z : Site). z.shape.horizon) (sym site);
       };
-      from = omega (arith, taken.labels.least.most, last, last_fits w c.shape.ensures.net, ap (λ (z : Site). z.shape.horizon) site);
+      from = omega (arith, taken.labels.least.most, last, last_fits w c.requires.repairable.standing.net, ap (λ (z : Site). z.shape.horizon) site);
       within = taken.net.within;
       closed = rw c.copy_from.ensures taken.labels.closed;
     }
 
 pub returns-in-Cleared-clause-mended : goal.returns-in-Cleared-clause-mended
 returns-in-Cleared-clause-mended g c =
-    let m = c.args.model.now in
-    let w = c.args.net.now in
+    let m = c.args.self.now.model in
+    let w = c.args.self.now.net in
     let s = c.save.new.self in
     let v = c.reshape-taken.new.net in
     let u = c.settle_all.new.net in
@@ -63,7 +63,7 @@ returns-in-Cleared-clause-mended g c =
     let pushes = c.in-Cleared.pushes in
     let done = c.settle_all.ensures in
     let taken = c.reshape-taken.ensures in
-    let valid = valid_now m c.args.edit s (rw c.save.ensures (edit_saved m c.args.edit w c.args.labels.now c.requires.repairable)) in
+    let valid = valid_now m c.args.edit s (rw c.save.ensures (edit_saved m c.args.edit w c.args.self.now.labels c.requires.repairable)) in
     let of_u = net_of_kept m v u done.net.limits taken.net.of in
     let answer : IsAnswer m u l (Cleared moment pushes) = subst (λ (o : Outcome). IsAnswer m u l o) c.in-Cleared.is (done.answer m valid taken.net.of) in
     let bounded : IsBounded v u (Cleared moment pushes) = subst (λ (o : Outcome). IsBounded v u o) c.in-Cleared.is (done.net.bounded) in
@@ -93,10 +93,10 @@ returns-in-Cleared-clause-mended g c =
         closed = subst (λ (k : ℕ). IsClosedBelow u l (k + 1)) last closed;
       };
       repaired = λ b standing.
-          let brought : IsBrought b m w v c.args.labels.now = record {
+          let brought : IsBrought b m w v c.args.self.now.labels = record {
             standing = standing;
             valid = valid;
-            net = c.shape-2.ensures.net;
+            net = c.shape.ensures.net;
             of = taken.net.of;
             within = taken.net.within;
             site = taken.net.site ∙ same;
@@ -108,16 +108,16 @@ returns-in-Cleared-clause-mended g c =
                   flow_saved w p,
                 );
           } in
-          let opened = least_saved c.args.labels.now w v (last_arrival_of (with_saved w) + 1) c.reshape-taken.result.least_label
-          (subst (λ (z : Network). IsLeastOpened c.args.labels.now z v (last_arrival_of z + 1) c.reshape-taken.result.least_label) c.save.ensures taken.labels.least) in
+          let opened = least_saved c.args.self.now.labels w v (last_arrival_of (with_saved w) + 1) c.reshape-taken.result.least_label
+          (subst (λ (z : Network). IsLeastOpened c.args.self.now.labels z v (last_arrival_of z + 1) c.reshape-taken.result.least_label) c.save.ensures taken.labels.least) in
           let relabelled = subst (λ (z : LabelTable). IsRelabelled z l c.reshape-taken.result.least_label (last_settled u.site.shape.horizon (Cleared moment pushes) + 1))
           c.copy_from.ensures (subst (λ (o : Outcome). IsRelabelled c.copy_from.new.self l c.reshape-taken.result.least_label (last_settled u.site.shape.horizon o + 1)) c.in-Cleared.is done.labels.labels) in
-          repair_of b m w v c.args.labels.now l c.reshape-taken.result.cancelled (last_arrival_of (with_saved w) + 1) c.reshape-taken.result.least_label _ brought
+          repair_of b m w v c.args.self.now.labels l c.reshape-taken.result.cancelled (last_arrival_of (with_saved w) + 1) c.reshape-taken.result.least_label _ brought
           (taken.taken.exact ∙ ap (λ (z : Network). flow_out z is_source) c.save.ensures ∙ sources_saved w) (ap (λ p. last_move w.site p + 1) (plan_saved w)) opened relabelled;
       thrifty = λ b valid_b of_b.
           let of_s : IsNetOf b s = rw c.save.ensures (of_saved b w of_b) in
           let work : Work = record { cancelled = c.reshape-taken.result.cancelled; pushes = pushes } in
-          thrifty b m w v u (last_arrival_of u) work valid_b valid c.shape.ensures.net c.shape-in-Cleared.ensures.net of_b of_u (taken.net.site ∙ same)
+          thrifty b m w v u (last_arrival_of u) work valid_b valid c.requires.repairable.standing.net c.shape-in-Cleared.ensures.net of_b of_u (taken.net.site ∙ same)
           (subst (λ z. c.reshape-taken.result.cancelled ≤ violation b z m) (ap plan_of c.save.ensures ∙ plan_saved w) (taken.taken.few b valid_b of_s))
           (λ k. omega (arith, taken.taken.arrivals k, ap (λ (z : Network). arrived_by z k) c.save.ensures, arrived_saved w k))
           (λ e p i. taken.taken.idle e p (subst (λ (z : Site). IsPlace z p) (sym same) i) ∙ ap (λ (z : Network). flow_at z p) c.save.ensures ∙ flow_saved w p)
@@ -126,13 +126,13 @@ returns-in-Cleared-clause-mended g c =
 
 pub returns-in-Short-clause-mended : goal.returns-in-Short-clause-mended
 returns-in-Short-clause-mended g c =
-    let m = c.args.model.now in
-    let w = c.args.net.now in
+    let m = c.args.self.now.model in
+    let w = c.args.self.now.net in
     let s = c.save.new.self in
     let v = c.reshape-taken.new.net in
     let u = c.settle_all.new.net in
     let l = c.settle_all.new.labels in
-    let valid = valid_now m c.args.edit s (rw c.save.ensures (edit_saved m c.args.edit w c.args.labels.now c.requires.repairable)) in
+    let valid = valid_now m c.args.edit s (rw c.save.ensures (edit_saved m c.args.edit w c.args.self.now.labels c.requires.repairable)) in
     let answer : IsAnswer m u l (Short c.in-Short.most c.in-Short.pushes) =
     subst (λ (o : Outcome). IsAnswer m u l o) c.in-Short.is (c.settle_all.ensures.answer m valid c.reshape-taken.ensures.net.of) in
     let same : s.site ≡ w.site = ap (λ (z : Network). z.site) c.save.ensures in
@@ -159,8 +159,8 @@ returns-in-Short-clause-mended g c =
 
 pub returns-in-Short-clause-counted : goal.returns-in-Short-clause-counted
 returns-in-Short-clause-counted g c =
-    let m = c.args.model.now in
-    let w = c.args.net.now in
+    let m = c.args.self.now.model in
+    let w = c.args.self.now.net in
     let s = c.save.new.self in
     let v = c.reshape-taken.new.net in
     let u = c.settle_all.new.net in
@@ -169,7 +169,7 @@ returns-in-Short-clause-counted g c =
     let pushes = c.in-Short.pushes in
     let taken = c.reshape-taken.ensures in
     let done = c.settle_all.ensures in
-    let valid = valid_now m c.args.edit s (rw c.save.ensures (edit_saved m c.args.edit w c.args.labels.now c.requires.repairable)) in
+    let valid = valid_now m c.args.edit s (rw c.save.ensures (edit_saved m c.args.edit w c.args.self.now.labels c.requires.repairable)) in
     let answer : IsAnswer m u l (Short most pushes) = subst (λ (o : Outcome). IsAnswer m u l o) c.in-Short.is (done.answer m valid taken.net.of) in
     let bounded : IsBounded v u (Short most pushes) = subst (λ (o : Outcome). IsBounded v u o) c.in-Short.is (done.net.bounded) in
     let count : pushes_of c.settle_all.result ≡ pushes = ap pushes_of c.in-Short.is in
@@ -184,7 +184,7 @@ returns-in-Short-clause-counted g c =
           let all : arrived_by u b.horizon ≤ most = omega (arith, ap (arrived_by u) (sym other), answer.0) in
           let bound : pushes + arrivals_below v (b.horizon + 1) ≤ arrivals_below u (b.horizon + 1) =
           subst (λ h. pushes + arrivals_below v (h + 1) ≤ arrivals_below u (h + 1)) same bounded in
-          spent b m w v u c.reshape-taken.result.cancelled pushes most (c.settle_all.new.steps - c.args.steps.now) valid_b c.shape.ensures.net of_b
+          spent b m w v u c.reshape-taken.result.cancelled pushes most (c.settle_all.new.steps - c.args.steps.now) valid_b c.requires.repairable.standing.net of_b
           (subst (λ z. c.reshape-taken.result.cancelled ≤ violation b z m) (ap plan_of c.save.ensures ∙ plan_saved w) (taken.taken.few b valid_b of_s))
           (λ k. omega (arith, taken.taken.arrivals k, ap (λ (z : Network). arrived_by z k) c.save.ensures, arrived_saved w k))
           bound all fewer,

@@ -3,26 +3,30 @@ use Rattle.residual_net.specs.declared.place.PathStep.{PathStep}
 use Rattle.residual_net.specs.Change.{IsCancelled}
 use Rattle.flow_repair.proofs.Cancelling.{here, open_path}
 use Rattle.flow_repair.proofs.Refitting.{one_cancelled}
-use Rattle.flow_repair.proofs.fit.cancel_one.Goals as goal
+use Rattle.flow_repair.proofs.repair.Repair.cancel_one.Goals as goal
 
 pub least_on-least_label-requires-clause-open : goal.least_on-least_label-requires-clause-open
 least_on-least_label-requires-clause-open g c =
-    let w = c.args.net.now in
+    let w = c.args.self.now.net.now in
     let v = c.cancel-people.new.self in
     let x = c.cancel-people.result in
     let made = subst (λ (z : List PathStep). IsCancelled w v c.args.place z x) (sym c.steps.ensures) c.cancel-people.ensures.cancelled in
     open_path w v c.args.place c.steps.result.now x made c.shape.ensures.net
 
-pub returns-clause-taken : goal.returns-clause-taken
-returns-clause-taken g c =
-    let w = c.args.net.now in
+pub returns : goal.returns
+returns g c =
+    let w = c.args.self.now.net.now in
     let v = c.cancel-people.new.self in
     let x = c.cancel-people.result in
     let made = subst (λ (z : List PathStep). IsCancelled w v c.args.place z x) (sym c.steps.ensures) c.cancel-people.ensures.cancelled in
     let least = c.least_on-least_label.ensures in
     record {
-      thinned = one_cancelled c.args.labels.now w v c.args.place c.steps.result.now x c.args.done
-          (record { cancelled = c.args.done.cancelled + x; least_label = c.least_on-least_label.result }) made refl least.first least.all least.one;
-      less = omega (arith, here w v c.args.place c.steps.result.now x made, made.some);
-      more = omega (arith, made.some);
+      same = record { model = refl; labels = refl; room = c.cancel-people.ensures.room; same_net = refl; same_path = refl; same_steps = refl };
+      taken = record {
+        thinned = one_cancelled c.args.self.now.labels.now w v c.args.place c.steps.result.now x c.args.self.now.done
+            (record { cancelled = c.args.self.now.done.cancelled + x; least_label = c.least_on-least_label.result }) made refl least.first least.all least.one;
+        less = omega (arith, here w v c.args.place c.steps.result.now x made, made.some);
+        more = omega (arith, made.some);
+      };
+      ticked = c.cancel-people.ensures.ticked;
     }
