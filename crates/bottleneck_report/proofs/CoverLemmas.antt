@@ -2,7 +2,7 @@
 use Rattle.std.proofs.Common.{◌≡◌, ℕ, zero, suc, ◌+◌, ◌<◌, ◌≤◌, ◌⊎◌, inl, inr, Bool, true, false, cond, ◌&&◌, ◌||◌, eqb, leb, ltb, max, List, [], ◌∷◌, ◌++◌, length, get_or, refl, ap, ap₂, sym, ◌∙◌, arith, add-one, subst}
 use Rattle.std.proofs.Math.ListN.{set}
 use Rattle.std.specs.List.{filter, list_any}
-use Rattle.std.proofs.lemmas.Bool.{cases_Bool}
+use Rattle.std.proofs.lemmas.Bool.{cases_Bool, le-ltb, lt-leb}
 use Rattle.std.proofs.lemmas.Bool.Decides.{nat_tests}
 use Rattle.std.proofs.lemmas.Grind.{common_steps}
 use Rattle.std.proofs.lemmas.List.{get_or-set_other, get_or-set_same}
@@ -15,6 +15,9 @@ use Rattle.bottleneck_report.specs.Covers.{covers}
 or_assoc : (a b c : Bool) → (a || (b || c)) ≡ ((a || b) || c)
 or_assoc true b c = refl
 or_assoc false b c = refl
+
+test_max : (a b c : ℕ) → ltb c (max a b) ≡ (ltb c a || ltb c b)
+test_max a b c = grind (arith, nat_tests)
 
 pub any-none : (p : ℕ → Bool) (n : ℕ) → ((i : ℕ) → i < n → p i ≡ false) → list_any p (below n) ≡ false
 any-none p zero h = refl
@@ -45,18 +48,11 @@ widen_step : (i n k to x : ℕ) (r s : Bool) → r ≡ (s || (ltb i n && ltb k t
     → (r || ltb k y) ≡ ((s || ltb k x) || (ltb i (suc n) && ltb k to))
 widen_step i n k to x r s e y here there = split (cases_Bool (eqb i n))
   where
-    both : (a b c : Bool) → (a || (b || c)) ≡ ((a || b) || c)
-    both true b c = refl
-    both false b c = refl
-
     same : eqb i n ≡ true → i ≡ n
     same f = grind (arith, nat_tests)
 
     apart : eqb i n ≡ false → i ≡ n → ⊥
     apart f g = grind (arith, nat_tests)
-
-    test_max : (a b c : ℕ) → ltb c (max a b) ≡ (ltb c a || ltb c b)
-    test_max a b c = grind (arith, nat_tests)
 
     not_before : i ≡ n → ltb i n ≡ false
     not_before f = grind (arith, nat_tests)
@@ -85,10 +81,7 @@ widen_step i n k to x r s e y here there = split (cases_Bool (eqb i n))
 
 pub widened : (xs : List ℕ) (i to k n : ℕ) → i < length xs
     → list_any (λ f. ltb k (get_or (set xs i (max (get_or xs i 0) to)) f 0)) (below n) ≡ (list_any (λ f. ltb k (get_or xs f 0)) (below n) || (ltb i n && ltb k to))
-widened xs i to k zero l = sym (ap (λ b. b && ltb k to) (none i))
-  where
-    none : (i : ℕ) → ltb i 0 ≡ false
-    none i = grind (arith, nat_tests)
+widened xs i to k zero l = sym (ap (λ b. b && ltb k to) (le-ltb i 0 (omega arith)))
 widened xs i to k (suc n) l =
     any-below (λ f. ltb k (get_or (set xs i (max (get_or xs i 0) to)) f 0)) n
     ∙ widen_step i n k to (get_or xs n 0) (list_any (λ f. ltb k (get_or (set xs i (max (get_or xs i 0) to)) f 0)) (below n)) (list_any (λ f. ltb k (get_or xs f 0)) (below n))
@@ -105,16 +98,10 @@ covers_more xs i to k l = widened xs i to k (k + 1) l ∙ ap (λ b. covers xs k 
     by_next x y = grind (arith, nat_tests)
 
 pub covers_same : (xs : List ℕ) (i to k : ℕ) → length xs ≤ i → k < length xs → covers xs k ≡ (covers xs k || (leb i k && ltb k to))
-covers_same xs i to k l h = sym (ap (λ b. covers xs k || (b && ltb k to)) (later i k (omega (arith, l, h))) ∙ or_false (covers xs k))
-  where
-    later : (x y : ℕ) → y < x → leb x y ≡ false
-    later x y e = grind (arith, nat_tests)
+covers_same xs i to k l h = sym (ap (λ b. covers xs k || (b && ltb k to)) (lt-leb i k (omega (arith, l, h))) ∙ or_false (covers xs k))
 
 pub covers_none : (xs : List ℕ) (k : ℕ) → ((f : ℕ) → get_or xs f 0 ≡ 0) → covers xs k ≡ false
-covers_none xs k h = any-none (λ f. ltb k (get_or xs f 0)) (k + 1) (λ i l. nobody k (get_or xs i 0) (h i))
-  where
-    nobody : (x y : ℕ) → y ≡ 0 → ltb x y ≡ false
-    nobody x y e = grind (arith, nat_tests)
+covers_none xs k h = any-none (λ f. ltb k (get_or xs f 0)) (k + 1) (λ i l. le-ltb k (get_or xs i 0) (omega (arith, h i)))
 
 -- ---- counting
 
@@ -139,10 +126,7 @@ pub record IsFar (xs : List ℕ) (n far : ℕ) : Type 0 where
   pub tests : (j : ℕ) → ltb j far ≡ list_any (λ f. ltb j (get_or xs f 0)) (below n)
 
 pub far_first : (xs : List ℕ) → IsFar xs 0 0
-far_first xs = record { tests = none }
-  where
-    none : (j : ℕ) → ltb j 0 ≡ false
-    none j = grind (arith, nat_tests)
+far_first xs = record { tests = λ j. le-ltb j 0 (omega arith) }
 
 pub far_next : (xs : List ℕ) (n far : ℕ) → IsFar xs n far → IsFar xs (n + 1) (max far (get_or xs n 0))
 far_next xs n far h = record {
@@ -150,9 +134,6 @@ far_next xs n far h = record {
       test_max far (get_or xs n 0) j ∙ ap (λ b. b || ltb j (get_or xs n 0)) (h.tests j) ∙ sym (any-below (λ f. ltb j (get_or xs f 0)) n)
       ∙ ap (λ i. list_any (λ f. ltb j (get_or xs f 0)) (below i)) (sym (add-one n));
 }
-  where
-    test_max : (a b c : ℕ) → ltb c (max a b) ≡ (ltb c a || ltb c b)
-    test_max a b c = grind (arith, nat_tests)
 
 pub far_covers : (xs : List ℕ) (n far : ℕ) → IsFar xs (n + 1) far → covers xs n ≡ ltb n far
 far_covers xs n far h = sym (h.tests n)

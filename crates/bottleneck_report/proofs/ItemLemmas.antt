@@ -4,7 +4,7 @@ use Rattle.std.specs.List.{filter, flat_map, list_any}
 use Rattle.std.proofs.lemmas.List.{ext_get_or, get_or-map, length-map}
 use Rattle.std.proofs.lemmas.List.FromFn.{get_or-range_with_len, length-range_with_len}
 use Rattle.std.proofs.lemmas.List.Folds.{list_any-append}
-use Rattle.std.proofs.lemmas.Bool.{cases_Bool}
+use Rattle.std.proofs.lemmas.Bool.{cases_Bool, le-ltb, lt-leb, lt-ltb}
 use Rattle.std.proofs.lemmas.Bool.Decides.{nat_tests}
 use Rattle.evac_law.specs.declared.cut.CutItem.{CutItem}
 use Rattle.evac_law.specs.declared.cut.CutItem.TheVariants.{Arc, Entry, Hold}
@@ -14,7 +14,7 @@ use Rattle.evac_law.specs.Certificates.{label_cut}
 use Rattle.evac_law.specs.Cuts.{Cut, arc_items, arc_part, cut_items, entry_items, entry_part, hold_items, hold_part, leaves_cut}
 use Rattle.evac_law.specs.LabelTable.{LabelTable}
 use Rattle.evac_law.specs.Sums.{below, moments_to, places}
-use Rattle.evac_law.proofs.PartLemmas.{any-below}
+use Rattle.evac_law.proofs.PartLemmas.{any-below, or_false}
 use Rattle.bottleneck_report.specs.Crossings.{arc_periods, hold_periods, is_of_arc, is_of_hold}
 use Rattle.bottleneck_report.specs.Covers.{covers}
 use Rattle.bottleneck_report.proofs.CoverLemmas.{any-none, any-same, any-short, filter-same}
@@ -36,10 +36,7 @@ none_nested p h is js e =
 
 -- one number picks the test at it
 pick_test : (p : ℕ → Bool) (a n : ℕ) → list_any (λ i. p i && eqb i a) (below n) ≡ (ltb a n && p a)
-pick_test p a zero = sym (ap (λ b. b && p a) (none a))
-  where
-    none : (a : ℕ) → ltb a 0 ≡ false
-    none a = grind (arith, nat_tests)
+pick_test p a zero = sym (ap (λ b. b && p a) (le-ltb a 0 (omega arith)))
 pick_test p a (suc n) =
     any-below (λ i. p i && eqb i a) n ∙ ap (λ b. b || (p n && eqb n a)) (pick_test p a n) ∙ split (cases_Bool (eqb n a))
   where
@@ -63,10 +60,6 @@ pick_test p a (suc n) =
     and_false true = refl
     and_false false = refl
 
-    or_false : (b : Bool) → (b || false) ≡ b
-    or_false true = refl
-    or_false false = refl
-
     split : ((eqb n a ≡ true) ⊎ (eqb n a ≡ false)) → ((ltb a n && p a) || (p n && eqb n a)) ≡ (ltb a (suc n) && p a)
     split (inl e) =
         ap₂ (λ x y. (x && p a) || (p n && y)) (not_yet (same e)) e ∙ and_true (p n) ∙ ap p (same e) ∙ sym (ap (λ b. b && p a) (now (same e)))
@@ -85,10 +78,6 @@ module _ (m : Model) (x : Cut) (k a : ℕ) where
 
   one_arc : (b : Bool) (i t r : ℕ) → list_any (is_of_arc a) (cond b (Arc i t r ∷ []) []) ≡ (b && eqb i a)
   one_arc true i t r = or_false (eqb i a)
-    where
-      or_false : (b : Bool) → (b || false) ≡ b
-      or_false true = refl
-      or_false false = refl
   one_arc false i t r = refl
 
   pub any_arc : a < length m.arcs → list_any (is_of_arc a) (cut_items m x k) ≡ list_any (λ t. leaves_cut m x k t a) (moments_to k)
@@ -105,18 +94,12 @@ module _ (m : Model) (x : Cut) (k a : ℕ) where
       (λ t h. any-flat_map (is_of_arc a) (arc_part m x k t) (places m.arcs)
       ∙ any-same _ (λ i. leaves_cut m x k t i && eqb i a) (length m.arcs) (λ i b. one_arc (leaves_cut m x k t i) i t (rate m i t))
       ∙ pick_test (λ i. leaves_cut m x k t i) a (length m.arcs)
-      ∙ ap (λ b. b && leaves_cut m x k t a) (below_is a (length m.arcs) l))))
-    where
-      below_is : (i n : ℕ) → i < n → ltb i n ≡ true
-      below_is i n e = grind (arith, nat_tests)
+      ∙ ap (λ b. b && leaves_cut m x k t a) (lt-ltb a (length m.arcs) l))))
 
 -- nobody leaves the cut of a period after it
 late_arc : (m : Model) (l : LabelTable) (k a t : ℕ) → k < t → leaves_cut m (label_cut m l k) k t a ≡ false
-late_arc m l k a t h = outside (leb t k) _ _ (later t k h)
+late_arc m l k a t h = outside (leb t k) _ _ (lt-leb t k h)
   where
-    later : (i n : ℕ) → n < i → leb i n ≡ false
-    later i n e = grind (arith, nat_tests)
-
     outside : (a b c : Bool) → a ≡ false → ((a && b) && c) ≡ false
     outside a b c e = grind arith
 
@@ -152,15 +135,7 @@ module _ (m : Model) (x : Cut) (k n : ℕ) where
 
   one_hold : (b : Bool) (i t c : ℕ) → list_any (is_of_hold n) (cond b (Hold i t c ∷ []) []) ≡ (b && eqb i n)
   one_hold true i t c = or_false (eqb i n)
-    where
-      or_false : (b : Bool) → (b || false) ≡ b
-      or_false true = refl
-      or_false false = refl
   one_hold false i t c = refl
-
-  or_end : (b : Bool) → (b || false) ≡ b
-  or_end true = refl
-  or_end false = refl
 
   any_swap : (p : ℕ → ℕ → Bool) (i j : ℕ) → list_any (λ a. list_any (λ b. p a b) (below j)) (below i) ≡ list_any (λ b. list_any (λ a. p a b) (below i)) (below j)
   any_swap p zero j = sym (any-none _ j (λ b h. refl))
@@ -170,7 +145,7 @@ module _ (m : Model) (x : Cut) (k n : ℕ) where
       four true b c d = refl
       four false true true d = refl
       four false true false d = refl
-      four false false c d = ap (λ z. z || d) (sym (or_end c)) ∙ ap (λ z. z || d) (or_end c)
+      four false false c d = ap (λ z. z || d) (sym (or_false c)) ∙ ap (λ z. z || d) (or_false c)
 
       merge : (j : ℕ) → (list_any (λ b. list_any (λ a. p a b) (below i)) (below j) || list_any (λ b. p i b) (below j)) ≡ list_any (λ b. list_any (λ a. p a b) (below (suc i))) (below j)
       merge zero = refl
@@ -193,12 +168,9 @@ module _ (m : Model) (x : Cut) (k n : ℕ) where
       (λ i h. any-flat_map (is_of_hold n) (hold_part m x i) (below k) ∙ any-same _ _ k (λ t b. one_hold (x i t && not (x i (t + 1))) i t (capacity m i)))
       ∙ any_swap (λ i t. (x i t && not (x i (t + 1))) && eqb i n) (length m.nodes) k
       ∙ any-same _ (λ t. x n t && not (x n (t + 1))) k
-      (λ t b. pick_test (λ i. x i t && not (x i (t + 1))) n (length m.nodes) ∙ ap (λ z. z && (x n t && not (x n (t + 1)))) (below_is n (length m.nodes) l)))
+      (λ t b. pick_test (λ i. x i t && not (x i (t + 1))) n (length m.nodes) ∙ ap (λ z. z && (x n t && not (x n (t + 1)))) (lt-ltb n (length m.nodes) l)))
       (none_nested (is_of_hold n) (arc_part m x k) (moments_to k) (places m.arcs) (λ t i. no_arc_of (leaves_cut m x k t i) i t (rate m i t)))
-      ∙ or_end (list_any (λ t. x n t && not (x n (t + 1))) (below k)))
-    where
-      below_is : (i j : ℕ) → i < j → ltb i j ≡ true
-      below_is i j e = grind (arith, nat_tests)
+      ∙ or_false (list_any (λ t. x n t && not (x n (t + 1))) (below k)))
 
 pub hold_counted : (m : Model) (l : LabelTable) (c n : ℕ) (ends : List ℕ) → n < length m.nodes → c ≤ m.horizon
     → ((k : ℕ) → k ≤ m.horizon → covers ends k ≡ list_any (is_held_out m l k n) (below m.horizon))

@@ -1,7 +1,7 @@
 -- What true counts say of the moments before.
 use Rattle.std.proofs.Common.{◌≡◌, ℕ, zero, suc, ◌<◌, ◌≤◌, length, refl, arith}
 use Rattle.evac_law.specs.Plans.{came, left}
-use Rattle.route_decompose.specs.Tables.{people_at}
+use Rattle.plan_layout.specs.Tables.{people_at}
 use Rattle.cards.specs.declared.counts.Counts.{Counts}
 use Rattle.cards.specs.Counts.{AreTrueCounts}
 use Rattle.cards.specs.Numbers.{count_before}

@@ -33,7 +33,7 @@ no_card = record { start = 0; entered = 0; steps = [] }
 
 module _ (m : Model) (p : List Move) (cards : List CardView) (h : IsEvacuation m p) (count : length cards ≡ people m) (are : AreCards m p cards) where
   abbrev arcs : All (λ (v : Move). v.arc < length m.arcs) p
-  arcs = h.feasible.arcs
+  arcs = h.plan.feasible.arcs
 
   abbrev pub card : ℕ → CardView
   card k = get_or cards k no_card

@@ -3,7 +3,7 @@ use Rattle.std.proofs.Common.{◌≡◌, ℕ, ◌+◌, ◌<◌, ◌≤◌, ◌�
 use Rattle.std.proofs.lemmas.Bool.{cases_lt}
 use Rattle.std.proofs.lemmas.Bool.Decides.{nat_tests}
 use Rattle.tables.specs.Tables.{IsPut}
-use Rattle.route_decompose.specs.Tables.{IsRowFilled, PeopleTable, people_at}
+use Rattle.plan_layout.specs.Tables.{IsRowFilled, PeopleTable, people_at}
 
 -- ---- a row, moment by moment
 

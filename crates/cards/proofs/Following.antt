@@ -21,7 +21,7 @@ use Rattle.cards.proofs.Ways.{few_leave, tail_few}
 
 module _ (m : Model) (p : List Move) (h : IsEvacuation m p) where
   nobody : NobodyIsLeft m p m.horizon
-  nobody = all_out_leaves_nobody m p m.horizon h.valid h.feasible h.all_out
+  nobody = all_out_leaves_nobody m p m.horizon h.valid h.plan.feasible h.plan.all_out
 
   -- all who came to a node inside have left it by the horizon
   pub all_leave : (n : ℕ) → n < length m.nodes → is_exit_at m n ≡ false → came m p n m.horizon ≤ left m p n m.horizon
@@ -57,7 +57,7 @@ module _ (m : Model) (p : List Move) (h : IsEvacuation m p) where
 
   -- ---- from a node to the next
 
-  leaves_as : (c : Comer) (l : Leaver) → IsLeaver m p c l → Leaves m p h.feasible.arcs l.step.arc l.step.moment c.number
+  leaves_as : (c : Comer) (l : Leaver) → IsLeaver m p c l → Leaves m p h.plan.feasible.arcs l.step.arc l.step.moment c.number
   leaves_as c l leaver =
       let number = leaver.number in
       let among = leaver.among in
@@ -69,7 +69,7 @@ module _ (m : Model) (p : List Move) (h : IsEvacuation m p) where
       let t = l.step.moment in
       let among = leaver.among in
       let number = leaver.number in
-      let there = comes_then m p h.feasible.arcs a (arrival m a t) (number_on m p a t c.number) (goes_on m p h.feasible.arcs a t c.number (leaves_as c l leaver)) in
+      let there = comes_then m p h.plan.feasible.arcs a (arrival m a t) (number_on m p a t c.number) (goes_on m p h.plan.feasible.arcs a t c.number (leaves_as c l leaver)) in
       let same : number_on m p a t c.number ≡ d.number = let x = next.number in omega (arith, number, x) in
       let arrives_then = arrives_in_time a t (omega (arith, among)) in
       let moment = next.moment in
@@ -88,7 +88,7 @@ module _ (m : Model) (p : List Move) (h : IsEvacuation m p) where
       let n = c.node in
       leaves_later (came m p n) (left m p n) c.number c.moment l.step.moment (came_grows m p n)
       (subst (λ (x : ℕ). left m p x l.step.moment ≤ came m p x l.step.moment) leaver.from (tail_few m p h l.step.arc l.step.moment c.number leaves)) comer.at
-      (subst (λ (x : ℕ). IsCountedAt (left m p x) c.number l.step.moment) leaver.from (leaves_at m p h.feasible.arcs l.step.arc l.step.moment c.number leaves))
+      (subst (λ (x : ℕ). IsCountedAt (left m p x) c.number l.step.moment) leaver.from (leaves_at m p h.plan.feasible.arcs l.step.arc l.step.moment c.number leaves))
 
   pub comes_later : (c : Comer) (l : Leaver) (d : Comer) → IsComer m p c → IsLeaver m p c l → ComesOutAs m p l d → c.moment < d.moment
   comes_later c l d comer leaver next =

@@ -2,8 +2,7 @@
 use Rattle.std.proofs.Common.{◌≡◌, ℕ, ◌<◌, ◌≤◌, ◌⊎◌, inl, inr, List, [], ◌∷◌, ◌++◌, length, get_or, ap, sym, ◌∙◌, subst, arith}
 use Rattle.std.specs.List.{All}
 use Rattle.std.proofs.lemmas.Bool.{cases_lt}
-use Rattle.std.proofs.lemmas.Grind.{common_steps}
-use Rattle.std.proofs.lemmas.List.{get_or_append_left, length-append}
+use Rattle.std.proofs.lemmas.List.{get_or_append_left, get_or_push, length-append}
 use Rattle.std.proofs.lemmas.List.Elements.{All-cons, All-nil}
 use Rattle.evac_law.specs.declared.model.Model.{Model}
 use Rattle.evac_law.specs.declared.plan.Move.{Move}
@@ -34,9 +33,6 @@ none_given m p w h = record {
   are = λ k d l. absurd (omega (arith, l));
 }
 
-at_end : (cards : List CardView) (c d : CardView) (k : ℕ) → k ≡ length cards → get_or (cards ++ c ∷ []) k d ≡ c
-at_end cards c d k e = grind (arith, common_steps)
-
 pub same_cards : (m : Model) (p q : List Move) (cards : List CardView) → p ≡ q → AreCards m p cards → AreCards m q cards
 same_cards m p q cards e are = subst (λ (x : List Move). AreCards m x cards) e are
 
@@ -61,7 +57,7 @@ one_more m p cards w v h next =
     each mine k d l (inl b) = subst (λ (x : CardView). IsCardOf m w.plan k x) (sym (get_or_append_left cards (v.card ∷ []) d k b)) (h.are k d b)
     each mine k d l (inr b) =
         let last : k ≡ length cards = omega (arith, b, l, length-append cards (v.card ∷ [])) in
-        subst (λ (x : CardView). IsCardOf m w.plan k x) (sym (at_end cards v.card d k last)) (subst (λ (i : ℕ). IsCardOf m w.plan i v.card) (sym last) mine)
+        subst (λ (x : CardView). IsCardOf m w.plan k x) (sym (get_or_push cards v.card d k (sym last))) (subst (λ (i : ℕ). IsCardOf m w.plan i v.card) (sym last) mine)
 
 -- all of them
 pub all_given_fair : (m : Model) (p : List Move) (cards : List CardView) (w : CardsView) → AreGiven m p cards w → IsAllDealt w → IsFairDeal m p cards

@@ -4,7 +4,7 @@ use Rattle.std.specs.List.{All, sum_by, filter}
 use Rattle.std.proofs.lemmas.Bool.{cases_lt}
 use Rattle.std.proofs.lemmas.Bool.Decides.{nat_tests}
 use Rattle.std.proofs.lemmas.Grind.{common_steps}
-use Rattle.std.proofs.lemmas.List.{get_or-map, get_or_append_left, get_or_past, length-append, length-map, take-append-le}
+use Rattle.std.proofs.lemmas.List.{get_or-map, get_or_append_left, get_or_past, get_or_push, length-append, length-map, take-append-le}
 use Rattle.std.proofs.lemmas.List.Elements.{filter-append, filter_agree}
 use Rattle.std.proofs.lemmas.List.Sums.{sum_by-append, sum_by-cons}
 use Rattle.evac_law.specs.declared.model.Model.{Model}
@@ -13,11 +13,10 @@ use Rattle.evac_law.specs.Building.{head, no_arc}
 use Rattle.evac_law.specs.Plans.{came, coming, leaving, left}
 use Rattle.evac_law.specs.Sums.{below}
 use Rattle.evac_law.proofs.SumLemmas.{All-below, below-suc, sum_below-none, sum_by-same_all}
-use Rattle.route_decompose.specs.Routes.{ends_of, shape_of}
-use Rattle.route_decompose.proofs.ShapeLemmas.{listed_arc}
+use Rattle.plan_layout.specs.Layouts.{ends_of, shape_of}
+use Rattle.plan_layout.proofs.ShapeLemmas.{listed_arc}
 use Rattle.time_expansion.specs.declared.ends.Ends.{Ends}
 use Rattle.time_expansion.specs.Expansion.{arcs_from, arcs_to, from_at, no_ends, to_at}
-use Rattle.time_expansion.proofs.Lists.{at_end}
 use Rattle.cards.specs.Numbers.{brought, comers_before, count_before, leavers_before, part}
 use Rattle.cards.proofs.Numbers.{comes_at, coming_is, enters_at, from_node, leaving_is, to_node}
 use Rattle.cards.proofs.Parts.{part-suc}
@@ -61,7 +60,7 @@ front_on q n k xs b e old l (inl less) =
     take-append-le k xs ys (omega (arith, less)) ∙ old less ∙ ap (picked q) (sym (get_or_append_left xs ys 0 k less))
 front_on q n k xs true e old l (inr h) =
     let last : k ≡ length xs = omega (arith, h, l, length-append xs (n ∷ [])) in
-    all_front xs (n ∷ []) k last ∙ e ∙ ap (picked q) (sym (at_end xs n k last))
+    all_front xs (n ∷ []) k last ∙ e ∙ ap (picked q) (sym (get_or_push xs n 0 k (sym last)))
 front_on q n k xs false e old l (inr h) = absurd (omega (arith, h, l, length-append xs []))
 
 pub picked_front : (q : ℕ → Bool) (n k : ℕ) → k < length (picked q n) → take k (picked q n) ≡ picked q (get_or (picked q n) k 0)

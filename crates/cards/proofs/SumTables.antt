@@ -1,7 +1,7 @@
 -- Tables of sums: one place with another number.
 use Rattle.std.proofs.Common.{◌≡◌, ℕ, ◌^◌, ◌<◌, Bool, true, false, cond, ◌&&◌, eqb, arith}
 use Rattle.tables.specs.Tables.{IsPut}
-use Rattle.route_decompose.specs.Tables.{PeopleTable, people_at}
+use Rattle.plan_layout.specs.Tables.{PeopleTable, people_at}
 use Rattle.cards.specs.Kept.{IsSumTable}
 
 small_one : (b : Bool) (x y z : ℕ) → z ≡ cond b x y → x < 2 ^ 62 → y < 2 ^ 62 → z < 2 ^ 62

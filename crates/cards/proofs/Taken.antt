@@ -8,7 +8,7 @@ use Rattle.evac_law.specs.declared.model.Model.{Model}
 use Rattle.evac_law.specs.declared.plan.Move.{Move}
 use Rattle.evac_law.specs.Building.{arrival, capacity, entry, head, is_exit_at, rate, tail}
 use Rattle.evac_law.specs.Plans.{came, held, left, moved, out_by}
-use Rattle.evac_law.specs.Stands.{Fits, Stand}
+use Rattle.evac_law.specs.Stands.{Fits, Stand, Stands}
 use Rattle.evac_law.specs.Sums.{moments_to}
 use Rattle.evac_law.proofs.MoveLemmas.{moved-moves_of, ordered-moves_of}
 use Rattle.evac_law.specs.Moves.{moves_of}
@@ -55,12 +55,14 @@ module _ (m : Model) (p q : List Move) (f : AreInRange m p) (g : AreInRange m q)
   pub evacuates_too : IsEvacuation m p → IsEvacuation m q
   evacuates_too h = record {
     valid = h.valid;
-    feasible = record {
-      arcs = g.arcs;
-      rates = λ a t l k. subst (λ (x : ℕ). x ≤ rate m a t) (same a t) (h.feasible.rates a t l k);
-      holds = λ n t l e k. subst (λ (z : ℤ). (pos 0 ≤ℤ z) × (z ≤ℤ pos (capacity m n))) (held_same n t) (h.feasible.holds n t l e k);
+    plan = record {
+      feasible = record {
+        arcs = g.arcs;
+        rates = λ a t l k. subst (λ (x : ℕ). x ≤ rate m a t) (same a t) (h.plan.feasible.rates a t l k);
+        holds = λ n t l e k. subst (λ (z : ℤ). (pos 0 ≤ℤ z) × (z ≤ℤ pos (capacity m n))) (held_same n t) (h.plan.feasible.holds n t l e k);
+      };
+      all_out = sym (out_same m.horizon) ∙ h.plan.all_out;
     };
-    all_out = sym (out_same m.horizon) ∙ h.all_out;
     in_time = g.in_time;
   }
 
@@ -72,6 +74,9 @@ stand_in_range m f fits =
     in_range_of m f.plan
     (All-weaker (λ (v : Move). (v.arc < f.arcs) × (v.moment ≤ f.horizon)) (λ v. (v.arc < length m.arcs) × (v.moment ≤ m.horizon))
     (λ v b. (omega (arith, b.0, fits.arcs_same), omega (arith, b.1, fits.horizon_same))) f.plan fits.ordered.in_range)
+
+pub stand_evacuates : (m : Model) (f : Stand) → Stands m f → IsEvacuation m f.plan
+stand_evacuates m f h = record { valid = h.valid; plan = h.plan; in_time = (stand_in_range m f h.fits).in_time }
 
 module _ (m : Model) (f : ℕ → ℕ → ℕ) where
   abbrev list_of : List Move

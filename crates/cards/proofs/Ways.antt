@@ -25,7 +25,7 @@ module _ (m : Model) (p : List Move) (h : IsEvacuation m p) where
   -- ---- no move is out of range
 
   in_range : AreInRange m p
-  in_range = record { arcs = h.feasible.arcs; in_time = h.in_time }
+  in_range = record { arcs = h.plan.feasible.arcs; in_time = h.in_time }
 
   pub arc_of : (a t : ℕ) → 0 < moved p a t → a < length m.arcs
   arc_of a t some = elim (cases_lt a (length m.arcs)) [
@@ -41,28 +41,28 @@ module _ (m : Model) (p : List Move) (h : IsEvacuation m p) where
 
   -- by the horizon no more have left a node inside than came
   pub few_leave : (n t : ℕ) → n < length m.nodes → is_exit_at m n ≡ false → t ≤ m.horizon → left m p n t ≤ came m p n t
-  few_leave n t i e l = (within m p n t (capacity m n) (h.feasible.holds n t i e l)).0
+  few_leave n t i e l = (within m p n t (capacity m n) (h.plan.feasible.holds n t i e l)).0
 
   -- ---- who enters an arc at a moment has a number at its tail, and came by then
 
-  pub tail_few : (a t i : ℕ) → Leaves m p h.feasible.arcs a t i → left m p (tail m a) t ≤ came m p (tail m a) t
+  pub tail_few : (a t i : ℕ) → Leaves m p h.plan.feasible.arcs a t i → left m p (tail m a) t ≤ came m p (tail m a) t
   tail_few a t i leaves =
       let low = leaves.from in
       let high = leaves.until in
       few_leave (tail m a) t (tail_in m a h.valid leaves.arc_in) (arc_is m a h.valid leaves.arc_in).from_no_exit
       (moment_of a t (omega (arith, low, high)))
 
-  leaves_of : (n i : ℕ) (s : RouteStep) (steps : List RouteStep) → FollowsNumbers m p n i (s ∷ steps) → Leaves m p h.feasible.arcs s.arc s.moment i
+  leaves_of : (n i : ℕ) (s : RouteStep) (steps : List RouteStep) → FollowsNumbers m p n i (s ∷ steps) → Leaves m p h.plan.feasible.arcs s.arc s.moment i
   leaves_of n i s steps f = record { arc_in = f.0; from = f.2; until = f.3 }
 
   left_then : (n i : ℕ) (s : RouteStep) (steps : List RouteStep) → FollowsNumbers m p n i (s ∷ steps) → IsCountedAt (left m p n) i s.moment
-  left_then n i s steps f = subst (λ (x : ℕ). IsCountedAt (left m p x) i s.moment) f.1 (leaves_at m p h.feasible.arcs s.arc s.moment i (leaves_of n i s steps f))
+  left_then n i s steps f = subst (λ (x : ℕ). IsCountedAt (left m p x) i s.moment) f.1 (leaves_at m p h.plan.feasible.arcs s.arc s.moment i (leaves_of n i s steps f))
 
   came_then : (n i : ℕ) (s : RouteStep) (steps : List RouteStep) → FollowsNumbers m p n i (s ∷ steps)
       → IsCountedAt (came m p (head m s.arc)) (number_on m p s.arc s.moment i) (arrival m s.arc s.moment)
   came_then n i s steps f =
-      comes_then m p h.feasible.arcs s.arc (arrival m s.arc s.moment) (number_on m p s.arc s.moment i)
-      (goes_on m p h.feasible.arcs s.arc s.moment i (leaves_of n i s steps f))
+      comes_then m p h.plan.feasible.arcs s.arc (arrival m s.arc s.moment) (number_on m p s.arc s.moment i)
+      (goes_on m p h.plan.feasible.arcs s.arc s.moment i (leaves_of n i s steps f))
 
   waits : (n i u : ℕ) (s : RouteStep) (steps : List RouteStep) → FollowsNumbers m p n i (s ∷ steps) → IsCountedAt (came m p n) i u → u ≤ s.moment
   waits n i u s steps f at =
@@ -94,7 +94,7 @@ module _ (m : Model) (p : List Move) (h : IsEvacuation m p) where
 
   -- ---- a card enters an arc at a moment at most once
 
-  used_before : (a t n u : ℕ) (steps : List RouteStep) → LeadsOut m n u steps → t < u → uses m p h.feasible.arcs a t steps ≡ 0
+  used_before : (a t n u : ℕ) (steps : List RouteStep) → LeadsOut m n u steps → t < u → uses m p h.plan.feasible.arcs a t steps ≡ 0
   used_before a t n u [] f l = refl
   used_before a t n u (s ∷ steps) f l =
       let late = f.2 in
@@ -106,10 +106,10 @@ module _ (m : Model) (p : List Move) (h : IsEvacuation m p) where
   by_first : (b rest : Bool) (k : ℕ) → (b ≡ true → k ≡ 0) → one_if rest ≡ k → one_if (b || rest) ≡ one_if b + k
   by_first b rest k f e = grind arith
 
-  pub enters_are : (a t n u : ℕ) (steps : List RouteStep) → LeadsOut m n u steps → one_if (enters steps a t) ≡ uses m p h.feasible.arcs a t steps
+  pub enters_are : (a t n u : ℕ) (steps : List RouteStep) → LeadsOut m n u steps → one_if (enters steps a t) ≡ uses m p h.plan.feasible.arcs a t steps
   enters_are a t n u [] f = refl
   enters_are a t n u (s ∷ steps) f =
-      by_first (eqb s.arc a && eqb s.moment t) (enters steps a t) (uses m p h.feasible.arcs a t steps)
+      by_first (eqb s.arc a && eqb s.moment t) (enters steps a t) (uses m p h.plan.feasible.arcs a t steps)
       (λ e. used_before a t (head m s.arc) (arrival m s.arc s.moment) steps f.3
       (let same = eqb-true s.moment t (and_parts (eqb s.arc a) (eqb s.moment t) e).1 in
       let travel = (arc_is m s.arc h.valid f.0).travel_fits.0 in

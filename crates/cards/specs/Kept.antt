@@ -2,7 +2,7 @@
 use Rattle.std.specs.Prelude.{◌≡◌, ℕ, ◌<◌, ◌≤◌, ◌^◌, List, length}
 use Rattle.evac_law.specs.declared.model.Model.{Model}
 use Rattle.evac_law.specs.declared.plan.Move.{Move}
-use Rattle.route_decompose.specs.Tables.{PeopleTable, people_at}
+use Rattle.plan_layout.specs.Tables.{PeopleTable, people_at}
 
 -- a plan of a model
 pub record PlanView : Type 0 where

@@ -4,15 +4,14 @@ use Rattle.std.specs.List.{All}
 use Rattle.evac_law.specs.declared.model.Model.{Model}
 use Rattle.evac_law.specs.declared.plan.Move.{Move}
 use Rattle.evac_law.specs.Building.{IsValid, people}
-use Rattle.evac_law.specs.Plans.{IsFeasible, out_by}
+use Rattle.evac_law.specs.Plans.{TakesAllOut}
 use Rattle.cards.specs.Cards.{CardView, IsFairDeal}
 use Rattle.cards.specs.Numbers.{AreCards}
 
--- a plan is an evacuation: it is feasible, takes everybody out by the horizon, and its moves begin by then
+-- a plan of a valid model is an evacuation: it takes everybody out, and its moves begin by the horizon
 pub record IsEvacuation (m : Model) (p : List Move) : Type 0 where
   pub valid : IsValid m
-  pub feasible : IsFeasible m p m.horizon
-  pub all_out : out_by m p m.horizon ≡ people m
+  pub plan : TakesAllOut m p
   pub in_time : All (λ v. v.moment ≤ m.horizon) p
 
 -- as many cards as there are people, each following the numbers, are a first in first out deal of the plan

@@ -1,6 +1,7 @@
 pub use Rattle.evac_law.specs.Building
 pub use Rattle.evac_law.specs.Plans
 pub use Rattle.evac_law.specs.Stands
+pub use Rattle.plan_layout.specs.Layouts
 pub use Rattle.route_decompose.specs.Routes
 pub mod Cards
 pub mod Numbers

@@ -2,8 +2,8 @@
 ghost use Rattle.std.specs.Prelude.{◌≡◌, ℕ, IfOk};
 ghost use Rattle.evac_law.specs.Building.{IsValid};
 ghost use Rattle.evac_law.specs.Plans.{moved};
-ghost use Rattle.evac_law.specs.Stands.{Fits};
-ghost use Rattle.route_decompose.specs.Routes.{IsSameSite};
+ghost use Rattle.evac_law.specs.Stands.{Stands};
+ghost use Rattle.plan_layout.specs.Layouts.{IsSameSite};
 
 use crate::fill::{fill_came, fill_left};
 use crate::plan::PlanCopy;
@@ -21,7 +21,6 @@ pub struct Counts {
 
 impl Counts {
     ghost use Rattle.cards.specs.Counts.{AreTrueCounts, IsSized};
-    ghost use Rattle.cards.specs.Laws.{IsEvacuation};
 
     /// A plan of a model in which nobody moves, and room for its counts.
     pub fn new(alloc: Global, model: &Model) -> Result<Counts, AllocError>
@@ -29,9 +28,9 @@ impl Counts {
         ensures model { IfOk result (λ c. c.plan.model ≡ model.now) }
         ensures sized { IfOk result IsSized }
     {
-        let plan = PlanCopy::new(alloc, model)?;
         let came = SumTable::new(alloc, model.node_count(), model.horizon)?;
         let left = SumTable::new(alloc, model.node_count(), model.horizon)?;
+        let plan = PlanCopy::new(alloc, model)?;
         Ok(Counts { plan, came, left })
     }
 
@@ -39,8 +38,7 @@ impl Counts {
     pub fn set<F: Standing>(&mut self, model: &Model, standing: &F)
         requires sized { IsSized self.old }
         requires site { IsSameSite model.now self.old.plan.model }
-        requires fits { Fits model.now (F.stand standing.now) }
-        requires evacuation { IsEvacuation model.now (F.stand standing.now).plan }
+        requires stands { Stands model.now (F.stand standing.now) }
         ensures model { self.new.plan.model ≡ model.now }
         ensures moves { (a t : ℕ) → moved self.new.plan.moves a t ≡ moved (F.stand standing.now).plan a t }
         ensures true_counts { AreTrueCounts self.new }

@@ -1,9 +1,8 @@
 //! The cards of a plan.
 ghost use Rattle.std.specs.Prelude.{◌≡◌, IfOk, IsFalse, IsTrue};
-ghost use Rattle.evac_law.specs.Building.{IsValid, people};
-ghost use Rattle.evac_law.specs.Plans.{IsFeasible, out_by};
-ghost use Rattle.evac_law.specs.Stands.{Fits};
-ghost use Rattle.route_decompose.specs.Routes.{IsSameSite};
+ghost use Rattle.evac_law.specs.Building.{IsValid};
+ghost use Rattle.evac_law.specs.Stands.{Stands};
+ghost use Rattle.plan_layout.specs.Layouts.{IsSameSite};
 ghost use Rattle.cards.specs.Dealing.{AreAllToCome, DealsNext, IsAllDealt};
 
 use crate::card::Card;
@@ -47,8 +46,8 @@ impl Cards {
         ensures model { IfOk result (λ c. c.model ≡ model.now) }
         ensures none { IfOk result IsAllDealt }
     {
-        let counts = Counts::new(alloc, model)?;
         let trail = Trail::new(alloc, model.horizon as usize)?;
+        let counts = Counts::new(alloc, model)?;
         let people = model.people();
         Ok(Cards {
             counts,
@@ -61,11 +60,8 @@ impl Cards {
 
     /// Takes a plan that has everybody out, of which no card is handed out yet.
     pub fn begin<F: Standing>(&mut self, model: &evac_law::Model, standing: &F)
-        requires valid { IsValid model.now }
+        requires stands { Stands model.now (F.stand standing.now) }
         requires site { IsSameSite model.now self.old.model }
-        requires fits { Fits model.now (F.stand standing.now) }
-        requires feasible { IsFeasible model.now (F.stand standing.now).plan model.now.horizon }
-        requires all_out { out_by model.now (F.stand standing.now).plan model.now.horizon ≡ people model.now }
         ensures { AreAllToCome model.now (F.stand standing.now).plan self.new }
     {
         self.counts.set(model, standing);

@@ -1,7 +1,7 @@
 //! How tables take the counts of a plan.
 ghost use Rattle.std.specs.Prelude.{◌<◌, length};
 ghost use Rattle.evac_law.specs.Plans.{came, left};
-ghost use Rattle.route_decompose.specs.Tables.{IsRowFilled};
+ghost use Rattle.plan_layout.specs.Tables.{IsRowFilled};
 ghost use Rattle.cards.specs.Kept.{HasNumbers, IsByNode};
 
 use crate::plan::PlanCopy;

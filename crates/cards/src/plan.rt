@@ -4,11 +4,11 @@ ghost use Rattle.std.specs.List.{All};
 ghost use Rattle.evac_law.specs.Building.{IsValid};
 ghost use Rattle.evac_law.specs.Plans.{coming, leaving, moved};
 ghost use Rattle.evac_law.specs.Stands.{Fits};
-ghost use Rattle.route_decompose.specs.Routes.{IsSameSite};
+ghost use Rattle.plan_layout.specs.Layouts.{IsSameSite};
 ghost use Rattle.cards.specs.Numbers.{brought};
 
 use evac_law::Standing;
-use route_decompose::{Layout, fill_moves};
+use plan_layout::{Layout, fill_moves};
 use std::alloc::{AllocError, Global};
 use std::marker::Model;
 use tables::Table;
@@ -23,7 +23,7 @@ pub struct PlanCopy {
 impl Model for PlanCopy {
     ghost use Rattle.std.specs.Prelude.{◌≡◌, length};
     ghost use Rattle.evac_law.specs.Moves.{moves_of};
-    ghost use Rattle.route_decompose.specs.Tables.{people_at};
+    ghost use Rattle.plan_layout.specs.Tables.{people_at};
     ghost use Rattle.cards.specs.Kept.{PlanView};
 
     ghost Value = { PlanView };
@@ -39,8 +39,8 @@ impl PlanCopy {
         requires { IsValid model.now }
         ensures { IfOk result (λ p. p.model ≡ model.now) }
     {
-        let layout = Layout::new(alloc, model)?;
         let moved = Table::new(alloc, 0, model.arc_count(), model.horizon)?;
+        let layout = Layout::new(alloc, model)?;
         Ok(PlanCopy { layout, moved })
     }
 

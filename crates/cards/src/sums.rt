@@ -1,7 +1,7 @@
 //! How many people there have been by each moment.
 ghost use Rattle.std.specs.Prelude.{◌≡◌, ◌<◌, ◌≤◌, ◌^◌, IfOk};
 ghost use Rattle.tables.specs.Tables.{IsPut};
-ghost use Rattle.route_decompose.specs.Tables.{people_at};
+ghost use Rattle.plan_layout.specs.Tables.{people_at};
 ghost use Rattle.cards.specs.Numbers.{count_before};
 
 use std::alloc::{AllocError, Global};
@@ -15,7 +15,7 @@ pub struct SumTable {
 }
 
 impl Model for SumTable {
-    ghost use Rattle.route_decompose.specs.Tables.{PeopleTable};
+    ghost use Rattle.plan_layout.specs.Tables.{PeopleTable};
     ghost use Rattle.cards.specs.Kept.{IsSumTable};
 
     ghost Value = { PeopleTable };

@@ -16,6 +16,7 @@ use Rattle.evac_law.specs.Sums.{below, places}
 use Rattle.evac_law.proofs.SumLemmas.{by_place, sum_below-suc}
 use Rattle.evac_law.proofs.PartLemmas.{any-below, or_false}
 use Rattle.clearing_report.specs.Clearing.{is_occupied, last_inside, last_occupied, last_that, later, latest}
+use Rattle.clearing_report.proofs.TimeLemmas.{none_some, same_some}
 
 -- ---- the last moment below a bound
 
@@ -44,19 +45,13 @@ last_same p q zero h = refl
 last_same p q (suc n) h =
     ap (λ b. cond b (Some n) (last_below p n)) (h n (omega arith)) ∙ ap (λ z. cond (q n) (Some n) z) (last_same p q n (λ t l. h t (omega (arith, l))))
 
-some_same : (s t : ℕ) → ◌≡◌ {A = Option ℕ} (Some s) (Some t) → s ≡ t
-some_same s t e = cc
-
-none_some : (d : ℕ) → ◌≡◌ {A = Option ℕ} None (Some d) → ⊥
-none_some d e = cc
-
 last_bound : (p : ℕ → Bool) (n s : ℕ) → last_below p n ≡ Some s → s < n
 unfolding last_below
 last_bound p zero s e = absurd (none_some s e)
 last_bound p (suc n) s e = split (p n) refl (λ f. last_bound p n s f) e
   where
     split : (b : Bool) → p n ≡ b → (last_below p n ≡ Some s → s < n) → cond b (Some n) (last_below p n) ≡ Some s → s < suc n
-    split true f h g = omega (arith, some_same n s g)
+    split true f h g = omega (arith, same_some n s g)
     split false f h g = omega (arith, h g)
 
 later_none : (a : Option ℕ) → later a None ≡ a

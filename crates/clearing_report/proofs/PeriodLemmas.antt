@@ -13,6 +13,9 @@ use Rattle.evac_law.proofs.SumLemmas.{gather, sum2-same, sum_by-same, sum_by-tim
 abbrev pub part_at : Model → List Move → ℕ → ℕ → ℕ
 part_at m p a t = cond (is_exit_at m (head m a) && leb (arrival m a t) m.horizon) (moved p a t * arrival m a t) 0
 
+swap : (i j : ℕ) → i * j ≡ j * i
+swap i j = grind arith
+
 module _ (m : Model) (p : List Move) where
   weight : Move → ℕ
   weight v = v.people * arrival m v.arc v.moment
@@ -26,11 +29,8 @@ module _ (m : Model) (p : List Move) where
       moments : (eqb x y && eqb s t) ≡ true → s ≡ t
       moments f = grind (arith, nat_tests)
 
-      turn : (i j : ℕ) → i * j ≡ j * i
-      turn i j = grind arith
-
       split : (b : Bool) → (eqb x y && eqb s t) ≡ b → cond b (w * (s + d)) 0 ≡ cond b ((t + e) * w) 0
-      split true f = ap (λ z. w * z) (omega (arith, moments f, h (arcs f))) ∙ turn w (t + e)
+      split true f = ap (λ z. w * z) (omega (arith, moments f, h (arcs f))) ∙ swap w (t + e)
       split false f = refl
 
   inner : (a t : ℕ) → sum_by (λ (v : Move). cond (eqb v.arc a && eqb v.moment t) (weight v) 0) p ≡ moved p a t * arrival m a t
@@ -41,9 +41,6 @@ module _ (m : Model) (p : List Move) where
       ∙ times_cond (eqb v.arc a && eqb v.moment t) (arrival m a t) v.people)
       ∙ sum_by-times (arrival m a t) (λ (v : Move). cond (eqb v.arc a && eqb v.moment t) v.people 0) p
       ∙ swap (arrival m a t) (sum_by (λ (v : Move). cond (eqb v.arc a && eqb v.moment t) v.people 0) p)
-    where
-      swap : (i j : ℕ) → i * j ≡ j * i
-      swap i j = grind arith
 
   late : (e : Bool) (s d k w : ℕ) → cond (ltb s (k + 1) && (e && leb (s + d) k)) w 0 ≡ cond (e && leb (s + d) k) w 0
   late e s d k w = grind (arith, nat_tests)

@@ -1,7 +1,7 @@
 -- Whoever starts in a node from which no walk ends by a moment isn't out by then.
 use Rattle.std.proofs.Common.{◌≡◌, ℕ, zero, suc, ◌+◌, ◌-◌, ◌<◌, ◌≤◌, ◌⊎◌, inl, inr, Bool, true, false, cond, not, ◌&&◌, ◌||◌, eqb, ltb, leb, List, [], ◌∷◌, length, get_or, refl, ap, ap₂, sym, ◌∙◌, arith, Some}
 use Rattle.std.specs.List.{list_any, sum_by}
-use Rattle.std.proofs.lemmas.Bool.{both_ways, cases_Bool, cases_lt, leb-true, lt-ltb}
+use Rattle.std.proofs.lemmas.Bool.{both_ways, cases_Bool, cases_lt, leb-true, lt-ltb, or_right}
 use Rattle.std.proofs.lemmas.Bool.Decides.{nat_tests}
 use Rattle.std.proofs.lemmas.List.Folds.{Any-from_list_any, list_any_at}
 use Rattle.std.proofs.lemmas.List.FromFn.{get_or-range_with_len, length-range_with_len}
@@ -46,9 +46,6 @@ module _ (m : Model) (valid : IsValid m) where
   second : (b c : Bool) → b ≡ false → (b || c) ≡ true → c ≡ true
   second b c e f = grind arith
 
-  either : (b c : Bool) → c ≡ true → (b || c) ≡ true
-  either b c e = grind arith
-
   walk_of : (f d n : ℕ) → near m f d n ≡ true → InTime d n
   walk_of zero d n e = ([], e, omega arith)
   walk_of (suc f) d n e = elim (cases_Bool (is_exit_at m n)) [
@@ -72,7 +69,7 @@ module _ (m : Model) (valid : IsValid m) where
       let rest = near_by f (d - (arc_at m a).travel) (head m a) arcs w.3 (omega (arith, few)) (omega (arith, time, short)) in
       let place : get_or (places m.arcs) a 0 ≡ a = omega (arith, get_or-range_with_len 0 (length m.arcs) a 0 w.0) in
       let this = all_lead (is_open m a) (near m f (d - (arc_at m a).travel) (head m a)) (tail m a) n (arc_at m a).travel d w.1 w.2 (omega (arith, time, short)) rest in
-      either (is_exit_at m n) (list_any (leads f d n) (places m.arcs))
+      or_right (is_exit_at m n) (list_any (leads f d n) (places m.arcs))
       (list_any_at (leads f d n) (places m.arcs) a 0 (omega (arith, w.0, length-range_with_len 0 (length m.arcs)))
       (ap (leads f d n) place ∙ this))
 

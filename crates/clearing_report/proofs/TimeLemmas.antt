@@ -1,7 +1,7 @@
 -- Times of walks.
 use Rattle.std.proofs.Common.{◌≡◌, ℕ, ◌+◌, ◌*◌, ◌<◌, ◌≤◌, ◌⊎◌, inl, inr, Bool, true, false, cond, max, List, [], ◌∷◌, length, refl, ap, sym, subst, ◌∙◌, arith, Option, Some, None, MatchOption, IfSome}
 use Rattle.std.proofs.Math.ListN.{set}
-use Rattle.std.proofs.lemmas.Bool.{cases_lt}
+use Rattle.std.proofs.lemmas.Bool.{cases_lt, true≢false}
 use Rattle.std.proofs.lemmas.List.{get_or-set_other, get_or-set_same, get_or_past, length-set}
 use Rattle.std.proofs.lemmas.List.Sums.{sum_by-cons, sum_by-set}
 use Rattle.evac_law.specs.declared.model.Model.{Model}
@@ -12,17 +12,11 @@ use Rattle.clearing_report.specs.declared.times.Way.{Way}
 use Rattle.clearing_report.specs.Distances.{AllFound, AreTimes, IsNearest, IsWay, time_at, unknown, unknowns}
 use Rattle.clearing_report.specs.Walks.{IsStartNode, IsUncongested, Walk, walk_time}
 
-none_some : (d : ℕ) → ◌≡◌ {A = Option ℕ} None (Some d) → ⊥
+pub none_some : (d : ℕ) → ◌≡◌ {A = Option ℕ} None (Some d) → ⊥
 none_some d e = cc
 
-same_some : (d e : ℕ) → ◌≡◌ {A = Option ℕ} (Some d) (Some e) → d ≡ e
+pub same_some : (d e : ℕ) → ◌≡◌ {A = Option ℕ} (Some d) (Some e) → d ≡ e
 same_some d e f = cc
-
-clash : (b : Bool) → b ≡ true → b ≡ false → ⊥
-clash b e f = apart (sym e ∙ f)
-  where
-    apart : true ≡ false → ⊥
-    apart x = cc
 
 pub time_cons : (m : Model) (a : ℕ) (arcs : List ℕ) → walk_time m (a ∷ arcs) ≡ (arc_at m a).travel + walk_time m arcs
 time_cons m a arcs = sum_by-cons (λ b. (arc_at m b).travel) a arcs
@@ -111,7 +105,7 @@ module _ (m : Model) (times : List (Option ℕ)) (valid : IsValid m) (are : AreT
         split (inr f) = are.least n e (sym (there n f) ∙ g) arcs w
 
     exits_on : (n : ℕ) → n < length m.nodes → is_exit_at m n ≡ true → time_at with_time n ≡ Some 0
-    exits_on n l e = there n (λ f. clash (is_exit_at m n) e (ap (is_exit_at m) f ∙ (arc_is m a valid near.way.arc_in).from_no_exit)) ∙ are.exits n l e
+    exits_on n l e = there n (λ f. true≢false (sym e ∙ ap (is_exit_at m) f ∙ (arc_is m a valid near.way.arc_in).from_no_exit)) ∙ are.exits n l e
 
     few_on : (n e : ℕ) → time_at with_time n ≡ Some e → e + travel_limit * unknowns with_time ≤ travel_limit * length m.nodes
     unfolding travel_limit

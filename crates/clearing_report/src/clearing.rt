@@ -1,8 +1,7 @@
 //! The report on a plan.
 ghost use Rattle.std.specs.Prelude.{◌≡◌, ◌<◌, IfOk, length};
-ghost use Rattle.evac_law.specs.Building.{IsValid, people};
-ghost use Rattle.evac_law.specs.Plans.{IsFeasible, out_by};
-ghost use Rattle.evac_law.specs.Stands.{Fits};
+ghost use Rattle.evac_law.specs.Building.{IsValid};
+ghost use Rattle.evac_law.specs.Stands.{Stands};
 ghost use Rattle.floor_index.specs.Floors.{listed};
 ghost use Rattle.clearing_report.specs.Clearing.{IsReport, latest, clearing_moment};
 ghost use Rattle.clearing_report.specs.Walks.{IsUncongested};
@@ -55,11 +54,8 @@ impl Clearing {
 
     /// Reports on a plan that has everybody out.
     pub fn fill<F: Standing>(&mut self, model: &evac_law::Model, standing: &F)
-        requires valid { IsValid model.now }
+        requires stands { Stands model.now (F.stand standing.now) }
         requires room { length self.old.moments ≡ length model.now.nodes }
-        requires fits { Fits model.now (F.stand standing.now) }
-        requires feasible { IsFeasible model.now (F.stand standing.now).plan model.now.horizon }
-        requires all_out { out_by model.now (F.stand standing.now).plan model.now.horizon ≡ people model.now }
         ensures report { IsReport model.now (F.stand standing.now).plan self.new }
         ensures size { length self.new.moments ≡ length self.old.moments }
     {

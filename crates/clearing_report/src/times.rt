@@ -8,7 +8,7 @@ ghost use Rattle.clearing_report.specs.Walks.{IsUncongested, is_open};
 use evac_law::Model;
 
 /// An arc by which a node whose time isn't known comes to one whose time is, and the time by it.
-#[derive(Clone, Copy, PartialEq, Eq, Debug)]
+#[derive(Clone, Copy)]
 pub struct Way {
     pub arc: u32,
     pub time: u32,

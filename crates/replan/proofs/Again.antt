@@ -10,11 +10,11 @@ use Rattle.evac_law.specs.declared.model.NodeRow.{NodeRow}
 use Rattle.evac_law.specs.declared.plan.Move.{Move}
 use Rattle.evac_law.specs.Building.{IsValid, entry, is_exit_at}
 use Rattle.evac_law.specs.Entrants.{table_entrant, table_entrants}
-use Rattle.evac_law.specs.Plans.{above, coming, inside, leaving, out_by}
+use Rattle.evac_law.specs.Plans.{TakesAllOut, above, coming, inside, leaving, out_by}
 use Rattle.evac_law.specs.Sums.{below, moments_to}
 use Rattle.evac_law.proofs.PartLemmas.{flat_map-same}
 use Rattle.evac_law.proofs.SumLemmas.{All-below}
-use Rattle.replan.specs.Committed.{TakesAllOut, moves_before}
+use Rattle.replan.specs.Committed.{moves_before}
 use Rattle.replan.specs.Rest.{without_start, rest, rest_entry}
 use Rattle.replan.specs.RestLaws.{IsCarriedOutOnce}
 use Rattle.replan.proofs.Goes.{held_after}

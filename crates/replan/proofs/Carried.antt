@@ -5,6 +5,7 @@ use Rattle.std.specs.List.{All}
 use Rattle.std.proofs.lemmas.List.Elements.{All-cons, All-head, All-tail, All-take}
 use Rattle.std.proofs.lemmas.Bool.{cases_lt}
 use Rattle.std.proofs.lemmas.Bool.Decides.{nat_tests}
+use Rattle.evac_law.specs.Plans.{TakesAllOut}
 use Rattle.evac_law.specs.declared.edit.Edit.{Edit}
 use Rattle.evac_law.specs.declared.edit.Edit.TheVariants.{Shut, Reopen, ShutExit, ReopenExit, Rate, Room, Shift, Enter, Leave, Window, Unwindow}
 use Rattle.evac_law.specs.declared.model.Model.{Model}
@@ -13,9 +14,8 @@ use Rattle.evac_law.specs.Building.{IsValid, node_at, people}
 use Rattle.evac_law.specs.Certificates.{IsCertified, IsClearable}
 use Rattle.evac_law.specs.Edits.{IsEditOf, edited}
 use Rattle.evac_law.specs.Limits.{people_limit}
-use Rattle.evac_law.specs.Stands.{Fits}
 use Rattle.evac_law.proofs.EditLemmas.{is_edited, people-set}
-use Rattle.evac_law.proofs.Optimal.{certified_is_feasible, out_le_out, out_le_people}
+use Rattle.evac_law.proofs.Optimal.{out_le_out}
 use Rattle.evac_law.proofs.ShapeLemmas.{edited_keeps_shape}
 use Rattle.edit_session.specs.declared.faults.BeginFault.{BeginFault}
 use Rattle.edit_session.specs.declared.faults.BeginFault.TheVariants as begin_faults
@@ -25,32 +25,14 @@ use Rattle.edit_session.specs.declared.faults.EditRefusal.TheVariants.{Fault, No
 use Rattle.edit_session.specs.declared.faults.UndoRefusal.{UndoRefusal}
 use Rattle.edit_session.specs.declared.faults.UndoRefusal.TheVariants.{NothingToUndo}
 use Rattle.edit_session.specs.declared.work.Work.{Work}
-use Rattle.edit_session.specs.Sessions.{BeginEnds, Begins, EditEnds, IsSolved, SessionState, SessionView, UndoEnds, kept_limit, no_labels, stand_of_state}
-use Rattle.replan.specs.Committed.{TakesAllOut, gone_by, moves_before}
+use Rattle.edit_session.specs.Sessions.{BeginEnds, Begins, EditEnds, IsSolved, SessionState, SessionView, UndoEnds, kept_limit, no_labels}
+use Rattle.edit_session.proofs.Standing.{takes_all_out}
+use Rattle.replan.specs.Committed.{gone_by, moves_before}
 use Rattle.replan.specs.Replans.{IsAdvanced, ReplanView, is_bad_moment, is_of_people}
 use Rattle.replan.specs.Rest.{rest}
 use Rattle.replan.specs.RestLaws.{IsLeftOver}
-use Rattle.replan.specs.Kept.{IsReplan, IsReachable}
-use Rattle.replan.specs.Standing.{Stands}
+use Rattle.replan.specs.Kept.{IsLeftAfter, IsReplan, IsReachable}
 use Rattle.replan.proofs.RestIs.{best_from, later, left_over}
-
--- ---- a session's plan stands
-
-pub takes_all_out : (s : SessionState) → IsSolved s → TakesAllOut s.model s.plan
-takes_all_out s solved =
-    let feasible = certified_is_feasible s.model s.plan s.labels s.last s.model.horizon solved.valid solved.certified in record {
-      feasible = feasible;
-      all_out = omega (
-        arith,
-        solved.certified.all_out,
-        out_le_out s.model s.plan s.last s.model.horizon solved.certified.in_horizon,
-        out_le_people s.model s.plan s.model.horizon solved.valid feasible,
-      );
-    }
-
-pub stands_of : (m : Model) (s : SessionState) → m ≡ s.model → IsSolved s → Fits s.model (stand_of_state s) → Stands m (stand_of_state s)
-stands_of m s e solved fits =
-    subst (λ (x : Model). Stands x (stand_of_state s)) (sym e) (record { valid = solved.valid; fits = fits; all_out = takes_all_out s solved })
 
 -- ---- as it begins
 
@@ -86,36 +68,54 @@ few_in v layout slice replan valid same same_gone k l =
       few_now v.session.state v.moment v.gone replan valid k (omega (arith, l, ap (λ (x : Model). x.horizon) same)),
     )
 
-module _ (v : ReplanView) (s : ℕ) (layout left : Model) (replan : IsReplan v.session.state v.moment v.gone) (solved : IsSolved v.session.state)
-    (fair : is_bad_moment s v.session.state.model.horizon v.moment ≡ false) (same : layout ≡ v.session.state.model) (is_rest : left ≡ rest layout v.session.state.plan s) where
+-- what a layout of the model and a slice of those who are gone show
+pub is_left_after : (v : ReplanView) (s : ℕ) (layout left : Model) (slice gone : List ℕ) → IsReplan v.session.state v.moment v.gone
+    → IsSolved v.session.state → layout ≡ v.session.state.model → slice ≡ v.gone → left ≡ rest layout v.session.state.plan s → length gone ≡ length slice
+    → ((k : ℕ) → k ≤ layout.horizon → get_or gone k 0 ≡ get_or slice k 0 + gone_by layout v.session.state.plan s k) → IsLeftAfter v s left gone
+is_left_after v s layout left slice gone replan solved same same_gone is_rest long more =
+    let p = v.session.state.plan in record {
+      before = replan;
+      solved = solved;
+      left = is_rest ∙ ap (λ (x : Model). rest x p s) same;
+      size = long ∙ ap length same_gone;
+      gone = λ k l.
+          omega (
+            arith,
+            more k (omega (arith, l, ap (λ (x : Model). x.horizon) same)),
+            ap (λ (xs : List ℕ). get_or xs k 0) same_gone,
+            ap (λ (x : Model). gone_by x p s k) same,
+          );
+    }
+
+module _ (v : ReplanView) (s : ℕ) (fair : is_bad_moment s v.session.state.model.horizon v.moment ≡ false) (left : Model) (gone : List ℕ)
+    (done : IsLeftAfter v s left gone) where
   abbrev m : Model
   m = v.session.state.model
 
   abbrev p : List Move
   p = v.session.state.plan
 
+  abbrev valid : IsValid m
+  valid = done.solved.valid
+
   good : (1 ≤ s) × (s ≤ m.horizon)
   good = not_bad s m.horizon v.moment fair
 
   all : TakesAllOut m p
-  all = takes_all_out v.session.state solved
+  all = takes_all_out v.session.state done.solved
 
   over : IsLeftOver m p s
-  over = left_over m p s solved.valid good.0 good.1 all
-
-  is_left : left ≡ rest m p s
-  is_left = is_rest ∙ ap (λ (x : Model). rest x p s) same
+  over = left_over m p s valid good.0 good.1 all
 
   pub left_is_valid : IsValid left
-  left_is_valid = subst IsValid (sym is_left) over.valid
+  left_is_valid = subst IsValid (sym done.left) over.valid
 
   pub left_is_clearable : IsClearable left
-  left_is_clearable = subst IsClearable (sym is_left) over.clearable
+  left_is_clearable = subst IsClearable (sym done.left) over.clearable
 
-  module _ (next : SessionView) (gone slice : List ℕ) (n : ℕ) (begun : BeginEnds left (Ok next) n) (same_gone : slice ≡ v.gone)
-      (long : length gone ≡ length slice) (more : (k : ℕ) → k ≤ layout.horizon → get_or gone k 0 ≡ get_or slice k 0 + gone_by layout p s k) where
+  module _ (next : SessionView) (n : ℕ) (begun : BeginEnds left (Ok next) n) where
     begins : Begins (rest m p s) next.state
-    begins = subst (λ (x : Model). Begins x next.state) is_left begun.0
+    begins = subst (λ (x : Model). Begins x next.state) done.left begun.0
 
     certified : IsCertified (rest m p s) next.state.plan next.state.labels next.state.last
     certified = subst (λ (x : Model). IsCertified x next.state.plan next.state.labels next.state.last) begins.begun begins.solved.certified
@@ -123,32 +123,20 @@ module _ (v : ReplanView) (s : ℕ) (layout left : Model) (replan : IsReplan v.s
     h_same : next.state.model.horizon ≡ m.horizon
     h_same = ap (λ (x : Model). x.horizon) begins.begun
 
-    size : length gone ≡ length v.gone
-    size = long ∙ ap length same_gone
-
-    added : (k : ℕ) → k ≤ m.horizon → get_or gone k 0 ≡ get_or v.gone k 0 + gone_by m p s k
-    added k l =
-        omega (
-          arith,
-          more k (omega (arith, l, ap (λ (x : Model). x.horizon) same)),
-          ap (λ (xs : List ℕ). get_or xs k 0) same_gone,
-          ap (λ (x : Model). gone_by x p s k) same,
-        )
-
     few_next : (k : ℕ) → k ≤ next.state.model.horizon → get_or gone k 0 + people next.state.model ≤ people_limit
     few_next k l =
         omega (
           arith,
           ap people begins.begun,
-          added k (omega (arith, l, h_same)),
-          few_now v.session.state v.moment v.gone replan solved.valid k (omega (arith, l, h_same)),
+          done.gone k (omega (arith, l, h_same)),
+          few_now v.session.state v.moment v.gone done.before valid k (omega (arith, l, h_same)),
           out_le_out m (moves_before s p) k m.horizon (omega (arith, l, h_same)),
           over.nobody_lost,
         )
 
     pub replan_advanced : IsReplan next.state s gone
     replan_advanced = record {
-      size = omega (arith, size, replan.size, h_same);
+      size = omega (arith, done.size, done.before.size, h_same);
       none_gone = λ e. absurd (omega (arith, e, good.0));
       models = rw begins.none_former (All-cons (IsReachable next.state.model.horizon s gone) next.state.model []
           (record { horizon_same = refl; few = λ _. few_next }) (λ i d l. absurd (omega (arith, l))));
@@ -159,12 +147,12 @@ module _ (v : ReplanView) (s : ℕ) (layout left : Model) (replan : IsReplan v.s
         let r = next.state.plan in
         let l = next.state.labels in record {
           begins = begins;
-          refused = begun.1 ∙ ap no_labels (is_left ∙ sym begins.begun);
+          refused = begun.1 ∙ ap no_labels (done.left ∙ sym begins.begun);
           moment = refl;
-          size = size;
-          gone = added;
-          later = λ i d h. later m p s solved.valid good.0 good.1 all r l next.state.last certified i d h (begins.solved.ordered.somebody i d h);
-          best = best_from m p s solved.valid good.0 good.1 all r l next.state.last certified;
+          size = done.size;
+          gone = done.gone;
+          later = λ i d h. later m p s valid good.0 good.1 all r l next.state.last certified i d h (begins.solved.ordered.somebody i d h);
+          best = best_from m p s valid good.0 good.1 all r l next.state.last certified;
         }
 
 -- ---- as it is edited

@@ -7,13 +7,13 @@ use Rattle.evac_law.specs.declared.model.Model.{Model}
 use Rattle.evac_law.specs.declared.plan.Move.{Move}
 use Rattle.evac_law.specs.Building.{IsValid, arc_at, arrival, entered_by, entry, head, is_exit_at, people, tail}
 use Rattle.evac_law.specs.Limits.{people_limit}
-use Rattle.evac_law.specs.Plans.{left, out_by}
+use Rattle.evac_law.specs.Plans.{TakesAllOut, left, out_by}
 use Rattle.evac_law.specs.Sums.{moments_to, places}
 use Rattle.evac_law.proofs.Conserved.{all_out_leaves_nobody}
 use Rattle.evac_law.proofs.Entries.{entered_all, exit_entry}
 use Rattle.evac_law.proofs.SumLemmas.{All-below, by_place, pick_le, sum_by-add, sum_by-nothing, sum_by-same, sum_by-same_all}
 use Rattle.evac_law.proofs.ValidLemmas.{arc_is, head_in, tail_in}
-use Rattle.replan.specs.Committed.{TakesAllOut, moves_before}
+use Rattle.replan.specs.Committed.{moves_before}
 use Rattle.replan.specs.Rest.{rest_entry}
 use Rattle.replan.proofs.Parted.{All-made, arrived}
 use Rattle.replan.proofs.Shifted.{rest_none, shifted}

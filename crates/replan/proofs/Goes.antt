@@ -7,10 +7,10 @@ use Rattle.evac_law.specs.declared.model.ArcRow.{ArcRow}
 use Rattle.evac_law.specs.declared.model.Model.{Model}
 use Rattle.evac_law.specs.declared.plan.Move.{Move}
 use Rattle.evac_law.specs.Building.{IsValid, capacity, entry, is_exit_at, rate}
-use Rattle.evac_law.specs.Plans.{IsFeasible, came, held, left, moved}
+use Rattle.evac_law.specs.Plans.{IsFeasible, TakesAllOut, came, held, left, moved}
 use Rattle.evac_law.specs.Sums.{moments_to}
 use Rattle.evac_law.proofs.SumLemmas.{sum_by-same_all}
-use Rattle.replan.specs.Committed.{TakesAllOut, moves_from}
+use Rattle.replan.specs.Committed.{moves_from}
 use Rattle.replan.specs.Rest.{rest_entry}
 use Rattle.replan.proofs.Parted.{IsBehind, IsLate, arrived_behind, arrived_none, came_is, from_late, left_behind, left_none, moved_none, moved_over, moves_behind, own_behind}
 use Rattle.replan.proofs.Shifted.{IsLeft, held_shifts, nothing_to, rest_none, same_arrived, same_left, same_rate}

@@ -1,12 +1,13 @@
 -- Carrying a best plan out keeps its curve.
 use Rattle.std.proofs.Common.{ℕ, List, ◌++◌, refl, ◌∙◌, arith}
+use Rattle.evac_law.specs.Plans.{TakesAllOut}
 use Rattle.evac_law.specs.declared.model.Model.{Model}
 use Rattle.evac_law.specs.declared.plan.Move.{Move}
 use Rattle.evac_law.specs.Building.{IsValid}
 use Rattle.evac_law.specs.Certificates.{IsCertified}
 use Rattle.evac_law.specs.LabelTable.{LabelTable}
 use Rattle.evac_law.proofs.Optimal.{certified_is_best, certified_is_feasible, out_stays}
-use Rattle.replan.specs.Committed.{TakesAllOut, moves_before}
+use Rattle.replan.specs.Committed.{moves_before}
 use Rattle.replan.specs.RestLaws.{AdvanceKeepsCurve}
 use Rattle.replan.proofs.RestIs.{best_from, goes_on, later}
 

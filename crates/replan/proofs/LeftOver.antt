@@ -13,12 +13,12 @@ use Rattle.evac_law.specs.declared.plan.Move.{Move}
 use Rattle.evac_law.specs.Building.{IsArc, IsEntrant, IsNode, IsValid, arrival, entry, head, is_exit_at, no_node, node_at, people, start}
 use Rattle.evac_law.specs.Entrants.{entering, table_entrants}
 use Rattle.evac_law.specs.Names.{is_exit}
-use Rattle.evac_law.specs.Plans.{coming, out_by}
+use Rattle.evac_law.specs.Plans.{TakesAllOut, coming, out_by}
 use Rattle.evac_law.specs.Sums.{moments_to, places}
 use Rattle.evac_law.proofs.EntrantTable.{all_of_table, entrants_are_table}
 use Rattle.evac_law.proofs.Entries.{none_late}
 use Rattle.evac_law.proofs.SumLemmas.{sum_by-nothing, sum_by-same, sum_by-same_all}
-use Rattle.replan.specs.Committed.{TakesAllOut, moves_before}
+use Rattle.replan.specs.Committed.{moves_before}
 use Rattle.replan.specs.Rest.{without_start, rest, rest_entry}
 use Rattle.replan.proofs.Counted.{arrives, nobody_lost}
 use Rattle.replan.proofs.Parted.{before_is}

@@ -6,9 +6,9 @@ use Rattle.evac_law.specs.declared.plan.Move.{Move}
 use Rattle.evac_law.specs.Building.{IsValid}
 use Rattle.evac_law.specs.Certificates.{IsCertified}
 use Rattle.evac_law.specs.LabelTable.{LabelTable}
-use Rattle.evac_law.specs.Plans.{IsFeasible, out_by}
+use Rattle.evac_law.specs.Plans.{IsFeasible, TakesAllOut, out_by}
 use Rattle.evac_law.proofs.Optimal.{certified_is_best, certified_is_feasible, lawful_down, out_le_out, out_le_people}
-use Rattle.replan.specs.Committed.{SharesMoves, TakesAllOut, gone_by, moves_before, moves_from}
+use Rattle.replan.specs.Committed.{SharesMoves, gone_by, moves_before, moves_from}
 use Rattle.replan.specs.Rest.{rest}
 use Rattle.replan.specs.RestLaws.{GoesOnAsRest, IsBestFrom, IsLeftOver}
 use Rattle.replan.proofs.Goes.{feasible_both, moved_before}

@@ -9,13 +9,13 @@ use Rattle.evac_law.specs.declared.model.Model.{Model}
 use Rattle.evac_law.specs.declared.plan.Move.{Move}
 use Rattle.evac_law.specs.Building.{IsValid, arrival, head, is_exit_at, people}
 use Rattle.evac_law.specs.Limits.{people_limit}
-use Rattle.evac_law.specs.Plans.{coming}
+use Rattle.evac_law.specs.Plans.{TakesAllOut, coming}
 use Rattle.evac_law.specs.Sums.{below, moments_to, places}
 use Rattle.evac_law.proofs.Curve.{arriving, out_is_sum}
 use Rattle.evac_law.proofs.Optimal.{out_le_out}
 use Rattle.evac_law.proofs.SumLemmas.{by_place, sum_below-more, sum_by-same}
 use Rattle.evac_law.proofs.ValidLemmas.{head_in}
-use Rattle.replan.specs.Committed.{TakesAllOut, gone_by, moves_before, moves_from}
+use Rattle.replan.specs.Committed.{gone_by, moves_before, moves_from}
 use Rattle.replan.specs.Standing.{coming_out}
 use Rattle.replan.proofs.Parted.{All-made, outs_behind, own_behind}
 

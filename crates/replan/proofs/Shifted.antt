@@ -8,13 +8,13 @@ use Rattle.evac_law.specs.declared.model.ArcRow.{ArcRow}
 use Rattle.evac_law.specs.declared.model.Model.{Model}
 use Rattle.evac_law.specs.declared.plan.Move.{Move}
 use Rattle.evac_law.specs.Building.{IsValid, arc_at, capacity, entry, head, is_exit_at, no_arc, node_at, rate, tail}
-use Rattle.evac_law.specs.Plans.{above, came, coming, held, inside, leaving, left, out_by}
+use Rattle.evac_law.specs.Plans.{TakesAllOut, above, came, coming, held, inside, leaving, left, out_by}
 use Rattle.evac_law.specs.Sums.{moments_to}
 use Rattle.evac_law.specs.Windows.{is_closed_at}
 use Rattle.evac_law.proofs.SumLemmas.{sum_by-same, sum_by-same_all, sum_moments-zero, sum_moments-suc}
 use Rattle.evac_law.proofs.ValidLemmas.{arc_is}
 use Rattle.evac_law.proofs.WeakDuality.{within}
-use Rattle.replan.specs.Committed.{TakesAllOut, moves_before, moves_from}
+use Rattle.replan.specs.Committed.{moves_before, moves_from}
 use Rattle.replan.specs.Rest.{rest_entry}
 use Rattle.replan.proofs.Parted.{IsBehind, arrived, arrived_behind, arrived_not_yet, arrived_suc, before_is, came_is, from_late, leaving_behind, leaving_over, left_behind, left_now, own_behind}
 

@@ -9,7 +9,7 @@ use Rattle.evac_law.specs.Building.{arc_at, arrival, head, no_arc, tail}
 use Rattle.evac_law.specs.Plans.{coming, leaving, moved}
 use Rattle.evac_law.specs.Sums.{below, places}
 use Rattle.evac_law.proofs.SumLemmas.{All-below, by_place, sum_by-same, sum_by-same_all}
-use Rattle.route_decompose.specs.Routes.{ends_of, shape_of}
+use Rattle.plan_layout.specs.Layouts.{ends_of, shape_of}
 use Rattle.time_expansion.specs.Expansion.{arcs_from, arcs_to, from_at, no_ends, to_at}
 use Rattle.replan.specs.Committed.{moves_before}
 use Rattle.replan.specs.Standing.{arriving_by}

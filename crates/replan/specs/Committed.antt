@@ -3,8 +3,7 @@ use Rattle.std.specs.Prelude.{◌≡◌, ℕ, ◌<◌, nat_le, nat_lt, List}
 use Rattle.std.specs.List.{filter}
 use Rattle.evac_law.specs.declared.model.Model.{Model}
 use Rattle.evac_law.specs.declared.plan.Move.{Move}
-use Rattle.evac_law.specs.Building.{people}
-use Rattle.evac_law.specs.Plans.{IsFeasible, moved, out_by}
+use Rattle.evac_law.specs.Plans.{moved, out_by}
 
 -- the moves of a plan before a moment, which are made, and those from it on
 abbrev pub moves_before : ℕ → List Move → List Move
@@ -20,8 +19,3 @@ gone_by m p s k = out_by m (moves_before s p) k
 -- before a moment two plans do the same: as many people enter each arc at each moment
 abbrev pub SharesMoves : ℕ → List Move → List Move → Type 0
 SharesMoves s p q = (a t : ℕ) → t < s → moved q a t ≡ moved p a t
-
--- a plan is feasible up to the horizon, and has everybody out by then
-pub record TakesAllOut (m : Model) (p : List Move) : Type 0 where
-  pub feasible : IsFeasible m p m.horizon
-  pub all_out : out_by m p m.horizon ≡ people m

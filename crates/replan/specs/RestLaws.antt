@@ -6,8 +6,8 @@ use Rattle.evac_law.specs.declared.plan.Move.{Move}
 use Rattle.evac_law.specs.Building.{IsValid, people}
 use Rattle.evac_law.specs.Certificates.{IsCertified, IsClearable}
 use Rattle.evac_law.specs.LabelTable.{LabelTable}
-use Rattle.evac_law.specs.Plans.{IsFeasible, out_by}
-use Rattle.replan.specs.Committed.{SharesMoves, TakesAllOut, gone_by, moves_before, moves_from}
+use Rattle.evac_law.specs.Plans.{IsFeasible, TakesAllOut, out_by}
+use Rattle.replan.specs.Committed.{SharesMoves, gone_by, moves_before, moves_from}
 use Rattle.replan.specs.Rest.{rest}
 
 -- after the moves made before s, moves from s on are feasible in the building exactly where they are in what is left of it, and at every moment

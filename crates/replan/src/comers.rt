@@ -3,13 +3,14 @@ ghost use Rattle.std.specs.Prelude.{◌≡◌, ◌<◌, ◌≤◌, ◌^◌, ◌+
 ghost use Rattle.std.specs.List.{flat_map};
 ghost use Rattle.evac_law.specs.Entrants.{table_entrant, table_entrants};
 ghost use Rattle.evac_law.specs.Plans.{coming, leaving};
+ghost use Rattle.evac_law.specs.Stands.{Stands};
 ghost use Rattle.evac_law.specs.Sums.{moments_to};
 ghost use Rattle.replan.specs.Committed.{moves_before};
 ghost use Rattle.replan.specs.Rest.{rest_entry};
-ghost use Rattle.replan.specs.Standing.{Stands, arriving_by};
+ghost use Rattle.replan.specs.Standing.{arriving_by};
 
 use evac_law::{Entrant, Standing};
-use route_decompose::Layout;
+use plan_layout::Layout;
 use std::alloc::{AllocError, Global};
 
 // The people who enter an arc before a moment, and arrive at another.

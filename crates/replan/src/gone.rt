@@ -4,13 +4,14 @@ ghost use Rattle.std.specs.List.{sum_by};
 ghost use Rattle.evac_law.specs.Building.{is_exit_at, people};
 ghost use Rattle.evac_law.specs.Limits.{people_limit};
 ghost use Rattle.evac_law.specs.Plans.{coming};
+ghost use Rattle.evac_law.specs.Stands.{Stands};
 ghost use Rattle.evac_law.specs.Sums.{places};
 ghost use Rattle.replan.specs.Committed.{gone_by, moves_before};
-ghost use Rattle.replan.specs.Standing.{Stands, coming_out};
+ghost use Rattle.replan.specs.Standing.{coming_out};
 
 use crate::comers::coming;
 use evac_law::Standing;
-use route_decompose::Layout;
+use plan_layout::Layout;
 use std::alloc::{AllocError, Global};
 
 // The people who come to a node at a moment along arcs that they entered before another, where it is an exit.

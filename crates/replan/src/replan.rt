@@ -2,6 +2,7 @@
 ghost use Rattle.std.specs.Prelude.{◌≡◌, ℕ, ◌+◌, ◌≤◌, ◌&&◌, nat_lt, IfOk, IsFalse, OnErr};
 ghost use Rattle.evac_law.specs.Building.{IsValid};
 ghost use Rattle.evac_law.specs.Edits.{IsEditOf};
+ghost use Rattle.replan.specs.Kept.{IsLeftAfter};
 ghost use Rattle.replan.specs.Replans.{AdvanceEnds, IsAdvanced, ReplanBegins, ReplanEdits, ReplanUndoes, gone_at, is_bad_moment, is_committed, is_of_people};
 
 use crate::faults::{AdvanceFault, ReplanRefusal};
@@ -9,7 +10,7 @@ use crate::gone::gone_after;
 use crate::rest::rest_of;
 use edit_session::{BeginFault, Session, UndoRefusal, Work};
 use evac_law::{Edit, Model, Steps};
-use route_decompose::Layout;
+use plan_layout::Layout;
 use std::alloc::{AllocError, Global};
 use std::sync::ledger::Ledger;
 
@@ -85,6 +86,17 @@ impl Replan {
         })
     }
 
+    // What is left of the model once the plan is carried out up to a moment, and who is out by each moment then.
+    fn left_after(&self, alloc: Global, moment: u16) -> Result<(Model, Vec<u32>), AllocError>
+        requires { IsFalse (is_bad_moment moment self.now.session.state.model.horizon self.now.moment) }
+        ensures { IfOk result (λ r. IsLeftAfter self.now moment r.0 r.1.items) }
+    {
+        let layout = Layout::new(alloc, self.session.model())?;
+        let gone = gone_after(alloc, self.gone.as_slice(), &layout, &self.session, moment)?;
+        let rest = rest_of(alloc, &layout, &self.session, moment)?;
+        Ok((rest, gone))
+    }
+
     // The replan once the plan is carried out up to a moment. It takes all its memory before anything is changed.
     fn carried_out<L: Ledger>(
         &self,
@@ -95,9 +107,7 @@ impl Replan {
         requires { IsFalse (is_bad_moment moment self.now.session.state.model.horizon self.now.moment) }
         ensures { (n : ℕ) × (steps.new ≡ steps.old + n) × IfOk result (λ r. IsAdvanced self.now moment r × (n ≡ r.session.state.work.pushes)) }
     {
-        let layout = Layout::new(alloc, self.session.model())?;
-        let gone = gone_after(alloc, self.gone.as_slice(), &layout, &self.session, moment)?;
-        let rest = rest_of(alloc, &layout, &self.session, moment)?;
+        let (rest, gone) = self.left_after(alloc, moment)?;
         match Session::begin(alloc, rest, steps) {
             Ok(session) => Ok(Replan {
                 session,

@@ -1,23 +1,12 @@
 //! What is left of a building once a plan is carried out up to a moment.
 ghost use Rattle.std.specs.Prelude.{◌≡◌, ◌≤◌, IfOk, map};
 ghost use Rattle.replan.specs.Rest.{without_start, rest};
-ghost use Rattle.replan.specs.Standing.{Stands};
+ghost use Rattle.evac_law.specs.Stands.{Stands};
 
 use crate::comers::comers;
-use evac_law::{ArcRow, Model, NodeRow, Rows, Standing};
-use route_decompose::Layout;
+use evac_law::{Model, NodeRow, Rows, Standing};
+use plan_layout::{Layout, copy_arcs};
 use std::alloc::{AllocError, Global};
-
-// A copy of the arcs.
-fn same_arcs(alloc: Global, arcs: &[ArcRow]) -> Result<Vec<ArcRow>, AllocError>
-    ensures { IfOk result (λ r. r.items ≡ arcs.now) }
-{
-    let mut rows = Vec::new(alloc);
-    for arc in arcs {
-        rows.push(arc.copy())?;
-    }
-    Ok(rows)
-}
 
 // The nodes, in which nobody starts.
 fn without_start(alloc: Global, nodes: &[NodeRow]) -> Result<Vec<NodeRow>, AllocError>
@@ -44,7 +33,7 @@ pub(crate) fn rest_of<F: Standing>(
 {
     let model = layout.model();
     let nodes = without_start(alloc, model.nodes.as_slice())?;
-    let arcs = same_arcs(alloc, model.arcs.as_slice())?;
+    let arcs = copy_arcs(alloc, model.arcs.as_slice())?;
     let entrants = comers(alloc, layout, standing, from)?;
     Ok(Model {
         seconds: model.seconds,

@@ -11,9 +11,10 @@ use Rattle.evac_law.specs.Cuts.{Cut, arc_items, cut_items, entry_items, entry_pa
 use Rattle.evac_law.specs.Sums.{below, moments_to, places}
 use Rattle.certificate_text.specs.BlockText.{name_of_node}
 use Rattle.certificate_text.proofs.OrderedMoves.{all-below}
+use Rattle.certificate_text.proofs.ListParts.{flat_map-flat_map}
 use Rattle.report_text.specs.Parts.{IsItemOf, entry_text, no_pair}
 use Rattle.report_text.specs.ReportText.{entry_line, item_line}
-use Rattle.report_text.proofs.Parts.{parts-flat, parts-nothing, parts-same}
+use Rattle.report_text.proofs.Parts.{parts-nothing, parts-same}
 
 -- ---- the items are of the model
 
@@ -57,7 +58,7 @@ one_line m n t false = append-nil (entry_line (name_of_node m n) (entry m n t))
 
 node_lines : (m : Model) (n k : ℕ) → flat_map (item_line m) (flat_map (entry_part m no_pair n) (moments_to k)) ≡ flat_map (entry_text m n) (moments_to k)
 node_lines m n k =
-    parts-flat (item_line m) (entry_part m no_pair n) (moments_to k)
+    flat_map-flat_map (item_line m) (entry_part m no_pair n) (moments_to k)
     ∙ parts-same (λ t. flat_map (item_line m) (entry_part m no_pair n t)) (entry_text m n) (moments_to k) (λ t. one_line m n t (eqb (entry m n t) 0))
 
 no_holds : (m : Model) (k : ℕ) → hold_items m no_pair k ≡ []
@@ -70,7 +71,7 @@ pub entry_lines : (m : Model) (k : ℕ) → flat_map (λ n. flat_map (entry_text
 unfolding cut_items
 entry_lines m k =
     let entries : flat_map (item_line m) (entry_items m no_pair k) ≡ flat_map (λ n. flat_map (entry_text m n) (moments_to k)) (places m.nodes) =
-    parts-flat (item_line m) (λ n. flat_map (entry_part m no_pair n) (moments_to k)) (places m.nodes)
+    flat_map-flat_map (item_line m) (λ n. flat_map (entry_part m no_pair n) (moments_to k)) (places m.nodes)
     ∙ parts-same (λ n. flat_map (item_line m) (flat_map (entry_part m no_pair n) (moments_to k))) (λ n. flat_map (entry_text m n) (moments_to k)) (places m.nodes) (λ n. node_lines m n k) in
     let alone : entry_items m no_pair k ++ (hold_items m no_pair k ++ arc_items m no_pair k) ≡ entry_items m no_pair k =
     ap₂ (λ h a. entry_items m no_pair k ++ (h ++ a)) (no_holds m k) (no_arcs m k) ∙ append-nil (entry_items m no_pair k) in

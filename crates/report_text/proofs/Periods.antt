@@ -9,8 +9,8 @@ use Rattle.evac_law.specs.LabelTable.{LabelTable}
 use Rattle.evac_law.specs.Sums.{places}
 use Rattle.bottleneck_report.specs.Crossings.{PeriodCounts, arc_periods, counts_of, hold_periods}
 use Rattle.certificate_text.specs.BlockText.{name_of_node}
+use Rattle.certificate_text.proofs.ListParts.{below-same}
 use Rattle.report_text.specs.ReportText.{arc_periods_line, arc_periods_part, hold_periods_line, hold_periods_part}
-use Rattle.report_text.proofs.Parts.{parts-same_below}
 
 module _ (m : Model) (l : LabelTable) (c : ℕ) (v : PeriodCounts) (same : v ≡ counts_of m l c) where
   arc_number : (a : ℕ) → a < length m.arcs → slice_index v.arcs a ≡ arc_periods m l c a
@@ -23,10 +23,10 @@ module _ (m : Model) (l : LabelTable) (c : ℕ) (v : PeriodCounts) (same : v ≡
 
   pub arc_texts : flat_map (arc_periods_part m (slice_index v.arcs)) (places m.arcs) ≡ flat_map (arc_periods_part m (arc_periods m l c)) (places m.arcs)
   arc_texts =
-      parts-same_below (arc_periods_part m (slice_index v.arcs)) (arc_periods_part m (arc_periods m l c)) (length m.arcs)
+      below-same (arc_periods_part m (slice_index v.arcs)) (arc_periods_part m (arc_periods m l c)) (length m.arcs)
       (λ a h. ap (λ k. cond (eqb k 0) [] (arc_periods_line (name_of_node m (tail m a)) (name_of_node m (head m a)) k)) (arc_number a h))
 
   pub hold_texts : flat_map (hold_periods_part m (slice_index v.holds)) (places m.nodes) ≡ flat_map (hold_periods_part m (hold_periods m l c)) (places m.nodes)
   hold_texts =
-      parts-same_below (hold_periods_part m (slice_index v.holds)) (hold_periods_part m (hold_periods m l c)) (length m.nodes)
+      below-same (hold_periods_part m (slice_index v.holds)) (hold_periods_part m (hold_periods m l c)) (length m.nodes)
       (λ n h. ap (λ k. cond (eqb k 0) [] (hold_periods_line (name_of_node m n) k)) (hold_number n h))

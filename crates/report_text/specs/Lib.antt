@@ -6,6 +6,7 @@ pub use Rattle.evac_law.specs.Stands
 pub use Rattle.line_io.specs.Writer
 pub use Rattle.floor_index.specs.Floors
 pub use Rattle.building_table.specs.Names
+pub use Rattle.plan_layout.specs.Layouts
 pub use Rattle.route_decompose.specs.Routes
 pub use Rattle.cards.specs.Cards
 pub use Rattle.clearing_report.specs.Clearing

@@ -1,11 +1,10 @@
 //! A card for each person of the plan.
 ghost use Rattle.std.specs.Prelude.{◌≡◌, ℕ, ◌<◌, List, length};
 ghost use Rattle.std.specs.List.{All};
-ghost use Rattle.evac_law.specs.Building.{IsValid, people};
-ghost use Rattle.evac_law.specs.Plans.{IsFeasible, out_by};
-ghost use Rattle.evac_law.specs.Stands.{Fits};
+ghost use Rattle.evac_law.specs.Building.{IsValid};
+ghost use Rattle.evac_law.specs.Stands.{Stands};
 ghost use Rattle.line_io.specs.Writer.{Writes};
-ghost use Rattle.route_decompose.specs.Routes.{IsSameSite};
+ghost use Rattle.plan_layout.specs.Layouts.{IsSameSite};
 ghost use Rattle.report_text.specs.ReportText.{SaysCards, card_lines};
 ghost use Rattle.report_text.specs.Parts.{IsCardIn};
 
@@ -35,11 +34,8 @@ pub fn put_cards<K: Sink, F: Standing>(
     standing: &F,
     cards: &mut Cards,
 )
-    requires valid { IsValid model.now }
+    requires stands { Stands model.now (F.stand standing.now) }
     requires site { IsSameSite model.now cards.old.model }
-    requires fits { Fits model.now (F.stand standing.now) }
-    requires feasible { IsFeasible model.now (F.stand standing.now).plan model.now.horizon }
-    requires all_out { out_by model.now (F.stand standing.now).plan model.now.horizon ≡ people model.now }
     ensures text { (text : List ℕ) × SaysCards index model.now (F.stand standing.now).plan text
         × Writes K.held K.faults writer.old text writer.new }
     ensures model { cards.new.model ≡ model.now }

@@ -1,11 +1,11 @@
 //! The routes that make up a plan.
 ghost use Rattle.std.specs.Prelude.{◌≡◌, ℕ, ◌<◌, List, length};
 ghost use Rattle.std.specs.List.{All, flat_map};
-ghost use Rattle.evac_law.specs.Building.{IsValid, people};
-ghost use Rattle.evac_law.specs.Plans.{IsFeasible, out_by};
-ghost use Rattle.evac_law.specs.Stands.{Fits};
+ghost use Rattle.evac_law.specs.Building.{IsValid};
+ghost use Rattle.evac_law.specs.Stands.{Stands};
 ghost use Rattle.line_io.specs.Writer.{Writes};
-ghost use Rattle.route_decompose.specs.Routes.{IsRoute, IsSameSite};
+ghost use Rattle.plan_layout.specs.Layouts.{IsSameSite};
+ghost use Rattle.route_decompose.specs.Routes.{IsRoute};
 ghost use Rattle.report_text.specs.ReportText.{SaysRoutes, route_lines, step_part};
 
 use crate::lines::{put_number, put_route_line, put_step};
@@ -46,11 +46,8 @@ pub fn put_routes<K: Sink, F: Standing>(
     standing: &F,
     routes: &mut Routes,
 )
-    requires valid { IsValid model.now }
+    requires stands { Stands model.now (F.stand standing.now) }
     requires site { IsSameSite model.now routes.old.model }
-    requires fits { Fits model.now (F.stand standing.now) }
-    requires feasible { IsFeasible model.now (F.stand standing.now).plan model.now.horizon }
-    requires all_out { out_by model.now (F.stand standing.now).plan model.now.horizon ≡ people model.now }
     ensures text { (text : List ℕ) × SaysRoutes index model.now (F.stand standing.now).plan text
         × Writes K.held K.faults writer.old text writer.new }
     ensures model { routes.new.model ≡ model.now }

@@ -1,13 +1,14 @@
 -- What taking people off one place does to the balance.
 use Rattle.std.proofs.Common.{◌≡◌, ℕ, zero, suc, ◌+◌, ◌-◌, ◌<◌, ◌≤◌, Bool, true, false, cond, ◌&&◌, eqb, leb, length, refl, ap, ap₂, sym, ◌∙◌, arith, subst}
 use Rattle.std.specs.List.{sum_by}
-use Rattle.std.proofs.lemmas.Bool.{lt-ltb}
+use Rattle.std.proofs.lemmas.Bool.{lt-ltb, true≢false}
 use Rattle.std.proofs.lemmas.Bool.Decides.{nat_tests}
 use Rattle.evac_law.specs.declared.model.Model.{Model}
 use Rattle.evac_law.specs.Building.{arc_at, arrival, head, is_exit_at, tail}
 use Rattle.evac_law.specs.Sums.{places}
-use Rattle.evac_law.proofs.SumLemmas.{All-below, pick_le, sum_by-add, sum_by-le_all, sum_by-nothing, sum_by-same, sum_below-pick}
-use Rattle.route_decompose.specs.Tables.{IsLess, PeopleTable, people_at}
+use Rattle.evac_law.proofs.SumLemmas.{All-below, cond_nothing, pick_le, sum_by-add, sum_by-le_all, sum_by-nothing, sum_by-same, sum_below-pick}
+use Rattle.plan_layout.specs.Tables.{PeopleTable, people_at}
+use Rattle.route_decompose.specs.Places.{IsLess}
 use Rattle.route_decompose.specs.Stocks.{IsBalancedBut, Stock, before, left_coming, going, stayed}
 
 -- ---- the sums
@@ -137,7 +138,7 @@ module _ (s v : Stock) (a t p : ℕ) (same : v.model ≡ s.model) (less : IsLess
       (λ n u l e h i. omega (
         arith,
         i,
-        nothing (eqb 0 n && eqb 0 u),
+        cond_nothing (eqb 0 n && eqb 0 u),
         not_here n u e,
         coming_less s v a t p same less here n u,
         going_less s v a t p same less here n u,
@@ -146,18 +147,11 @@ module _ (s v : Stock) (a t p : ℕ) (same : v.model ≡ s.model) (less : IsLess
       ))
       b
     where
-      nothing : (b : Bool) → ◌≡◌ {A = ℕ} (cond b 0 0) 0
-      nothing true = refl
-      nothing false = refl
-
-      clash : true ≡ false → ⊥
-      clash c = cc
-
       apart : (x y z q : ℕ) → (x ≡ y → ⊥) → cond (eqb x y && eqb z q) p 0 ≡ 0
       apart x y z q d = grind (arith, nat_tests)
 
       not_here : (n u : ℕ) → is_exit_at s.model n ≡ false → cond (eqb (head s.model a) n && eqb (arrival s.model a t) u) p 0 ≡ 0
-      not_here n u e = apart (head s.model a) n (arrival s.model a t) u (λ f. clash (sym exit ∙ ap (is_exit_at s.model) f ∙ e))
+      not_here n u e = apart (head s.model a) n (arrival s.model a t) u (λ f. true≢false (sym exit ∙ ap (is_exit_at s.model) f ∙ e))
 
 -- some people are taken off a hold: they are gone from its node at its moment, and no more at the next
 pub hold_step : (s v : Stock) (n t p : ℕ) → v.model ≡ s.model → v.left ≡ s.left → v.waiting ≡ s.waiting → IsLess s.holds v.holds n t p
@@ -204,13 +198,9 @@ wait_step s v n t p same left holds less b =
       j,
       less.cells i u,
       ap (λ (c : PeopleTable). stayed c i u) holds,
-      nothing (eqb 0 i && eqb 0 u),
+      cond_nothing (eqb 0 i && eqb 0 u),
       coming_same s v same left i u,
       going_same s v same left i u,
       ap (λ (c : PeopleTable). people_at c i u) holds,
     ))
     b
-  where
-    nothing : (b : Bool) → ◌≡◌ {A = ℕ} (cond b 0 0) 0
-    nothing true = refl
-    nothing false = refl

@@ -5,7 +5,7 @@ use Rattle.std.proofs.lemmas.List.Elements.{All-get_or}
 use Rattle.std.proofs.lemmas.Bool.{cases_lt}
 use Rattle.evac_law.specs.Building.{IsArc, arc_at, arrival, head, is_exit_at, no_arc, tail}
 use Rattle.route_decompose.specs.declared.route.RouteStep.{RouteStep}
-use Rattle.route_decompose.specs.Tables.{people_at}
+use Rattle.plan_layout.specs.Tables.{people_at}
 use Rattle.route_decompose.specs.Routes.{enters}
 use Rattle.route_decompose.specs.Stocks.{IsLeadable, IsLedOn, IsLessHeld, IsLessLeft, IsOpen, IsStock, Stock, TrailView, before}
 use Rattle.route_decompose.proofs.Balance.{coming_some}

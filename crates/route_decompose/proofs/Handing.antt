@@ -1,18 +1,19 @@
 -- The whole of a plan as routes see it, and the handing out of one route.
-use Rattle.std.proofs.Common.{◌≡◌, ℕ, zero, suc, ◌+◌, ◌<◌, ◌≤◌, ◌⊎◌, inl, inr, Bool, true, false, cond, ◌&&◌, eqb, List, [], ◌∷◌, length, get_or, ap, ap₂, sym, ◌∙◌, arith, subst, pos, ℤ}
+use Rattle.std.proofs.Common.{◌≡◌, ℕ, zero, suc, ◌+◌, ◌<◌, ◌≤◌, ◌⊎◌, inl, inr, true, false, cond, ◌&&◌, eqb, List, [], ◌∷◌, length, get_or, ap, ap₂, sym, ◌∙◌, arith, subst, pos, ℤ}
 use Rattle.std.specs.List.{All}
-use Rattle.std.proofs.lemmas.Bool.{cases_Bool, cases_lt}
+use Rattle.std.proofs.lemmas.Bool.{cases_Bool, cases_lt, true≢false}
 use Rattle.std.proofs.lemmas.Bool.Decides.{nat_tests}
 use Rattle.evac_law.specs.declared.model.Model.{Model}
 use Rattle.evac_law.specs.declared.plan.Move.{Move}
-use Rattle.evac_law.specs.Building.{IsValid, entry, is_exit_at, people}
-use Rattle.evac_law.specs.Plans.{IsFeasible, above, held, moved, out_by, staying}
-use Rattle.evac_law.specs.Stands.{Fits, Stand}
+use Rattle.evac_law.specs.Building.{entry, is_exit_at}
+use Rattle.evac_law.specs.Plans.{above, held, moved, staying}
+use Rattle.evac_law.specs.Stands.{Stand, Stands}
 use Rattle.evac_law.proofs.Entries.{none_late, none_past}
-use Rattle.evac_law.proofs.SumLemmas.{sum_by-le_all, sum_by-nothing}
+use Rattle.evac_law.proofs.SumLemmas.{cond_nothing, sum_by-le_all, sum_by-nothing}
 use Rattle.route_decompose.specs.declared.route.RouteStep.{RouteStep}
 use Rattle.route_decompose.specs.Routes.{HandsOut, IsAllLeft, LeadsOut, RouteView, places_of}
-use Rattle.route_decompose.specs.Tables.{IsLess, PeopleTable, people_at, places_in, places_with}
+use Rattle.plan_layout.specs.Tables.{PeopleTable, people_at}
+use Rattle.route_decompose.specs.Places.{IsLess, places_in, places_with}
 use Rattle.route_decompose.specs.Stocks.{Empties, IsEmpty, IsLedOn, IsOpen, IsRoutes, IsStock, IsStockOf, Stock, TrailView, before, used}
 use Rattle.route_decompose.proofs.Balance.{coming_all_none, going_none, wait_step}
 use Rattle.route_decompose.proofs.Begin.{IsTaken, whole_of}
@@ -20,15 +21,12 @@ use Rattle.route_decompose.proofs.Leading.{closing_less, led_closing, stock_on}
 use Rattle.route_decompose.proofs.PlaceLemmas.{empties-waiting, places-same}
 use Rattle.tables.proofs.TableLemmas.{item_at-past_last, item_at-past_rows}
 
-nothing : (b : Bool) → ◌≡◌ {A = ℕ} (cond b 0 0) 0
-nothing b = grind arith
-
 -- ---- nobody
 
 pub empty_is_open : (s : Stock) → IsStock s → IsEmpty s → IsOpen s
 empty_is_open s stock e = record {
   stock = stock;
-  balanced = λ n t l f k. omega (arith, none_before n t, coming_all_none s n t e.0, going_none s n t (λ a h g. e.0 a t), e.1 n t, nothing (eqb 0 n && eqb 0 t));
+  balanced = λ n t l f k. omega (arith, none_before n t, coming_all_none s n t e.0, going_none s n t (λ a h g. e.0 a t), e.1 n t, cond_nothing (eqb 0 n && eqb 0 t));
   closing = record {
     none_stay = λ n l f. e.1 n s.model.horizon;
     in_time = λ a t l some. absurd (omega (arith, e.0 a t, some));
@@ -57,8 +55,7 @@ moved_none p arcs horizon a t h past =
     other (inl e) b c d = omega (arith, e, b.0, c)
     other (inr e) b c d = omega (arith, e, b.1, d)
 
-module _ (m : Model) (f : Stand) (s : Stock) (valid : IsValid m) (fits : Fits m f) (feasible : IsFeasible m f.plan m.horizon)
-    (all_out : out_by m f.plan m.horizon ≡ people m) (same : s.model ≡ m) (stock : IsStock s) (of : IsStockOf f s) where
+module _ (m : Model) (f : Stand) (s : Stock) (stands : Stands m f) (same : s.model ≡ m) (stock : IsStock s) (of : IsStockOf f s) where
   arcs_same : s.left.rows ≡ length m.arcs
   arcs_same = stock.left_rows ∙ ap (λ (w : Model). length w.arcs) same
 
@@ -73,18 +70,18 @@ module _ (m : Model) (f : Stand) (s : Stock) (valid : IsValid m) (fits : Fits m 
     where
       split : (a < s.left.rows) ⊎ (s.left.rows ≤ a) → (s.left.last < t) ⊎ (t ≤ s.left.last) → people_at s.left a t ≡ moved f.plan a t
       split (inr l) h =
-          item_at-past_rows 0 s.left a t l ∙ sym (moved_none f.plan f.arcs f.horizon a t fits.ordered.in_range (inl (omega (arith, l, arcs_same, fits.arcs_same))))
+          item_at-past_rows 0 s.left a t l ∙ sym (moved_none f.plan f.arcs f.horizon a t stands.fits.ordered.in_range (inl (omega (arith, l, arcs_same, stands.fits.arcs_same))))
       split (inl l) (inl h) =
-          item_at-past_last 0 s.left a t h ∙ sym (moved_none f.plan f.arcs f.horizon a t fits.ordered.in_range (inr (omega (arith, h, horizon_same, fits.horizon_same))))
+          item_at-past_last 0 s.left a t h ∙ sym (moved_none f.plan f.arcs f.horizon a t stands.fits.ordered.in_range (inr (omega (arith, h, horizon_same, stands.fits.horizon_same))))
       split (inl l) (inr h) = of.moves a t l h
 
   all_wait : (n t : ℕ) → people_at s.waiting n t ≡ entry m n t
   all_wait n t = split (cases_lt n s.waiting.rows) (cases_lt s.waiting.last t)
     where
       split : (n < s.waiting.rows) ⊎ (s.waiting.rows ≤ n) → (s.waiting.last < t) ⊎ (t ≤ s.waiting.last) → people_at s.waiting n t ≡ entry m n t
-      split (inr l) h = item_at-past_rows 0 s.waiting n t l ∙ sym (none_past m n t valid (omega (arith, l, stock.wait_rows, nodes_same)))
+      split (inr l) h = item_at-past_rows 0 s.waiting n t l ∙ sym (none_past m n t stands.valid (omega (arith, l, stock.wait_rows, nodes_same)))
       split (inl l) (inl h) =
-          item_at-past_last 0 s.waiting n t h ∙ sym (none_late m n t valid (omega (arith, h, stock.wait_last, ap (λ (w : Model). w.horizon) same)))
+          item_at-past_last 0 s.waiting n t h ∙ sym (none_late m n t stands.valid (omega (arith, h, stock.wait_last, ap (λ (w : Model). w.horizon) same)))
       split (inl l) (inr h) = of.starts n t l h ∙ ap (λ (w : Model). entry w n t) same
 
   above_none : (x : ℕ) (z : ℤ) → pos x ≡ z → above z 0 ≡ x
@@ -94,15 +91,15 @@ module _ (m : Model) (f : Stand) (s : Stock) (valid : IsValid m) (fits : Fits m 
   contents_are n t l k = split (cases_Bool (is_exit_at m n))
     where
       l' : n < f.nodes
-      l' = omega (arith, l, fits.nodes_same)
+      l' = omega (arith, l, stands.fits.nodes_same)
 
       k' : t ≤ f.horizon
-      k' = omega (arith, k, fits.horizon_same)
+      k' = omega (arith, k, stands.fits.horizon_same)
 
       split : (is_exit_at m n ≡ true) ⊎ (is_exit_at m n ≡ false) → f.contents n t ≡ staying m f.plan n t
-      split (inl e) = fits.exits_hold_none n t l' k' e ∙ sym (ap (λ b. cond b 0 (above (held m f.plan n t) 0)) e)
+      split (inl e) = stands.fits.exits_hold_none n t l' k' e ∙ sym (ap (λ b. cond b 0 (above (held m f.plan n t) 0)) e)
       split (inr e) =
-          sym (above_none (f.contents n t) (held m f.plan n t) (fits.inside n t l' k' e)) ∙ sym (ap (λ b. cond b 0 (above (held m f.plan n t) 0)) e)
+          sym (above_none (f.contents n t) (held m f.plan n t) (stands.fits.inside n t l' k' e)) ∙ sym (ap (λ b. cond b 0 (above (held m f.plan n t) 0)) e)
 
   all_places : used s ≡ places_of m f.plan
   all_places =
@@ -121,10 +118,7 @@ module _ (m : Model) (f : Stand) (s : Stock) (valid : IsValid m) (fits : Fits m 
 
   taken : IsTaken m f s
   taken = record {
-    valid = valid;
-    fits = fits;
-    feasible = feasible;
-    all_out = all_out;
+    stands = stands;
     same = same;
     moves = all_left;
     stays = λ n t l k. of.stays n t (omega (arith, l, stock.hold_rows, nodes_same)) (omega (arith, k, stock.hold_last, ap (λ (w : Model). w.horizon) same));
@@ -139,14 +133,8 @@ module _ (m : Model) (f : Stand) (s : Stock) (valid : IsValid m) (fits : Fits m 
 
 -- ---- one route
 
-clash : (b : Bool) → b ≡ true → b ≡ false → ⊥
-clash b e f = apart (sym e ∙ f)
-  where
-    apart : true ≡ false → ⊥
-    apart x = cc
-
 some_step : (m : Model) (n t : ℕ) (steps : List RouteStep) → LeadsOut m n t steps → is_exit_at m n ≡ false → 1 ≤ length steps
-some_step m n t [] leads e = absurd (clash (is_exit_at m n) leads e)
+some_step m n t [] leads e = absurd (true≢false (sym leads ∙ e))
 some_step m n t (x ∷ xs) leads e = omega arith
 
 module _ (s v w : Stock) (n k p : ℕ) (t u : TrailView) (before : IsRoutes s t) (l : n < length s.model.nodes) (some : 0 < people_at s.waiting n k)

@@ -1,12 +1,14 @@
 -- A route grows from its end to its start.
 use Rattle.std.proofs.Common.{◌≡◌, ℕ, ◌+◌, ◌<◌, ◌≤◌, Bool, true, false, cond, ◌&&◌, ◌||◌, eqb, List, [], ◌∷◌, length, refl, ap, sym, ◌∙◌, arith, subst, ◌⊎◌, inl}
 use Rattle.std.proofs.lemmas.List.Elements.{All-get_or}
+use Rattle.std.proofs.lemmas.Bool.{true≢false}
 use Rattle.std.proofs.lemmas.Bool.Decides.{nat_tests}
 use Rattle.evac_law.specs.declared.model.Model.{Model}
 use Rattle.evac_law.specs.Building.{IsArc, IsValid, arc_at, arrival, head, is_exit_at, no_arc, tail}
 use Rattle.route_decompose.specs.declared.route.RouteStep.{RouteStep}
 use Rattle.route_decompose.specs.Routes.{LeadsOut, enters}
-use Rattle.route_decompose.specs.Tables.{IsLess, PeopleTable, people_at}
+use Rattle.plan_layout.specs.Tables.{PeopleTable, people_at}
+use Rattle.route_decompose.specs.Places.{IsLess}
 use Rattle.route_decompose.specs.Stocks.{IsBalancedBut, IsClosing, IsLedOut, IsLessHeld, IsLessLeft, IsStock, Stock}
 use Rattle.route_decompose.proofs.Balance.{exit_step, hold_step, move_step}
 
@@ -100,10 +102,7 @@ abbrev pub step_of : ℕ → ℕ → RouteStep
 step_of a t = record { moment = t; arc = a }
 
 first_or_rest : (x y : Bool) (p l m r : ℕ) → (x ≡ true → y ≡ false) → m + cond x p 0 ≡ l → l + cond y p 0 ≡ r → m + cond (x || y) p 0 ≡ r
-first_or_rest true true p l m r d e f = absurd (clash (d refl))
-  where
-    clash : true ≡ false → ⊥
-    clash c = cc
+first_or_rest true true p l m r d e f = absurd (true≢false (d refl))
 first_or_rest true false p l m r d e f = omega (arith, e, f)
 first_or_rest false true p l m r d e f = omega (arith, e, f)
 first_or_rest false false p l m r d e f = omega (arith, e, f)

@@ -5,7 +5,7 @@ pub mod Balance
 pub mod Leading
 pub mod Going
 pub mod Staying
-pub mod ShapeLemmas
+pub mod StockLemmas
 pub mod UsedUp
 pub mod Arrivals
 pub mod Begin

@@ -4,7 +4,8 @@ use Rattle.std.proofs.lemmas.Bool.{cases_lt, lt-ltb}
 use Rattle.std.proofs.lemmas.Bool.Decides.{nat_tests}
 use Rattle.evac_law.proofs.SumLemmas.{gather_one, sum2, sum2-add, sum2-le}
 use Rattle.route_decompose.specs.Stocks.{Empties, IsLessHeld, IsLessLeft, Stock, used}
-use Rattle.route_decompose.specs.Tables.{IsLess, PeopleTable, people_at, places_in, places_with}
+use Rattle.plan_layout.specs.Tables.{PeopleTable, people_at}
+use Rattle.route_decompose.specs.Places.{IsLess, places_in, places_with}
 
 abbrev some : ℕ → ℕ
 some x = cond (eqb x 0) 0 1

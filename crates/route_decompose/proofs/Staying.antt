@@ -2,7 +2,7 @@
 use Rattle.std.proofs.Common.{◌≡◌, ℕ, ◌+◌, ◌<◌, ◌≤◌, ◌⊎◌, inl, inr, min, ap, ◌∙◌, subst, sym, arith}
 use Rattle.std.proofs.lemmas.Bool.{cases_lt}
 use Rattle.route_decompose.specs.Stocks.{AllStay, Empties, IsLessHeld, LedEarlier, Stay, Stock, used}
-use Rattle.route_decompose.specs.Tables.{people_at}
+use Rattle.plan_layout.specs.Tables.{people_at}
 use Rattle.route_decompose.proofs.Going.{on_by_hold}
 use Rattle.route_decompose.proofs.Leading.{other_cell}
 use Rattle.route_decompose.proofs.PlaceLemmas.{emptied-hold, least-is, less-held}

@@ -2,7 +2,8 @@
 use Rattle.std.proofs.Common.{◌≡◌, ℕ, ◌+◌, arith}
 use Rattle.std.proofs.lemmas.Bool.Decides.{nat_tests}
 use Rattle.tables.specs.Tables.{IsPut}
-use Rattle.route_decompose.specs.Tables.{IsLess, PeopleTable, people_at}
+use Rattle.plan_layout.specs.Tables.{PeopleTable, people_at}
+use Rattle.route_decompose.specs.Places.{IsLess}
 
 -- a number that is put in place of a greater one takes the rest off
 pub less_put : (c d : PeopleTable) (n t x p : ℕ) → IsPut c d n t x → x + p ≡ people_at c n t → IsLess c d n t p

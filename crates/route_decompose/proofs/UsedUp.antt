@@ -1,12 +1,12 @@
 -- Where nobody comes from nowhere any more, nobody is left.
-use Rattle.std.proofs.Common.{◌≡◌, ℕ, zero, suc, ◌+◌, ◌-◌, ◌<◌, ◌≤◌, ◌⊎◌, inl, inr, Bool, true, false, cond, ◌&&◌, eqb, leb, length, refl, arith}
+use Rattle.std.proofs.Common.{◌≡◌, ℕ, zero, suc, ◌+◌, ◌-◌, ◌<◌, ◌≤◌, ◌⊎◌, inl, inr, false, cond, ◌&&◌, eqb, leb, length, arith}
 use Rattle.std.proofs.lemmas.Bool.{cases_lt}
 use Rattle.std.proofs.lemmas.Bool.Decides.{nat_tests}
 use Rattle.std.proofs.lemmas.List.Elements.{All-get_or}
 use Rattle.evac_law.specs.Building.{IsArc, arc_at, head, is_exit_at, no_arc, tail}
 use Rattle.evac_law.specs.Sums.{places}
-use Rattle.evac_law.proofs.SumLemmas.{All-below, sum_by-le_all, sum_by-nothing}
-use Rattle.route_decompose.specs.Tables.{people_at}
+use Rattle.evac_law.proofs.SumLemmas.{All-below, cond_nothing, sum_by-le_all, sum_by-nothing}
+use Rattle.plan_layout.specs.Tables.{people_at}
 use Rattle.route_decompose.specs.Stocks.{IsOpen, Stock, before, left_coming, going}
 use Rattle.route_decompose.proofs.Balance.{going_some}
 use Rattle.tables.proofs.TableLemmas.{item_at-past_last, item_at-past_rows}
@@ -37,14 +37,10 @@ module _ (s : Stock) (whole : IsOpen s) (none : (n t : ℕ) → people_at s.wait
   nobody_before n zero l e h = omega (arith, none n 0)
   nobody_before n (suc t) l e h = omega (arith, none n (suc t), (h t (omega arith)).nodes n l e)
 
-  nothing : (b : Bool) → ◌≡◌ {A = ℕ} (cond b 0 0) 0
-  nothing true = refl
-  nothing false = refl
-
   nobody_here : (n t : ℕ) → n < length s.model.nodes → is_exit_at s.model n ≡ false → t ≤ s.model.horizon → ((u : ℕ) → u < t → IsEmptyAt u)
       → people_at s.holds n t + going s n t ≡ 0
   nobody_here n t l e k h =
-      omega (arith, whole.balanced n t l e k, nothing (eqb 0 n && eqb 0 t), nobody_comes n t h, nobody_before n t l e h)
+      omega (arith, whole.balanced n t l e k, cond_nothing (eqb 0 n && eqb 0 t), nobody_comes n t h, nobody_before n t l e h)
 
   here : (t : ℕ) → t ≤ s.model.horizon → ((u : ℕ) → u < t → IsEmptyAt u) → IsEmptyAt t
   here t k h = record {

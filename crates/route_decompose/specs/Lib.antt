@@ -1,7 +1,9 @@
 pub use Rattle.evac_law.specs.Building
 pub use Rattle.evac_law.specs.Plans
 pub use Rattle.evac_law.specs.Stands
+pub use Rattle.plan_layout.specs.Layouts
+pub use Rattle.plan_layout.specs.Tables
 pub mod Laws
 pub mod Routes
-pub mod Tables
+pub mod Places
 pub mod Stocks

@@ -1,14 +1,12 @@
 -- Routes: people who go from a node along arcs into an exit, and routes that make up a plan.
-use Rattle.std.specs.Prelude.{◌≡◌, ℕ, ◌+◌, ◌≤◌, ◌<◌, Bool, ◌&&◌, ◌==◌, if◌then◌else◌, List, [], ◌∷◌, length, map, IsTrue}
+use Rattle.std.specs.Prelude.{◌≡◌, ℕ, ◌+◌, ◌≤◌, ◌<◌, Bool, ◌&&◌, ◌==◌, if◌then◌else◌, List, [], ◌∷◌, length, IsTrue}
 use Rattle.std.specs.List.{All, list_any, sum_by}
 use Rattle.evac_law.specs.declared.model.Model.{Model}
-use Rattle.evac_law.specs.declared.model.ArcRow.{ArcRow}
 use Rattle.evac_law.specs.declared.plan.Move.{Move}
 use Rattle.evac_law.specs.Building.{arrival, entry, head, is_exit_at, tail}
 use Rattle.evac_law.specs.Plans.{moved, staying}
-use Rattle.time_expansion.specs.declared.ends.Ends.{Ends}
-use Rattle.time_expansion.specs.Expansion.{Expansion}
-use Rattle.route_decompose.specs.Tables.{PeopleTable, people_at, places_with}
+use Rattle.plan_layout.specs.Tables.{PeopleTable, people_at}
+use Rattle.route_decompose.specs.Places.{places_with}
 use Rattle.route_decompose.specs.declared.route.RouteStep.{RouteStep}
 
 -- some people, the node and the moment at which they come in, and the arcs that they enter, each with its moment
@@ -93,18 +91,3 @@ pub record HandsOut (w v : RoutesView) : Type 0 where
 pub record IsUsedUp (w : RoutesView) : Type 0 where
   pub none_left : (a t : ℕ) → people_left w a t ≡ 0
   pub none_wait : (n t : ℕ) → waiting_at w n t ≡ 0
-
--- the ends of an arc
-abbrev pub ends_of : ArcRow → Ends
-ends_of a = record { from = a.from; to = a.to }
-
--- the network of a model
-abbrev pub shape_of : Model → Expansion
-shape_of m = record { nodes = length m.nodes; ends = map ends_of m.arcs; horizon = m.horizon }
-
--- another model of the same building: only capacities, starts, rates, windows and marks may differ
-pub record IsSameSite (m o : Model) : Type 0 where
-  pub horizon : m.horizon ≡ o.horizon
-  pub nodes : length m.nodes ≡ length o.nodes
-  pub ends : map ends_of m.arcs ≡ map ends_of o.arcs
-  pub entrants : m.entrants ≡ o.entrants

@@ -8,7 +8,8 @@ use Rattle.evac_law.specs.Stands.{Stand}
 use Rattle.evac_law.specs.Sums.{places}
 use Rattle.route_decompose.specs.declared.route.RouteStep.{RouteStep}
 use Rattle.route_decompose.specs.Routes.{LeadsOut, enters}
-use Rattle.route_decompose.specs.Tables.{IsLess, PeopleTable, people_at, places_in}
+use Rattle.plan_layout.specs.Tables.{PeopleTable, people_at}
+use Rattle.route_decompose.specs.Places.{IsLess, places_in}
 
 -- of a model: the people left on each arc at each moment, those who stay in each node from a moment to the next, and those who come into
 -- each node at each moment from nowhere

@@ -14,9 +14,11 @@ fn stay(store: &Store, node: u32, moment: u16, most: u32) -> (u16, u32)
 {
     let mut until = moment;
     let mut people = most;
-    while store.hold(node, until) > 0 {
-        people = people.min(store.hold(node, until));
+    let mut held = store.hold(node, moment);
+    while held > 0 {
+        people = people.min(held);
         until += 1;
+        held = store.hold(node, until);
     }
     (until, people)
 }

@@ -1,6 +1,7 @@
 //! People by row and moment.
 ghost use Rattle.std.specs.Prelude.{◌≡◌, ℕ, ◌<◌, ◌≤◌, IfNone, IfSome};
-ghost use Rattle.route_decompose.specs.Tables.{IsLess, people_at};
+ghost use Rattle.plan_layout.specs.Tables.{people_at};
+ghost use Rattle.route_decompose.specs.Places.{IsLess};
 
 use tables::Table;
 

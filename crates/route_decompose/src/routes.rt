@@ -1,9 +1,9 @@
 //! The routes of a plan.
 ghost use Rattle.std.specs.Prelude.{◌≡◌, IfOk, IsFalse, IsTrue};
-ghost use Rattle.evac_law.specs.Building.{IsValid, people};
-ghost use Rattle.evac_law.specs.Plans.{IsFeasible, out_by};
-ghost use Rattle.evac_law.specs.Stands.{Fits};
-ghost use Rattle.route_decompose.specs.Routes.{HandsOut, IsSameSite, IsUsedUp, IsAllLeft};
+ghost use Rattle.evac_law.specs.Building.{IsValid};
+ghost use Rattle.evac_law.specs.Stands.{Stands};
+ghost use Rattle.plan_layout.specs.Layouts.{IsSameSite};
+ghost use Rattle.route_decompose.specs.Routes.{HandsOut, IsUsedUp, IsAllLeft};
 
 use crate::lead::lead_out;
 use crate::route::Route;
@@ -47,8 +47,8 @@ impl Routes {
         ensures model { IfOk result (λ r. r.model ≡ model.now) }
         ensures none { IfOk result IsUsedUp }
     {
-        let store = Store::new(alloc, model)?;
         let trail = Trail::new(alloc, model.horizon as usize)?;
+        let store = Store::new(alloc, model)?;
         Ok(Routes {
             store,
             people: 0,
@@ -60,11 +60,8 @@ impl Routes {
 
     /// Makes all moves of a plan that has everybody out unused.
     pub fn begin<F: Standing>(&mut self, model: &evac_law::Model, standing: &F)
-        requires valid { IsValid model.now }
+        requires stands { Stands model.now (F.stand standing.now) }
         requires site { IsSameSite model.now self.old.model }
-        requires fits { Fits model.now (F.stand standing.now) }
-        requires feasible { IsFeasible model.now (F.stand standing.now).plan model.now.horizon }
-        requires all_out { out_by model.now (F.stand standing.now).plan model.now.horizon ≡ people model.now }
         ensures { IsAllLeft model.now (F.stand standing.now).plan self.new }
     {
         self.store.set_model(model);

@@ -1,15 +1,15 @@
 //! What is left of a plan while it is handed out.
 ghost use Rattle.std.specs.Prelude.{◌≡◌, ℕ, ◌<◌, ◌≤◌, IfNone, IfOk, IfSome, length};
 ghost use Rattle.evac_law.specs.Building.{IsValid, arc_at, head, is_exit_at, tail};
-ghost use Rattle.route_decompose.specs.Tables.{IsLess, people_at};
+ghost use Rattle.plan_layout.specs.Tables.{people_at};
+ghost use Rattle.route_decompose.specs.Places.{IsLess};
 ghost use Rattle.route_decompose.specs.Stocks.{IsEmpty, IsLessHeld, IsLessLeft, IsPassed, IsStock, IsStockOf, going};
-ghost use Rattle.route_decompose.specs.Routes.{IsSameSite, shape_of};
+ghost use Rattle.plan_layout.specs.Layouts.{IsSameSite, shape_of};
 ghost use Rattle.time_expansion.specs.Expansion.{arcs_from};
 
-use crate::fill::{fill_entries, fill_holds, fill_moves};
-use crate::layout::Layout;
 use crate::people::{first_in, take};
 use evac_law::Standing;
+use plan_layout::{Layout, fill_entries, fill_holds, fill_moves};
 use std::alloc::{AllocError, Global};
 use std::marker::Model;
 use tables::Table;
@@ -43,10 +43,10 @@ impl Store {
         ensures stock { IfOk result IsStock }
         ensures empty { IfOk result IsEmpty }
     {
-        let layout = Layout::new(alloc, model)?;
         let left = Table::new(alloc, 0, model.arc_count(), model.horizon)?;
         let holds = Table::new(alloc, 0, model.node_count(), model.horizon)?;
         let waiting = Table::new(alloc, 0, model.node_count(), model.horizon)?;
+        let layout = Layout::new(alloc, model)?;
         Ok(Store {
             layout,
             left,

@@ -15,8 +15,8 @@ use Rattle.evac_law.proofs.ShapeLemmas.{applied_keeps_shape, same_shape-trans}
 use Rattle.building_table.specs.Names.{NameTable}
 use Rattle.edit_session.specs.Sessions.{Begins, IsEdited, IsUndone, SessionState, kept_limit}
 use Rattle.floor_index.specs.Floors.{is_on, nodes_on}
-use Rattle.route_decompose.specs.Routes.{IsSameSite}
-use Rattle.route_decompose.proofs.ShapeLemmas.{site_of_shape}
+use Rattle.plan_layout.specs.Layouts.{IsSameSite}
+use Rattle.plan_layout.proofs.ShapeLemmas.{site_of_shape}
 use Rattle.session_text.specs.Spaces.{IsSpace, SpaceView}
 use Rattle.session_text.specs.Laws.{IsOfBuilding, Serves}
 

@@ -8,7 +8,7 @@ use Rattle.evac_law.specs.Shapes.{HasSameShape}
 use Rattle.building_table.specs.Names.{NameTable}
 use Rattle.certificate_text.specs.Short.{HasSameNames}
 use Rattle.edit_session.specs.Sessions.{Begins, IsEdited, IsUndone, SessionState}
-use Rattle.route_decompose.specs.Routes.{IsSameSite}
+use Rattle.plan_layout.specs.Layouts.{IsSameSite}
 use Rattle.session_text.specs.Spaces.{IsSpace, SpaceView}
 
 -- the model of a state and those before its kept edits have the shape of one model

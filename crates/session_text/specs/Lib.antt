@@ -4,6 +4,7 @@ pub use Rattle.evac_law.specs.Shapes
 pub use Rattle.line_io.specs.Writer
 pub use Rattle.building_table.specs.Names
 pub use Rattle.certificate_text.specs.Short
+pub use Rattle.plan_layout.specs.Layouts
 pub use Rattle.route_decompose.specs.Routes
 pub use Rattle.edit_session.specs.Sessions
 pub mod StateTexts

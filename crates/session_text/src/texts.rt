@@ -6,7 +6,7 @@ ghost use Rattle.evac_law.specs.declared.model.Model.{Model as ModelValue};
 ghost use Rattle.line_io.specs.Writer.{Writes};
 ghost use Rattle.certificate_text.specs.BlockText.{shortfall_text};
 ghost use Rattle.certificate_text.specs.Short.{HasSameNames};
-ghost use Rattle.route_decompose.specs.Routes.{IsSameSite};
+ghost use Rattle.plan_layout.specs.Layouts.{IsSameSite};
 ghost use Rattle.session_text.specs.StateTexts.{SaysRoutesOf, block_text, cut_of, work_of};
 
 use certificate_text::{put_answer, put_short};

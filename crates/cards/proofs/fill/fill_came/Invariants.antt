@@ -1,6 +1,6 @@
 use Rattle.std.proofs.Common.{◌≡◌, ℕ, ◌≤◌, ◌<◌}
 use Rattle.evac_law.specs.Plans.{came}
-use Rattle.route_decompose.specs.Tables.{people_at}
+use Rattle.plan_layout.specs.Tables.{people_at}
 use Rattle.cards.proofs.fill.fill_came.Given as goal
 
 abbrev pub invariant-loop-node : goal.invariant-loop-node

@@ -1,7 +1,7 @@
 use Rattle.std.proofs.Common.{◌≡◌, ◌+◌, ◌*◌, ◌^◌, ◌<◌, cond, length, ltb, take}
 use Rattle.std.specs.List.{sum_by}
 use Rattle.evac_law.specs.Plans.{came}
-use Rattle.route_decompose.specs.Routes.{shape_of}
+use Rattle.plan_layout.specs.Layouts.{shape_of}
 use Rattle.time_expansion.specs.Expansion.{arcs_to}
 use Rattle.cards.specs.Numbers.{brought, count_before}
 use Rattle.cards.proofs.follow.comers_before.Given as goal

@@ -2,7 +2,7 @@ use Rattle.std.proofs.Common.{ℕ, List, length, ap, arith, take}
 use Rattle.std.specs.List.{sum_by}
 use Rattle.std.proofs.lemmas.List.{take_all}
 use Rattle.evac_law.specs.Plans.{moved}
-use Rattle.route_decompose.proofs.ShapeLemmas.{listed_arc}
+use Rattle.plan_layout.proofs.ShapeLemmas.{listed_arc}
 use Rattle.cards.proofs.Listed.{leaving_listed, listed_leavers}
 use Rattle.cards.proofs.Numbers.{left_is}
 use Rattle.cards.proofs.follow.leaver_of.Goals as goal
@@ -43,7 +43,7 @@ unreachable-requires c =
       c.loop-arc.invariant.number,
       ap (sum_by people) all,
       ap (sum_by people) c.loop-arc.invariant.arcs,
-      leaving_listed p.model p.moves c.requires.counts.takes.feasible.arcs n t,
+      leaving_listed p.model p.moves c.requires.counts.takes.plan.feasible.arcs n t,
       left_is p.model p.moves n t,
       c.leaves_at-moment.ensures.at.by_then,
     )

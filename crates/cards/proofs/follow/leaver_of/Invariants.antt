@@ -1,7 +1,7 @@
 use Rattle.std.proofs.Common.{◌≡◌, ◌+◌, take}
 use Rattle.std.specs.List.{sum_by}
 use Rattle.evac_law.specs.Plans.{left, moved}
-use Rattle.route_decompose.specs.Routes.{shape_of}
+use Rattle.plan_layout.specs.Layouts.{shape_of}
 use Rattle.time_expansion.specs.Expansion.{arcs_from}
 use Rattle.cards.specs.Numbers.{count_before}
 use Rattle.cards.proofs.follow.leaver_of.Given as goal

@@ -3,7 +3,7 @@ use Rattle.std.proofs.lemmas.Bool.{cases_lt}
 use Rattle.evac_law.specs.Building.{is_exit_at}
 use Rattle.evac_law.specs.Plans.{left}
 use Rattle.evac_law.proofs.ValidLemmas.{horizon_small}
-use Rattle.route_decompose.specs.Tables.{people_at}
+use Rattle.plan_layout.specs.Tables.{people_at}
 use Rattle.cards.specs.declared.comer.Comer.{Comer}
 use Rattle.cards.specs.declared.counts.Counts.{Counts}
 use Rattle.cards.specs.Counts.{AreTrueCounts}

@@ -26,7 +26,7 @@ returns-clause-comer c =
       node_in = here.node_in;
       in_time = here.turn.moment_in;
       at =
-          enters_then p.model p.moves c.requires.counts.takes.feasible.arcs t.node t.moment _
+          enters_then p.model p.moves c.requires.counts.takes.plan.feasible.arcs t.node t.moment _
           (record {
             from = omega (arith, c.before-earlier.ensures.number, earlier, c.coming-along_arcs.ensures.coming);
             until = omega (arith, c.before-earlier.ensures.number, earlier, c.coming-along_arcs.ensures.coming, c.from.ensures, low, high);

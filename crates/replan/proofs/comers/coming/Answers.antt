@@ -1,7 +1,7 @@
 use Rattle.std.proofs.Common.{length, ap, ◌∙◌, arith}
 use Rattle.std.specs.List.{sum_by}
 use Rattle.std.proofs.lemmas.List.{take_all}
-use Rattle.route_decompose.proofs.ShapeLemmas.{listed_arc_to}
+use Rattle.plan_layout.proofs.ShapeLemmas.{listed_arc_to}
 use Rattle.replan.specs.Standing.{arriving_by}
 use Rattle.replan.proofs.Ways.{coming_is}
 use Rattle.replan.proofs.comers.coming.Goals as goal
@@ -19,4 +19,4 @@ returns-clause-coming g c =
     let people = arriving_by m p c.args.from c.args.moment in
     let all = take_all c.loop-arc.arc-index c.arcs_to-arc-items.result.now c.loop-arc-test.false in
     c.loop-arc.invariant.sum ∙ ap (sum_by people) all ∙ ap (sum_by people) c.loop-arc.invariant.arcs
-    ∙ coming_is m p c.args.from c.args.node c.args.moment c.requires.stands.all_out.feasible.arcs
+    ∙ coming_is m p c.args.from c.args.node c.args.moment c.requires.stands.plan.feasible.arcs

@@ -2,7 +2,7 @@ use Rattle.std.proofs.Common.{◌<◌, ℕ, get_or, length, ap, ◌∙◌, arith
 use Rattle.std.specs.List.{sum_by}
 use Rattle.std.proofs.lemmas.List.{take_all}
 use Rattle.evac_law.specs.Plans.{moved}
-use Rattle.route_decompose.proofs.ShapeLemmas.{listed_arc}
+use Rattle.plan_layout.proofs.ShapeLemmas.{listed_arc}
 use Rattle.replan.proofs.Ways.{leaving_is}
 use Rattle.replan.proofs.comers.leaving.Goals as goal
 
@@ -20,4 +20,4 @@ returns-clause-leaving g c =
     let people : ℕ → ℕ = λ a. moved p a c.args.moment in
     let all = take_all c.loop-arc.arc-index c.arcs_from-arc-items.result.now c.loop-arc-test.false in
     c.loop-arc.invariant.sum ∙ ap (sum_by people) all ∙ ap (sum_by people) c.loop-arc.invariant.arcs
-    ∙ leaving_is m p c.args.node c.args.moment c.requires.stands.all_out.feasible.arcs
+    ∙ leaving_is m p c.args.node c.args.moment c.requires.stands.plan.feasible.arcs

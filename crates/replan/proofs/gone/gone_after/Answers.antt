@@ -10,7 +10,7 @@ overflow_cast-out g c =
     let stands = c.requires.stands in
     let in_time : c.loop-moment.moment ≤ c.args.layout.now.horizon =
     omega (arith, c.loop-moment-test.true, ap (λ (x : Model). x.horizon) c.model.ensures.same) in
-    let fits = gone_fits c.args.layout.now (g.F.Standing.stand c.args.standing.now).plan c.args.from stands.valid stands.all_out
+    let fits = gone_fits c.args.layout.now (g.F.Standing.stand c.args.standing.now).plan c.args.from stands.valid stands.plan
     c.loop-moment.moment (get_or c.args.gone.now c.loop-moment.moment 0) c.loop-moment.people c.arrivals-people.result in_time
     (c.requires.few c.loop-moment.moment in_time) c.loop-moment.invariant.counted c.arrivals-people.ensures.arrivals in
     omega (arith, fits)
@@ -26,7 +26,7 @@ loop-moment-preserved g c =
     let long = c.loop-moment.invariant.size in
     let counted = c.loop-moment.invariant.counted in
     let arrivals = c.arrivals-people.ensures.arrivals in
-    let whole = running m p c.args.from c.requires.stands.valid c.requires.stands.all_out t c.loop-moment.people c.arrivals-people.result counted arrivals in
+    let whole = running m p c.args.from c.requires.stands.valid c.requires.stands.plan t c.loop-moment.people c.arrivals-people.result counted arrivals in
     record {
       counted = omega (arith, counted, arrivals, sum_below-more (arriving_at m (moves_before c.args.from p)) t);
       small = omega (arith, c.loop-moment.invariant.small, c.arrivals-people.ensures.small);

@@ -20,7 +20,7 @@ loop-number-init g c =
 pub overflow_add-number : goal.overflow_add-number
 overflow_add-number g c =
     let h = c.loop-number.invariant in
-    let few = few_given c.args.model.now (g.F.Standing.stand c.args.standing.now).plan h.0 c.loop-number.cards c.next.new.self c.requires.valid h.1
+    let few = few_given c.args.model.now (g.F.Standing.stand c.args.standing.now).plan h.0 c.loop-number.cards c.next.new.self c.requires.stands.valid h.1
     (c.next.ensures.card c.loop-number-test.true) in
     omega (arith, few.1, h.3)
 

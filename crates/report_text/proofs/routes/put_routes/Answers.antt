@@ -38,7 +38,7 @@ loop-writer-preserved g c =
 pub loop-writer-smaller : goal.loop-writer-smaller
 loop-writer-smaller g c =
     let h = c.loop-writer.invariant in
-    let less = fewer_waiting c.args.model.now (g.F.Standing.stand c.args.standing.now).plan h.0 c.loop-writer.routes c.next.new.self c.requires.valid h.1 (c.next.ensures.route c.loop-writer-test.true) in
+    let less = fewer_waiting c.args.model.now (g.F.Standing.stand c.args.standing.now).plan h.0 c.loop-writer.routes c.next.new.self c.requires.stands.valid h.1 (c.next.ensures.route c.loop-writer-test.true) in
     omega (arith, less)
 
 pub put_route-requires-clause-route : goal.put_route-requires-clause-route

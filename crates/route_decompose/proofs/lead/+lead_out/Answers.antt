@@ -4,7 +4,7 @@ use Rattle.evac_law.specs.declared.model.Model.{Model}
 use Rattle.evac_law.specs.Building.{arrival, head, is_exit_at}
 use Rattle.evac_law.specs.Limits.{horizon_limit, travel_limit}
 use Rattle.route_decompose.specs.Stocks.{TrailView, IsLeadable, IsLedOn}
-use Rattle.route_decompose.specs.Tables.{people_at}
+use Rattle.plan_layout.specs.Tables.{people_at}
 use Rattle.route_decompose.proofs.Going.{arc_of, comes, on_by_move, on_to_exit, still_left}
 use Rattle.route_decompose.proofs.Leading.{step_of}
 use Rattle.route_decompose.proofs.PlaceLemmas.{empties-left, least-is}

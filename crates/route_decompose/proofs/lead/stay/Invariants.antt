@@ -1,10 +1,12 @@
 use Rattle.std.proofs.Common.{◌≡◌, ◌+◌, ◌-◌, ◌≤◌, ◌⊎◌}
+use Rattle.plan_layout.specs.Tables.{people_at}
 use Rattle.route_decompose.specs.Stocks.{AllStay, IsLeadable, Stay}
 use Rattle.route_decompose.proofs.lead.stay.Given as goal
 
-abbrev pub invariant-loop-people : goal.invariant-loop-people
-invariant-loop-people l = record {
+abbrev pub invariant-loop-held : goal.invariant-loop-held
+invariant-loop-held l = record {
   leadable : IsLeadable l.store l.node l.until;
+  here : l.held ≡ people_at l.store.holds l.node l.until;
   later : l.moment ≤ l.until;
   some : 1 ≤ l.people;
   most : l.people ≤ l.most;
@@ -12,5 +14,5 @@ invariant-loop-people l = record {
   all : (l.people ≡ l.most) ⊎ AllStay l.store l.node l.moment l.until l.people;
 }
 
-abbrev pub decreases-loop-people : goal.decreases-loop-people
-decreases-loop-people l = l.store.model.horizon + 1 - l.until
+abbrev pub decreases-loop-held : goal.decreases-loop-held
+decreases-loop-held l = l.store.model.horizon + 1 - l.until

@@ -1,5 +1,5 @@
 use Rattle.std.proofs.Common.{◌≡◌, ℕ, ◌<◌}
-use Rattle.route_decompose.specs.Tables.{people_at}
+use Rattle.plan_layout.specs.Tables.{people_at}
 use Rattle.route_decompose.proofs.people.first_in.Given as goal
 
 abbrev pub invariant-loop-moment : goal.invariant-loop-moment

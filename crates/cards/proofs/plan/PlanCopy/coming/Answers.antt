@@ -3,8 +3,8 @@ use Rattle.std.specs.List.{All, sum_by}
 use Rattle.std.proofs.lemmas.List.{take_all}
 use Rattle.evac_law.specs.declared.plan.Move.{Move}
 use Rattle.evac_law.proofs.MoveLemmas.{arcs-moves_of}
-use Rattle.route_decompose.specs.Tables.{people_at}
-use Rattle.route_decompose.proofs.ShapeLemmas.{listed_arc_to}
+use Rattle.plan_layout.specs.Tables.{people_at}
+use Rattle.plan_layout.proofs.ShapeLemmas.{listed_arc_to}
 use Rattle.cards.specs.Kept.{PlanView}
 use Rattle.cards.specs.Numbers.{brought}
 use Rattle.cards.proofs.Listed.{coming_listed}

@@ -1,7 +1,7 @@
 use Rattle.std.proofs.Common.{◌≡◌, ◌*◌, ◌^◌, ◌≤◌, ◌<◌, take, length}
 use Rattle.std.specs.List.{sum_by}
 use Rattle.time_expansion.specs.Expansion.{arcs_to}
-use Rattle.route_decompose.specs.Routes.{shape_of}
+use Rattle.plan_layout.specs.Layouts.{shape_of}
 use Rattle.cards.specs.Numbers.{brought}
 use Rattle.cards.proofs.plan.PlanCopy.coming.Given as goal
 

@@ -4,8 +4,8 @@ use Rattle.std.proofs.lemmas.List.{take_all}
 use Rattle.evac_law.specs.declared.plan.Move.{Move}
 use Rattle.evac_law.specs.Plans.{moved}
 use Rattle.evac_law.proofs.MoveLemmas.{arcs-moves_of}
-use Rattle.route_decompose.specs.Tables.{people_at}
-use Rattle.route_decompose.proofs.ShapeLemmas.{listed_arc}
+use Rattle.plan_layout.specs.Tables.{people_at}
+use Rattle.plan_layout.proofs.ShapeLemmas.{listed_arc}
 use Rattle.cards.specs.Kept.{PlanView}
 use Rattle.cards.proofs.Listed.{leaving_listed}
 use Rattle.cards.proofs.plan.PlanCopy.leaving.Goals as goal

@@ -2,7 +2,7 @@ use Rattle.std.proofs.Common.{◌≡◌, ◌*◌, ◌^◌, ◌≤◌, ◌<◌, t
 use Rattle.std.specs.List.{sum_by}
 use Rattle.evac_law.specs.Plans.{moved}
 use Rattle.time_expansion.specs.Expansion.{arcs_from}
-use Rattle.route_decompose.specs.Routes.{shape_of}
+use Rattle.plan_layout.specs.Layouts.{shape_of}
 use Rattle.cards.proofs.plan.PlanCopy.leaving.Given as goal
 
 abbrev pub invariant-loop-arc : goal.invariant-loop-arc

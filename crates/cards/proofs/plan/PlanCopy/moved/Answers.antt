@@ -1,7 +1,7 @@
 use Rattle.std.proofs.Common.{◌<◌, ◌≤◌, length, ap, sym, ◌∙◌, arith}
 use Rattle.evac_law.specs.Plans.{moved}
 use Rattle.evac_law.proofs.MoveLemmas.{moved-moves_of}
-use Rattle.route_decompose.specs.Tables.{people_at}
+use Rattle.plan_layout.specs.Tables.{people_at}
 use Rattle.cards.specs.Kept.{PlanView}
 use Rattle.cards.proofs.plan.PlanCopy.moved.Goals as goal
 

@@ -3,8 +3,8 @@ use Rattle.std.proofs.lemmas.List.{length-map}
 use Rattle.evac_law.specs.declared.model.Model.{Model}
 use Rattle.evac_law.specs.Stands.{Stand}
 use Rattle.evac_law.proofs.MoveLemmas.{ordered-moves_of}
-use Rattle.route_decompose.specs.Routes.{ends_of}
-use Rattle.route_decompose.specs.Tables.{people_at}
+use Rattle.plan_layout.specs.Layouts.{ends_of}
+use Rattle.plan_layout.specs.Tables.{people_at}
 use Rattle.cards.specs.Kept.{PlanView}
 use Rattle.cards.proofs.Ranges.{AreInRange}
 use Rattle.cards.proofs.Taken.{list_moves, stand_in_range}

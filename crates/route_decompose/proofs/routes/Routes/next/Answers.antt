@@ -1,7 +1,7 @@
 use Rattle.std.proofs.Common.{◌≡◌, ℕ, ap, subst, sym, ◌∙◌, []}
 use Rattle.route_decompose.specs.Routes.{IsUsedUp}
 use Rattle.route_decompose.specs.Stocks.{Empties, IsLedOn, IsRoutes, Stock, TrailView}
-use Rattle.route_decompose.specs.Tables.{people_at}
+use Rattle.plan_layout.specs.Tables.{people_at}
 use Rattle.route_decompose.proofs.Handing.{hands_out, routes_on}
 use Rattle.route_decompose.proofs.UsedUp.{nobody_left}
 use Rattle.route_decompose.proofs.routes.Routes.next.Goals as goal

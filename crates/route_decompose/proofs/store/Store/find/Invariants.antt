@@ -1,5 +1,5 @@
 use Rattle.std.proofs.Common.{◌≡◌, ℕ, ◌<◌}
-use Rattle.route_decompose.specs.Tables.{people_at}
+use Rattle.plan_layout.specs.Tables.{people_at}
 use Rattle.route_decompose.proofs.store.Store.find.Given as goal
 
 abbrev pub invariant-loop-node : goal.invariant-loop-node

@@ -1,7 +1,7 @@
 use Rattle.std.proofs.Common.{◌≡◌, ℕ, List, ◌∙◌, length, get_or, ap, sym, arith}
-use Rattle.route_decompose.specs.Tables.{people_at}
+use Rattle.plan_layout.specs.Tables.{people_at}
 use Rattle.route_decompose.proofs.Balance.{going_none}
-use Rattle.route_decompose.proofs.ShapeLemmas.{arc_listed, listed_arc}
+use Rattle.plan_layout.proofs.ShapeLemmas.{arc_listed, listed_arc}
 use Rattle.route_decompose.proofs.store.Store.leaving.Goals as goal
 
 pub returns-clause-none : goal.returns-clause-none

@@ -1,7 +1,7 @@
 use Rattle.std.proofs.Common.{◌≡◌, ℕ, ◌<◌, get_or}
 use Rattle.time_expansion.specs.Expansion.{arcs_from}
-use Rattle.route_decompose.specs.Routes.{shape_of}
-use Rattle.route_decompose.specs.Tables.{people_at}
+use Rattle.plan_layout.specs.Layouts.{shape_of}
+use Rattle.plan_layout.specs.Tables.{people_at}
 use Rattle.route_decompose.proofs.store.Store.leaving.Given as goal
 
 abbrev pub invariant-loop-arc : goal.invariant-loop-arc

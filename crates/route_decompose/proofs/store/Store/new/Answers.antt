@@ -1,5 +1,5 @@
 use Rattle.std.proofs.Common.{◌∙◌, arith}
-use Rattle.route_decompose.proofs.ShapeLemmas.{stock_made}
+use Rattle.route_decompose.proofs.StockLemmas.{stock_made}
 use Rattle.route_decompose.proofs.store.Store.new.Goals as goal
 
 pub invariant_of-result : goal.invariant_of-result

@@ -1,6 +1,0 @@
-use Rattle.std.proofs.Common.{◌≡◌, map, take}
-use Rattle.route_decompose.specs.Routes.{ends_of}
-use Rattle.route_decompose.proofs.layout.ends_of.Given as goal
-
-abbrev pub invariant-loop-arc : goal.invariant-loop-arc
-invariant-loop-arc l = l.ends.items ≡ map ends_of (take l.arc-index l.arcs)
