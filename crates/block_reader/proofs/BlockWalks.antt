@@ -21,7 +21,7 @@ use Rattle.certificate_text.specs.Block.{HasAllLabels, IsBlockOf}
 use Rattle.certificate_text.specs.BlockEntries.{entries_of, label_entries, label_entry_at, entry_of_move, node_entries, out_entries}
 use Rattle.certificate_text.specs.BlockText.{begins_run}
 use Rattle.block_reader.specs.DraftFacts.{all_runs, node_runs, run_parts}
-use Rattle.block_reader.specs.Drafts.{Draft, IsStated, arc_of, behind_run, follows_move, follows_run, is_curve, is_empty, is_full, is_lists, is_move, is_run, last_of, no_draft, node_of, only_exits, run_label, with_entry}
+use Rattle.block_reader.specs.Drafts.{Draft, IsStated, arc_of, behind_run, follows_move, follows_run, is_curve, is_empty, is_full, is_lists, is_move, is_run, last_of, arc_between, no_draft, node_of, only_exits, run_label, with_entry}
 use Rattle.block_reader.proofs.LastLemmas.{last-in}
 use Rattle.block_reader.proofs.PlacesBack.{arc-back, node-back}
 use Rattle.block_reader.proofs.RunOrder.{last-before, runs-follow}
@@ -147,10 +147,11 @@ move-taken m d xs ys y valid full ordered =
     and_from (not (is_empty xs) || is_full m (with_moves d xs)) _ (or_right (not (is_empty xs)) (is_full m d) full)
     (and_from (nat_le y.moment m.horizon) _ (le-leb y.moment m.horizon in_range.1)
     (and_from (nat_lt 0 y.people) _ (lt-ltb 0 y.people some) (last-follows xs y (last_of xs) refl (all-earlier xs ys y ordered.sorted)))) in
-    ap (option_and_then (λ i. option_and_then (λ j. option_and_then put (arc_of m i j)) (node_of m (node_at m (head m y.arc)).name))) (node-back m (tail m y.arc) valid (tail_in m y.arc valid in_range.0))
-    ∙ ap (option_and_then (λ j. option_and_then put (arc_of m (tail m y.arc) j))) (node-back m (head m y.arc) valid (head_in m y.arc valid in_range.0))
-    ∙ ap (option_and_then put) (arc-back m y.arc valid in_range.0)
-    ∙ ap (λ b. cond b (Some (next y.arc)) None) test
+    let named : arc_between m (node_at m (tail m y.arc)).name (node_at m (head m y.arc)).name ≡ Some y.arc =
+    ap (option_and_then (λ i. option_and_then (λ j. arc_of m i j) (node_of m (node_at m (head m y.arc)).name))) (node-back m (tail m y.arc) valid (tail_in m y.arc valid in_range.0))
+    ∙ ap (option_and_then (λ j. arc_of m (tail m y.arc) j)) (node-back m (head m y.arc) valid (head_in m y.arc valid in_range.0))
+    ∙ arc-back m y.arc valid in_range.0 in
+    ap (option_and_then put) named ∙ ap (λ b. cond b (Some (next y.arc)) None) test
 
 moves-walk : (m : Model) (d : Draft) (xs ys : List Move) → IsValid m → is_full m d ≡ true → IsOrdered (length m.arcs) m.horizon (xs ++ ys)
     → walk m (with_moves d xs) (map (entry_of_move m) ys) ≡ Some (with_moves d (xs ++ ys))

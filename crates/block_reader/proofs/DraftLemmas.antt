@@ -25,7 +25,7 @@ use Rattle.certificate_text.specs.BlockEntries.{entry_of_move, out_entries}
 use Rattle.certificate_text.specs.BlockReadings.{says_something}
 use Rattle.block_reader.specs.DraftFacts.{AreMoves, AreRuns, IsDraft, IsRun}
 use Rattle.block_reader.proofs.DraftEntries.{IsEntry, draft_entries, head_entries, run_entry}
-use Rattle.block_reader.specs.Drafts.{Draft, arc_of, behind_run, follows_move, follows_run, is_cleared, is_curve, is_empty, is_full, is_index, is_lists, is_move, is_people, is_run, last_of, no_draft, node_of, only_exits, run_label, with_cleared, with_entry, with_index, with_move, with_out, with_people, with_run}
+use Rattle.block_reader.specs.Drafts.{Draft, arc_of, behind_run, follows_move, follows_run, is_cleared, is_curve, is_empty, is_full, is_index, is_lists, is_move, is_people, is_run, last_of, arc_between, no_draft, node_of, only_exits, run_label, with_cleared, with_entry, with_index, with_move, with_out, with_people, with_run}
 use Rattle.certificate_text.specs.Entries.{is_end}
 use Rattle.block_reader.proofs.ExitLemmas.{exits-at}
 use Rattle.block_reader.proofs.LastLemmas.{before-all, last-none, last-push, push-sorted}
@@ -292,10 +292,10 @@ runs-say m d moves =
 map-push : {X : Type 0} (f : X → Entry) (hs : List Entry) (xs : List X) (x : X) → hs ++ map f (xs ++ (x ∷ [])) ≡ (hs ++ map f xs) ++ (f x ∷ [])
 map-push f hs xs x = ap (λ l. hs ++ l) (map-append f xs (x ∷ [])) ∙ sym (append_assoc hs (map f xs) (f x ∷ []))
 
-run-next : (m : Model) (d : Draft) (name : NodeName) (t v : ℕ) (new : Draft) → IsDraft m d → with_run m d name t v ≡ Some new → IsNext m d (entries.Label name t v) new
+run-next : (m : Model) (d : Draft) (name : NodeName) (t v : ℕ) (new : Draft) → IsDraft m d → option_and_then (λ n. with_run m d n t v) (node_of m name) ≡ Some new → IsNext m d (entries.Label name t v) new
 run-next m d name t v new h e =
     let next : ℕ → Draft = λ n. record d { runs = d.runs ++ (record { node = n; moment = t; label = v } ∷ []) } in
-    let f = follows (node_of m name) (λ n. cond (is_run m d n t v) (Some (next n)) None) new e in
+    let f = follows (node_of m name) (λ n. with_run m d n t v) new e in
     let n = f.first in
     let r : Run = record { node = n; moment = t; label = v } in
     let k = chosen (is_run m d n t v) (next n) new f.then_value in
@@ -400,14 +400,13 @@ move-push m d start finish i j t a n new l h is_start is_finish is_arc e =
       entries = map-push (entry_of_move m) hs d.moves x ∙ ap (λ y. draft_entries m d ++ (y ∷ [])) (move-named m start finish i j x is_start is_finish is_arc);
     })
 
-move-next : (m : Model) (d : Draft) (t : ℕ) (start finish : NodeName) (n : ℕ) (new : Draft) → n ≤ number_field_limit → IsDraft m d → with_move m d t start finish n ≡ Some new
+move-next : (m : Model) (d : Draft) (t : ℕ) (start finish : NodeName) (n : ℕ) (new : Draft) → n ≤ number_field_limit → IsDraft m d → option_and_then (λ a. with_move m d t a n) (arc_between m start finish) ≡ Some new
     → IsNext m d (entries.Move t start finish n) new
 move-next m d t start finish n new l h e =
-    let put : ℕ → Option Draft = λ a. cond (is_move m d t a n) (Some (record d { moves = d.moves ++ (record { moment = t; arc = a; people = n } ∷ []) })) None in
-    let f = follows (node_of m start) (λ i. option_and_then (λ j. option_and_then put (arc_of m i j)) (node_of m finish)) new e in
-    let g = follows (node_of m finish) (λ j. option_and_then put (arc_of m f.first j)) new f.then_value in
-    let k = follows (arc_of m f.first g.first) put new g.then_value in
-    move-push m d start finish f.first g.first t k.first n new l h f.given g.given k.given k.then_value
+    let f = follows (arc_between m start finish) (λ a. with_move m d t a n) new e in
+    let g = follows (node_of m start) (λ i. option_and_then (λ j. arc_of m i j) (node_of m finish)) f.first f.given in
+    let k = follows (node_of m finish) (λ j. arc_of m g.first j) f.first g.then_value in
+    move-push m d start finish g.first k.first t f.first n new l h g.given k.given k.then_value f.then_value
 
 -- ---- one line more
 

@@ -19,7 +19,7 @@ use Rattle.block_reader.specs.Drafts.{run_label}
 use Rattle.block_reader.proofs.BlockLemmas.{fold-other}
 use Rattle.certificate_text.proofs.ListParts.{below-same, map-flat_map}
 use Rattle.certificate_text.proofs.OrderedMoves.{all-below}
-use Rattle.block_reader.proofs.RunLabels.{label-push}
+use Rattle.block_reader.proofs.RunLabels.{label-none, label-push}
 
 -- ---- entries
 
@@ -94,12 +94,8 @@ other-node m f c k n t ne =
     ap (λ x. run_label x n t) (flat_map-suc (node_runs m f c) k) ∙ fold-more n t (all_runs m f c k) (node_runs m f c k)
     ∙ fold-other (node_runs m f c k) n t (run_label (all_runs m f c k) n t) (λ i d b e. ne (sym (all-of-node m f c k (is_exit_at m k) i d b) ∙ e))
 
-none-given : (n t : ℕ) → run_label [] n t ≡ unset
-unfolding run_label
-none-given n t = refl
-
 later-given : (m : Model) (f : ℕ → ℕ → ℕ) (c k n t : ℕ) → k ≤ n → run_label (all_runs m f c k) n t ≡ unset
-later-given m f c zero n t h = ap (λ x. run_label x n t) (flat_map-none (node_runs m f c)) ∙ none-given n t
+later-given m f c zero n t h = ap (λ x. run_label x n t) (flat_map-none (node_runs m f c)) ∙ label-none n t
 later-given m f c (suc k) n t h = other-node m f c k n t (λ e. omega (arith, e, h)) ∙ later-given m f c k n t (omega (arith, h))
 
 exit-by : (m : Model) (f : ℕ → ℕ → ℕ) (c n t : ℕ) → is_exit_at m n ≡ true → run_label (all_runs m f c (suc n)) n t ≡ unset

@@ -101,9 +101,8 @@ abbrev pub is_run : Model → Draft → ℕ → ℕ → ℕ → Bool
 is_run m d n t v =
     is_curve d && (is_empty d.moves && (not (is_exit_at m n) && (nat_lt t d.cleared && (nat_le v d.cleared && follows_run m (last_of d.runs) n t v))))
 
-abbrev pub with_run : Model → Draft → NodeName → ℕ → ℕ → Option Draft
-with_run m d name t v =
-    node_of m name >>= λ n. if is_run m d n t v then Some (record d { runs = d.runs ++ (record { node = n; moment = t; label = v } ∷ []) }) else None
+abbrev pub with_run : Model → Draft → ℕ → ℕ → ℕ → Option Draft
+with_run m d n t v = if is_run m d n t v then Some (record d { runs = d.runs ++ (record { node = n; moment = t; label = v } ∷ []) }) else None
 
 -- the label that runs give a node at a moment: that of the node's last run that has begun by then
 unfoldable pub run_label : List Run → ℕ → ℕ → ℕ
@@ -140,6 +139,10 @@ is_full m d = is_curve d && (d.cleared == 0 || only_exits m (behind_run (last_of
 abbrev pub arc_of : Model → ℕ → ℕ → Option ℕ
 arc_of m start finish = position (λ e. e.0 == start && e.1 == finish) (arc_ends m)
 
+-- the place of the arc between the nodes of two names
+abbrev pub arc_between : Model → NodeName → NodeName → Option ℕ
+arc_between m start finish = node_of m start >>= λ i. node_of m finish >>= λ j. arc_of m i j
+
 -- whether a moment and an arc stand after those of a move
 abbrev pub follows_move : Option Move → ℕ → ℕ → Bool
 follows_move None t a = true
@@ -150,10 +153,8 @@ abbrev pub is_move : Model → Draft → ℕ → ℕ → ℕ → Bool
 is_move m d t a n =
     (not (is_empty d.moves) || is_full m d) && (nat_le t m.horizon && (nat_lt 0 n && follows_move (last_of d.moves) t a))
 
-abbrev pub with_move : Model → Draft → ℕ → NodeName → NodeName → ℕ → Option Draft
-with_move m d t start finish n =
-    node_of m start >>= λ i. node_of m finish >>= λ j. arc_of m i j
-    >>= λ a. if is_move m d t a n then Some (record d { moves = d.moves ++ (record { moment = t; arc = a; people = n } ∷ []) }) else None
+abbrev pub with_move : Model → Draft → ℕ → ℕ → ℕ → Option Draft
+with_move m d t a n = if is_move m d t a n then Some (record d { moves = d.moves ++ (record { moment = t; arc = a; people = n } ∷ []) }) else None
 
 -- the block ends where all of it is there
 abbrev pub with_end : Model → Draft → Option Draft
@@ -168,8 +169,8 @@ with_entry m d (entries.Index index) = with_index d index
 with_entry m d (entries.People people) = with_people d people
 with_entry m d (entries.Cleared moment) = with_cleared m d moment
 with_entry m d (entries.Out period people) = with_out d period people
-with_entry m d (entries.Label node moment label) = with_run m d node moment label
-with_entry m d (entries.Move moment start finish people) = with_move m d moment start finish people
+with_entry m d (entries.Label name moment label) = node_of m name >>= λ n. with_run m d n moment label
+with_entry m d (entries.Move moment start finish people) = arc_between m start finish >>= λ a. with_move m d moment a people
 with_entry m d entries.End = with_end m d
 
 -- ---- the whole block

@@ -5,7 +5,7 @@ ghost use Rattle.evac_law.specs.Building.{IsValid};
 ghost use Rattle.evac_law.specs.Limits.{node_limit};
 ghost use Rattle.building_table.specs.Names.{NamesFit};
 ghost use Rattle.block_reader.specs.DraftFacts.{IsDraft};
-ghost use Rattle.block_reader.specs.Drafts.{arc_of, behind_run, follows_move, follows_run, is_curve, is_full, is_move, is_run, last_of, no_draft, node_of, only_exits, with_cleared, with_end, with_entry, with_index, with_move, with_out, with_people, with_run};
+ghost use Rattle.block_reader.specs.Drafts.{behind_run, follows_move, follows_run, is_curve, is_full, is_move, is_run, last_of, arc_between, no_draft, node_of, only_exits, with_cleared, with_end, with_entry, with_index, with_move, with_out, with_people, with_run};
 ghost use Rattle.block_reader.specs.Takings.{Takes};
 
 use crate::fault::TakeFault;
@@ -53,11 +53,13 @@ fn node_of(model: &Model, names: &Names, name: NodeName) -> Option<u32>
     names.find_node(name)
 }
 
-// The place of the arc between two places.
-fn arc_of(model: &Model, names: &Names, from: u32, to: u32) -> Option<u32>
+// The place of the arc between the nodes of two names.
+fn arc_between(model: &Model, names: &Names, from: NodeName, to: NodeName) -> Option<u32>
     requires { NamesFit names.now model.now }
-    ensures { result ≡ arc_of model.now from to }
+    ensures { result ≡ arc_between model.now from to }
 {
+    let from = node_of(model, names, from)?;
+    let to = node_of(model, names, to)?;
     names.find_arc(from, to)
 }
 
@@ -203,17 +205,13 @@ impl BlockBuilder {
     fn take_run(
         &mut self,
         model: &Model,
-        names: &Names,
-        name: NodeName,
+        node: u32,
         moment: u32,
         label: u32,
     ) -> Result<(), TakeFault>
-        requires { NamesFit names.now model.now }
-        ensures { Takes result (with_run model.now self.old name moment label) self.new }
+        requires { node < length model.now.nodes }
+        ensures { Takes result (with_run model.now self.old node moment label) self.new }
     {
-        let Some(node) = node_of(model, names, name) else {
-            return Err(TakeFault::Bad);
-        };
         if !self.is_run(model, node, moment, label) {
             return Err(TakeFault::Bad);
         }
@@ -254,26 +252,14 @@ impl BlockBuilder {
     fn take_move(
         &mut self,
         model: &Model,
-        names: &Names,
         moment: u32,
-        from: NodeName,
-        to: NodeName,
+        arc: u32,
         people: u32,
     ) -> Result<(), TakeFault>
         requires valid { IsValid model.now }
-        requires names { NamesFit names.now model.now }
         requires draft { IsDraft model.now self.old }
-        ensures { Takes result (with_move model.now self.old moment from to people) self.new }
+        ensures { Takes result (with_move model.now self.old moment arc people) self.new }
     {
-        let Some(from) = node_of(model, names, from) else {
-            return Err(TakeFault::Bad);
-        };
-        let Some(to) = node_of(model, names, to) else {
-            return Err(TakeFault::Bad);
-        };
-        let Some(arc) = arc_of(model, names, from, to) else {
-            return Err(TakeFault::Bad);
-        };
         if !self.is_move(model, moment, arc, people) {
             return Err(TakeFault::Bad);
         }
@@ -324,13 +310,19 @@ impl BlockBuilder {
                 node,
                 moment,
                 label,
-            } => self.take_run(model, names, node, moment, label),
+            } => match node_of(model, names, node) {
+                Some(node) => self.take_run(model, node, moment, label),
+                None => Err(TakeFault::Bad),
+            },
             Entry::Move {
                 moment,
                 from,
                 to,
                 people,
-            } => self.take_move(model, names, moment, from, to, people),
+            } => match arc_between(model, names, from, to) {
+                Some(arc) => self.take_move(model, moment, arc, people),
+                None => Err(TakeFault::Bad),
+            },
             Entry::End => self.take_end(model),
         }
     }

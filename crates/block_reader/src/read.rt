@@ -63,8 +63,7 @@ impl<'a> Listener for BlockReader<'a> {
 
     ghost hears = { λ r line text result new. HearsBlock r line text result new };
 
-    fn hear(&mut self, text: &[u8], line: u32) -> Result<Heard, TakeFault> {
-        let _ = line;
+    fn hear(&mut self, text: &[u8], _line: u32) -> Result<Heard, TakeFault> {
         hear(&mut self.builder, self.model, self.names, text)
     }
 }

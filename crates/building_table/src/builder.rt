@@ -258,7 +258,7 @@ impl Builder {
     fn push_node(&mut self, name: NodeName, capacity: u32, start: u32) -> Result<(), BuildFault>
         requires new { holds_node self.old name ≡ false }
         requires few { length self.old.nodes < node_limit }
-        requires fits { people_held self.old.nodes self.old.entrants + start ≤ people_limit }
+        requires fits { 0 < start → people_held self.old.nodes self.old.entrants + start ≤ people_limit }
         ensures made { OnOk result (self.new ≡ adding_node self.old name capacity start) }
         ensures memory { IfErr result (λ f. f ≡ BuildFault.Memory) }
         ensures same { OnErr result (self.new ≡ self.old) }
@@ -296,7 +296,6 @@ impl Builder {
     fn take_exit(&mut self, name: NodeName) -> Result<(), BuildFault>
         ensures { Takes result (exit_checks self.old name) self.old self.new (adding_node self.old name 0 0) }
     {
-        let _ = &self.people;
         if !self.has_floor(name.floor) {
             return Err(BuildFault::UnknownFloor);
         }

@@ -37,8 +37,7 @@ impl Listener for ModelReader {
 
     ghost hears = { HearsModel };
 
-    fn hear(&mut self, text: &[u8], line: u32) -> Result<Heard, Refusal> {
-        let _ = line;
+    fn hear(&mut self, text: &[u8], _line: u32) -> Result<Heard, Refusal> {
         match self.version {
             Some(version) => hear(self.alloc, version, &mut self.builder, text),
             None => {

@@ -28,12 +28,13 @@ use Rattle.building_table.specs.Names.{NameTable, names_of}
 use Rattle.certificate_text.proofs.AnswerBack.{reads_back}
 use Rattle.edit_session.specs.Sessions.{IsSolved, with_former}
 use Rattle.edit_session.specs.Thrift.{IsThrifty, IsThriftyOpening}
-use Rattle.replan_talk.specs.ReplanTalks.{AdvancesTo, AsksSession, CarriesOut, ReplanReplies, Replanned, RowOf, asks_of_people, bars_moment, replan, request_of}
+use Rattle.replan_talk.specs.ReplanTalks.{AdvancesTo, AsksSession, CarriesOut, Replanned, RowOf, asks_of_people, bars_moment, replan, request_of}
 use Rattle.replan_talk.specs.declared.request.Request.{Request}
 use Rattle.replan_talk.specs.declared.request.Request.TheVariants as requests
 use Rattle.session_talk.specs.Sessions.{Advances, AsksEdit, Edits, IsAnswerText, Replies, Reports, State, Undoes, session}
 use Rattle.talk.specs.Short.{OpensShort}
-use Rattle.talk.specs.Talks.{EndsAt, RepliesTo, Reply, Spoken, TalkRun, says}
+use Rattle.talk.specs.Talks.{EndsAt, Reply, Spoken, TalkRun, says}
+use Rattle.talk.proofs.TalkLemmas.{replies_keep}
 use Rattle.session_talk.proofs.Bridge.{answer_of}
 use Rattle.session_talk.proofs.Same.{cut_stays}
 use Rattle.evac_top.specs.Accounts.{Account, Outside}
@@ -118,13 +119,6 @@ one_line names line s (Ok commands.Quit) r h = absurd h
 
 -- ---- all lines
 
-all_lines : (names : NameTable) (m : Model) (before : ℕ) (s : State) (lines : List (List ℕ)) (r : Reply State) → RepliesTo (session names m).Gets before s lines r
-    → RepliesTo (λ line s text r. Replies names line s (command_of text) r × KeepsPromise s r) before s lines r
-unfolding RepliesTo
-all_lines names m before s [] r h = h
-all_lines names m before s (line ∷ lines) r h =
-    (h.0, (h.1, one_line names (before + 1) s (command_of line) h.0 h.1), (h.2.0, all_lines names m (before + 1) h.0.after lines h.2.0 h.2.1, h.2.2))
-
 runs-keep : (d : Description) (last : ℕ) (lines : List Line) (x : Account) → TalkRun (session (names_of d) d.model) last lines (spoken x) → KeepsAll d last lines x
 runs-keep d last lines x run =
     let goes = run.goes in
@@ -136,7 +130,8 @@ runs-keep d last lines x run =
       more = goes.more;
       opens = goes.opens;
       first = best-block goes.opening.after goes.opening.text goes.opens.begins.solved goes.opens.answer;
-      replies = all_lines (names_of d) d.model last goes.opening.after run.answered goes.more goes.replies;
+      replies = replies_keep (session (names_of d) d.model).Gets _ (λ line s text r h. (h, one_line (names_of d) line s (command_of text) r h)) last goes.opening.after run.answered
+          goes.more goes.replies;
       ends = subst (λ (r : Reply State). EndsAt (session (names_of d) d.model) (last + length run.answered) run.rest r (spoken x)) goes.all run.ends;
     }
 
@@ -213,13 +208,6 @@ row-of names line s (Err fault) r h = stays-there s _ r h
 row-of names line s (Ok (requests.Advance p)) r h = advanced-to line s p (bars_moment s p) r h
 row-of names line s (Ok (requests.Session c)) r h = asked-session names line s c (nat_lt 0 s.moment && asks_of_people names c) r h
 
-carried-lines : (names : NameTable) (m : Model) (before : ℕ) (s : Replanned) (lines : List (List ℕ)) (r : Reply Replanned) → RepliesTo (replan names m).Gets before s lines r
-    → RepliesTo (λ line s text r. ReplanReplies names line s text r × KeepsCarried s r) before s lines r
-unfolding RepliesTo
-carried-lines names m before s [] r h = h
-carried-lines names m before s (line ∷ lines) r h =
-    (h.0, (h.1, row-of names (before + 1) s (request_of line) h.0 h.1), (h.2.0, carried-lines names m (before + 1) h.0.after lines h.2.0 h.2.1, h.2.2))
-
 replans-keep : (d : Description) (last : ℕ) (lines : List Line) (x : Account) → TalkRun (replan (names_of d) d.model) last lines (spoken x) → KeepsReplan d last lines x
 replans-keep d last lines x run =
     let goes = run.goes in
@@ -233,7 +221,8 @@ replans-keep d last lines x run =
       more = goes.more;
       opens = opened;
       first = subst (λ (a : Reply Replanned). IsBestBlock a.after.session a.text) (sym opened.2) (best-block s.after s.text opened.1.begins.solved opened.1.answer);
-      replies = carried-lines (names_of d) d.model last goes.opening.after run.answered goes.more goes.replies;
+      replies = replies_keep (replan (names_of d) d.model).Gets _ (λ line s text r h. (h, row-of (names_of d) line s (request_of text) r h)) last goes.opening.after run.answered
+          goes.more goes.replies;
       ends = subst (λ (r : Reply Replanned). EndsAt (replan (names_of d) d.model) (last + length run.answered) run.rest r (spoken x)) goes.all run.ends;
     }
 

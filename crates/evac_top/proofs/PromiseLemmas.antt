@@ -32,7 +32,8 @@ use Rattle.plan_checker.specs.declared.verdict.Verdict.{Verdict}
 use Rattle.plan_checker.specs.declared.verdict.Verdict.TheVariants.{Yes, PeopleWrong, RateBroken, HeldBroken, NotAllOut, OutWrong, CutWrong}
 use Rattle.study_talk.specs.Studies.{StudyReplies, study}
 use Rattle.study_talk.specs.StudyTexts.{Row, SaysExits, exits_of}
-use Rattle.talk.specs.Talks.{EndsAt, RepliesTo, Reply, TalkRun}
+use Rattle.talk.specs.Talks.{EndsAt, Reply, TalkRun}
+use Rattle.talk.proofs.TalkLemmas.{replies_keep}
 use Rattle.evac_top.specs.Accounts.{Account}
 use Rattle.evac_top.specs.Answers.{ChecksInput, runs_of}
 use Rattle.evac_top.specs.Check.{Checks, IsChecked, verdict_status, verdict_text}
@@ -102,14 +103,6 @@ keeps-rows names m line (Ok Exits) r valid h = says-right m r.text valid h
 keeps-rows names m line (Ok (Least from to k)) r valid h = tt
 keeps-rows names m line (Ok Quit) r valid h = tt
 
-all-rows : (names : NameTable) (m : Model) (before : ℕ) (s : Unit {0}) (lines : List (List ℕ)) (r : Reply (Unit {0})) → IsValid m
-    → RepliesTo (study names m).Gets before s lines r
-    → RepliesTo (λ line s text r. StudyReplies names m line (study_command_of text) r × KeepsRows m (study_command_of text) r) before s lines r
-unfolding RepliesTo
-all-rows names m before s [] r valid h = h
-all-rows names m before s (line ∷ lines) r valid h =
-    (h.0, (h.1, keeps-rows names m (before + 1) (study_command_of line) h.0 valid h.1), (h.2.0, all-rows names m (before + 1) h.0.after lines h.2.0 valid h.2.1, h.2.2))
-
 studies-keep : (d : Description) (last : ℕ) (lines : List Line) (x : Account) → IsValid d.model → TalkRun (study (names_of d) d.model) last lines (spoken x)
     → KeepsStudy d last lines x
 studies-keep d last lines x valid run =
@@ -121,7 +114,8 @@ studies-keep d last lines x valid run =
       opening = goes.opening;
       more = goes.more;
       opens = goes.opens;
-      replies = all-rows (names_of d) d.model last goes.opening.after run.answered goes.more valid goes.replies;
+      replies = replies_keep (study (names_of d) d.model).Gets _ (λ line s text r h. (h, keeps-rows (names_of d) d.model line (study_command_of text) r valid h)) last
+          goes.opening.after run.answered goes.more goes.replies;
       ends = subst (λ (r : Reply (Unit {0})). EndsAt (study (names_of d) d.model) (last + length run.answered) run.rest r (spoken x)) goes.all run.ends;
     }
 

@@ -1,5 +1,5 @@
 -- What a fresh reader took, by the lines that went by.
-use Rattle.std.proofs.Common.{◌≡◌, ℕ, ◌+◌, ◌≤◌, Bool, true, false, List, [], ◌∷◌, ◌++◌, length, Result, Ok, Err, OnOk, refl, sym, ap, subst, ◌∙◌, arith, inl, inr, ◌⊎◌}
+use Rattle.std.proofs.Common.{◌≡◌, ℕ, ◌+◌, ◌≤◌, true, false, true≢false, List, [], ◌∷◌, ◌++◌, length, Result, Ok, Err, OnOk, refl, sym, ap, subst, ◌∙◌, arith, inl, inr, ◌⊎◌}
 use Rattle.std.specs.declared.option.Option.{Option}
 use Rattle.std.specs.Io.KnownBytes.{IsAtEnd}
 use Rattle.line_io.specs.Calls.{Asks, AsksAtMost, Taking}
@@ -17,9 +17,6 @@ use Rattle.building_table.specs.declared.faults.ModelFault.{ModelFault}
 use Rattle.building_table.specs.declared.faults.ModelFault.TheVariants.{ReadFault}
 use Rattle.evac_top.specs.Reads.{IsFresh, Takes}
 use Rattle.talk.specs.Held.{IsReadOut}
-
-true-false : {b : Bool} → b ≡ true → b ≡ false → ⊥
-true-false p q = cc
 
 length-text_lines : (texts : List (List ℕ)) → length (text_lines texts) ≡ length texts
 length-text_lines [] = refl
@@ -49,7 +46,7 @@ quiet-then building result n0 n1 n2 first second n = second n ∙ first (not-fai
 
 whole-there : (r : Reader) (gone : List ℕ) → IsWhole gone ⊎ IsReadOut r → is_settled r ≡ false → IsWhole gone
 whole-there r gone (inl whole) u = whole
-whole-there r gone (inr over) u = absurd (true-false over.0 (unsettled-open r u).0)
+whole-there r gone (inr over) u = absurd (true≢false (sym over.0 ∙ (unsettled-open r u).0))
 
 -- up to their last LF they are the lines that went by
 pub whole-lines : (r0 r1 : Reader) (l0 l1 : Option (List ℕ)) (texts : List (List ℕ)) → IsFresh r0 → (p : Passes r0 r1 l0 l1 texts)
@@ -91,7 +88,7 @@ takes-value IsOpen value r0 r1 l0 l1 texts fresh p all = takes IsOpen (Ok value)
 
 -- a fresh reader's source isn't known to have ended
 pub fresh-drained : (r : Reader) (left : Option (List ℕ)) → IsFresh r → Drained r left
-fresh-drained r left fresh = λ e. absurd (true-false e (ap (λ (x : Reader). x.ended) fresh))
+fresh-drained r left fresh = λ e. absurd (true≢false (sym e ∙ ap (λ (x : Reader). x.ended) fresh))
 
 -- ---- the same of another result
 

@@ -2,7 +2,7 @@
 use Rattle.std.specs.Prelude.{◌≡◌, is_some, IfSome}
 use Rattle.building_table.specs.Names.{NameTable}
 use Rattle.edit_session.specs.Sessions.{SessionState}
-use Rattle.route_decompose.specs.Routes.{IsSameSite}
+use Rattle.plan_layout.specs.Layouts.{IsSameSite}
 use Rattle.session_text.specs.Spaces.{IsSpace}
 use Rattle.evac_top.specs.declared.report_tables.Tables.{Tables}
 use Rattle.evac_top.specs.declared.words.Flags.{Flags}

@@ -2,7 +2,7 @@
 ghost use Rattle.std.specs.Prelude.{ℕ, List, IfSome, is_some};
 ghost use Rattle.line_io.specs.Writer.{Writes};
 ghost use Rattle.report_text.specs.ReportText.{SaysCards};
-ghost use Rattle.route_decompose.specs.Routes.{IsSameSite};
+ghost use Rattle.plan_layout.specs.Layouts.{IsSameSite};
 ghost use Rattle.session_text.specs.Spaces.{IsSpace};
 ghost use Rattle.session_text.specs.StateTexts.{SaysReports, SaysRoutesOf};
 ghost use Rattle.evac_top.specs.Solve.{SaysPlan, Where};

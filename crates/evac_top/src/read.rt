@@ -46,8 +46,7 @@ impl Listener for Tail {
 
     ghost hears = { λ tail line text result new. HearsTail (statement_of text) result };
 
-    fn hear(&mut self, text: &[u8], line: u32) -> Result<Heard, TextFound> {
-        let _ = line;
+    fn hear(&mut self, text: &[u8], _line: u32) -> Result<Heard, TextFound> {
         if says_nothing(text) {
             Ok(Heard::More)
         } else {

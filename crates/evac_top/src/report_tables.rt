@@ -1,6 +1,6 @@
 //! The tables of what is asked for after a block.
 ghost use Rattle.std.specs.Prelude.{◌≡◌, IfOk, IfSome, is_some};
-ghost use Rattle.route_decompose.specs.Routes.{IsSameSite};
+ghost use Rattle.plan_layout.specs.Layouts.{IsSameSite};
 ghost use Rattle.session_text.specs.Spaces.{IsSpace};
 ghost use Rattle.evac_top.specs.Tables.{HasTablesAsked};
 

@@ -11,7 +11,8 @@ use Rattle.edit_session.specs.declared.faults.UndoRefusal.{UndoRefusal}
 use Rattle.edit_session.specs.declared.faults.UndoRefusal.TheVariants.{NothingToUndo}
 use Rattle.edit_session.specs.declared.work.Work.{Work}
 use Rattle.edit_session.specs.Sessions.{Begins, EditEnds, SessionState, SessionView, UndoEnds}
-use Rattle.route_decompose.specs.Routes.{IsSameSite, RoutesView}
+use Rattle.plan_layout.specs.Layouts.{IsSameSite}
+use Rattle.route_decompose.specs.Routes.{RoutesView}
 use Rattle.session_text.specs.Laws.{IsOfBuilding}
 use Rattle.session_text.specs.Spaces.{IsSpace, SpaceView}
 use Rattle.session_text.proofs.Serving.{begins_of_building, edit_keeps_building, shape_serves, undo_keeps_building}
@@ -29,6 +30,9 @@ shape-back m m' h = record {
 }
 
 -- ---- at the model that stands
+
+pub desk_seen : {d d' : DeskView} {v : SessionView} → d ≡ d' → IsDesk d' v → IsDesk d v
+desk_seen {v = v} same h = let P : DeskView → Type 0 = λ x. IsDesk x v in subst P (sym same) h
 
 pub desk_fit : (d : DeskView) (v : SessionView) → IsDesk d v → NamesFit d.names v.state.model
 desk_fit d v h = names_kept d.names h.building v.state.model h.of_building.same_shape h.names_fit
@@ -60,8 +64,7 @@ with_space d space v h fits = record {
 -- the index is no part of it
 pub with_index : (d d' : DeskView) (v : SessionView) → d' ≡ record d { index = d'.index } → IsDesk d v → IsDesk d' v
 with_index d d' v same h =
-    let there : IsDesk (record d { index = d'.index }) v = record { building = h.building; of_building = h.of_building; names_fit = h.names_fit; site = h.site; space = h.space } in
-    let P : DeskView → Type 0 = λ x. IsDesk x v in subst P (sym same) there
+    desk_seen same (record { building = h.building; of_building = h.of_building; names_fit = h.names_fit; site = h.site; space = h.space })
 
 -- ---- after an edit
 

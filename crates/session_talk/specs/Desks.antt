@@ -4,7 +4,8 @@ use Rattle.evac_law.specs.declared.model.Model.{Model}
 use Rattle.line_io.specs.declared.writer.Writer.{Writer}
 use Rattle.building_table.specs.Names.{NameTable, NamesFit}
 use Rattle.edit_session.specs.Sessions.{SessionView}
-use Rattle.route_decompose.specs.Routes.{IsSameSite, RoutesView}
+use Rattle.plan_layout.specs.Layouts.{IsSameSite}
+use Rattle.route_decompose.specs.Routes.{RoutesView}
 use Rattle.session_text.specs.Laws.{IsOfBuilding}
 use Rattle.session_text.specs.Spaces.{IsSpace, SpaceView}
 use Rattle.session_talk.specs.Sessions.{State}

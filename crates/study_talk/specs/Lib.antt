@@ -9,6 +9,7 @@ pub use Rattle.talk.specs.Short
 pub use Rattle.talk.specs.Statuses
 pub use Rattle.talk.specs.Talks
 pub mod Stays
+pub mod Trials
 pub mod StudyTexts
 pub mod Studies
 pub mod Desks

@@ -1,19 +1,20 @@
 //! The least rate of an arc, with what proves it.
 ghost use Rattle.std.specs.Prelude.{◌≡◌, ◌+◌, ◌<◌, ◌≤◌, ℕ, List, length, ◌++◌};
-ghost use Rattle.evac_law.specs.Building.{IsValid, head, tail};
+ghost use Rattle.evac_law.specs.Building.{IsValid};
 ghost use Rattle.evac_law.specs.Certificates.{IsTableOf, label_cut};
-ghost use Rattle.evac_law.specs.Limits.{rate_limit};
 ghost use Rattle.line_io.specs.Writer.{Writes};
-ghost use Rattle.certificate_text.specs.BlockText.{in_lines, name_of_node};
+ghost use Rattle.certificate_text.specs.BlockText.{in_lines};
 ghost use Rattle.report_text.specs.ReportText.{cut_line};
-ghost use Rattle.edit_session.specs.Sessions.{kept_limit};
+ghost use Rattle.edit_session.specs.Sessions.{IsSolved, kept_limit};
 ghost use Rattle.exit_study.specs.Rates.{IsEnough, IsLeastRate, IsNoRate, at_rate};
 ghost use Rattle.exit_study.specs.declared.rates.Least.{Least as LeastValue};
 ghost use Rattle.study_talk.specs.Stays.{StaysSolved};
-ghost use Rattle.study_talk.specs.StudyTexts.{SaysCut, SaysCutBelow, SaysLeast, SaysMoves, SaysNever, SaysRate, least_line, never_line};
+ghost use Rattle.study_talk.specs.Trials.{IsRateTrial};
+ghost use Rattle.study_talk.specs.StudyTexts.{SaysCut, SaysCutBelow, SaysLeast, SaysMoves, SaysNever, SaysRate};
 
 use crate::going_back::go_back;
 use crate::lines::{put_least, put_never};
+use crate::trial::Trial;
 use certificate_text::{put_end, put_ins, put_moves};
 use cut_witness::cut_value;
 use edit_session::{EditRefusal, Session};
@@ -29,21 +30,17 @@ fn put_moves_at<K: Sink, L: Ledger>(
     session: &mut Session,
     writer: &mut Writer<'_, K>,
     steps: &mut Steps<L>,
-    arc: u32,
-    rate: u32,
-    by: u16,
+    trial: Trial,
 )
-    requires arc { arc < length session.old.state.model.arcs }
-    requires rate { rate ≤ rate_limit }
-    requires by { by ≤ session.old.state.model.horizon }
+    requires solved { IsSolved session.old.state }
+    requires trial { IsRateTrial session.old.state.model trial }
     requires room { length session.old.state.former < kept_limit }
-    requires enough { IsEnough session.old.state.model arc by rate }
-    ensures text { (text : List ℕ) × SaysMoves (at_rate session.old.state.model arc rate) by text × Writes K.held K.faults writer.old text writer.new }
+    requires enough { IsEnough session.old.state.model trial.arc trial.by trial.rate }
+    ensures text { (text : List ℕ) × SaysMoves (at_rate session.old.state.model trial.arc trial.rate) trial.by text × Writes K.held K.faults writer.old text writer.new }
     ensures stays { StaysSolved session.old.state session.new.state }
     ensures counted { (n : ℕ) × (steps.new ≡ steps.old + n) }
 {
-    // a session has a plan that is solved
-    let _ = session.model();
+    let Trial { arc, rate, .. } = trial;
     match session.edit(Edit::Rate { arc, rate }, steps) {
         Ok(_) => {
             put_moves(writer, session.model(), session);
@@ -54,20 +51,14 @@ fn put_moves_at<K: Sink, L: Ledger>(
     }
 }
 
-// Puts the cut of labels at a moment, with its value.
-fn put_cut<K: Sink>(
-    writer: &mut Writer<'_, K>,
-    model: &Model,
-    labels: &Labels,
-    moment: u16,
-    value: u64,
-)
+// Puts the cut of labels at moment k, with its value.
+fn put_cut<K: Sink>(writer: &mut Writer<'_, K>, model: &Model, labels: &Labels, k: u16, value: u64)
     requires valid { IsValid model.now }
     requires table { IsTableOf model.now labels.now }
-    ensures { Writes K.held K.faults writer.old (cut_line moment value ++ in_lines model.now (label_cut model.now labels.now moment)) writer.new }
+    ensures { Writes K.held K.faults writer.old (cut_line k value ++ in_lines model.now (label_cut model.now labels.now k)) writer.new }
 {
-    put_cut_line(writer, moment, value);
-    put_ins(writer, model, labels, moment);
+    put_cut_line(writer, k, value);
+    put_ins(writer, model, labels, k);
 }
 
 // Puts a cut that shows that a rate isn't enough.
@@ -75,26 +66,22 @@ fn put_cut_at<K: Sink, L: Ledger>(
     session: &mut Session,
     writer: &mut Writer<'_, K>,
     steps: &mut Steps<L>,
-    arc: u32,
-    rate: u32,
-    by: u16,
+    trial: Trial,
 )
-    requires arc { arc < length session.old.state.model.arcs }
-    requires rate { rate ≤ rate_limit }
-    requires by { by ≤ session.old.state.model.horizon }
+    requires solved { IsSolved session.old.state }
+    requires trial { IsRateTrial session.old.state.model trial }
     requires room { length session.old.state.former < kept_limit }
-    requires slow { ¬ IsEnough session.old.state.model arc by rate }
-    ensures text { (text : List ℕ) × SaysCut (at_rate session.old.state.model arc rate) by text × Writes K.held K.faults writer.old text writer.new }
+    requires slow { ¬ IsEnough session.old.state.model trial.arc trial.by trial.rate }
+    ensures text { (text : List ℕ) × SaysCut (at_rate session.old.state.model trial.arc trial.rate) trial.by text × Writes K.held K.faults writer.old text writer.new }
     ensures stays { StaysSolved session.old.state session.new.state }
     ensures counted { (n : ℕ) × (steps.new ≡ steps.old + n) }
 {
-    // a session has a plan that is solved
-    let _ = session.model();
+    let Trial { arc, rate, .. } = trial;
     match session.edit(Edit::Rate { arc, rate }, steps) {
         Ok(_) => {
             let model = session.model();
-            let value = cut_value(model, session.labels(), by);
-            put_cut(writer, model, session.labels(), by, value);
+            let value = cut_value(model, session.labels(), trial.by);
+            put_cut(writer, model, session.labels(), trial.by, value);
             go_back(session, steps);
         }
         Err(EditRefusal::NotCleared { most, .. }) => {
@@ -112,49 +99,20 @@ fn put_cut_below<K: Sink, L: Ledger>(
     session: &mut Session,
     writer: &mut Writer<'_, K>,
     steps: &mut Steps<L>,
-    arc: u32,
-    rate: u32,
-    by: u16,
+    trial: Trial,
 )
-    requires arc { arc < length session.old.state.model.arcs }
-    requires by { by ≤ session.old.state.model.horizon }
+    requires solved { IsSolved session.old.state }
+    requires trial { IsRateTrial session.old.state.model trial }
     requires room { length session.old.state.former < kept_limit }
-    requires least { IsLeastRate session.old.state.model arc by rate }
-    ensures text { (text : List ℕ) × SaysCutBelow session.old.state.model arc by rate text × Writes K.held K.faults writer.old text writer.new }
+    requires least { IsLeastRate session.old.state.model trial.arc trial.by trial.rate }
+    ensures text { (text : List ℕ) × SaysCutBelow session.old.state.model trial.arc trial.by trial.rate text × Writes K.held K.faults writer.old text writer.new }
     ensures stays { StaysSolved session.old.state session.new.state }
     ensures counted { (n : ℕ) × (steps.new ≡ steps.old + n) }
 {
-    // a session has a plan that is solved
-    let _ = session.model();
-    if rate > 0 {
-        put_cut_at(session, writer, steps, arc, rate - 1, by);
+    if trial.rate > 0 {
+        let rate = trial.rate - 1;
+        put_cut_at(session, writer, steps, Trial { rate, ..trial });
     };
-}
-
-// Puts the line of the least rate of an arc.
-fn put_rate_line<K: Sink>(writer: &mut Writer<'_, K>, model: &Model, arc: u32, by: u16, rate: u32)
-    requires valid { IsValid model.now }
-    requires arc { arc < length model.now.arcs }
-    ensures { let m = model.now in
-        Writes K.held K.faults writer.old (least_line (name_of_node m (tail m arc)) (name_of_node m (head m arc)) by rate) writer.new }
-{
-    let row = model.arc(arc);
-    let from = model.node(row.from).name;
-    let to = model.node(row.to).name;
-    put_least(writer, from, to, by, rate);
-}
-
-// Puts the line that an arc has no rate that is enough.
-fn put_never_line<K: Sink>(writer: &mut Writer<'_, K>, model: &Model, arc: u32, by: u16)
-    requires valid { IsValid model.now }
-    requires arc { arc < length model.now.arcs }
-    ensures { let m = model.now in
-        Writes K.held K.faults writer.old (never_line (name_of_node m (tail m arc)) (name_of_node m (head m arc)) by) writer.new }
-{
-    let row = model.arc(arc);
-    let from = model.node(row.from).name;
-    let to = model.node(row.to).name;
-    put_never(writer, from, to, by);
 }
 
 // Puts the least rate of an arc.
@@ -162,21 +120,18 @@ fn put_rate<K: Sink, L: Ledger>(
     session: &mut Session,
     writer: &mut Writer<'_, K>,
     steps: &mut Steps<L>,
-    arc: u32,
-    rate: u32,
-    by: u16,
+    trial: Trial,
 )
-    requires arc { arc < length session.old.state.model.arcs }
-    requires by { by ≤ session.old.state.model.horizon }
+    requires trial { IsRateTrial session.old.state.model trial }
     requires room { length session.old.state.former < kept_limit }
-    requires least { IsLeastRate session.old.state.model arc by rate }
-    ensures text { (text : List ℕ) × SaysRate session.old.state.model arc by rate text × Writes K.held K.faults writer.old text writer.new }
+    requires least { IsLeastRate session.old.state.model trial.arc trial.by trial.rate }
+    ensures text { (text : List ℕ) × SaysRate session.old.state.model trial.arc trial.by trial.rate text × Writes K.held K.faults writer.old text writer.new }
     ensures stays { StaysSolved session.old.state session.new.state }
     ensures counted { (n : ℕ) × (steps.new ≡ steps.old + n) }
 {
-    put_rate_line(writer, session.model(), arc, by, rate);
-    put_moves_at(session, writer, steps, arc, rate, by);
-    put_cut_below(session, writer, steps, arc, rate, by);
+    put_least(writer, session.model(), trial);
+    put_moves_at(session, writer, steps, trial);
+    put_cut_below(session, writer, steps, trial);
     put_end(writer);
 }
 
@@ -197,8 +152,9 @@ fn put_no_rate<K: Sink, L: Ledger>(
     ensures stays { StaysSolved session.old.state session.new.state }
     ensures counted { (n : ℕ) × (steps.new ≡ steps.old + n) }
 {
-    put_never_line(writer, session.model(), arc, by);
-    put_cut_at(session, writer, steps, arc, RATE_LIMIT, by);
+    put_never(writer, session.model(), arc, by);
+    let rate = RATE_LIMIT;
+    put_cut_at(session, writer, steps, Trial { arc, rate, by });
     put_end(writer);
 }
 
@@ -218,7 +174,7 @@ pub(crate) fn put_least_rate<K: Sink, L: Ledger>(
     ensures counted { (n : ℕ) × (steps.new ≡ steps.old + n) }
 {
     match least_rate(session, arc, by, steps) {
-        Least::Rate { rate } => put_rate(session, writer, steps, arc, rate, by),
+        Least::Rate { rate } => put_rate(session, writer, steps, Trial { arc, rate, by }),
         Least::Never => put_no_rate(session, writer, steps, arc, by),
     }
 }

@@ -12,5 +12,6 @@ mod least;
 mod lines;
 mod reply;
 mod speaker;
+mod trial;
 
 pub use desk::StudyDesk;

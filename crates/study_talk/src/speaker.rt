@@ -2,7 +2,7 @@
 ghost use Rattle.std.specs.Prelude.{◌≡◌};
 
 use crate::desk::StudyDesk;
-use crate::reply::{reply_exits, reply_least};
+use crate::reply::reply_arc;
 use building_table::Building;
 use certificate_text::put_refusal;
 use edit_session::BeginFault;
@@ -56,11 +56,14 @@ impl Speaker for StudyDesk {
         match read_study_command(text) {
             Ok(StudyCommand::Blank) => Ok(Heard::More),
             Ok(StudyCommand::Exits) => {
-                reply_exits(self, writer, steps);
+                self.put_exits(writer, steps);
                 Ok(Heard::More)
             }
             Ok(StudyCommand::Least { from, to, by }) => {
-                reply_least(self, writer, steps, from, to, by, line);
+                match self.find_arc(from, to) {
+                    Ok(arc) => reply_arc(self, writer, steps, arc, by, line),
+                    Err(fault) => put_refusal(writer, fault.code(), line),
+                }
                 Ok(Heard::More)
             }
             Ok(StudyCommand::Quit) => Ok(Heard::Last),

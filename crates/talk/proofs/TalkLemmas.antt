@@ -90,3 +90,11 @@ parts_of talk before xs ys r h =
       replies = p.more_replies;
       all = h.all ∙ ap (followed h.opening) p.parts ∙ sym (followed_assoc h.opening p.first p.more);
     }
+
+-- lines that get something keep what follows from it
+pub replies_keep : {S : Type 0} (Gets Keeps : Replying S) → ((line : ℕ) (s : S) (text : List ℕ) (r : Reply S) → Gets line s text r → Keeps line s text r)
+    → (before : ℕ) (s : S) (lines : List (List ℕ)) (r : Reply S) → RepliesTo Gets before s lines r → RepliesTo Keeps before s lines r
+unfolding RepliesTo
+replies_keep Gets Keeps keeps before s [] r h = h
+replies_keep Gets Keeps keeps before s (line ∷ lines) r h =
+    (h.0, keeps (before + 1) s line h.0 h.1, (h.2.0, replies_keep Gets Keeps keeps (before + 1) h.0.after lines h.2.0 h.2.1, h.2.2))

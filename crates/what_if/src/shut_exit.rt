@@ -2,6 +2,7 @@
 ghost use Rattle.std.specs.Prelude.{◌≡◌, IfOk};
 ghost use Rattle.evac_law.specs.Building.{IsValid};
 ghost use Rattle.building_table.specs.Names.{NamesFit};
+ghost use Rattle.edit_session.specs.Sessions.{IsSolved};
 ghost use Rattle.what_if.specs.WhatIf.{AnswersOn, AnswersWhatIf, Describes};
 
 use crate::answer::{Answer, WhatIfFault};
@@ -38,11 +39,10 @@ fn shut<L: Ledger>(
     exit: NodeName,
     steps: &mut Steps<L>,
 ) -> Result<Answer, WhatIfFault>
-    requires { NamesFit names.now session.old.state.model }
+    requires solved { IsSolved session.old.state }
+    requires names { NamesFit names.now session.old.state.model }
     ensures { AnswersOn session.old.state.model names.now exit result }
 {
-    // a session has a plan that is certified
-    let _ = session.model();
     let before = session.cleared();
     let edit = match edit_of(names, NamedEdit::ShutExit { node: exit }) {
         Ok(edit) => edit,

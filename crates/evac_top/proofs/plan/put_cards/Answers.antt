@@ -1,16 +1,14 @@
 use Rattle.std.proofs.Common.{[], subst}
 use Rattle.evac_law.specs.declared.model.Model.{Model}
+use Rattle.edit_session.proofs.Standing.{stands_of}
 use Rattle.line_io.proofs.WriterLemmas.{writes_none}
 use Rattle.report_text.specs.ReportText.{SaysCards}
-use Rattle.session_text.proofs.Solved.{all_out_of, feasible_of}
 use Rattle.evac_top.proofs.PlanLemmas.{where-none, where-some}
 use Rattle.evac_top.proofs.plan.put_cards.Goals as goal
 
-pub put_cards-requires-clause-feasible : goal.put_cards-requires-clause-feasible
-put_cards-requires-clause-feasible g c = feasible_of c.args.session.now.state c.model.result.now c.model.ensures.model c.model.ensures.solved
-
-pub put_cards-requires-clause-all_out : goal.put_cards-requires-clause-all_out
-put_cards-requires-clause-all_out g c = all_out_of c.args.session.now.state c.model.result.now c.model.ensures.model c.model.ensures.solved
+pub put_cards-requires-clause-stands : goal.put_cards-requires-clause-stands
+put_cards-requires-clause-stands g c =
+    let model = c.model.ensures in stands_of c.args.session.now.state c.model.result.now model.model model.solved model.stands
 
 pub returns-in-Some : goal.returns-in-Some
 returns-in-Some g c =

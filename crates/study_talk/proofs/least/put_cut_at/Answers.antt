@@ -9,9 +9,9 @@ pub returns-in-Ok-clause-text : goal.returns-in-Ok-clause-text
 returns-in-Ok-clause-text g c =
     let s = c.args.session.now.state in
     let t = c.edit.new.self.state in
-    let text = cut_line c.args.by c.cut_value-value.result ++ in_lines t.model (label_cut t.model t.labels c.args.by) in (
+    let text = cut_line c.args.trial.by c.cut_value-value.result ++ in_lines t.model (label_cut t.model t.labels c.args.trial.by) in (
       text,
-      cut_said s t c.args.arc c.args.by c.args.rate c.cut_value-value.result text c.model.ensures.solved c.requires.arc c.requires.rate c.requires.by c.in-Ok.ensures.ends.2.0 c.requires.slow
+      cut_said s t c.args.trial.arc c.args.trial.by c.args.trial.rate c.cut_value-value.result text c.requires.solved c.requires.trial.arc c.requires.trial.rate c.requires.trial.by c.in-Ok.ensures.ends.2.0 c.requires.slow
           (rw (c.model-model.ensures.model, c.labels.ensures) at c.cut_value-value.ensures.value) refl,
       rw (c.model-model.ensures.model, c.labels-in-Ok.ensures) at c.put_cut.ensures,
     )
@@ -26,8 +26,9 @@ returns-in-Err-NotCleared-clause-text g c =
     let s = c.args.session.now in
     let t = c.edit.new.self in
     let f = c.in-Err-NotCleared in
+    let most = rw f.field-0-is at c.from.ensures in
     let text = cut_line s.state.model.horizon f.most ++ in_lines s.state.model (label_cut s.state.model t.refused s.state.model.horizon) in (
       text,
-      barred_said_by s t f.field-0 c.args.arc c.args.by c.args.rate f.field-0-0 f.most f.ensures.ends.0 text f.field-0-is f.ensures.ends.2 refl,
-      rw (c.model-model-in-Err-NotCleared.ensures.model, c.refused_cut-labels.ensures.labels, c.from.ensures, f.ensures.unchanged) at c.put_cut-in-Err-NotCleared.ensures,
+      barred_said_by s t f.field-0 c.args.trial.arc c.args.trial.by c.args.trial.rate f.field-0-0 f.most f.ensures.ends.0 text f.field-0-is f.ensures.ends.2 refl,
+      rw (c.model-model-in-Err-NotCleared.ensures.model, c.refused_cut-labels.ensures.labels, most, f.ensures.unchanged) at c.put_cut-in-Err-NotCleared.ensures,
     )

@@ -6,14 +6,14 @@ use Rattle.study_talk.proofs.least.put_moves_at.Goals as goal
 pub unreachable-requires : goal.unreachable-requires
 unreachable-requires g c =
     let e = c.in-Err.ensures.ends in
-    never_refused c.args.session.now c.edit.new.self c.in-Err.field-0 c.args.arc c.args.by c.args.rate e.0 c.model.ensures.solved c.requires.arc c.requires.rate c.requires.by c.requires.enough e.2
+    never_refused c.args.session.now c.edit.new.self c.in-Err.field-0 c.args.trial.arc c.args.trial.by c.args.trial.rate e.0 c.requires.solved c.requires.trial.arc c.requires.trial.rate c.requires.trial.by c.requires.enough e.2
 
 pub returns-clause-text : goal.returns-clause-text
 returns-clause-text g c =
     let t = c.edit.new.self.state in (
       move_lines t.model t.plan,
-      moves_said c.args.session.now.state t c.args.arc c.args.by c.args.rate (move_lines t.model t.plan) c.in-Ok.ensures.ends.2.0 c.requires.enough refl,
-      rw c.model-in-Ok.ensures.model at c.put_moves.ensures,
+      moves_said c.args.session.now.state t c.args.trial.arc c.args.trial.by c.args.trial.rate (move_lines t.model t.plan) c.in-Ok.ensures.ends.2.0 c.requires.enough refl,
+      rw c.model.ensures.model at c.put_moves.ensures,
     )
 
 pub returns-clause-counted : goal.returns-clause-counted

@@ -4,9 +4,9 @@ use Rattle.evac_law.specs.Limits.{rate_limit}
 use Rattle.study_talk.proofs.CertLemmas.{never_said, never_text}
 use Rattle.study_talk.proofs.least.put_no_rate.Goals as goal
 
-pub put_cut_at-requires-clause-rate : goal.put_cut_at-requires-clause-rate
+pub put_cut_at-requires-clause-trial : goal.put_cut_at-requires-clause-trial
 unfolding rate_limit
-put_cut_at-requires-clause-rate g c = omega arith
+put_cut_at-requires-clause-trial g c = record { arc = c.requires.arc; rate = omega arith; by = c.requires.by }
 
 pub put_cut_at-requires-clause-slow : goal.put_cut_at-requires-clause-slow
 unfolding rate_limit
@@ -18,7 +18,7 @@ returns-clause-text g c =
     let m = c.args.session.now.state.model in
     let a = c.args.arc in
     let k = c.args.by in
-    let line = rw c.model.ensures.model at c.put_never_line.ensures in
+    let line = rw c.model.ensures.model at c.put_never.ensures in
     let cut = c.put_cut_at.ensures.text in (
       never_text m a k cut.0,
       never_said m a k cut.0 c.requires.none cut.1,

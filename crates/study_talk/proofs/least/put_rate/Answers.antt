@@ -8,10 +8,10 @@ use Rattle.study_talk.proofs.least.put_rate.Goals as goal
 pub returns-clause-text : goal.returns-clause-text
 returns-clause-text g c =
     let m = c.args.session.now.state.model in
-    let a = c.args.arc in
-    let k = c.args.by in
-    let r = c.args.rate in
-    let line = rw c.model.ensures.model at c.put_rate_line.ensures in
+    let a = c.args.trial.arc in
+    let k = c.args.trial.by in
+    let r = c.args.trial.rate in
+    let line = rw c.model.ensures.model at c.put_least.ensures in
     let moves = c.put_moves_at.ensures.text in
     let cut = c.put_cut_below.ensures.text in
     let says = subst (λ (z : Model). SaysCutBelow z a k r cut.0) c.put_moves_at.ensures.stays.model cut.1 in (

@@ -5,8 +5,11 @@ use Rattle.what_if.specs.WhatIf.{AnswersOn}
 use Rattle.what_if.proofs.Cleared.{begun, begun-fit, not-begun}
 use Rattle.what_if.proofs.shut_exit.answer.Goals as goal
 
-pub shut-answer-requires : goal.shut-answer-requires
-shut-answer-requires g c =
+pub shut-answer-requires-clause-solved : goal.shut-answer-requires-clause-solved
+shut-answer-requires-clause-solved g c = c.in-Ok.ensures.2.0.solved
+
+pub shut-answer-requires-clause-names : goal.shut-answer-requires-clause-names
+shut-answer-requires-clause-names g c =
     let b = c.in-Ok.ensures in begun-fit c.args.names.now c.args.model c.in-Ok.session b.0 c.requires.names b.2
 
 pub returns-in-Ok : goal.returns-in-Ok

@@ -1,9 +1,7 @@
-use Rattle.std.proofs.Common.{subst, sym}
-use Rattle.session_talk.specs.Desks.{DeskView, IsDesk}
-use Rattle.session_talk.proofs.DeskLemmas.{desk_space, with_space}
+use Rattle.session_talk.proofs.DeskLemmas.{desk_seen, desk_space, with_space}
 use Rattle.session_talk.proofs.desk.Desk.put_bottlenecks.Goals as goal
 
 pub returns-clause-desk : goal.returns-clause-desk
 returns-clause-desk g c =
-    let h = (let P : DeskView → Type 0 = λ d. IsDesk d c.args.session.now in subst P (sym c.self.view_is) c.requires) in
-    with_space _ c.put_bottlenecks.new.space _ h (c.put_bottlenecks.ensures.space _ (desk_space _ _ h))
+    let desk = desk_seen c.self.view_is c.requires in
+    with_space _ c.put_bottlenecks.new.space _ desk (c.put_bottlenecks.ensures.space _ (desk_space _ _ desk))

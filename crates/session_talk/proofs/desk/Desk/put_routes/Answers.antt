@@ -1,14 +1,8 @@
-use Rattle.std.proofs.Common.{subst, sym}
-use Rattle.session_talk.specs.Desks.{DeskView, IsDesk}
-use Rattle.session_talk.proofs.DeskLemmas.{desk_site, with_routes}
+use Rattle.session_talk.proofs.DeskLemmas.{desk_seen, desk_site, with_routes}
 use Rattle.session_talk.proofs.desk.Desk.put_routes.Goals as goal
 
 pub put_routes-requires : goal.put_routes-requires
-put_routes-requires g c =
-    let h = (let P : DeskView → Type 0 = λ d. IsDesk d c.args.session.now in subst P (sym c.self.view_is) c.requires) in
-    record { site = desk_site _ _ h }
+put_routes-requires g c = record { site = desk_site _ _ (desk_seen c.self.view_is c.requires) }
 
 pub returns-clause-desk : goal.returns-clause-desk
-returns-clause-desk g c =
-    let h = (let P : DeskView → Type 0 = λ d. IsDesk d c.args.session.now in subst P (sym c.self.view_is) c.requires) in
-    with_routes _ c.put_routes.new.routes _ h c.put_routes.ensures.model
+returns-clause-desk g c = with_routes _ c.put_routes.new.routes _ (desk_seen c.self.view_is c.requires) c.put_routes.ensures.model
