@@ -37,7 +37,7 @@ const FAULTS: &[(&str, EditFault)] = &[
 // Makes each of these edits in a session, which is left like another.
 fn refuse_faults(rt: &impl Abort, editor: &mut Editor, like: &Session) -> Result<(), Fail> {
     for (line, fault) in FAULTS {
-        assert_eq!(rt; editor.edit(line)?, Err(EditRefusal::Fault(*fault)));
+        assert!(rt; editor.edit(line)? == Err(EditRefusal::Fault(*fault)));
         assert!(rt; stand_alike(&editor.session, like), "{line}");
     }
     Ok(())
@@ -99,7 +99,7 @@ fn refuse_in(
         people: case.people,
         most: case.most,
     };
-    assert_eq!(rt; editor.edit(case.edits[1])?, Err(refusal));
+    assert!(rt; editor.edit(case.edits[1])? == Err(refusal));
     assert!(rt; stand_alike(&editor.session, like));
     check_cut(
         rt,
@@ -166,9 +166,9 @@ fn try_both(
     most: u32,
 ) -> Result<(), Fail> {
     let refusal = EditRefusal::NotCleared { people, most };
-    assert_eq!(rt; editor.trial(tried)?, Err(refusal));
+    assert!(rt; editor.trial(tried)? == Err(refusal));
     let fault = EditRefusal::Fault(EditFault::AlreadyOpen);
-    assert_eq!(rt; editor.trial("openexit DS1.1")?, Err(fault));
+    assert!(rt; editor.trial("openexit DS1.1")? == Err(fault));
     let edits = ["room WP2.1 4", tried];
     check_cut(rt, alloc, &editor.session, NEAR_AND_FAR, &edits, most)
 }

@@ -34,10 +34,7 @@ fn is_settled<L: Ledger>(
     ensures standing { IsTrue result → IsStanding model.now net.new labels.new }
 {
     match settle_all(net, labels, search, 0, steps) {
-        Outcome::Cleared { .. } => {
-            let _ = net.shape();
-            true
-        }
+        Outcome::Cleared { .. } => net.shape().horizon() == model.horizon,
         Outcome::Short { .. } => false,
     }
 }

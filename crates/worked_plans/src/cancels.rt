@@ -12,7 +12,6 @@ use std::test::Fail;
 
 // Closes the second room's way at moment 0, takes its person off, and gives everything back.
 fn close_the_way<L: Ledger>(rt: &impl Abort, net: &mut Net, path: &mut Path, blank: Blank)
-    requires way { 2 < length net.old.site.shape.ends }
     requires room { net.old.site.shape.horizon + 2 ≤ path.old.room }
     requires name { blank.name ≡ L.name }
     requires parts { blank.parts ≡ L.parts }
@@ -21,8 +20,7 @@ fn close_the_way<L: Ledger>(rt: &impl Abort, net: &mut Net, path: &mut Path, bla
     let way = Place::Arc { arc: 2, moment: 0 };
     let mut steps = Steps::<L>::new(blank);
     net.save();
-    // What holds of every net bounds its supplies.
-    let _ = net.shape();
+    assert!(rt; net.shape().ends().len() > 2);
     net.set_limit(way, 0);
     assert_eq!(rt; net.excess(way), 1);
     if net.excess(way) > 0 {
@@ -39,7 +37,7 @@ fn close_the_way<L: Ledger>(rt: &impl Abort, net: &mut Net, path: &mut Path, bla
 // Closes the way in a net of two rooms, over a path of its own.
 fn close_in(rt: &(impl Abort + AllocGlobal), net: &mut Net) -> Result<(), Fail> {
     let mut path = Path::new(rt.alloc(), 22)?;
-    assert!(rt; net.shape().ends().len() > 2 && net.horizon() <= 20);
+    assert!(rt; net.horizon() <= 20);
     close_the_way::<Brand>(rt, net, &mut path, Blank::new(1));
     Ok(())
 }

@@ -52,20 +52,21 @@ const RESTS: &[Rest] = &[
     },
 ];
 
-// Edits a building, and carries its plan out.
+// Edits a building, and carries its plan out; tells whether nothing of it was refused.
 fn carry_out<L: Ledger>(
     alloc: Global,
     replan: &mut Replan,
     names: &Names,
     rest: &Rest,
     steps: &mut Steps<L>,
-) -> Result<(), Fail> {
+) -> Result<bool, Fail> {
     for line in rest.edits {
         let edit = edit_said(replan.session().model(), names, line)?;
-        replan.edit(edit, steps)?;
+        if replan.edit(edit, steps).is_err() {
+            return Ok(false);
+        }
     }
-    replan.advance(alloc, rest.moment, steps)?;
-    Ok(())
+    Ok(replan.advance(alloc, rest.moment, steps).is_ok())
 }
 
 // Just these people come into a building.
@@ -102,7 +103,8 @@ fn check_counted<L: Ledger>(
         rest.comers,
     );
     drop(replan);
-    carried
+    assert!(rt; carried?);
+    Ok(())
 }
 
 // Just the people who are left come into what is left of a building.

@@ -52,7 +52,7 @@ const ROWS: &[(u32, Option<ExitRow>)] = &[
 fn study_all(rt: &impl Abort, session: &mut Session) {
     assert!(rt; stands(session));
     for (node, want) in ROWS {
-        assert_eq!(rt; study::<Brand>(session, *node, Blank::new(1)), *want);
+        assert!(rt; study::<Brand>(session, *node, Blank::new(1)) == *want);
         assert!(rt; stands(session));
     }
 }

@@ -39,7 +39,7 @@ fn try_all(
     trials: &[Trial],
 ) -> Result<(), Fail> {
     for (line, answer) in trials {
-        assert_eq!(rt; editor.trial(line)?, *answer, "{line}");
+        assert!(rt; editor.trial(line)? == *answer, "{line}");
         assert_eq!(rt; editor.session.cleared(), cleared, "{line}");
         assert_eq!(rt; editor.session.kept(), kept, "{line}");
     }
