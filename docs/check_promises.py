@@ -6,7 +6,7 @@
 - In the tables below a heading that names crates each name in the right column must be a definition, a function, a clause or a field of one of them.
 - In DEFINITIONS.md each name must be defined in a file that its row links.
 - EDITS.md must have just the edits of each crate's must-fail/, and each name there must be in that crate, or be a definition.
-- In LAWS.md each block of definitions must be in the file that is linked last before it.
+- In LAWS.md each block of definitions must be in the file that is linked last before it, and all of building_laws must be in one.
 - The files of lemmas that CONTRIBUTING.md maps must be in `proofs/` of the crate named before them.
 - In every document each link must lead to a file, and to a heading of it.
 - The tables of codes and of statuses in FORMATS.md must have just the numbers of `Code` and of `Status`, and these have each number once.
@@ -38,6 +38,7 @@ ROWS = ("PROVED.md", "ALGORITHM.md")
 FILE_LIMIT, BODY_LIMIT = 400, 50
 LONG_FILES = {"building_table/src/builder.rt", "residual_net/src/net.rt"}
 LONG_BODIES = {"building_table/src/commands.rt: edit_of"}
+PUBLIC = re.compile(r"(?m)^(?:(?:abbrev|unfoldable) )?pub (?:(?:record|data) )?(?!use |mod )(\S+)")
 DEFINED = re.compile(r"(?m)^\s*(?:(?:abbrev|unfoldable|record|data|pub(?:\(crate\))?|struct|enum|trait|const|fn|type|ghost)\s+)+(\w+)")
 
 USES = [re.compile(form) for form in (r"\bRattle\.(\w+)\.", r"\b(\w+)::", r"\buse (\w+)\b")]
@@ -172,13 +173,16 @@ def missing_rows(document):
 
 
 def missing_statements(document):
-    """Blocks of definitions in LAWS.md whose parts the file that is linked last before them doesn't have."""
+    """Parts of blocks in LAWS.md that the file linked last before them doesn't have, and definitions of building_laws that no block has."""
     before, *blocks = document.read_text().split("```antt\n")
     for block in blocks:
         shown, _, after = block.partition("\n```")
         files = [text for text in (text_of(document, link) for link in LINK.findall(before)) if text]
         yield from (f"{document.name}: no {part[:60]!r}" for part in shown.split("\n\n") if not files or part not in files[-1])
         before += after
+    shown = "\n".join(block.partition("\n```")[0] for block in blocks)
+    laws = [read(path) for path in sorted((TOP / "crates/building_laws/specs").glob("*.antt"))]
+    yield from (f"{document.name}: {name} isn't read aloud" for text in laws for name in PUBLIC.findall(text) if name not in PUBLIC.findall(shown))
 
 
 def edits_of(document):
@@ -247,7 +251,7 @@ def names_of_two():
     """The names that two modules of definitions define, and the types of two crates without those of tests, each with its crates."""
     modules, types = collections.defaultdict(set), collections.defaultdict(set)
     for crate, file, text in sources("specs/*.antt"):
-        for name in re.findall(r"(?m)^(?:(?:abbrev|unfoldable) )?pub (?:(?:record|data) )?(?!use |mod )(\S+)", text):
+        for name in PUBLIC.findall(text):
             modules[name].add((crate, file))
     for crate, _, text in sources("src/*.rt"):
         if not crate.startswith("worked_"):
