@@ -3,25 +3,12 @@ use Rattle.std.proofs.Common.{◌≡◌, ℕ, zero, suc, ◌+◌, ◌-◌, ◌<�
 use Rattle.std.specs.List.{sum_by}
 use Rattle.std.proofs.lemmas.Bool.{cases_Bool, cases_lt, lt-leb, le-leb}
 use Rattle.evac_law.specs.Sums.{below}
-use Rattle.evac_law.proofs.SumLemmas.{sum_below-suc}
+use Rattle.evac_law.proofs.SumLemmas.{All-below, sum_below-le, sum_below-suc, sum_by-le_all}
 
 -- ---- sums over the first moments
 
-pub longer : (f : ℕ → ℕ) (d n : ℕ) → d ≤ n → sum_by f (below d) ≤ sum_by f (below n)
-longer f d zero l = let same : d ≡ 0 = omega arith in rw same (omega arith)
-longer f d (suc n) l = elim (cases_lt d (suc n)) [
-  | inl less ↦ omega (arith, sum_below-suc f n, longer f d n (omega arith))
-  | inr last ↦ let same : d ≡ suc n = omega arith in rw same (omega arith)
-]
-
 pub termwise : (f g : ℕ → ℕ) (n : ℕ) → ((t : ℕ) → t < n → f t ≤ g t) → sum_by f (below n) ≤ sum_by g (below n)
-termwise f g zero h = omega arith
-termwise f g (suc n) h =
-    omega (arith, sum_below-suc f n, sum_below-suc g n, h n (omega arith), termwise f g n (λ t l. h t (omega arith)))
-
-pub added : (f g : ℕ → ℕ) (n : ℕ) → sum_by (λ t. f t + g t) (below n) ≡ sum_by f (below n) + sum_by g (below n)
-added f g zero = refl
-added f g (suc n) = omega (arith, sum_below-suc f n, sum_below-suc g n, sum_below-suc (λ t. f t + g t) n, added f g n)
+termwise f g n h = sum_by-le_all f g (below n) (All-below (λ t. f t ≤ g t) n h)
 
 -- terms that are no smaller, and one that is greater by w
 pub one_more : (f g : ℕ → ℕ) (w n i : ℕ) → i < n → ((j : ℕ) → j < n → f j ≤ g j) → f i + w ≤ g i → sum_by f (below n) + w ≤ sum_by g (below n)
@@ -45,8 +32,7 @@ abbrev pub misses : (ℕ → Bool) → ℕ → ℕ
 misses b n = sum_by (λ t. cond (b t) 0 1) (below n)
 
 one_or_other : (b : Bool) → cond b 1 0 + cond b 0 1 ≡ 1
-one_or_other true = refl
-one_or_other false = refl
+one_or_other b = grind arith
 
 pub hits_and_misses : (b : ℕ → Bool) (n : ℕ) → count b n + misses b n ≡ n
 hits_and_misses b zero = refl
@@ -111,7 +97,7 @@ clipped f k (suc n) =
       | inr in_time ↦
           let one : cond (leb n k) (f n) 0 ≡ f n = ap (λ z. cond z (f n) 0) (le-leb n k in_time) in
           let first = termwise (λ s. cond (leb s k) (f s) 0) f n (λ t l. grind arith) in
-          omega (arith, step, one, first, sum_below-suc f n, longer f (suc n) (k + 1) (omega arith))
+          omega (arith, step, one, first, sum_below-suc f n, sum_below-le f (suc n) (k + 1) (omega arith))
     ]
 
 ended : (f : ℕ → ℕ) (d k n : ℕ)

@@ -1,5 +1,5 @@
 -- A cut of a building with other rates, w moments later, is worth no less than one of the building itself.
-use Rattle.std.proofs.Common.{◌≡◌, ◌≢◌, ℕ, ◌+◌, ◌<◌, ◌≤◌, Bool, true, false, cond, not, ◌&&◌, ◌||◌, eqb, leb, List, [], length, get_or, refl, ap, ap₂, ◌∙◌, arith, inl, inr}
+use Rattle.std.proofs.Common.{◌≡◌, ◌≢◌, ℕ, ◌+◌, ◌<◌, ◌≤◌, Bool, true, cond, not, ◌&&◌, ◌||◌, eqb, leb, List, [], length, get_or, ap, ap₂, ◌∙◌, arith, inl, inr}
 use Rattle.std.specs.List.{sum_by}
 use Rattle.std.proofs.Math.Nat.{mul-le-mul_left}
 use Rattle.std.proofs.lemmas.Bool.{cases_eq, eqb-true}
@@ -11,13 +11,13 @@ use Rattle.evac_law.specs.Names.{is_exit}
 use Rattle.evac_law.specs.Plans.{IsFeasible, out_by}
 use Rattle.evac_law.specs.Sums.{below, moments_to}
 use Rattle.evac_law.proofs.Optimal.{out_le_people}
-use Rattle.evac_law.proofs.SumLemmas.{sum_below-same, sum_moments-le}
+use Rattle.evac_law.proofs.SumLemmas.{sum_below-same, sum_by-add, sum_moments-le}
 use Rattle.evac_law.proofs.Thinned.{all_out_is_clearable}
 use Rattle.evac_law.proofs.WeakDuality.{out_le_value}
 use Rattle.building_laws.specs.Delays.{DelaysBy, DifferInRates, IsDisturbed}
 use Rattle.building_laws.specs.Duality.{IsBestAt}
 use Rattle.building_laws.specs.Rooms.{HasRoomForEntries, HasSteadyRates}
-use Rattle.building_laws.proofs.Counts.{added, count, hits_and_misses, termwise}
+use Rattle.building_laws.proofs.Counts.{count, hits_and_misses, termwise}
 use Rattle.building_laws.proofs.Duality.{best_of, cut_of, staying}
 use Rattle.building_laws.proofs.Gaps.{arc_shrinks, arc_worth, few_fewer, fewer, gap, gap_closes, gap_is, node_shrinks}
 use Rattle.building_laws.proofs.WaitingCut.{arc_le, from_moments, moments_outside, nodes_and_arcs, of_arc, of_node, rate_times, waiting_arc, waiting_node}
@@ -114,15 +114,10 @@ module _ (m m' : Model) (d : DifferInRates m m') where
 
 -- what is taken where the rate is the usual one
 usual : (b s : Bool) → cond b 1 0 ≤ cond (b && s) 1 0 + cond s 0 1
-usual true true = omega arith
-usual true false = omega arith
-usual false true = omega arith
-usual false false = omega arith
+usual b s = grind arith
 
 usual_rate : (b s : Bool) (u r : ℕ) → (s ≡ true → u ≡ r) → cond (b && s) r 0 ≤ cond b u 0
-usual_rate true true u r e = omega (arith, e refl)
-usual_rate true false u r e = omega arith
-usual_rate false s u r e = omega arith
+usual_rate b s u r h = grind arith
 
 module _ (m m' : Model) (a w : ℕ) (d : IsDisturbed m m' a w) (steady : HasSteadyRates m) (room : HasRoomForEntries m) (x : Cut) (k : ℕ)
     (l : k + w ≤ m.horizon) where
@@ -161,7 +156,7 @@ module _ (m m' : Model) (a w : ℕ) (d : IsDisturbed m m' a w) (steady : HasStea
         gap_is (is_exit_at m (head m a)) (k + w) (arc_at m a).travel (outside (tail m a)) (outside (head m a)) (few (head m a)),
         termwise (λ t. cond (leaves_cut m x (k + w) t a) 1 0) (λ t. cond (kept t) 1 0 + cond (eqb (rate m' a t) (rate m a t)) 0 1) ((k + w) + 1)
             (λ t _. usual (leaves_cut m x (k + w) t a) (eqb (rate m' a t) (rate m a t))),
-        added (λ t. cond (kept t) 1 0) (λ t. cond (eqb (rate m' a t) (rate m a t)) 0 1) ((k + w) + 1),
+        sum_by-add (λ t. cond (kept t) 1 0) (λ t. cond (eqb (rate m' a t) (rate m a t)) 0 1) (below ((k + w) + 1)),
         sum_moments-le (λ t. cond (eqb (rate m' a t) (rate m a t)) 0 1) (k + w) m.horizon l,
         d.seldom,
       )

@@ -1,6 +1,6 @@
 -- A best plan and a least cut: a plan is made better by one person at a time until a cut shows that it is best.
 use Rattle.std.proofs.Common.{◌≡◌, ℕ, zero, suc, ◌+◌, ◌<◌, ◌≤◌, Bool, true, false, not, ◌&&◌, ◌||◌, ◌⊎◌, ltb, leb, List, [], length, refl, ap, sym, ◌∙◌, subst, add-one, arith, inl, inr, IsTrue, IsFalse, pos}
-use Rattle.std.proofs.lemmas.Bool.{and_parts, both_ways, leb-true, not-true, cases_Bool, cases_lt, ltb-false, le-leb, lt-ltb, not_from_false, not-false, or_parts}
+use Rattle.std.proofs.lemmas.Bool.{and_parts, leb-true, not-true, cases_Bool, cases_lt, ltb-false, le-leb, lt-ltb, not_from_false, not-false, or_parts}
 use Rattle.std.proofs.lemmas.Int.{ints}
 use Rattle.std.proofs.lemmas.List.Elements.{All-nil}
 use Rattle.evac_law.specs.declared.model.Model.{Model}
@@ -22,18 +22,13 @@ use Rattle.building_laws.proofs.Tables.{IsFlow, before, comes, comes_least, flow
 -- ---- a closed set is a tight cut
 
 last3 : (p q s : Bool) → (p && (q && s)) ≡ false → p ≡ true → q ≡ true → s ≡ false
-last3 true true s e a b = e
-last3 true false s e a b = absurd (cc)
-last3 false q s e a b = absurd (cc)
+last3 p q s e a b = grind arith
 
 last5 : (p q r s t : Bool) → (p && (q && (r && (s && t)))) ≡ false → p ≡ true → q ≡ true → r ≡ true → s ≡ true → t ≡ false
-last5 true true r s t e a b c d = last3 r s t e c d
-last5 true false r s t e a b c d = absurd (cc)
-last5 false q r s t e a b c d = absurd (cc)
+last5 p q r s t e a b c d = grind arith
 
 exit_or_not : (e r : Bool) → (e || not r) ≡ true → e ≡ false → not r ≡ true
-exit_or_not true r h f = absurd (cc)
-exit_or_not false r h f = h
+exit_or_not e r h f = grind arith
 
 module _ (m : Model) (q : List Move) (z k : ℕ) (by_z : k ≤ z) (valid : IsValid m) (feasible : IsFeasible m q z) where
   abbrev f : ℕ → ℕ → ℕ
@@ -120,8 +115,7 @@ module _ (m : Model) (q : List Move) (z k : ℕ) (by_z : k ≤ z) (valid : IsVal
     outside n t l e = first (r n t) (leb t k) e (le-leb t k l)
       where
         first : (p q : Bool) → (p && q) ≡ false → q ≡ true → p ≡ false
-        first true q e a = absurd (both_ways q e a)
-        first false q e a = refl
+        first p q h i = grind arith
 
     inside : (n t : ℕ) → IsTrue (cut n t) → (r n t ≡ true) × (t ≤ k)
     inside n t e = let parts = and_parts (r n t) (leb t k) e in (parts.0, leb-true t k parts.1)
@@ -167,8 +161,7 @@ module _ (m : Model) (q : List Move) (z k : ℕ) (by_z : k ≤ z) (valid : IsVal
         ]
       where
         rest : (p q : Bool) → (p && q) ≡ false → p ≡ true → q ≡ false
-        rest true q e a = e
-        rest false q e a = absurd (cc)
+        rest p q e a = grind arith
 
     tight : IsTight m q cut k
     tight = record {

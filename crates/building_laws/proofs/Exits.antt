@@ -85,46 +85,20 @@ pair_le n k a b c d h =
     omega (arith, sum2-le n k (λ i j. a i j + b i j) (λ i j. c i j + d i j) h, sum2-add n k a b, sum2-add n k c d)
 
 entry_pair : (x y z : Bool) (p : ℕ) → cond ((x && y) || z) 0 p + cond ((x || y) || z) 0 p ≤ cond (x || z) 0 p + cond (y || z) 0 p
-entry_pair true true z p = omega arith
-entry_pair true false z p = omega arith
-entry_pair false true z p = omega arith
-entry_pair false false z p = omega arith
+entry_pair x y z p = grind arith
 
 hold_pair : (x y u v : Bool) (c : ℕ)
     → cond ((x && y) && not (u && v)) c 0 + cond ((x || y) && not (u || v)) c 0 ≤ cond (x && not u) c 0 + cond (y && not v) c 0
-hold_pair true true true true c = omega arith
-hold_pair true true true false c = omega arith
-hold_pair true true false true c = omega arith
-hold_pair true true false false c = omega arith
-hold_pair true false true true c = omega arith
-hold_pair true false true false c = omega arith
-hold_pair true false false true c = omega arith
-hold_pair true false false false c = omega arith
-hold_pair false true true true c = omega arith
-hold_pair false true true false c = omega arith
-hold_pair false true false true c = omega arith
-hold_pair false true false false c = omega arith
-hold_pair false false u v c = omega arith
+hold_pair x y u v c = grind arith
 
 inner_pair : (i x y u v : Bool) (r : ℕ)
     → cond ((x && y) && (i && not (u && v))) r 0 + cond ((x || y) && (i && not (u || v))) r 0
     ≤ cond (x && (i && not u)) r 0 + cond (y && (i && not v)) r 0
-inner_pair true x y u v r = hold_pair x y u v r
-inner_pair false true true u v r = omega arith
-inner_pair false true false u v r = omega arith
-inner_pair false false true u v r = omega arith
-inner_pair false false false u v r = omega arith
+inner_pair i x y u v r = grind arith
 
 exit_pair : (i x y : Bool) (r s w b : ℕ) → b ≤ s → b ≤ w → r + b ≤ s + w
     → cond ((x && y) && (i && true)) r 0 + cond ((x || y) && (i && true)) b 0 ≤ cond (x && (i && true)) s 0 + cond (y && (i && true)) w 0
-exit_pair true true true r s w b f g h = omega arith
-exit_pair true true false r s w b f g h = omega arith
-exit_pair true false true r s w b f g h = omega arith
-exit_pair true false false r s w b f g h = omega arith
-exit_pair false true true r s w b f g h = omega arith
-exit_pair false true false r s w b f g h = omega arith
-exit_pair false false true r s w b f g h = omega arith
-exit_pair false false false r s w b f g h = omega arith
+exit_pair i x y r s w b h j k = grind arith
 
 -- the rates of four models: they agree but on arcs into exits, and there the first and the last are together at most the two others
 record AreFour (m : Model) (r s w b : ℕ → ℕ → ℕ) : Type 0 where
@@ -189,9 +163,7 @@ module _ (m : Model) (e : ℕ) (l : e < length m.nodes) where
   shut = with_node m e (record (node_at m e) { shut = true })
 
   pick : (b p q c : Bool) (h : Bool) (w : ℕ) → h ≡ cond b true q → cond (p || h || c) 0 w ≡ cond b 0 (cond (p || q || c) 0 w)
-  pick true true q c h w i = refl
-  pick true false q c h w i = rw i refl
-  pick false p q c h w i = rw i refl
+  pick b p q c h w i = grind arith
 
   shut_at : (n : ℕ) → (node_at shut n).shut ≡ cond (eqb n e) true (node_at m n).shut
   shut_at n = elim (cases_Bool (eqb n e)) [
@@ -238,16 +210,11 @@ both_alike m s w d g = record {
 
 four_rates : (p q : Bool) (r s w b : ℕ) → (p ≡ true → q ≡ true → ⊥) → s ≡ cond p 0 r → w ≡ cond q 0 r → b ≡ cond q 0 s
     → (b ≤ s) × (b ≤ w) × (r + b ≤ s + w)
-four_rates true true r s w b h e f g = absurd (h refl refl)
-four_rates true false r s w b h e f g = (omega (arith, e, f, g), omega (arith, e, f, g), omega (arith, e, f, g))
-four_rates false true r s w b h e f g = (omega (arith, e, f, g), omega (arith, e, f, g), omega (arith, e, f, g))
-four_rates false false r s w b h e f g = (omega (arith, e, f, g), omega (arith, e, f, g), omega (arith, e, f, g))
+four_rates p q r s w b h e f g = (grind arith, grind arith, grind arith)
 
 same_rates : (p q : Bool) (r s w b : ℕ) → p ≡ false → q ≡ false → s ≡ cond p 0 r → w ≡ cond q 0 r → b ≡ cond q 0 s
     → (r ≡ s) × (s ≡ w) × (w ≡ b)
-same_rates true q r s w b h i e f g = absurd (both_ways true h refl)
-same_rates false true r s w b h i e f g = absurd (both_ways true i refl)
-same_rates false false r s w b h i e f g = (sym e, e ∙ sym f, f ∙ sym e ∙ sym g)
+same_rates p q r s w b h i e f g = (grind arith, grind arith, grind arith)
 
 module _ (m s w b : Model) (e f : ℕ) (apart : e ≢ f) (one : Shuts m s e) (other : Shuts m w f) (both : Shuts s b f)
     (exit_e : is_exit_at m e ≡ true) (exit_f : is_exit_at m f ≡ true) where

@@ -1,5 +1,5 @@
 -- What a cut takes that has each node from a moment of its own on, and what it takes where some moments are left out.
-use Rattle.std.proofs.Common.{◌≡◌, ℕ, ◌+◌, ◌-◌, ◌*◌, ◌<◌, ◌≤◌, Bool, true, false, cond, not, ◌&&◌, ◌||◌, eqb, leb, [], length, min, max, ap, ◌∙◌, arith}
+use Rattle.std.proofs.Common.{◌≡◌, ℕ, ◌+◌, ◌-◌, ◌*◌, ◌<◌, ◌≤◌, Bool, true, cond, not, ◌&&◌, ◌||◌, eqb, leb, [], length, min, max, ap, ◌∙◌, arith}
 use Rattle.std.specs.List.{sum_by}
 use Rattle.std.proofs.Math.Nat.{mul-le-mul_left}
 use Rattle.std.proofs.lemmas.Bool.{lt-ltb}
@@ -7,34 +7,35 @@ use Rattle.std.proofs.lemmas.Bool.Decides.{nat_tests}
 use Rattle.evac_law.specs.declared.model.Model.{Model}
 use Rattle.evac_law.specs.Building.{arc_at, capacity, entry, head, is_exit_at, no_node, people, rate, start, tail}
 use Rattle.evac_law.specs.Cuts.{cut_value, leaves_cut}
-use Rattle.evac_law.specs.Sums.{below, moments_to, places}
-use Rattle.evac_law.proofs.SumLemmas.{sum_below-pick, sum_by-same, sum_places}
+use Rattle.evac_law.specs.Sums.{moments_to, places}
+use Rattle.evac_law.proofs.SumLemmas.{sum_below-le, sum_below-pick, sum_by-same, sum_places}
 use Rattle.building_laws.specs.Rooms.{HasSteadyRates}
-use Rattle.building_laws.proofs.Counts.{count, longer, run_all, run_count, termwise}
+use Rattle.building_laws.proofs.Counts.{count, run_all, run_count, termwise}
 use Rattle.building_laws.proofs.Plain.{start_alone}
-use Rattle.building_laws.proofs.WaitingCut.{at_rate, from_moments, into_exit, into_node, leaves, no_holds, nodes_and_arcs, of_arc, of_node}
+use Rattle.building_laws.proofs.WaitingCut.{at_rate, from_moments, into_end, leaves, no_holds, nodes_and_arcs, of_arc, of_node}
 
 -- ---- arcs
 
-exit_back : (f d k t : ℕ) → f ≤ t → t < (k + 1) - d → (leb f t && (leb (t + d) k && true)) ≡ true
-exit_back f d k t l h = grind (arith, nat_tests)
+back_from : (exit : Bool) (f g d k t : ℕ) → g ≤ k + 1 → f ≤ t → t < cond exit (k + 1) g - d
+    → (leb f t && (leb (t + d) k && (exit || not (leb g (t + d))))) ≡ true
+back_from exit f g d k t s l h = grind (arith, nat_tests)
 
-node_back : (f g d k t : ℕ) → g ≤ k + 1 → f ≤ t → t < g - d → (leb f t && (leb (t + d) k && not (leb g (t + d)))) ≡ true
-node_back f g d k t s l h = grind (arith, nat_tests)
+ends_in : (exit : Bool) (g d k : ℕ) → g ≤ k + 1 → cond exit (k + 1) g - d ≤ k + 1
+ends_in exit g d k l = grind arith
 
 -- the moments by which the cut has the head of an arc too late for those who go along it
 abbrev pub gap : Bool → ℕ → ℕ → ℕ → ℕ → ℕ
 gap exit k d f g = cond exit (k + 1) g - (d + f)
 
 pub gap_is : (exit : Bool) (k d f g : ℕ) → g ≤ k + 1 → count (leaves (λ t. leb f t) (λ t. leb g t) exit d k) (k + 1) ≡ gap exit k d f g
-gap_is true k d f g few =
-    let most = run_count (leaves (λ t. leb f t) (λ t. leb g t) true d k) f ((k + 1) - d) (k + 1) (into_exit f d k) in
-    let least = run_all (leaves (λ t. leb f t) (λ t. leb g t) true d k) f ((k + 1) - d) (k + 1) (omega arith) (exit_back f d k) in
-    omega (arith, most, least)
-gap_is false k d f g few =
-    let most = run_count (leaves (λ t. leb f t) (λ t. leb g t) false d k) f (g - d) (k + 1) (into_node f g d k) in
-    let least = run_all (leaves (λ t. leb f t) (λ t. leb g t) false d k) f (g - d) (k + 1) (omega (arith, few)) (λ t. node_back f g d k t few) in
-    omega (arith, most, least)
+gap_is exit k d f g few =
+    let test = leaves (λ t. leb f t) (λ t. leb g t) exit d k in
+    let end = cond exit (k + 1) g - d in
+    omega (
+      arith,
+      run_count test f end (k + 1) (into_end exit f g d k),
+      run_all test f end (k + 1) (ends_in exit g d k few) (λ t. back_from exit f g d k t few),
+    )
 
 pub arc_worth : (m : Model) → HasSteadyRates m → (f : ℕ → ℕ) (k a : ℕ) → k ≤ m.horizon → a < length m.arcs → ((n : ℕ) → f n ≤ k + 1)
     → of_arc m k (from_moments f) a ≡ rate m a 0 * gap (is_exit_at m (head m a)) k (arc_at m a).travel (f (tail m a)) (f (head m a))
@@ -81,13 +82,11 @@ abbrev pub without_moments : ℕ → ℕ → ℕ → ℕ → ℕ
 without_moments c k w x = min (k + 1) (max (min x c) (x - w))
 
 pub gap_shrinks : (exit : Bool) (c k w d f g : ℕ) → gap exit k d (without_moments c k w f) (without_moments c k w g) ≤ gap exit (k + w) d f g
-gap_shrinks true c k w d f g = omega arith
-gap_shrinks false c k w d f g = omega arith
+gap_shrinks exit c k w d f g = grind arith
 
 -- where c is when the cut has the tail, the gap closes by w, or whole
 pub gap_closes : (exit : Bool) (k w d f g : ℕ) → gap exit k d (without_moments f k w f) (without_moments f k w g) + w ≤ max w (gap exit (k + w) d f g)
-gap_closes true k w d f g = omega arith
-gap_closes false k w d f g = omega arith
+gap_closes exit k w d f g = grind arith
 
 module _ (m : Model) (k w c : ℕ) (f : ℕ → ℕ) (few : (n : ℕ) → f n ≤ (k + w) + 1) where
   abbrev pub fewer : ℕ → ℕ
@@ -107,7 +106,7 @@ module _ (m : Model) (k w c : ℕ) (f : ℕ → ℕ) (few : (n : ℕ) → f n �
         no_holds (fewer n) k (capacity m n),
         termwise (λ t. cond (leb (fewer n) t || eqb (entry m n t) 0) 0 (entry m n t)) part (k + 1)
             (λ t l. sooner (f n) (fewer n) t (entry m n t) (omega arith)),
-        longer part (k + 1) ((k + w) + 1) (omega arith),
+        sum_below-le part (k + 1) ((k + w) + 1) (omega arith),
       )
 
   module _ (l : k + w ≤ m.horizon) (steady : HasSteadyRates m) where

@@ -1,14 +1,14 @@
 -- From a flow either one with one person more out, or a set of pairs that no one can leave: it grows pair by pair, each with a flow that has a
 -- person too many there.
 use Rattle.std.proofs.Common.{◌≡◌, ℕ, zero, suc, ◌+◌, ◌-◌, ◌<◌, ◌≤◌, Bool, true, false, cond, not, ◌&&◌, ◌||◌, ◌⊎◌, eqb, ltb, leb, length, refl, ap, ap₂, sym, ◌∙◌, arith, inl, inr, IsFalse, subst}
-use Rattle.std.proofs.lemmas.Bool.{both_ways, cases_Bool, cases_lt, eq-eqb, leb-true, lt-ltb, ltb-true, not-true, or_cases, or_parts}
+use Rattle.std.proofs.lemmas.Bool.{both_ways, cases_lt, eq-eqb, leb-true, lt-ltb, ltb-true, not-true, or_cases, or_parts}
 use Rattle.std.proofs.lemmas.Bool.Decides.{nat_tests}
 use Rattle.evac_law.specs.declared.model.Model.{Model}
 use Rattle.evac_law.specs.Building.{IsValid, arrival, capacity, head, is_exit_at, rate, tail}
-use Rattle.evac_law.proofs.SumLemmas.{gather_one, sum2, sum2-add, sum2-le}
+use Rattle.evac_law.proofs.SumLemmas.{gather_one, same_pair, sum2, sum2-add, sum2-le}
 use Rattle.evac_law.proofs.ValidLemmas.{arc_is, head_in, tail_in}
 use Rattle.building_laws.proofs.Counts.{found}
-use Rattle.building_laws.proofs.Steps.{come_back, end_here, go, go_back, go_out, stay_back, wait, wait_back}
+use Rattle.building_laws.proofs.Steps.{come_back, end_here, go, go_back, go_out, off_pair, stay_back, wait, wait_back}
 use Rattle.building_laws.proofs.Tables.{IsFlow, gone, gone_more, one_added, one_taken, point}
 
 -- ---- a pair that passes a test, or none does
@@ -27,35 +27,23 @@ found2 b (suc n) k = elim (found2 b n k) [
   ]
 ]
 
--- three and four tests at once
+-- three and five tests at once
 and3 : (p q r : Bool) → (p && (q && r)) ≡ true → (p ≡ true) × (q ≡ true) × (r ≡ true)
-and3 true true true e = (refl, refl, refl)
-and3 true true false e = absurd (both_ways false refl e)
-and3 true false r e = absurd (both_ways false refl e)
-and3 false q r e = absurd (both_ways false refl e)
+and3 p q r e = (grind arith, grind arith, grind arith)
 
 and5 : (p q r s t : Bool) → (p && (q && (r && (s && t)))) ≡ true → (p ≡ true) × (q ≡ true) × (r ≡ true) × (s ≡ true) × (t ≡ true)
-and5 true true true true true e = (refl, refl, refl, refl, refl)
-and5 true true true true false e = absurd (both_ways false refl e)
-and5 true true true false t e = absurd (both_ways false refl e)
-and5 true true false s t e = absurd (both_ways false refl e)
-and5 true false r s t e = absurd (both_ways false refl e)
-and5 false q r s t e = absurd (both_ways false refl e)
+and5 p q r s t e = (grind arith, grind arith, grind arith, grind arith, grind arith)
 
 -- ---- sets of pairs
 
 abbrev with_pair : (ℕ → ℕ → Bool) → ℕ → ℕ → ℕ → ℕ → Bool
 with_pair r n t i s = r i s || (eqb n i && eqb t s)
 
-pair_is : (n t i s : ℕ) → (eqb n i && eqb t s) ≡ true → (n ≡ i) × (t ≡ s)
-pair_is n t i s e = (grind (arith, nat_tests), grind (arith, nat_tests))
-
 pair_in : (r : ℕ → ℕ → Bool) (n t : ℕ) → with_pair r n t n t ≡ true
 pair_in r n t = last (r n t) (eqb n n) (eqb t t) (eq-eqb n n refl) (eq-eqb t t refl)
   where
     last : (b c d : Bool) → c ≡ true → d ≡ true → (b || (c && d)) ≡ true
-    last true c d e f = refl
-    last false c d e f = rw e f
+    last b c d e f = grind arith
 
 module _ (m : Model) (z k : ℕ) (by_z : k ≤ z) (valid : IsValid m) (f h : ℕ → ℕ → ℕ) (flow : IsFlow m z f h (λ _ _. 0)) where
   -- an arc at a moment that has to stay the same: into an exit by k, or with an end outside the set
@@ -107,12 +95,12 @@ module _ (m : Model) (z k : ℕ) (by_z : k ≤ z) (valid : IsValid m) (f h : ℕ
   grown_by r n t grown i e l new = record {
     inside = λ c s b. elim (or_cases (r c s) (eqb n c && eqb t s) b) [
       | inl old ↦ grown.inside c s old
-      | inr here ↦ let pair = pair_is n t c s here in
+      | inr here ↦ let pair = same_pair n c t s here in
           (omega (arith, i, pair.0), subst (λ x. is_exit_at m x ≡ false) pair.0 e, omega (arith, l, pair.1))
     ];
     witness = λ c s b. elim (or_cases (r c s) (eqb n c && eqb t s) b) [
       | inl old ↦ wider r n t c s (grown.witness c s old)
-      | inr here ↦ let pair = pair_is n t c s here in
+      | inr here ↦ let pair = same_pair n c t s here in
           subst (λ x. Witness (with_pair r n t) x s) pair.0 (subst (λ y. Witness (with_pair r n t) n y) pair.1 new)
     ];
   }
@@ -186,10 +174,7 @@ module _ (m : Model) (z k : ℕ) (by_z : k ≤ z) (valid : IsValid m) (f h : ℕ
   -- an arc whose ends are both in the set isn't one that has to stay the same
   apart_arc : (r : ℕ → ℕ → Bool) (a t b s : ℕ) → is_exit_at m (head m a) ≡ false → r (tail m a) t ≡ true → r (head m a) (arrival m a t) ≡ true
       → IsFixed r b s → point a t b s ≡ 0
-  apart_arc r a t b s e p q off = elim (cases_Bool (eqb a b && eqb t s)) [
-    | inr away ↦ ap (λ y. cond y 1 0) away
-    | inl same ↦ let pair = pair_is a t b s same in absurd (clash off pair.0 pair.1)
-  ]
+  apart_arc r a t b s e p q off = off_pair a b t s (clash off)
     where
       clash : IsFixed r b s → a ≡ b → t ≡ s → ⊥
       clash (inl exit) x y = both_ways (is_exit_at m (head m b)) (sym (ap (λ c. is_exit_at m (head m c)) x) ∙ e) exit.0
@@ -197,10 +182,7 @@ module _ (m : Model) (z k : ℕ) (by_z : k ≤ z) (valid : IsValid m) (f h : ℕ
       clash (inr (inner, inr no_head)) x y = both_ways (r (head m b) (arrival m b s)) no_head (sym (ap₂ (λ c u. r (head m c) (arrival m c u)) x y) ∙ q)
 
   apart_hold : (r : ℕ → ℕ → Bool) (n t i s : ℕ) → r n t ≡ true → r n (t + 1) ≡ true → (r i s ≡ false) ⊎ (r i (s + 1) ≡ false) → point n t i s ≡ 0
-  apart_hold r n t i s p q off = elim (cases_Bool (eqb n i && eqb t s)) [
-    | inr away ↦ ap (λ y. cond y 1 0) away
-    | inl same ↦ let pair = pair_is n t i s same in absurd (clash off pair.0 pair.1)
-  ]
+  apart_hold r n t i s p q off = off_pair n i t s (clash off)
     where
       clash : (r i s ≡ false) ⊎ (r i (s + 1) ≡ false) → n ≡ i → t ≡ s → ⊥
       clash (inl off) x y = both_ways (r i s) off (sym (ap₂ r x y) ∙ p)
@@ -330,10 +312,7 @@ module _ (m : Model) (z k : ℕ) (by_z : k ≤ z) (valid : IsValid m) (f h : ℕ
         g = g;
         j = h;
         moves = stay_back m z f g h a t i late more flow;
-        arcs = λ b s c d x. elim (cases_Bool (eqb a b && eqb t s)) [
-          | inr away ↦ let none : point a t b s ≡ 0 = ap (λ y. cond y 1 0) away in omega (arith, none)
-          | inl same ↦ let pair = pair_is a t b s same in absurd (omega (arith, late, d, ap₂ (arrival m) pair.0 pair.1))
-        ];
+        arcs = λ b s c d x. omega (arith, off_pair a b t s (λ p q. omega (arith, late, d, ap₂ (arrival m) p q)));
         holds = λ b s d x. refl;
         out = λ c s. omega (arith, gone_more m c g f a t i more, late_out (is_exit_at m (head m a)) (arrival m a t) c (omega (arith, late, s, by_z)));
       } in
@@ -351,10 +330,7 @@ module _ (m : Model) (z k : ℕ) (by_z : k ≤ z) (valid : IsValid m) (f h : ℕ
         g = g;
         j = h;
         moves = come_back m z f g h a t i is.1 more flow;
-        arcs = λ b s c d x. elim (cases_Bool (eqb a b && eqb t s)) [
-          | inr away ↦ let none : point a t b s ≡ 0 = ap (λ y. cond y 1 0) away in omega (arith, none)
-          | inl same ↦ let pair = pair_is a t b s same in absurd (clash b s is.1 late x pair.0 pair.1)
-        ];
+        arcs = λ b s c d x. omega (arith, off_pair a b t s (clash b s is.1 late x));
         holds = λ b s d x. refl;
         out = λ c s. omega (arith, gone_more m c g f a t i more, late_out (is_exit_at m (head m a)) (arrival m a t) c (omega (arith, late, s)));
       } in
@@ -376,10 +352,7 @@ module _ (m : Model) (z k : ℕ) (by_z : k ≤ z) (valid : IsValid m) (f h : ℕ
         j = j;
         moves = end_here m z f h j n z refl more flow;
         arcs = λ b s c d x. refl;
-        holds = λ b s d x. elim (cases_Bool (eqb n b && eqb z s)) [
-          | inr away ↦ let none : point n z b s ≡ 0 = ap (λ y. cond y 1 0) away in omega (arith, none)
-          | inl same ↦ let pair = pair_is n z b s same in absurd (omega (arith, d, pair.1))
-        ];
+        holds = λ b s d x. omega (arith, off_pair n b z s (λ p q. omega (arith, d, q)));
         out = λ c s. refl;
       } in
       (n, z, i, omega arith, off, grown_by r n z grown i inner (omega arith) new)
@@ -403,13 +376,10 @@ module _ (m : Model) (z k : ℕ) (by_z : k ≤ z) (valid : IsValid m) (f h : ℕ
       )
     where
       parts : (b c : Bool) → (c ≡ true → b ≡ false) → cond (b || c) 0 1 + cond true (cond c 1 0) 0 ≤ cond b 0 1
-      parts true true e = absurd (both_ways true (e refl) refl)
-      parts true false e = omega arith
-      parts false true e = omega arith
-      parts false false e = omega arith
+      parts b c h = grind arith
 
       at : (c s : ℕ) → cond (with_pair r n t c s) 0 1 + cond true (cond (eqb n c && eqb t s) 1 0) 0 ≤ cond (r c s) 0 1
-      at c s = parts (r c s) (eqb n c && eqb t s) (λ e. let pair = pair_is n t c s e in sym (ap₂ r pair.0 pair.1) ∙ off)
+      at c s = parts (r c s) (eqb n c && eqb t s) (λ e. let pair = same_pair n c t s e in sym (ap₂ r pair.0 pair.1) ∙ off)
 
   abbrev Ended : Type 0
   Ended = Better ⊎ ((r : ℕ → ℕ → Bool) × Grown r × Closed r)

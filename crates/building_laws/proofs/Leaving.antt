@@ -13,7 +13,7 @@ use Rattle.evac_law.specs.Names.{is_exit}
 use Rattle.evac_law.specs.Plans.{IsFeasible, moved, out_by}
 use Rattle.evac_law.specs.Windows.{is_closed_at}
 use Rattle.evac_law.proofs.EditLemmas.{at-set, valid_start}
-use Rattle.evac_law.proofs.SumLemmas.{sum2-same}
+use Rattle.evac_law.proofs.SumLemmas.{cond_le, sum2-same}
 use Rattle.evac_law.proofs.ValidLemmas.{arc_is, head_in, node_is}
 use Rattle.building_laws.proofs.Counts.{found}
 use Rattle.building_laws.proofs.Steps.{come_back, end_here, go_back, nobody, stay_back, wait_back}
@@ -23,10 +23,6 @@ use Rattle.building_laws.proofs.Tables.{IsFlow, before, comes, comes_least, flow
 
 earlier : (n t i s : ℕ) → s < t → point n t i s ≡ 0
 earlier n t i s l = grind (arith, nat_tests)
-
-at_most_one : (b : Bool) → cond b 1 0 ≤ 1
-at_most_one true = omega arith
-at_most_one false = omega arith
 
 inner_out : (b c : Bool) → b ≡ false → ◌≡◌ {A = ℕ} (cond (b && c) 1 0) 0
 inner_out b c e = ap (λ x. cond (x && c) 1 0) e
@@ -77,7 +73,7 @@ module _ (m : Model) (z : ℕ) (valid : IsValid m) where
       out = omega (
         arith,
         gone_more m z (λ b s. f b s - point a t b s) f a t i (one_taken f a t some),
-        at_most_one (is_exit_at m (head m a) && leb (arrival m a t) z),
+        cond_le (is_exit_at m (head m a) && leb (arrival m a t) z) 1,
       );
     }
 

@@ -19,7 +19,7 @@ use Rattle.evac_law.specs.Plans.{IsFeasible, came, held, left, out_by}
 use Rattle.evac_law.specs.Sums.{below, moments_to, places}
 use Rattle.evac_law.specs.Windows.{is_closed_at, is_same_window, is_within, window_of, without_window}
 use Rattle.evac_law.proofs.EditLemmas.{at-set, unless-Ok}
-use Rattle.evac_law.proofs.SumLemmas.{sum_by-same, sum_places}
+use Rattle.evac_law.proofs.SumLemmas.{else_mono, sum_by-same, sum_places}
 use Rattle.building_laws.specs.Looser.{IsLooser, IsLoosening, KeepsPlans}
 
 -- ---- plans
@@ -113,20 +113,10 @@ other_arc m a row l from to travel more = record {
   ];
 }
 
-reopened : (p q c : Bool) (r : ℕ) → cond (p || q || c) 0 r ≤ cond (false || q || c) 0 r
-reopened true q c r = omega arith
-reopened false q c r = omega arith
-
-wider : (b : Bool) (r s : ℕ) → r ≤ s → cond b 0 r ≤ cond b 0 s
-wider true r s l = omega arith
-wider false r s l = l
-
-freed : (p q c d : Bool) (r : ℕ) → (d ≡ true → c ≡ true) → cond (p || q || c) 0 r ≤ cond (p || q || d) 0 r
-freed true q c d r h = omega arith
-freed false true c d r h = omega arith
-freed false false true d r h = omega arith
-freed false false false true r h = absurd (both_ways false refl (h refl))
-freed false false false false r h = omega arith
+-- fewer marks leave an arc its rate
+opened : (p q c p' q' c' : Bool) (r : ℕ) → (p' ≡ true → p ≡ true) → (q' ≡ true → q ≡ true) → (c' ≡ true → c ≡ true)
+    → cond (p || q || c) 0 r ≤ cond (p' || q' || c') 0 r
+opened p q c p' q' c' r e f g = grind arith
 
 -- fewer windows close an arc at no more moments
 closed_more : (v : ClosureWindow) (vs : List ClosureWindow) (w : ClosureWindow) (t : ℕ)
@@ -174,16 +164,11 @@ other_node m n row l name from room shut = record {
   heads = λ a. refl;
   travels = λ a. refl;
   rates = λ a t i _.
-      opened (arc_at m a).shut (node_at m (head m a)).shut (node_at (with_node m n row) (head m a)).shut (is_closed_at (arc_at m a).windows.items t) (arc_at m a).rate
-      (shut_before (head m a));
+      opened (arc_at m a).shut (node_at m (head m a)).shut (is_closed_at (arc_at m a).windows.items t)
+      (arc_at m a).shut (node_at (with_node m n row) (head m a)).shut (is_closed_at (arc_at m a).windows.items t)
+      (arc_at m a).rate (λ e. e) (shut_before (head m a)) (λ e. e);
 }
   where
-    opened : (p q s c : Bool) (r : ℕ) → (s ≡ true → q ≡ true) → cond (p || q || c) 0 r ≤ cond (p || s || c) 0 r
-    opened true q s c r h = omega arith
-    opened false true s c r h = omega arith
-    opened false false true c r h = absurd (both_ways false refl (h refl))
-    opened false false false c r h = omega arith
-
     shut_before : (i : ℕ) → (node_at (with_node m n row) i).shut ≡ true → (node_at m i).shut ≡ true
     shut_before i e = elim (cases_eq i n) [
       | inl same ↦
@@ -198,12 +183,13 @@ loosens : (m : Model) (e : Edit) → IsEditOf m e → IsLoosening m e → IsLoos
 loosens m (Shut a) l h = absurd h
 loosens m (Reopen a) l h =
     other_arc m a (record (arc_at m a) { shut = false }) l refl refl refl
-    (λ t. reopened (arc_at m a).shut (node_at m (head m a)).shut (is_closed_at (arc_at m a).windows.items t) (arc_at m a).rate)
+    (λ t. let door = (node_at m (head m a)).shut in let closed = is_closed_at (arc_at m a).windows.items t in
+    opened (arc_at m a).shut door closed false door closed (arc_at m a).rate (λ e. absurd (both_ways false refl e)) (λ e. e) (λ e. e))
 loosens m (ShutExit n) l h = absurd h
 loosens m (ReopenExit n) l h = other_node m n (record (node_at m n) { shut = false }) l refl refl (omega arith) (λ e. absurd (both_ways false refl e))
 loosens m (Rate a r) l h =
     other_arc m a (record (arc_at m a) { rate = r }) l refl refl refl
-    (λ t. wider ((arc_at m a).shut || (node_at m (head m a)).shut || is_closed_at (arc_at m a).windows.items t) (arc_at m a).rate r h)
+    (λ t. else_mono ((arc_at m a).shut || (node_at m (head m a)).shut || is_closed_at (arc_at m a).windows.items t) (arc_at m a).rate r h)
 loosens m (Room n c) l h = other_node m n (record (node_at m n) { capacity = c }) l refl refl h (λ e. e)
 loosens m (Shift a b p) l h = absurd h
 loosens m (Enter n p) l h = absurd h
@@ -211,8 +197,9 @@ loosens m (Leave n p) l h = absurd h
 loosens m (Window a p q) l h = absurd h
 loosens m (Unwindow a p q) l h =
     other_arc m a (record (arc_at m a) { windows = record { items = without_window (windows_at m a) (window_of p q) } }) l refl refl refl
-    (λ t. freed (arc_at m a).shut (node_at m (head m a)).shut (is_closed_at (windows_at m a) t) (is_closed_at (without_window (windows_at m a) (window_of p q)) t)
-    (arc_at m a).rate (still_closed (windows_at m a) (window_of p q) t))
+    (λ t. let own = (arc_at m a).shut in let door = (node_at m (head m a)).shut in
+    opened own door (is_closed_at (windows_at m a) t) own door (is_closed_at (without_window (windows_at m a) (window_of p q)) t) (arc_at m a).rate
+    (λ e. e) (λ e. e) (still_closed (windows_at m a) (window_of p q) t))
 
 pub loosening_keeps_plans : (m m' : Model) (e i : Edit) → IsEditOf m e → IsLoosening m e → applied m e ≡ Ok (m', i) → KeepsPlans m m'
 loosening_keeps_plans m m' e i names loose h =

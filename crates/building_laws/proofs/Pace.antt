@@ -1,19 +1,19 @@
 -- Halfway between two cuts that are closed under waiting are two that together are worth no more.
-use Rattle.std.proofs.Common.{◌≡◌, ℕ, ◌+◌, ◌-◌, ◌/◌, ◌<◌, ◌≤◌, Bool, true, false, cond, leb, List, [], length, refl, ap, arith, inl, inr}
+use Rattle.std.proofs.Common.{◌≡◌, ℕ, ◌+◌, ◌-◌, ◌/◌, ◌<◌, ◌≤◌, Bool, true, cond, leb, List, [], length, ap, arith, inl, inr}
 use Rattle.std.specs.List.{sum_by}
 use Rattle.std.proofs.Math.Nat.{mul-le-mul_left}
-use Rattle.std.proofs.lemmas.Bool.{both_ways, cases_lt, le-leb, lt-leb}
+use Rattle.std.proofs.lemmas.Bool.{cases_lt, le-leb, lt-leb}
 use Rattle.evac_law.specs.declared.model.Model.{Model}
 use Rattle.evac_law.specs.declared.plan.Move.{Move}
 use Rattle.evac_law.specs.Building.{IsValid, arc_at, head, is_exit_at, rate, start, tail}
 use Rattle.evac_law.specs.Cuts.{Cut, cut_value}
 use Rattle.evac_law.specs.Plans.{IsFeasible, out_by}
 use Rattle.evac_law.specs.Sums.{below}
-use Rattle.evac_law.proofs.SumLemmas.{pick_le, sum_by-nothing}
+use Rattle.evac_law.proofs.SumLemmas.{pick_le, sum_by-add, sum_by-nothing}
 use Rattle.evac_law.proofs.WeakDuality.{out_le_value}
 use Rattle.building_laws.specs.Duality.{IsBestAt}
 use Rattle.building_laws.specs.Rooms.{HasSteadyRates}
-use Rattle.building_laws.proofs.Counts.{added, hits_and_misses, termwise}
+use Rattle.building_laws.proofs.Counts.{hits_and_misses, termwise}
 use Rattle.building_laws.proofs.Duality.{cut_of, no_fewer_later}
 use Rattle.building_laws.proofs.Gaps.{arc_worth, gap, node_worth}
 use Rattle.building_laws.proofs.Plain.{nobody_later_has_room}
@@ -32,8 +32,7 @@ halfway f g = record { sum = omega arith; order = omega arith; close = omega ari
 
 gaps : (exit : Bool) (k d fu gu lu hu fv gv lv hv : ℕ) → IsHalf fu gu lu hu → IsHalf fv gv lv hv
     → gap exit (k + 1) d lu lv + gap exit (k + 1) d hu hv ≤ gap exit k d fu fv + gap exit (k + 2) d gu gv
-gaps true k d fu gu lu hu fv gv lv hv u v = omega (arith, u.sum, u.order, u.close)
-gaps false k d fu gu lu hu fv gv lv hv u v = omega (arith, u.sum, u.order, u.close, v.sum, v.order, v.close)
+gaps exit k d fu gu lu hu fv gv lv hv h i = grind arith
 
 module _ (m : Model) (steady : HasSteadyRates m) (k : ℕ) (l : k + 2 ≤ m.horizon) (f g : ℕ → ℕ)
     (few_f : (n : ℕ) → f n ≤ k + 1) (few_g : (n : ℕ) → g n ≤ (k + 2) + 1) where
@@ -84,8 +83,7 @@ module _ (m : Model) (nobody : m.entrants ≡ []) (h : ℕ → ℕ) (k : ℕ) wh
   ]
 
   free : (b : Bool) (s : ℕ) → (0 < s → b ≡ true) → cond b 0 s ≤ 0
-  free true s e = omega arith
-  free false s e = elim (cases_lt 0 s) [ inl some ↦ absurd (both_ways false refl (e some)) | inr none ↦ none ]
+  free b s e = grind arith
 
   -- a cut that has each node with people from the first moment on pays none
   pub nodes_free : ((n : ℕ) → n < length m.nodes → 0 < start m n → h n ≡ 0) → sum_by (of_node m k (from_moments h)) (below (length m.nodes)) ≤ 0
@@ -136,8 +134,8 @@ module _ (m : Model) (k : ℕ) (l : k + 2 ≤ m.horizon) (steady : HasSteadyRate
         nodes_and_arcs m (k + 1) (from_moments hi),
         nodes_free m nobody lo (k + 1) (λ n i some. (both_first n i some).0),
         nodes_free m nobody hi (k + 1) (λ n i some. (both_first n i some).1),
-        added (of_arc m (k + 1) (from_moments lo)) (of_arc m (k + 1) (from_moments hi)) (length m.arcs),
-        added (of_arc m k (from_moments f)) (of_arc m (k + 2) (from_moments g)) (length m.arcs),
+        sum_by-add (of_arc m (k + 1) (from_moments lo)) (of_arc m (k + 1) (from_moments hi)) (below (length m.arcs)),
+        sum_by-add (of_arc m k (from_moments f)) (of_arc m (k + 2) (from_moments g)) (below (length m.arcs)),
         termwise (λ a. of_arc m (k + 1) (from_moments lo) a + of_arc m (k + 1) (from_moments hi) a)
             (λ a. of_arc m k (from_moments f) a + of_arc m (k + 2) (from_moments g) a) (length m.arcs)
             (arcs_halfway m steady k l f g few_f few_g),

@@ -1,5 +1,5 @@
 -- A cut that has each node from a moment of its own on is worth no more where walks are longer.
-use Rattle.std.proofs.Common.{◌≡◌, ℕ, ◌+◌, ◌≤◌, Bool, true, false, not, ◌&&◌, ◌||◌, leb, List, length, get_or, ap, ap₂, sym, ◌∙◌, subst, arith, inl, inr}
+use Rattle.std.proofs.Common.{◌≡◌, ℕ, ◌+◌, ◌≤◌, Bool, true, not, ◌&&◌, ◌||◌, leb, List, length, get_or, ap, ap₂, sym, ◌∙◌, subst, arith, inl, inr}
 use Rattle.std.specs.List.{sum_by}
 use Rattle.std.proofs.lemmas.Bool.Decides.{nat_tests}
 use Rattle.evac_law.specs.declared.model.Model.{Model}
@@ -15,18 +15,10 @@ use Rattle.building_laws.proofs.Duality.{cleared_or_short, cut_of}
 use Rattle.building_laws.proofs.Values.{value_le}
 use Rattle.building_laws.proofs.WaitingCut.{from_moments, moments_outside, waiting_cut}
 
-longer_out : (f d d' k t : ℕ) → d ≤ d' → (leb f t && (leb (t + d') k && true)) ≡ true → (leb f t && (leb (t + d) k && true)) ≡ true
-longer_out f d d' k t l e = grind (arith, nat_tests)
-
-longer_on : (f g d d' k t : ℕ) → d ≤ d' → (leb f t && (leb (t + d') k && not (leb g (t + d')))) ≡ true
-    → (leb f t && (leb (t + d) k && not (leb g (t + d)))) ≡ true
-longer_on f g d d' k t l e = grind (arith, nat_tests)
-
 -- who leaves the cut by a longer walk leaves it by a shorter one
 longer : (exit : Bool) (f g d d' k t : ℕ) → d ≤ d' → (leb f t && (leb (t + d') k && (exit || not (leb g (t + d'))))) ≡ true
     → (leb f t && (leb (t + d) k && (exit || not (leb g (t + d))))) ≡ true
-longer true f g d d' k t l e = longer_out f d d' k t l e
-longer false f g d d' k t l e = longer_on f g d d' k t l e
+longer exit f g d d' k t l e = grind (arith, nat_tests)
 
 in_time : (u v : Bool) (t d k : ℕ) → (u && (leb (t + d) k && v)) ≡ true → t ≤ k
 in_time u v t d k e = grind (arith, nat_tests)

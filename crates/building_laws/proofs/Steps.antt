@@ -4,10 +4,8 @@ use Rattle.std.proofs.lemmas.Bool.{both_ways, cases_Bool}
 use Rattle.std.proofs.lemmas.Bool.Decides.{nat_tests}
 use Rattle.evac_law.specs.declared.model.Model.{Model}
 use Rattle.evac_law.specs.Building.{arrival, capacity, head, is_exit_at, rate, tail}
+use Rattle.evac_law.proofs.SumLemmas.{same_pair}
 use Rattle.building_laws.proofs.Tables.{IsFlow, IsMore, before_more, comes_more, goes_more, point}
-
-same_pair : (a b t s : ℕ) → (eqb a b && eqb t s) ≡ true → (a ≡ b) × (t ≡ s)
-same_pair a b t s e = (grind (arith, nat_tests), grind (arith, nat_tests))
 
 -- one more at a pair is within bounds where there was room
 pub within_more : (f g : ℕ → ℕ → ℕ) (a t b s most : ℕ) → IsMore f g a t → f b s ≤ most → (a ≡ b → t ≡ s → f b s < most) → g b s ≤ most
@@ -23,7 +21,7 @@ within_more f g a t b s most more fits room = elim (cases_Bool (eqb a b && eqb t
 less_of_more : (f g : ℕ → ℕ → ℕ) (a t b s most : ℕ) → IsMore g f a t → f b s ≤ most → g b s ≤ most
 less_of_more f g a t b s most more fits = omega (arith, more b s, fits)
 
-off_pair : (p n t s : ℕ) → (p ≡ n → t ≡ s → ⊥) → point p t n s ≡ 0
+pub off_pair : (p n t s : ℕ) → (p ≡ n → t ≡ s → ⊥) → point p t n s ≡ 0
 off_pair p n t s h = grind (arith, nat_tests)
 
 abbrev pub nobody : ℕ → ℕ → ℕ

@@ -1,5 +1,5 @@
 -- What goes out of a node and comes into it at each moment, by tables of who enters each arc and of who stays in each node.
-use Rattle.std.proofs.Common.{◌≡◌, ℕ, zero, suc, ◌+◌, ◌-◌, ◌<◌, ◌≤◌, Bool, true, false, cond, ◌&&◌, eqb, ltb, leb, List, length, refl, ap, ap₂, sym, ◌∙◌, arith, inl, inr, IsFalse}
+use Rattle.std.proofs.Common.{◌≡◌, ℕ, zero, suc, ◌+◌, ◌-◌, ◌<◌, ◌≤◌, Bool, true, cond, ◌&&◌, eqb, ltb, leb, List, length, refl, ap, ap₂, sym, ◌∙◌, arith, inl, inr, IsFalse}
 use Rattle.std.specs.List.{sum_by, All}
 use Rattle.std.proofs.lemmas.Bool.{cases_Bool, eq-eqb, eqb-true, le-leb, lt-ltb}
 use Rattle.std.proofs.lemmas.Bool.Decides.{nat_tests}
@@ -12,7 +12,7 @@ use Rattle.evac_law.specs.Plans.{IsFeasible, came, coming, held, leaving, left, 
 use Rattle.evac_law.specs.Sums.{below, places}
 use Rattle.evac_law.proofs.Curve.{by_arc}
 use Rattle.evac_law.proofs.MoveLemmas.{arcs-moves_of, moved-moves_of}
-use Rattle.evac_law.proofs.SumLemmas.{gather, gather_one, pick_le, split_cond, sum2, sum2-add, sum2-same, sum_below-pick, sum_below-same, sum_by-add, sum_by-nothing, sum_by-same}
+use Rattle.evac_law.proofs.SumLemmas.{gather, gather_one, pick_le, same_pair, split_cond, sum2, sum2-add, sum2-same, sum_below-pick, sum_below-same, sum_by-add, sum_by-nothing, sum_by-same}
 use Rattle.evac_law.proofs.WeakDuality.{came-suc, came-zero, left-suc, left-zero, within}
 
 -- ---- tables
@@ -187,21 +187,14 @@ one_taken f a t some b s = elim (cases_Bool (eqb a b && eqb t s)) [
   | inr away ↦ let none : point a t b s ≡ 0 = ap (λ z. cond z 1 0) away in omega (arith, none)
 ]
   where
-    same_pair : (eqb a b && eqb t s) ≡ true → (a ≡ b) × (t ≡ s)
-    same_pair e = (grind (arith, nat_tests), grind (arith, nat_tests))
-
     at_pair : (eqb a b && eqb t s) ≡ true → f b s ≡ (f b s - point a t b s) + point a t b s
     at_pair e =
-        let pair = same_pair e in
+        let pair = same_pair a b t s e in
         let one : point a t b s ≡ 1 = ap (λ z. cond z 1 0) e in
         omega (arith, one, some, ap₂ f pair.0 pair.1)
 
 split : (p e q : Bool) (x : ℕ) → cond p (x + cond (e && q) 1 0) 0 ≡ cond p x 0 + cond e (cond (p && q) 1 0) 0
-split true true true x = refl
-split true true false x = refl
-split true false q x = refl
-split false true q x = refl
-split false false q x = refl
+split p e q x = grind arith
 
 -- a sum over the arcs, each at one moment
 picked : (p : ℕ → Bool) (f g : ℕ → ℕ → ℕ) (s : ℕ → ℕ) (a t n : ℕ) → a < n → IsMore f g a t

@@ -1,5 +1,5 @@
 -- What a cut is worth in two models.
-use Rattle.std.proofs.Common.{◌≡◌, ℕ, ◌+◌, ◌<◌, ◌≤◌, Bool, true, false, cond, not, ◌&&◌, ◌||◌, eqb, length, refl, ap, arith}
+use Rattle.std.proofs.Common.{◌≡◌, ℕ, ◌+◌, ◌<◌, ◌≤◌, Bool, true, false, cond, not, ◌&&◌, ◌||◌, eqb, length, ap, arith}
 use Rattle.std.specs.List.{sum_by}
 use Rattle.std.proofs.lemmas.Bool.Decides.{nat_tests}
 use Rattle.evac_law.specs.declared.model.Model.{Model}
@@ -23,8 +23,7 @@ module _ (m m' : Model) (x : Cut) (k : ℕ) where
   entry_le i p q h = grind (arith, nat_tests)
 
   both_le : (b c : Bool) (p q : ℕ) → (b ≡ true → (c ≡ true) × (p ≤ q)) → cond b p 0 ≤ cond c q 0
-  both_le true c p q h = let two = h refl in rw two.0 two.1
-  both_le false c p q h = omega arith
+  both_le b c p q h = grind arith
 
   pub value_le : TakesLess → cut_value m' x k ≤ cut_value m x k
   value_le less =

@@ -1,8 +1,8 @@
 -- From any cut one that is closed under waiting and is worth no more: each node's moments outside the cut come first.
-use Rattle.std.proofs.Common.{◌≡◌, ℕ, zero, suc, ◌+◌, ◌-◌, ◌*◌, ◌<◌, ◌≤◌, Bool, true, false, cond, not, ◌&&◌, ◌||◌, ◌⊎◌, eqb, leb, length, refl, ap, sym, ◌∙◌, arith, add-one, inl, inr}
+use Rattle.std.proofs.Common.{◌≡◌, ℕ, zero, suc, ◌+◌, ◌-◌, ◌*◌, ◌<◌, ◌≤◌, Bool, true, false, cond, not, ◌&&◌, ◌||◌, ◌⊎◌, eqb, leb, length, ap, ◌∙◌, arith, add-one, inl, inr}
 use Rattle.std.specs.List.{sum_by}
 use Rattle.std.proofs.Math.Nat.{mul-le-mul_left}
-use Rattle.std.proofs.lemmas.Bool.{both_ways, cases_Bool, cases_lt, lt-leb, le-leb, leb-false}
+use Rattle.std.proofs.lemmas.Bool.{both_ways, cases_Bool}
 use Rattle.std.proofs.lemmas.Bool.Decides.{nat_tests}
 use Rattle.evac_law.specs.declared.model.Model.{Model}
 use Rattle.evac_law.specs.Building.{arc_at, capacity, entry, head, is_exit_at, rate, tail}
@@ -11,7 +11,7 @@ use Rattle.evac_law.specs.Sums.{below, moments_to, places}
 use Rattle.evac_law.proofs.SumLemmas.{sum_below-more, sum_below-same, sum_below-suc, sum_by-add, sum_by-exchange, sum_by-nothing, sum_by-same, sum_by-times, sum_moments-le}
 use Rattle.evac_law.proofs.WeakDuality.{value_is}
 use Rattle.building_laws.specs.Rooms.{HasRoomForEntries, HasSteadyRates}
-use Rattle.building_laws.proofs.Counts.{added, arrivals_count, count, hits_and_misses, in_time_count, misses, run_count, termwise}
+use Rattle.building_laws.proofs.Counts.{arrivals_count, count, hits_and_misses, in_time_count, misses, run_count, termwise}
 
 -- the number of moments up to k at which a node isn't in a cut
 abbrev pub moments_outside : Cut → ℕ → ℕ → ℕ
@@ -40,8 +40,7 @@ module _ (b : ℕ → Bool) (cap : ℕ) where
   Settled k = (t : ℕ) → t ≤ k → b t ≡ leb (misses b (k + 1)) t
 
   first_at : (x : Bool) (t ms : ℕ) → ms ≡ cond x 0 1 → t ≡ 0 → x ≡ leb ms t
-  first_at true t ms e z = sym (le-leb ms t (omega (arith, e)))
-  first_at false t ms e z = sym (lt-leb ms t (omega (arith, e, z)))
+  first_at x t ms h i = grind arith
 
   settled_first : Settled 0
   settled_first t l =
@@ -52,16 +51,7 @@ module _ (b : ℕ → Bool) (cap : ℕ) where
   -- one more moment: where the test held just before, it still does
   next_at : (k t ms more : ℕ) (now next at : Bool) → now ≡ leb ms k → ms ≤ k + 1 → more ≡ ms + cond next 0 1
       → (now ≡ true → next ≡ true) → t ≤ suc k → (t ≤ k → at ≡ leb ms t) → (t ≡ suc k → at ≡ next) → at ≡ leb more t
-  next_at k t ms more now true at n f e keeps l old new = elim (cases_lt t (suc k)) [
-    | inl less ↦ old (omega (arith, less)) ∙ ap (λ i. leb i t) (omega (arith, e))
-    | inr last ↦ new (omega (arith, l, last)) ∙ sym (le-leb more t (omega (arith, e, f, last)))
-  ]
-  next_at k t ms more true false at n f e keeps l old new = absurd (both_ways false refl (keeps refl))
-  next_at k t ms more false false at n f e keeps l old new =
-      let above = leb-false ms k (sym n) in elim (cases_lt t (suc k)) [
-        | inl less ↦ old (omega (arith, less)) ∙ lt-leb ms t (omega (arith, less, above)) ∙ sym (lt-leb more t (omega (arith, e, less, above)))
-        | inr last ↦ new (omega (arith, l, last)) ∙ sym (lt-leb more t (omega (arith, e, above, l)))
-      ]
+  next_at k t ms more now next at n f e keeps l old new = grind (arith, nat_tests)
 
   settled_next : (k : ℕ) → Settled k → (b k ≡ true → b (suc k) ≡ true) → Settled (suc k)
   settled_next k s keeps t l =
@@ -110,39 +100,26 @@ module _ (b : ℕ → Bool) (cap : ℕ) where
 abbrev pub leaves : (ℕ → Bool) → (ℕ → Bool) → Bool → ℕ → ℕ → ℕ → Bool
 leaves u v exit d k t = u t && (leb (t + d) k && (exit || not (v (t + d))))
 
-pub into_exit : (f d k t : ℕ) → (leb f t && (leb (t + d) k && true)) ≡ true → (f ≤ t) × (t < (k + 1) - d)
-into_exit f d k t e = (grind (arith, nat_tests), grind (arith, nat_tests))
-
-pub into_node : (f g d k t : ℕ) → (leb f t && (leb (t + d) k && not (leb g (t + d)))) ≡ true → (f ≤ t) × (t < g - d)
-into_node f g d k t e = (grind (arith, nat_tests), grind (arith, nat_tests))
+pub into_end : (exit : Bool) (f g d k t : ℕ) → (leb f t && (leb (t + d) k && (exit || not (leb g (t + d))))) ≡ true → (f ≤ t) × (t < cond exit (k + 1) g - d)
+into_end exit f g d k t e = (grind (arith, nat_tests), grind (arith, nat_tests))
 
 exit_once : (u i : Bool) → cond i 1 0 ≤ cond u 0 1 + cond (u && (i && true)) 1 0
-exit_once true true = omega arith
-exit_once true false = omega arith
-exit_once false true = omega arith
-exit_once false false = omega arith
+exit_once u i = grind arith
 
 node_once : (u v i : Bool) → cond i 1 0 ≤ cond u 0 1 + (cond (u && (i && not v)) 1 0 + cond i (cond v 1 0) 0)
-node_once true true true = omega arith
-node_once true true false = omega arith
-node_once true false true = omega arith
-node_once true false false = omega arith
-node_once false true true = omega arith
-node_once false true false = omega arith
-node_once false false true = omega arith
-node_once false false false = omega arith
+node_once u v i = grind arith
 
 pub arc_le : (u v : ℕ → Bool) (exit : Bool) (d k : ℕ)
     → count (leaves (λ t. leb (misses u (k + 1)) t) (λ t. leb (misses v (k + 1)) t) exit d k) (k + 1) ≤ count (leaves u v exit d k) (k + 1)
 arc_le u v true d k =
     let late = run_count (leaves (λ t. leb (misses u (k + 1)) t) (λ t. leb (misses v (k + 1)) t) true d k) (misses u (k + 1)) ((k + 1) - d) (k + 1)
-    (λ t e. into_exit (misses u (k + 1)) d k t e) in
+    (λ t e. into_end true (misses u (k + 1)) (misses v (k + 1)) d k t e) in
     let each = termwise (λ t. cond (leb (t + d) k) 1 0) (λ t. cond (u t) 0 1 + cond (leaves u v true d k t) 1 0) (k + 1)
     (λ t l. exit_once (u t) (leb (t + d) k)) in
-    omega (arith, late, each, in_time_count d k, added (λ t. cond (u t) 0 1) (λ t. cond (leaves u v true d k t) 1 0) (k + 1))
+    omega (arith, late, each, in_time_count d k, sum_by-add (λ t. cond (u t) 0 1) (λ t. cond (leaves u v true d k t) 1 0) (below (k + 1)))
 arc_le u v false d k =
     let late = run_count (leaves (λ t. leb (misses u (k + 1)) t) (λ t. leb (misses v (k + 1)) t) false d k) (misses u (k + 1)) (misses v (k + 1) - d) (k + 1)
-    (λ t e. into_node (misses u (k + 1)) (misses v (k + 1)) d k t e) in
+    (λ t e. into_end false (misses u (k + 1)) (misses v (k + 1)) d k t e) in
     let each = termwise (λ t. cond (leb (t + d) k) 1 0)
     (λ t. cond (u t) 0 1 + (cond (leaves u v false d k t) 1 0 + cond (leb (t + d) k) (cond (v (t + d)) 1 0) 0)) (k + 1)
     (λ t l. node_once (u t) (v (t + d)) (leb (t + d) k)) in
@@ -151,8 +128,8 @@ arc_le u v false d k =
       late,
       each,
       in_time_count d k,
-      added (λ t. cond (u t) 0 1) (λ t. cond (leaves u v false d k t) 1 0 + cond (leb (t + d) k) (cond (v (t + d)) 1 0) 0) (k + 1),
-      added (λ t. cond (leaves u v false d k t) 1 0) (λ t. cond (leb (t + d) k) (cond (v (t + d)) 1 0) 0) (k + 1),
+      sum_by-add (λ t. cond (u t) 0 1) (λ t. cond (leaves u v false d k t) 1 0 + cond (leb (t + d) k) (cond (v (t + d)) 1 0) 0) (below (k + 1)),
+      sum_by-add (λ t. cond (leaves u v false d k t) 1 0) (λ t. cond (leb (t + d) k) (cond (v (t + d)) 1 0) 0) (below (k + 1)),
       arrivals_count (λ s. cond (v s) 1 0) d k (k + 1),
       hits_and_misses v (k + 1),
     )
@@ -164,8 +141,7 @@ at_rate b r n steady =
     ∙ sum_by-times (r 0) (λ t. cond (b t) 1 0) (below n)
   where
     times : (x : Bool) (w c : ℕ) → w ≡ c → cond x w 0 ≡ c * cond x 1 0
-    times true w c e = omega (arith, e)
-    times false w c e = omega arith
+    times x w c h = grind arith
 
 -- ---- the whole
 

@@ -1,8 +1,8 @@
 -- A window of one arc, and one common window of any arcs.
-use Rattle.std.proofs.Common.{◌≡◌, ◌≢◌, ℕ, ◌+◌, ◌-◌, ◌<◌, ◌≤◌, Bool, true, false, cond, not, ◌&&◌, ◌||◌, ◌⊎◌, eqb, leb, ltb, List, [], ◌∷◌, length, min, max, refl, ap, ap₂, sym, ◌∙◌, subst, arith, inl, inr, Ok, IsFalse}
+use Rattle.std.proofs.Common.{◌≡◌, ◌≢◌, ℕ, ◌+◌, ◌-◌, ◌<◌, ◌≤◌, Bool, true, false, cond, not, ◌&&◌, ◌||◌, ◌⊎◌, eqb, leb, ltb, List, [], ◌∷◌, length, min, max, refl, ap, sym, ◌∙◌, subst, arith, inl, inr, Ok, IsFalse}
 use Rattle.std.specs.List.{sum_by}
 use Rattle.std.proofs.Math.Nat.{mul-le-mul_left}
-use Rattle.std.proofs.lemmas.Bool.{and_parts, both_ways, cases_Bool, cases_lt, eq-eqb, leb-true, not-true}
+use Rattle.std.proofs.lemmas.Bool.{and_parts, cases_Bool, cases_lt, eq-eqb, leb-true, not-true}
 use Rattle.std.proofs.lemmas.Bool.Decides.{nat_tests}
 use Rattle.std.proofs.lemmas.List.{length-set, get_or-set_same, get_or-set_other}
 use Rattle.evac_law.specs.declared.edit.Edit.{Edit}
@@ -20,12 +20,12 @@ use Rattle.evac_law.specs.Windows.{is_closed_at, is_within, window_of, with_wind
 use Rattle.evac_law.proofs.EditLemmas.{at-set, unless-Ok, valid_edited}
 use Rattle.evac_law.proofs.Entries.{entries_le, exit_entry}
 use Rattle.evac_law.proofs.Optimal.{out_le_people}
-use Rattle.evac_law.proofs.SumLemmas.{pick_le, sum_below-same, sum_by-nothing, sum_by-same}
+use Rattle.evac_law.proofs.SumLemmas.{pick_le, sum_below-same, sum_by-add, sum_by-nothing, sum_by-same}
 use Rattle.evac_law.proofs.ValidLemmas.{arc_is, head_in, tail_in}
 use Rattle.evac_law.proofs.WeakDuality.{out_le_value}
 use Rattle.building_laws.specs.Delays.{DelaysBy, IsClosedBetween, IsDisturbed, HasRoomForAll}
 use Rattle.building_laws.specs.Rooms.{HasRoomForEntries, HasSteadyRates}
-use Rattle.building_laws.proofs.Counts.{added, count, found, run_count, termwise}
+use Rattle.building_laws.proofs.Counts.{count, found, run_count, termwise}
 use Rattle.building_laws.proofs.Delays.{delayed, delayed_cut, f, few_f, few_g, g, leaves_same, node_same, one_arc_delays_little}
 use Rattle.building_laws.proofs.Gaps.{arc_worth, gap, gap_is, without_moments}
 use Rattle.building_laws.proofs.WaitingCut.{Settled, drop, drops, from_moments, leaves, nodes_and_arcs, of_arc, of_node, rate_times}
@@ -39,8 +39,7 @@ closed_with (v ∷ vs) w t e = at (ltb w.from v.from) (closed_with vs w t e)
   where
     at : (first : Bool) → is_closed_at (with_window vs w) t ≡ is_closed_at vs t
         → is_closed_at (cond first (w ∷ v ∷ vs) (v ∷ with_window vs w)) t ≡ is_closed_at (v ∷ vs) t
-    at true rest = ap (λ b. b || is_closed_at (v ∷ vs) t) e
-    at false rest = ap (λ b. is_within v t || b) rest
+    at first h = grind arith
 
 module _ (m : Model) (a from until : ℕ) (i : a < length m.arcs) where
   abbrev closed : Model
@@ -59,10 +58,7 @@ module _ (m : Model) (a from until : ℕ) (i : a < length m.arcs) where
       ap (λ (r : ArcRow). cond (r.shut || (node_at m r.to).shut || is_closed_at r.windows.items t) 0 r.rate) (sym (get_or-set_other m.arcs a b arc no_arc apart))
 
   seldom_at : (b c : Bool) → (b ≡ false → c ≡ true) → cond c 0 1 ≤ cond b 1 0
-  seldom_at true true h = omega arith
-  seldom_at true false h = omega arith
-  seldom_at false true h = omega arith
-  seldom_at false false h = absurd (both_ways false refl (h refl))
+  seldom_at b c h = grind arith
 
   bounds : (t : ℕ) → is_within (window_of from until) t ≡ true → (from ≤ t) × (t < until)
   bounds t e = (grind (arith, nat_tests), grind (arith, nat_tests))
@@ -115,21 +111,12 @@ left_out_is p w x = elim (cases_lt x p) [
 between : (p w d a b x y : ℕ) → ((a ≤ p) × (x ≡ a)) ⊎ (((p ≤ a) × (a ≤ p + w) × (x ≡ p)) ⊎ ((p + w ≤ a) × (x + w ≡ a)))
     → ((b ≤ p) × (y ≡ b)) ⊎ (((p ≤ b) × (b ≤ p + w) × (y ≡ p)) ⊎ ((p + w ≤ b) × (y + w ≡ b)))
     → (y - (d + x)) + (min (b - d) (p + w) - max a p) ≤ b - (d + a)
-between p w d a b x y (inl h) (inl g) = omega (arith, h, g)
-between p w d a b x y (inl h) (inr (inl g)) = omega (arith, h, g)
-between p w d a b x y (inl h) (inr (inr g)) = omega (arith, h, g)
-between p w d a b x y (inr (inl h)) (inl g) = omega (arith, h, g)
-between p w d a b x y (inr (inl h)) (inr (inl g)) = omega (arith, h, g)
-between p w d a b x y (inr (inl h)) (inr (inr g)) = omega (arith, h, g)
-between p w d a b x y (inr (inr h)) (inl g) = omega (arith, h, g)
-between p w d a b x y (inr (inr h)) (inr (inl g)) = omega (arith, h, g)
-between p w d a b x y (inr (inr h)) (inr (inr g)) = omega (arith, h, g)
+between p w d a b x y h g = grind arith
 
 -- the end of time doesn't make a gap larger
 capped : (exit : Bool) (k p w d a b : ℕ)
     → gap exit k d (without_moments p k w a) (without_moments p k w b) ≤ left_out p w (cond exit ((k + w) + 1) b) - (d + left_out p w a)
-capped true k p w d a b = omega arith
-capped false k p w d a b = omega arith
+capped exit k p w d a b = grind arith
 
 -- the moments of a gap that lie in a window are left out
 gap_without : (exit : Bool) (k p w d a b : ℕ)
@@ -139,29 +126,20 @@ gap_without exit k p w d a b =
     let end = cond exit ((k + w) + 1) b in
     omega (arith, capped exit k p w d a b, between p w d a end (left_out p w a) (left_out p w end) (left_out_is p w a) (left_out_is p w end))
 
-exit_in : (f d k p q t : ℕ) → ((leb f t && (leb (t + d) k && true)) && (leb p t && ltb t q)) ≡ true → (max f p ≤ t) × (t < min ((k + 1) - d) q)
-exit_in f d k p q t e = (grind (arith, nat_tests), grind (arith, nat_tests))
-
-node_in : (f g d k p q t : ℕ) → ((leb f t && (leb (t + d) k && not (leb g (t + d)))) && (leb p t && ltb t q)) ≡ true
-    → (max f p ≤ t) × (t < min (g - d) q)
-node_in f g d k p q t e = (grind (arith, nat_tests), grind (arith, nat_tests))
+end_in : (exit : Bool) (f g d k p q t : ℕ) → ((leb f t && (leb (t + d) k && (exit || not (leb g (t + d))))) && (leb p t && ltb t q)) ≡ true
+    → (max f p ≤ t) × (t < min (cond exit (k + 1) g - d) q)
+end_in exit f g d k p q t e = (grind (arith, nat_tests), grind (arith, nat_tests))
 
 lost_in : (exit : Bool) (f g d k p q : ℕ)
     → count (λ t. leaves (λ s. leb f s) (λ s. leb g s) exit d k t && (leb p t && ltb t q)) (k + 1) ≤ min (cond exit (k + 1) g - d) q - max f p
-lost_in true f g d k p q =
-    (run_count (λ t. leaves (λ s. leb f s) (λ s. leb g s) true d k t && (leb p t && ltb t q)) (max f p) (min ((k + 1) - d) q) (k + 1) (λ t e. exit_in f d k p q t e)).1
-lost_in false f g d k p q =
-    (run_count (λ t. leaves (λ s. leb f s) (λ s. leb g s) false d k t && (leb p t && ltb t q)) (max f p) (min (g - d) q) (k + 1) (λ t e. node_in f g d k p q t e)).1
+lost_in exit f g d k p q =
+    (run_count (λ t. leaves (λ s. leb f s) (λ s. leb g s) exit d k t && (leb p t && ltb t q)) (max f p) (min (cond exit (k + 1) g - d) q) (k + 1) (end_in exit f g d k p q)).1
 
 in_or_out : (b c : Bool) → cond b 1 0 ≡ cond (b && not c) 1 0 + cond (b && c) 1 0
-in_or_out true true = refl
-in_or_out true false = refl
-in_or_out false c = refl
+in_or_out b c = grind arith
 
 same_leaves : (u u' i e v v' : Bool) → u ≡ u' → (i ≡ true → e ≡ false → v ≡ v') → (u && (i && (e || not v))) ≡ (u' && (i && (e || not v')))
-same_leaves u u' true true v v' h n = ap (λ b. b && true) h
-same_leaves u u' true false v v' h n = ap₂ (λ a b. a && not b) h (n refl refl)
-same_leaves u u' false e v v' h n = ap (λ b. b && false) h
+same_leaves u u' i e v v' h j = grind arith
 
 module _ (m m' : Model) (from until : ℕ) (d : IsClosedBetween m m' from until) (valid : IsValid m) (steady : HasSteadyRates m)
     (large : HasRoomForAll m) where
@@ -216,9 +194,7 @@ module _ (m m' : Model) (from until : ℕ) (d : IsClosedBetween m m' from until)
       same_rate a t i s e = elim (outside_window t e) [ inl before ↦ d.before a t i s before | inr after ↦ d.after a t i s after ]
 
       each : (b c : Bool) (r s : ℕ) → (c ≡ true → r ≡ s) → cond (b && c) r 0 ≤ cond b s 0
-      each true true r s e = omega (arith, e refl)
-      each true false r s e = omega arith
-      each false c r s e = omega arith
+      each b c r s h = grind arith
 
       arc_part : (a : ℕ) → a < length m.arcs → of_arc m k (from_moments later_cut) a ≤ of_arc m' (k + w) x a
       arc_part a i =
@@ -234,7 +210,7 @@ module _ (m m' : Model) (from until : ℕ) (d : IsClosedBetween m m' from until)
             lost_in e (outside (tail m a)) (outside (head m a)) t (k + w) from until,
             sum_below-same (λ s. cond (of_moments a s) 1 0) (λ s. cond (kept a s) 1 0 + cond (of_moments a s && in_window s) 1 0) all
                 (λ s _. in_or_out (of_moments a s) (in_window s)),
-            added (λ s. cond (kept a s) 1 0) (λ s. cond (of_moments a s && in_window s) 1 0) all,
+            sum_by-add (λ s. cond (kept a s) 1 0) (λ s. cond (of_moments a s && in_window s) 1 0) (below all),
           ) in
           omega (
             arith,

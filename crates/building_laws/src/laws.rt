@@ -20,17 +20,20 @@ pub fn most_is_reached()
 {}
 
 /// Rates are steady where no door, corridor or stair is closed for a time.
+#[tactic(auto, using(crate::proofs::Plain::no_windows_are_steady))]
 pub fn no_windows_are_steady()
     ensures { NoWindowsAreSteady }
 {}
 
 /// Each node has room for all who come into it from nowhere, where everybody is inside at the start.
+#[tactic(auto, using(crate::proofs::Plain::nobody_later_has_room))]
 pub fn nobody_later_has_room()
     ensures { NobodyLaterHasRoom }
 {}
 
 /// Where rates are steady and there is room, the capacity of a room, hall or stair changes neither how many can be out by a moment nor
 /// whether everybody can get out. The plan, and when a room is empty, may change.
+#[tactic(auto, using(crate::proofs::Rooms::rooms_keep_most))]
 pub fn rooms_keep_most()
     ensures { RoomsKeepMost }
 {}
@@ -41,6 +44,7 @@ pub fn room_edits_keep_most()
 {}
 
 /// A wider door, a larger room, or a door or an exit that is opened never harms: each plan stays feasible, with as many out.
+#[tactic(auto, using(crate::proofs::Looser::looser_keeps_plans))]
 pub fn looser_keeps_plans()
     ensures { LooserKeepsPlans }
 {}
@@ -51,6 +55,7 @@ pub fn loosening_keeps_plans()
 {}
 
 /// Where rates are steady and there is room, a longer walk or a narrower door lets nobody out sooner.
+#[tactic(auto, using(crate::proofs::Slower::slower_is_no_better))]
 pub fn slower_is_no_better()
     ensures { SlowerIsNoBetter }
 {}
@@ -66,6 +71,7 @@ pub fn more_are_no_sooner()
 {}
 
 /// Where w people start in one room rather than in another, by each moment at most w more or fewer are out.
+#[tactic(auto, using(crate::proofs::People::shifted_change_little))]
 pub fn shifted_change_little()
     ensures { ShiftedChangeLittle }
 {}
@@ -77,27 +83,32 @@ pub fn two_exits_cost_most()
 
 /// Where rates are steady and there is room, one door, corridor or stair that is disturbed at no more than w moments delays nobody by more
 /// than w.
+#[tactic(auto, using(crate::proofs::Delays::one_arc_delays_little))]
 pub fn one_arc_delays_little()
     ensures { OneArcDelaysLittle }
 {}
 
 /// So it is with one closure of w moments.
+#[tactic(auto, using(crate::proofs::Windows::window_delays_by_its_length))]
 pub fn window_delays_by_its_length()
     ensures { WindowDelaysByItsLength }
 {}
 
 /// Where each room has place for everybody, so it is with any doors, corridors and stairs that are closed for the same w moments.
+#[tactic(auto, using(crate::proofs::Windows::common_window_delays_by_its_length))]
 pub fn common_window_delays_by_its_length()
     ensures { CommonWindowDelaysByItsLength }
 {}
 
 /// Where from each room with people a way for r at once is no longer than u, from moment u on r more are out at each moment until all are; so
 /// all are out by u + (people - 1) / r, and a horizon that leaves time for that is enough.
+#[tactic(auto, using(crate::proofs::Ways::ways_keep_pace))]
 pub fn ways_keep_pace()
     ensures { WaysKeepPace }
 {}
 
 /// While fewer are out than start in any room with people, no fewer come out at a moment than at the one before.
+#[tactic(auto, using(crate::proofs::Pace::pace_never_falls))]
 pub fn pace_never_falls()
     ensures { PaceNeverFalls }
 {}

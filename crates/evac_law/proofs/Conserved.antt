@@ -1,5 +1,5 @@
 -- Where everybody is out, nobody is inside, on an arc or still to come.
-use Rattle.std.proofs.Common.{◌≡◌, ℕ, ◌+◌, ◌<◌, ◌≤◌, Bool, true, false, cond, not, ◌&&◌, eqb, leb, List, length, get_or, arith, inl, inr, IsFalse}
+use Rattle.std.proofs.Common.{◌≡◌, ℕ, ◌+◌, ◌<◌, ◌≤◌, Bool, false, cond, not, ◌&&◌, eqb, leb, List, length, get_or, arith, inl, inr, IsFalse}
 use Rattle.std.specs.List.{sum_by}
 use Rattle.std.proofs.lemmas.List.Elements.{All-weaker}
 use Rattle.std.proofs.lemmas.List.Sums.{get_or-le-sum_by}
@@ -12,7 +12,7 @@ use Rattle.evac_law.specs.Sums.{moments_to, places}
 use Rattle.evac_law.specs.Building.{IsValid, arc_at, arrival, capacity, entered_by, entry, head, is_exit_at, people, tail}
 use Rattle.evac_law.specs.Plans.{IsFeasible, NobodyIsLeft, came, held, left, out_by}
 use Rattle.evac_law.proofs.Entries.{entered_le}
-use Rattle.evac_law.proofs.SumLemmas.{All-below, by_place, split_cond, sum_below-le_back, sum_by-add, sum_by-le_all, sum_by-same, sum_by-same_all, sum_moments-le, sum_moments-more}
+use Rattle.evac_law.proofs.SumLemmas.{All-below, by_place, cond_le, cond_mono, split_cond, sum_below-le_back, sum_by-add, sum_by-le_all, sum_by-same, sum_by-same_all, sum_moments-le, sum_moments-more}
 use Rattle.evac_law.proofs.ValidLemmas.{arc_is, head_in, tail_in}
 use Rattle.evac_law.proofs.WeakDuality.{within}
 
@@ -21,13 +21,6 @@ one_move : (exit from_exit : Bool) (s d k p : ℕ) → from_exit ≡ false
     → cond (not from_exit && leb s k) p 0
     ≡ (cond (not exit && leb (s + d) k) p 0 + cond (exit && leb (s + d) k) p 0) + cond (leb s k && not (leb (s + d) k)) p 0
 one_move exit from_exit s d k p e = grind (arith, nat_tests)
-
-cond_le : (b : Bool) (w : ℕ) → cond b w 0 ≤ w
-cond_le true w = omega arith
-cond_le false w = omega arith
-
-cond_mono : (b : Bool) (u v : ℕ) → (b ≡ true → u ≤ v) → cond b u 0 ≤ cond b v 0
-cond_mono b u v h = grind arith
 
 module _ (m : Model) (p : List Move) (k : ℕ) (valid : IsValid m) (feasible : IsFeasible m p k) (all_out : out_by m p k ≡ people m) where
   abbrev inside : ℕ → Bool

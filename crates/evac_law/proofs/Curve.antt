@@ -1,16 +1,13 @@
 -- The arrival curve, period by period.
-use Rattle.std.proofs.Common.{◌≡◌, ℕ, zero, suc, ◌+◌, ◌-◌, ◌<◌, Bool, cond, ◌&&◌, eqb, leb, List, [], ◌∷◌, length, ap, ap₂, sym, ◌∙◌, arith}
+use Rattle.std.proofs.Common.{◌≡◌, ℕ, zero, suc, ◌+◌, ◌-◌, ◌<◌, Bool, cond, ◌&&◌, eqb, leb, List, length, ap, sym, ◌∙◌, arith}
 use Rattle.std.specs.List.{sum_by, All}
-use Rattle.std.proofs.lemmas.List.Sums.{sum_by-cons}
-use Rattle.std.proofs.lemmas.List.Elements.{All-head, All-tail}
-use Rattle.std.proofs.lemmas.Bool.{lt-ltb}
 use Rattle.std.proofs.lemmas.Bool.Decides.{nat_tests}
 use Rattle.evac_law.specs.Building.{arc_at, arrival, head, is_exit_at}
 use Rattle.evac_law.specs.Plans.{moved, out_by}
 use Rattle.evac_law.specs.Sums.{below, moments_to, places}
 use Rattle.evac_law.specs.declared.model.Model.{Model}
 use Rattle.evac_law.specs.declared.plan.Move.{Move}
-use Rattle.evac_law.proofs.SumLemmas.{by_suc, by_zero, cond_nothing, split_cond, sum_below-pick, sum_by-add, sum_by-nothing, sum_by-same, sum_moments-suc, sum_moments-zero}
+use Rattle.evac_law.proofs.SumLemmas.{by_place, by_suc, by_zero, sum_by-add, sum_by-same, sum_moments-suc, sum_moments-zero}
 
 -- the people who arrive at exits at a moment, by the moves and by the arcs
 unfoldable pub arriving : Model → List Move → ℕ → ℕ
@@ -31,28 +28,11 @@ out_is_sum m p (suc k) =
     ∙ ap (λ z. z + arriving m p (suc k)) (out_is_sum m p k)
     ∙ sym (sum_moments-suc (arriving m p) k)
 
-regroup : (b s t : Bool) (w : ℕ) → cond b (cond (s && t) w 0) 0 ≡ cond s (cond (b && t) w 0) 0
-regroup b s t w = grind arith
-
-one_arc : (b : ℕ → Bool) (s : ℕ → ℕ) (p t w n : ℕ) → p < n
-    → sum_by (λ a. cond (b a) (cond (eqb p a && eqb t (s a)) w 0) 0) (below n) ≡ cond (b p && eqb t (s p)) w 0
-one_arc b s p t w n l =
-    sum_by-same _ (λ a. cond (eqb p a) (cond (b a && eqb t (s a)) w 0) 0) (below n) (λ a. regroup (b a) (eqb p a) (eqb t (s a)) w)
-    ∙ sum_below-pick (λ a. cond (b a && eqb t (s a)) w 0) n p
-    ∙ ap (λ z. cond z (cond (b p && eqb t (s p)) w 0) 0) (lt-ltb p n l)
-
 -- moves gathered by arc, each arc at one moment
 pub by_arc : (b : ℕ → Bool) (s : ℕ → ℕ) (n : ℕ) (xs : List Move) → All (λ v. v.arc < n) xs
     → sum_by (λ a. cond (b a) (sum_by (λ (v : Move). cond (eqb v.arc a && eqb v.moment (s a)) v.people 0) xs) 0) (below n)
     ≡ sum_by (λ (v : Move). cond (b v.arc && eqb v.moment (s v.arc)) v.people 0) xs
-by_arc b s n [] h = sum_by-same _ (λ _. 0) (below n) (λ a. cond_nothing (b a)) ∙ sum_by-nothing (below n)
-by_arc b s n (x ∷ xs) h =
-    let f = λ (a : ℕ) (v : Move). cond (eqb v.arc a && eqb v.moment (s a)) v.people 0 in
-    sum_by-same _ (λ a. cond (b a) (f a x) 0 + cond (b a) (sum_by (f a) xs) 0) (below n)
-    (λ a. ap (λ z. cond (b a) z 0) (sum_by-cons (f a) x xs) ∙ split_cond (b a) (f a x) (sum_by (f a) xs))
-    ∙ sum_by-add (λ a. cond (b a) (f a x) 0) (λ a. cond (b a) (sum_by (f a) xs) 0) (below n)
-    ∙ ap₂ (λ u v. u + v) (one_arc b s x.arc x.moment x.people n (All-head (λ v. v.arc < n) x xs h)) (by_arc b s n xs (All-tail (λ v. v.arc < n) x xs h))
-    ∙ sym (sum_by-cons (λ v. cond (b v.arc && eqb v.moment (s v.arc)) v.people 0) x xs)
+by_arc b s n xs h = by_place b (λ (v : Move). v.arc) (λ (v : Move). v.people) (λ a v. eqb v.moment (s a)) n xs h
 
 in_time : (e : Bool) (t d k w : ℕ) → cond ((leb d k && e) && eqb t (k - d)) w 0 ≡ cond (e && eqb (t + d) k) w 0
 in_time e t d k w = grind (arith, nat_tests)

@@ -1,5 +1,5 @@
 -- Cuts of a building with some of the people.
-use Rattle.std.proofs.Common.{◌≡◌, ℕ, ◌+◌, ◌≤◌, Bool, cond, not, ◌&&◌, ◌||◌, eqb, leb, length, ap, ◌∙◌, arith, subst}
+use Rattle.std.proofs.Common.{◌≡◌, ℕ, ◌+◌, ◌<◌, ◌≤◌, Bool, cond, not, ◌&&◌, ◌||◌, eqb, leb, length, ap, ◌∙◌, arith, subst}
 use Rattle.std.specs.List.{sum_by}
 use Rattle.std.proofs.lemmas.Bool.Decides.{nat_tests}
 use Rattle.evac_law.specs.declared.model.Model.{Model}
@@ -12,12 +12,15 @@ use Rattle.evac_law.specs.Sums.{below, moments_to, places}
 use Rattle.evac_law.proofs.SumLemmas.{sum2, sum2-le, sum_by-same}
 use Rattle.evac_law.proofs.WeakDuality.{out_le_value, value_is}
 
--- in a building with some of the people a cut is worth no more
+pub entry_mono : (b : Bool) (p q : ℕ) → p ≤ q → cond (b || eqb p 0) 0 p ≤ cond (b || eqb q 0) 0 q
+entry_mono b p q l = grind (arith, nat_tests)
+
+-- in a building with some of the people a cut is worth no more, and as much where all come whom it counts
 module _ (m s : Model) (h : IsPart m s) (x : Cut) (k : ℕ) where
   abbrev came : Model → ℕ → ℕ → ℕ
   came b n t = cond (x n t || eqb (entry b n t) 0) 0 (entry b n t)
 
-  leaves_same : (t a : ℕ) → leaves_cut s x k t a ≡ leaves_cut m x k t a
+  pub leaves_same : (t a : ℕ) → leaves_cut s x k t a ≡ leaves_cut m x k t a
   leaves_same t a =
       ap (λ n. x n t && (leb (arrival s a t) k && (is_exit_at s (head s a) || not (x (head s a) (arrival s a t))))) (h.tails a)
       ∙ ap (λ r. x (tail m a) t && (leb r k && (is_exit_at s (head s a) || not (x (head s a) r)))) (ap (λ d. t + d) (h.travels a))
@@ -40,12 +43,14 @@ module _ (m s : Model) (h : IsPart m s) (x : Cut) (k : ℕ) where
   entries_count : sum_by (λ n. sum_by (came s n) (moments_to k)) (places s.nodes) ≡ sum2 (length m.nodes) (k + 1) (came s)
   entries_count = ap (λ c. sum_by (λ n. sum_by (came s n) (moments_to k)) (below c)) h.nodes
 
-  less : (b : Bool) (p q : ℕ) → p ≤ q → cond (b || eqb p 0) 0 p ≤ cond (b || eqb q 0) 0 q
-  less b p q l = grind (arith, nat_tests)
-
   pub worth_less : cut_value s x k ≤ cut_value m x k
   worth_less =
-      let entries = sum2-le (length m.nodes) (k + 1) (came s) (came m) (λ n t i j. less (x n t) (entry s n t) (entry m n t) (h.entries n t)) in
+      let entries = sum2-le (length m.nodes) (k + 1) (came s) (came m) (λ n t i j. entry_mono (x n t) (entry s n t) (entry m n t) (h.entries n t)) in
+      omega (arith, value_is s x k, value_is m x k, arcs_worth, holds_worth, entries_count, entries)
+
+  pub worth_as_much : ((n t : ℕ) → n < length m.nodes → t < k + 1 → came m n t ≤ came s n t) → cut_value m x k ≤ cut_value s x k
+  worth_as_much come =
+      let entries = sum2-le (length m.nodes) (k + 1) (came m) (came s) come in
       omega (arith, value_is s x k, value_is m x k, arcs_worth, holds_worth, entries_count, entries)
 
 -- so a cut of the building bounds them

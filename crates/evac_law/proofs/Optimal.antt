@@ -14,7 +14,7 @@ use Rattle.evac_law.specs.Certificates.{IsCertified, IsShortfall, IsClearable, l
 use Rattle.evac_law.specs.Cuts.{Cut, IsCut, cut_value}
 use Rattle.std.proofs.lemmas.List.Elements.{All-head, All-tail}
 use Rattle.evac_law.specs.Plans.{last_arrival, moved, came, left, held, IsFeasible, out_by, person_periods}
-use Rattle.evac_law.proofs.SumLemmas.{sum_by-add, sum_by-exchange, sum_by-same, sum_by-same_all, sum_by-nothing, sum_below-suc, sum_by-le_all, sum_moments-stays, sum_by-times, times_cond, All-below}
+use Rattle.evac_law.proofs.SumLemmas.{cond_le, sum_by-add, sum_by-exchange, sum_by-same, sum_by-same_all, sum_by-nothing, sum_below-suc, sum_by-le_all, sum_moments-stays, sum_by-times, times_cond, All-below}
 use Rattle.evac_law.proofs.Conserved.{all_out_leaves_nobody}
 use Rattle.evac_law.proofs.Entries.{empty_cut_is, entered_le}
 use Rattle.evac_law.proofs.WeakDuality.{out_le_value}
@@ -52,15 +52,16 @@ lawful_down m p b c l h = record {
   holds = λ n t i e s. h.holds n t i e (omega arith);
 }
 
-all_in_time : (e : Bool) (r c k p : ℕ) → r ≤ c → c ≤ k → cond (e && leb r k) p 0 ≡ cond (e && leb r c) p 0
-all_in_time e r c k p i j = grind (arith, nat_tests)
+-- a sum over moves that are over by c counts them all from c on
+stays : (e : Bool) (r c t w : ℕ) → r ≤ c → c ≤ t → cond (e && leb r t) w 0 ≡ cond (e && leb r c) w 0
+stays e r c t w i j = grind (arith, nat_tests)
 
 -- nobody gets out later than the last arrival
 pub out_stays : (m : Model) (p : List Move) (c k : ℕ) → c ≤ k → All (λ v. arrival m v.arc v.moment ≤ c) p → out_by m p k ≡ out_by m p c
 unfolding out_by
 out_stays m p c k l a =
     sum_by-same_all _ _ p
-    (λ i d h. let v = get_or p i d in all_in_time (is_exit_at m (head m v.arc)) (arrival m v.arc v.moment) c k v.people (a i d h) l)
+    (λ i d h. let v = get_or p i d in stays (is_exit_at m (head m v.arc)) (arrival m v.arc v.moment) c k v.people (a i d h) l)
 
 -- a good plan has everybody out by each moment from its last on
 good_out : (m : Model) (p : List Move) (l : LabelTable) (c k : ℕ) → IsCertified m p l c → c ≤ k → out_by m p k ≡ people m
@@ -157,10 +158,6 @@ some_more f g (x ∷ xs) h = elim (cases_lt (f x) (g x)) [
     further : Any (λ x. f x < g x) xs → Any (λ x. f x < g x) (x ∷ xs)
     further (k, y, l, e, p) = (suc k, y, omega (arith, l), e, p)
 
-at_most : (b : Bool) (w : ℕ) → cond b w 0 ≤ w
-at_most true w = omega arith
-at_most false w = omega arith
-
 -- whom a later moment counts and an earlier one doesn't, arrives in between
 in_between : (e : Bool) (r b h w : ℕ) → cond (e && leb r b) w 0 < cond (e && leb r h) w 0 → (0 < w) × (e ≡ true) × (b + 1 ≤ r) × (r ≤ h)
 in_between false r b h w l = absurd (omega arith)
@@ -169,7 +166,7 @@ in_between true r b h w l = elim (cases_lt b r) [
     | inl never ↦ absurd (omega (arith, rw (lt-leb r h never) at l))
     | inr by_then ↦ (omega (arith, rw (le-leb r h by_then, lt-leb r b before) at l), refl, omega arith, by_then)
   ]
-  | inr already ↦ absurd (omega (arith, rw (le-leb r b already) at l, at_most (leb r h) w))
+  | inr already ↦ absurd (omega (arith, rw (le-leb r b already) at l, cond_le (leb r h) w))
 ]
 
 pub someone_arrives : (m : Model) (q : List Move) (b : ℕ) → out_by m q b < out_by m q m.horizon → SomeoneArrivesFrom m q (b + 1)
@@ -204,10 +201,6 @@ certified_is_quickest m p q l c valid good feasible everybody =
     last (suc b) some i inside = subst (λ (k : ℕ). SomeoneArrivesFrom m q k) (add-one b) (someone_arrives m q b (omega (arith, inside b (omega arith), everybody)))
 
 -- ---- a certified plan clears the model
-
--- a sum over moves that are over by c counts them all from c on
-stays : (e : Bool) (r c t w : ℕ) → r ≤ c → c ≤ t → cond (e && leb r t) w 0 ≡ cond (e && leb r c) w 0
-stays e r c t w i j = grind (arith, nat_tests)
 
 came_stays : (m : Model) (p : List Move) (n c t : ℕ) → c ≤ t → All (λ v. arrival m v.arc v.moment ≤ c) p → ((s : ℕ) → c < s → entry m n s ≡ 0)
     → came m p n t ≡ came m p n c

@@ -11,7 +11,7 @@ use Rattle.evac_law.specs.Building.{arrival, capacity, entry, head, is_exit_at, 
 use Rattle.evac_law.specs.Plans.{IsFeasible, NobodyIsLeft, came, held, left, moved, out_by}
 use Rattle.evac_law.specs.Sums.{moments_to}
 use Rattle.evac_law.proofs.Conserved.{all_out_leaves_nobody}
-use Rattle.evac_law.proofs.SumLemmas.{sum_by-nothing, sum_by-same, sum_by-same_all, sum_by-le_all, sum_moments-stays}
+use Rattle.evac_law.proofs.SumLemmas.{cond_le, sum_by-nothing, sum_by-same, sum_by-same_all, sum_by-le_all, sum_moments-stays}
 use Rattle.evac_law.specs.Laws.{AllOutIsClearable}
 
 -- ---- sums over some of the moves
@@ -44,10 +44,6 @@ left_soon e r s k t w i h = grind (arith, nat_tests)
 
 left_late : (e : Bool) (r s k t w : ℕ) → k ≤ t → s ≤ r → (0 < w → s ≤ k → r ≤ k) → cond (leb r k) (cond (e && leb s t) w 0) 0 ≡ cond (e && leb s k) w 0
 left_late e r s k t w i j h = grind (arith, nat_tests)
-
-some_of : (b : Bool) (w : ℕ) → cond b w 0 ≤ w
-some_of true w = omega arith
-some_of false w = omega arith
 
 none_later : (e : Bool) (r s k t w : ℕ) → k < t → s ≤ r → cond (leb r k) (cond (e && eqb s t) w 0) 0 ≡ 0
 none_later e r s k t w i j = grind (arith, nat_tests)
@@ -101,7 +97,7 @@ module _ (m : Model) (p : List Move) (k : ℕ) (over : NobodyIsLeft m p k) where
   unfolding moved thinned arrives_by
   moved_few a t =
       let f = λ (v : Move). cond (eqb v.arc a && eqb v.moment t) v.people 0 in
-      let fewer = sum_by-le_all (λ v. cond (arrives_by m k v) (f v) 0) f p (λ j d h. some_of (arrives_by m k (get_or p j d)) (f (get_or p j d))) in
+      let fewer = sum_by-le_all (λ v. cond (arrives_by m k v) (f v) 0) f p (λ j d h. cond_le (arrives_by m k (get_or p j d)) (f (get_or p j d))) in
       omega (arith, over_filter (arrives_by m k) f p, fewer)
 
   moved_late : (a t : ℕ) → k < t → moved (thinned m p k) a t ≡ 0

@@ -14,7 +14,8 @@ use Rattle.evac_law.specs.Cuts.{Cut, leaves_cut, cut_value}
 use Rattle.evac_law.specs.Plans.{IsFeasible, moved, came, coming, left, leaving, held, out_by}
 use Rattle.evac_law.proofs.Entries.{exit_entry}
 use Rattle.evac_law.proofs.SumLemmas.{sum_by-add, sum_by-same, sum_by-nothing, sum_by-le_all, sum_by-exchange, All-below, sum_moments-zero, sum_moments-suc, sum2, sum2-le, sum2-nothing, gather}
-use Rattle.evac_law.proofs.WeakDuality.{out_le_value, value_is, came-zero, came-suc, left-zero, left-suc, spent, entered, joined, stayed, stayed-suc, outside, node_spent, node_entered, node_joined, node_stayed, open_node, exit_node, to_outside, from_outside, from_cut, arc_of, spent_is, joined_is, crossed_is}
+use Rattle.evac_law.proofs.ValidLemmas.{arc_is}
+use Rattle.evac_law.proofs.WeakDuality.{out_le_value, value_is, came-zero, came-suc, left-zero, left-suc, spent, entered, joined, stayed, stayed-suc, outside, node_spent, node_entered, node_joined, node_stayed, open_node, exit_node, to_outside, from_outside, from_cut, spent_is, joined_is, crossed_is}
 
 -- ---- a node from moment to moment, the other way round
 
@@ -144,7 +145,7 @@ module _ (m : Model) (x : Cut) (q : List Move) (k : ℕ) (valid : IsValid m) (fe
       All-weaker (λ v. v.arc < length m.arcs) (λ v. from v + over v ≤ (outs v + to v) + strayed v)
       (λ v l. one_move (is_exit_at m (head m v.arc)) (is_exit_at m (tail m v.arc)) (x (tail m v.arc) v.moment)
       (x (head m v.arc) (arrival m v.arc v.moment)) v.moment (arrival m v.arc v.moment) k v.people
-      (omega arith) (arc_of m x q k valid feasible v.arc l).from_no_exit)
+      (omega arith) (arc_is m v.arc valid l).from_no_exit)
       q feasible.arcs in
       omega (
         arith,

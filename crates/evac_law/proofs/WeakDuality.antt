@@ -1,8 +1,8 @@
 -- No feasible plan has more people out by a moment than a cut is worth there.
-use Rattle.std.proofs.Common.{◌≡◌, ℕ, zero, suc, ◌+◌, ◌<◌, ◌≤◌, Bool, true, false, cond, not, ◌&&◌, ◌||◌, eqb, ltb, leb, List, [], ◌∷◌, ◌++◌, length, refl, ap, ap₂, sym, ◌∙◌, arith, add-one, inl, inr, pos, ◌≤ℤ◌}
+use Rattle.std.proofs.Common.{◌≡◌, ℕ, zero, suc, ◌+◌, ◌<◌, ◌≤◌, Bool, true, false, cond, not, ◌&&◌, ◌||◌, eqb, ltb, leb, List, [], ◌∷◌, ◌++◌, length, refl, ap, ap₂, sym, ◌∙◌, arith, add-one, inl, inr, pos, ℤ, ◌≤ℤ◌}
 use Rattle.std.specs.List.{sum_by, flat_map, All}
 use Rattle.std.proofs.lemmas.List.Sums.{sum_by-append}
-use Rattle.std.proofs.lemmas.List.Elements.{All-weaker, All-get_or}
+use Rattle.std.proofs.lemmas.List.Elements.{All-weaker}
 use Rattle.std.proofs.lemmas.Bool.{cases_Bool, eqb-true}
 use Rattle.std.proofs.lemmas.Bool.Decides.{nat_tests}
 use Rattle.std.proofs.lemmas.Int.{ints}
@@ -11,10 +11,11 @@ use Rattle.evac_law.specs.declared.plan.Move.{Move}
 use Rattle.evac_law.specs.declared.cut.CutItem.{CutItem}
 use Rattle.evac_law.specs.declared.cut.CutItem.TheVariants.{Entry, Hold, Arc}
 use Rattle.evac_law.specs.Sums.{below, moments_to, places}
-use Rattle.evac_law.specs.Building.{IsValid, IsArc, arc_at, no_arc, is_exit_at, capacity, tail, head, arrival, rate, entry}
+use Rattle.evac_law.specs.Building.{IsValid, is_exit_at, capacity, tail, head, arrival, rate, entry}
 use Rattle.evac_law.specs.Cuts.{Cut, leaves_cut, cut_items, entry_items, hold_items, arc_items, number_of, cut_value}
-use Rattle.evac_law.specs.Plans.{IsFeasible, moved, came, coming, left, leaving, held, out_by}
-use Rattle.evac_law.proofs.SumLemmas.{by_suc, by_zero, sum_by-add, sum_by-same, sum_by-nothing, sum_by-le_all, sum_by-exchange, sum_by-flat_map, All-below, sum_below-more, sum_moments-zero, sum_moments-suc, sum2, sum2-le, gather}
+use Rattle.evac_law.specs.Plans.{IsFeasible, moved, came, coming, left, leaving, held, out_by, above}
+use Rattle.evac_law.proofs.SumLemmas.{by_suc, by_zero, sum_by-add, sum_by-same, sum_by-nothing, sum_by-le_all, sum_by-exchange, sum_by-flat_map, All-below, sum_below-more, sum_moments-zero, sum_moments-suc, sum2, sum2-le, gather, cond_mono}
+use Rattle.evac_law.proofs.ValidLemmas.{arc_is, head_in, tail_in}
 
 -- ---- the value of a cut, as sums
 
@@ -108,6 +109,9 @@ pub within : (m : Model) (q : List Move) (n t cap : ℕ) → (pos 0 ≤ℤ held 
     → (left m q n t ≤ came m q n t) × (came m q n t ≤ left m q n t + cap)
 unfolding held
 within m q n t cap h = (omega (arith, ints, h.0), omega (arith, ints, h.1))
+
+pub above_pos : (x : ℕ) (z : ℤ) → pos x ≡ z → above z 0 ≡ x
+above_pos x z e = ap (λ y. above y 0) (sym e) ∙ omega arith
 
 module _ (m : Model) (x : Cut) (q : List Move) (n : ℕ) where
   -- what leaves the node, starts in it or comes to it at a moment outside the cut, and its room where it leaves the cut
@@ -207,14 +211,11 @@ one_move : (exit from_exit from_cut to_cut : Bool) (s r k p : ℕ) → s ≤ r �
 one_move exit from_exit from_cut to_cut s r k p l e = grind (arith, nat_tests)
 
 module _ (m : Model) (x : Cut) (q : List Move) (k : ℕ) (valid : IsValid m) (feasible : IsFeasible m q k) where
-  pub arc_of : (a : ℕ) → a < length m.arcs → IsArc m.nodes (arc_at m a)
-  arc_of a l = All-get_or (IsArc m.nodes) m.arcs a no_arc l valid.arcs
-
   pub tails : All (λ v. tail m v.arc < length m.nodes) q
-  tails = All-weaker (λ v. v.arc < length m.arcs) (λ v. tail m v.arc < length m.nodes) (λ v l. (arc_of v.arc l).from_in) q feasible.arcs
+  tails = All-weaker (λ v. v.arc < length m.arcs) (λ v. tail m v.arc < length m.nodes) (λ v l. tail_in m v.arc valid l) q feasible.arcs
 
   pub heads : All (λ v. head m v.arc < length m.nodes) q
-  heads = All-weaker (λ v. v.arc < length m.arcs) (λ v. head m v.arc < length m.nodes) (λ v l. (arc_of v.arc l).to_in) q feasible.arcs
+  heads = All-weaker (λ v. v.arc < length m.arcs) (λ v. head m v.arc < length m.nodes) (λ v l. head_in m v.arc valid l) q feasible.arcs
 
   abbrev pub to_outside : Move → ℕ
   to_outside v = cond (ltb (arrival m v.arc v.moment) (k + 1) && outside m x (head m v.arc) (arrival m v.arc v.moment)) v.people 0
@@ -234,7 +235,7 @@ module _ (m : Model) (x : Cut) (q : List Move) (k : ℕ) (valid : IsValid m) (fe
       All-weaker (λ v. v.arc < length m.arcs) (λ v. out_of v + to_outside v ≤ from_outside v + from_cut v)
       (λ v l. one_move (is_exit_at m (head m v.arc)) (is_exit_at m (tail m v.arc)) (x (tail m v.arc) v.moment)
       (x (head m v.arc) (arrival m v.arc v.moment)) v.moment (arrival m v.arc v.moment) k v.people
-      (omega arith) (arc_of v.arc l).from_no_exit)
+      (omega arith) (arc_is m v.arc valid l).from_no_exit)
       q feasible.arcs in
       omega (arith, sum_by-le_all (λ v. out_of v + to_outside v) (λ v. from_outside v + from_cut v) q each, sum_by-add out_of to_outside q, sum_by-add from_outside from_cut q)
 
@@ -250,16 +251,12 @@ module _ (m : Model) (x : Cut) (q : List Move) (k : ℕ) (valid : IsValid m) (fe
   unfolding moved
   crossed_is = gather (λ v. v.arc) (λ v. v.moment) (λ v. v.people) (λ a t. leaves_cut m x k t a) (length m.arcs) (k + 1) q feasible.arcs
 
-  within_rate : (b : Bool) (u r : ℕ) → u ≤ r → cond b u 0 ≤ cond b r 0
-  within_rate true u r l = l
-  within_rate false u r l = omega arith
-
   crossed_le : sum_by from_cut q
       ≤ sum_by (λ t. sum_by (λ a. cond (leaves_cut m x k t a) (rate m a t) 0) (places m.arcs)) (moments_to k)
   crossed_le =
       let at_most = sum2-le (length m.arcs) (k + 1) (λ a t. cond (leaves_cut m x k t a) (moved q a t) 0)
       (λ a t. cond (leaves_cut m x k t a) (rate m a t) 0)
-      (λ a t i j. within_rate (leaves_cut m x k t a) _ _ (feasible.rates a t i (omega arith))) in
+      (λ a t i j. cond_mono (leaves_cut m x k t a) _ _ (λ _. feasible.rates a t i (omega arith))) in
       omega (arith, crossed_is, at_most, sum_by-exchange (λ a t. cond (leaves_cut m x k t a) (rate m a t) 0) (places m.arcs) (moments_to k))
 
   entry_le : (e i z : Bool) (p : ℕ) → (z ≡ true → p ≡ 0) → cond (not e && not i) p 0 ≤ cond (i || z) 0 p

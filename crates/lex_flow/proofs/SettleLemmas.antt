@@ -21,7 +21,7 @@ use Rattle.residual_net.proofs.Fit.{feasible, fits}
 use Rattle.residual_net.proofs.Held.{horizon_same}
 use Rattle.residual_net.proofs.LastArrival.{arrived_by_last, arrived_rises, last_by_arrived, last_fits}
 use Rattle.residual_net.proofs.Law.{arrived_is_out, closed_is_cut}
-use Rattle.residual_net.proofs.PartLemmas.{arrived-get-out}
+use Rattle.residual_net.proofs.PartLemmas.{arrived_get_out}
 use Rattle.residual_net.proofs.SentLemmas.{all_sent_arrive, arrived_all_sent, few_arrive}
 use Rattle.terminal_augment.proofs.ClosedLemmas.{closed_same}
 use Rattle.terminal_augment.proofs.KeptLemmas.{limits_stay, limits_then, net_of_kept, over_before}
@@ -135,7 +135,7 @@ shortfall m w l valid net of within unsent closed =
 greatest : (m : Model) (w : Network) (x : Cut) (v : ℕ) → IsValid m → IsNet w → IsNetOf m w → IsWithinLimits w → arrived_by w m.horizon ≡ v → IsShortfall m x v
     → IsMost m v
 greatest m w x v valid net of within arrived short = record {
-  reached = (plan_of w, subst (λ (n : ℕ). TakesPartOut m (plan_of w) n) arrived (arrived-get-out m w valid net of within));
+  reached = (plan_of w, subst (λ (n : ℕ). TakesPartOut m (plan_of w) n) arrived (arrived_get_out m w valid net of within));
   bound = λ u h. omega (arith, parts_are_bounded m x u h, short.worth);
 }
 
@@ -187,6 +187,7 @@ module _ (w v : Network) (l m : LabelTable) (from k p : ℕ) (h : IsSettledThrou
   pub net_is : (o : Outcome) → IsOutcome v o → pushes_of o ≡ p → IsNetSettled w v from o
   net_is o outcome same = record {
     limits = done.limits;
+    net = done.net;
     within = done.within;
     earlier = done.earlier;
     later = done.later;

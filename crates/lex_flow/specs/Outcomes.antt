@@ -6,7 +6,7 @@ use Rattle.evac_law.specs.Certificates.{IsCertified, IsShortfall, label_cut}
 use Rattle.evac_law.specs.LabelTable.{LabelTable}
 use Rattle.evac_law.specs.Parts.{IsMost}
 use Rattle.evac_law.specs.Stands.{Fits}
-use Rattle.residual_net.specs.Network.{Network, IsAllSent, IsWithinLimits, arrived_by}
+use Rattle.residual_net.specs.Network.{Network, IsAllSent, IsNet, IsWithinLimits, arrived_by}
 use Rattle.residual_net.specs.OfModel.{last_move, plan_of, stand_of}
 use Rattle.lex_flow.specs.declared.outcome.Outcome.{Outcome}
 use Rattle.lex_flow.specs.declared.outcome.Outcome.TheVariants.{Cleared, Short}
@@ -41,10 +41,11 @@ abbrev pub IsBounded : Network → Network → Outcome → Type 0
 IsBounded w v o =
     pushes_of o + arrivals_below w (last_settled v.site.shape.horizon o + 1) ≤ arrivals_below v (last_settled v.site.shape.horizon o + 1)
 
--- moments are settled from one on: limits stay and are kept, no earlier arrivals change and none fall, the pushes are bounded, and without a push,
+-- moments are settled from one on: flow is conserved, limits stay and are kept, no earlier arrivals change and none fall, the pushes are bounded, and without a push,
 -- or where everybody had arrived before, the net is as it was
 pub record IsNetSettled (w v : Network) (from : ℕ) (o : Outcome) : Type 0 where
   pub limits : KeepsLimits w v
+  pub net : IsNet v
   pub within : IsWithinLimits v
   pub earlier : (i : ℕ) → i < from → arrived_by v i ≡ arrived_by w i
   pub later : (i : ℕ) → arrived_by w i ≤ arrived_by v i

@@ -4,27 +4,26 @@ use Rattle.std.specs.List.{sum_by}
 use Rattle.std.proofs.lemmas.Bool.{cases_Bool, eq-eqb}
 use Rattle.std.proofs.lemmas.Bool.Decides.{nat_tests}
 use Rattle.evac_law.specs.Sums.{below}
-use Rattle.evac_law.proofs.SumLemmas.{sum_below-none, sum_moments-suc, sum_moments-zero}
+use Rattle.evac_law.proofs.SumLemmas.{cond_le, sum_below-more, sum_below-none, sum_moments-suc, sum_moments-zero}
 use Rattle.residual_net.specs.declared.place.Place.{Place}
-use Rattle.residual_net.specs.declared.place.Place.TheVariants.{Arc, Hold, Supply}
+use Rattle.residual_net.specs.declared.place.Place.TheVariants.{Arc}
 use Rattle.residual_net.specs.declared.place.PathStep.{PathStep}
 use Rattle.residual_net.specs.Limits.{supply_limit}
 use Rattle.residual_net.specs.declared.end.End.{End}
-use Rattle.residual_net.specs.declared.end.End.TheVariants.{Source, Pair, Door}
+use Rattle.residual_net.specs.declared.end.End.TheVariants.{Door}
 use Rattle.residual_net.specs.Site.{Site, IsPlace, at, door_by, is_door, is_barred, head_of, tail_of, start_of, stop_of}
 use Rattle.residual_net.specs.Network.{Network, IsNet, IsStored, flow_at, limit_at, flow_into, residual_room}
 use Rattle.residual_net.specs.Legs.{IsUnderwayBetween}
 use Rattle.residual_net.specs.Route.{IsUnderway}
 use Rattle.residual_net.specs.Change.{IsFewerBy, rank}
-use Rattle.residual_net.proofs.Places.{cond_most, sum_places-same, sum_places-add, sum_places-le}
+use Rattle.residual_net.proofs.Places.{sum_places-same, sum_places-add, sum_places-le}
 use Rattle.residual_net.proofs.Push.{arrivals_moved}
 use Rattle.residual_net.proofs.Quiet.{part_into, rank_in}
 use Rattle.residual_net.proofs.Steps.{first_start, last_stop, path_some, net_pushed, few_arrive}
 
 pub no_tail : (s : Site) (p : Place) (k : ℕ) → tail_of s p ≡ Door k → ⊥
 no_tail s (Arc a t) k e = cc
-no_tail s (Hold a t) k e = cc
-no_tail s (Supply a t) k e = cc
+no_tail s _ k e = cc
 
 -- a step that stops at an arrival goes forwards
 pub into_door : (s : Site) (r : PathStep) (k : ℕ) → stop_of s r ≡ Door k → (r.back ≡ false) × (head_of s r.place ≡ Door k)
@@ -80,8 +79,8 @@ stored_counted w v arrivals mid new from to x s net site a b moved =
 
 -- ---- the arrivals of a push
 
-module _ (v : Network) (arrivals : List ℕ) (first last : PathStep) (x : ℕ) (one : 1 ≤ x) (h : IsUnderwayBetween v arrivals first last x)
-    (from to : End) (a : from ≡ start_of v.site first) (b : to ≡ head_of v.site last.place) where
+module _ {v : Network} {arrivals : List ℕ} {first last : PathStep} {x : ℕ} (one : 1 ≤ x) (h : IsUnderwayBetween v arrivals first last x)
+    {from to : End} (a : from ≡ start_of v.site first) (b : to ≡ head_of v.site last.place) where
   abbrev u : IsUnderway v arrivals h.path x
   u = h.underway
 
@@ -130,8 +129,8 @@ module _ (v : Network) (arrivals : List ℕ) (first last : PathStep) (x : ℕ) (
       let enough = subst (λ (b : Bool). x ≤ cond b (flow_at w first.place) (limit_at w first.place - flow_at w first.place)) back.0 room in
       (inside, told_people w arrivals u.stored first.place x place enough j back.1 inside)
 
-  pub can_raise : (mid : List ℕ) → IsFewerBy mid arrivals from x → (j : ℕ) → to ≡ Door j → (j < length mid) × (get_or mid j 0 + x ≤ supply_limit)
-  can_raise mid m j e =
+  pub can_raise : {mid : List ℕ} → IsFewerBy mid arrivals from x → (j : ℕ) → to ≡ Door j → (j < length mid) × (get_or mid j 0 + x ≤ supply_limit)
+  can_raise m j e =
       let place = subst (λ (y : PathStep). IsPlace w.site y.place) (h.last_step last) (u.pushable.2.places last_number last (omega (arith, some))) in
       let room = subst (λ (y : PathStep). x ≤ residual_room w y) (h.last_step last) (u.pushable.2.room last_number last (omega (arith, some))) in
       let inside = told_door w arrivals u.stored last x place one room j (last_is ∙ e) in
@@ -139,8 +138,8 @@ module _ (v : Network) (arrivals : List ℕ) (first last : PathStep) (x : ℕ) (
       let total = u.stored.totals j (omega (arith, inside, u.stored.moments)) in
       (omega (arith, inside, m.length_same), omega (arith, m.each j, moved j, all, total, few_arrive v j net))
 
-  pub stored_pushed : (mid new : List ℕ) → IsFewerBy mid arrivals from x → IsFewerBy mid new to x → IsStored v new
-  stored_pushed mid new m n = stored_counted w v arrivals mid new from to x u.stored net u.pushed.site m n moved
+  pub stored_pushed : {mid new : List ℕ} → IsFewerBy mid arrivals from x → IsFewerBy mid new to x → IsStored v new
+  stored_pushed {mid} {new} m n = stored_counted w v arrivals mid new from to x u.stored net u.pushed.site m n moved
 
 -- ---- arrivals added up
 
@@ -150,9 +149,8 @@ unfolding flow_into
 arrived_all w zero = sum_moments-zero (λ j. flow_into w (at (Door j))) ∙ sum_places-same w.site _ _ (λ p i. same (head_of w.site p) (flow_at w p))
   where
     same : (e : End) (f : ℕ) → cond (at (Door 0) e) f 0 ≡ cond (door_by 0 e) f 0
-    same Source f = refl
-    same (Pair m t) f = refl
     same (Door t) f = grind (arith, nat_tests)
+    same _ f = refl
 arrived_all w (suc k) =
     sum_moments-suc (λ j. flow_into w (at (Door j))) k
     ∙ ap (λ z. z + flow_into w (at (Door (suc k)))) (arrived_all w k)
@@ -160,9 +158,8 @@ arrived_all w (suc k) =
     ∙ sum_places-add w.site (λ p. cond (door_by k (head_of w.site p)) (flow_at w p) 0) (λ p. cond (at (Door (suc k)) (head_of w.site p)) (flow_at w p) 0))
   where
     more : (e : End) (f : ℕ) → cond (door_by (suc k) e) f 0 ≡ cond (door_by k e) f 0 + cond (at (Door (suc k)) e) f 0
-    more Source f = refl
-    more (Pair m t) f = refl
     more (Door t) f = grind (arith, nat_tests)
+    more _ f = refl
 
 pub arrivals_fit : (w : Network) (n : ℕ) → IsNet w → sum_by (λ j. flow_into w (at (Door j))) (below n) ≤ supply_limit
 unfolding flow_into
@@ -173,6 +170,14 @@ arrivals_fit w (suc k) net =
     omega (arith, ap (λ z. sum_by (λ j. flow_into w (at (Door j))) (below z)) (add-one k), arrived_all w k, less, net.conserved.sent, net.few_sent)
   where
     le : (e : End) (f : ℕ) → cond (door_by k e) f 0 ≤ cond (is_door e) f 0
-    le Source f = omega arith
-    le (Pair m t) f = omega arith
-    le (Door t) f = cond_most (leb t k) f
+    le (Door t) f = cond_le (leb t k) f
+    le _ f = omega arith
+
+-- one more moment's arrivals
+pub arrived_more : (w : Network) (arrivals : List ℕ) (total i : ℕ) → IsStored w arrivals → i ≤ w.site.shape.horizon
+    → total ≡ sum_by (λ j. flow_into w (at (Door j))) (below i)
+    → (total + get_or arrivals i 0 ≤ supply_limit) × (total + get_or arrivals i 0 ≡ sum_by (λ j. flow_into w (at (Door j))) (below (i + 1)))
+arrived_more w arrivals total i stored l e =
+    let more = sum_below-more (λ j. flow_into w (at (Door j))) i in
+    let here = stored.totals i l in
+    (omega (arith, arrivals_fit w (i + 1) stored.net, more, here, e), omega (arith, more, here, e))

@@ -104,14 +104,9 @@ row_so_far k n t q = (is_kind k q && eqb (row_of q) n) && ltb (place_moment q) t
 
 pub row_step : (k : Kind) (n t : ℕ) (q : Place) → row_so_far k n (t + 1) q ≡ (same_place (place_of k n t) q || row_so_far k n t q)
 row_step kinds.Arc n t (Arc a s) = step_test a n s t
-row_step kinds.Arc n t (Hold a s) = refl
-row_step kinds.Arc n t (Supply a s) = refl
-row_step kinds.Hold n t (Arc a s) = refl
 row_step kinds.Hold n t (Hold a s) = step_test a n s t
-row_step kinds.Hold n t (Supply a s) = refl
-row_step kinds.Supply n t (Arc a s) = refl
-row_step kinds.Supply n t (Hold a s) = refl
 row_step kinds.Supply n t (Supply a s) = step_test a n s t
+row_step _ n t _ = refl
 
 -- ---- the cells of a model
 
@@ -324,12 +319,14 @@ unfolding flow_out
 out_none w h e = sums_none w h (λ p. e (tail_of w.site p))
 
 -- the entries up to the horizon are those who come in by then, and in a valid model all people
-entries_enter : (m : Model) → sums.sum2 (length m.nodes) (m.horizon + 1) (entry m) ≡ entered_by m m.horizon
+entries_enter : (m : Model) (nodes horizon : ℕ) → nodes ≡ length m.nodes → horizon ≡ m.horizon
+    → sums.sum2 nodes (horizon + 1) (entry m) ≡ entered_by m m.horizon
 unfolding entered_by
-entries_enter m = refl
+entries_enter m nodes horizon e f = ap₂ (λ y z. sums.sum2 y (z + 1) (entry m)) e f
 
-pub entries_are_people : (m : Model) → IsValid m → sums.sum2 (length m.nodes) (m.horizon + 1) (entry m) ≡ people m
-entries_are_people m valid = entries_enter m ∙ entered_all m valid
+pub entries_are_people : (m : Model) (nodes horizon : ℕ) → IsValid m → nodes ≡ length m.nodes → horizon ≡ m.horizon
+    → sums.sum2 nodes (horizon + 1) (entry m) ≡ people m
+entries_are_people m nodes horizon valid e f = entries_enter m nodes horizon e f ∙ entered_all m valid
 
 people_fit : (n : ℕ) → n ≤ evac.people_limit → n ≤ supply_limit
 unfolding evac.people_limit supply_limit
@@ -340,18 +337,13 @@ pub supplies_enter : (m : Model) (w : Network) → IsNetOf m w → supply_limits
 unfolding supply_limits sum_places
 supplies_enter m w of =
     let k = w.site.shape.horizon + 1 in
-    let nodes : w.site.shape.nodes ≡ length m.nodes = ap (λ (s : Site). s.shape.nodes) of.site in
     let same = same_in w.site.shape.nodes k (λ n t. limit_at w (Supply n t)) (entry m) (λ n t i j. of.limits (Supply n t) (i, omega (arith, j))) in
-    let horizon : w.site.shape.horizon ≡ m.horizon = ap (λ (s : Site). s.shape.horizon) of.site in
-    let count : sums.sum2 w.site.shape.nodes k (entry m) ≡ sums.sum2 (length m.nodes) (m.horizon + 1) (entry m) =
-    ap₂ (λ y z. sums.sum2 y (z + 1) (entry m)) nodes horizon in
     omega (
       arith,
       sums.sum2-nothing (arc_count w.site) k,
       sums.sum2-nothing w.site.shape.nodes k,
       same,
-      count,
-      entries_enter m,
+      entries_enter m w.site.shape.nodes w.site.shape.horizon (ap (λ (s : Site). s.shape.nodes) of.site) (ap (λ (s : Site). s.shape.horizon) of.site),
     )
 
 pub supplies_are_people : (m : Model) (w : Network) → IsValid m → IsNetOf m w → supply_limits w ≡ people m
@@ -371,9 +363,7 @@ barred_limit m (Hold n t) valid i b =
     by_last (eqb t m.horizon) (exit_at (site_of m) n) (capacity m n) b (λ e. node.exit_is_empty (sym (exit_is m n i.0) ∙ e))
   where
     by_last : (last exit : Bool) (c : ℕ) → (exit || last) ≡ true → (exit ≡ true → c ≡ 0) → cond last 0 c ≡ 0
-    by_last true exit c e h = refl
-    by_last false true c e h = h refl
-    by_last false false c e h = absurd (cc)
+    by_last last exit c e h = grind arith
 barred_limit m (Supply n t) valid i b =
     exit_entry m n t valid i.0 (sym (exit_is m n i.0) ∙ b)
 

@@ -1,6 +1,5 @@
 -- Arrivals after pushes and cancels, and supplies within their limit.
-use Rattle.std.proofs.Common.{◌≡◌, ℕ, ◌+◌, ◌≤◌, true, false, cond, leb, List, length, get_or, ap, ap₂, sym, ◌∙◌, arith, inl, inr, ◌⊎◌, subst}
-use Rattle.std.specs.List.{All}
+use Rattle.std.proofs.Common.{◌≡◌, ℕ, ◌+◌, ◌≤◌, true, false, cond, leb, List, length, ap, sym, ◌∙◌, arith, inl, inr, ◌⊎◌}
 use Rattle.std.proofs.lemmas.Bool.{cases_Bool}
 use Rattle.evac_law.specs.declared.model.Model.{Model}
 use Rattle.evac_law.specs.Limits.{people_limit}
@@ -11,41 +10,26 @@ use Rattle.residual_net.specs.declared.place.Place.TheVariants.{Supply}
 use Rattle.residual_net.specs.declared.place.PathStep.{PathStep}
 use Rattle.residual_net.specs.Limits.{supply_limit}
 use Rattle.residual_net.specs.declared.end.End.{End}
-use Rattle.residual_net.specs.declared.end.End.TheVariants.{Source, Door}
 use Rattle.residual_net.specs.Site.{Site, IsPlace, arc_count, door_by, is_source, same_place, sum_places}
 use Rattle.residual_net.specs.Network.{Network, arrived_by, flow_out, limit_at}
-use Rattle.residual_net.specs.Route.{IsAugmentingPath, IsPushed, Leads}
+use Rattle.residual_net.specs.Route.{IsAugmentingPath, IsPushed}
 use Rattle.residual_net.specs.Change.{IsCancelled, IsFlowPath, supply_limits_with}
 use Rattle.residual_net.specs.OfModel.{site_of}
 use Rattle.residual_net.proofs.Begin.{entries_are_people}
 use Rattle.residual_net.proofs.Places.{same-place}
-use Rattle.residual_net.proofs.Push.{arrived_moved, balance, into_source}
-use Rattle.residual_net.proofs.Taking.{undone}
-
-places_after : (w v : Network) (p : Place) (path : List PathStep) (x : ℕ) → IsCancelled w v p path x → All (λ r. IsPlace v.site r.place) path
-places_after w v p path x c i d l = subst (λ (s : Site). IsPlace s (get_or path i d).place) (sym c.taken.site) (c.arrives.1.places i d l)
+use Rattle.residual_net.proofs.Push.{arrived_moved}
+use Rattle.residual_net.proofs.Taking.{arrived_falls, sent_falls}
 
 pub push_moves : (w v : Network) (path : List PathStep) (x : ℕ) (e : End) (k : ℕ) → IsAugmentingPath w path x e k → IsPushed w v path x
     → (j : ℕ) → arrived_by v j + cond (door_by j e) x 0 ≡ arrived_by w j + cond (leb k j) x 0
 push_moves w v path x e k p a j = arrived_moved w v path x a p.places e k p.origin p.leads j
 
+pub fewer_sent : (w v : Network) (p : Place) (path : List PathStep) (x : ℕ) → IsCancelled w v p path x → flow_out v is_source + x ≡ flow_out w is_source
+fewer_sent w v p path x c = sent_falls w v path x c.arrives.0 c.taken c.arrives.1
+
 pub cancel_lowers : (w v : Network) (p : Place) (path : List PathStep) (x k : ℕ) → IsCancelled w v p path x → IsFlowPath w.site path k
     → (j : ℕ) → arrived_by v j + cond (leb k j) x 0 ≡ arrived_by w j
-cancel_lowers w v p path x k c flow j =
-    let leads = subst (λ (s : Site). Leads s Source path (Door k)) (sym c.taken.site) flow.leads in
-    omega (arith, arrived_moved v w path x (undone w v path x c.taken flow.forwards) (places_after w v p path x c) Source k tt leads j)
-
-pub fewer_sent : (w v : Network) (p : Place) (path : List PathStep) (x : ℕ) → IsCancelled w v p path x → flow_out v is_source + x ≡ flow_out w is_source
-fewer_sent w v p path x c =
-    let k = c.arrives.0 in
-    let flow = c.arrives.1 in
-    let leads = subst (λ (s : Site). Leads s Source path (Door k)) (sym c.taken.site) flow.leads in
-    omega (
-      arith,
-      balance v w path x (undone w v path x c.taken flow.forwards) (places_after w v p path x c) is_source Source (Door k) leads,
-      into_source v,
-      into_source w,
-    )
+cancel_lowers w v p path x k c flow j = arrived_falls w v path x k c.taken flow j
 
 -- ---- limits of supplies between those of two models
 
@@ -65,10 +49,8 @@ supplies_between m n w p x valid other site nodes horizon each here =
     (λ i t a b. at_place i t (a, omega (arith, b)) (cases_Bool (same_place p (Supply i t)))) in
     let add = sums.sum2-add w.site.shape.nodes k (entry m) (entry n) in
     let moments : w.site.shape.horizon ≡ m.horizon = ap (λ (s : Site). s.shape.horizon) site in
-    let first : sums.sum2 w.site.shape.nodes k (entry m) ≡ sums.sum2 (length m.nodes) (m.horizon + 1) (entry m) =
-    ap₂ (λ y z. sums.sum2 y (z + 1) (entry m)) count moments in
-    let second : sums.sum2 w.site.shape.nodes k (entry n) ≡ sums.sum2 (length n.nodes) (n.horizon + 1) (entry n) =
-    ap₂ (λ y z. sums.sum2 y (z + 1) (entry n)) (count ∙ sym nodes) (moments ∙ sym horizon) in
+    let first = entries_are_people m w.site.shape.nodes w.site.shape.horizon valid count moments in
+    let second = entries_are_people n w.site.shape.nodes w.site.shape.horizon other (count ∙ sym nodes) (moments ∙ sym horizon) in
     let fits = twice_fits (people m) (people n) valid.people_fit other.people_fit in
     omega (
       arith,
@@ -78,8 +60,6 @@ supplies_between m n w p x valid other site nodes horizon each here =
       add,
       first,
       second,
-      entries_are_people m valid,
-      entries_are_people n other,
       fits,
     )
   where

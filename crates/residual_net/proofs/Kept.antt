@@ -51,9 +51,18 @@ pub same_saved : (w v : Network) → v.site ≡ w.site → v.saved ≡ w.saved �
 same_saved w v e f =
     ap (λ (z : Site). record { site = z; cells = v.saved; saved = v.saved }) e ∙ ap (λ (z : List Cell). record { site = w.site; cells = z; saved = z }) f
 
-pub kept_changed : (w v : Network) (arrivals saved more : List ℕ) (supplies saved_supplies count : ℕ) → IsKept w arrivals saved supplies saved_supplies
+-- what a net keeps, and its arrivals, as a caller sees the net
+pub kept_of : {w v : Network} {arrivals saved : List ℕ} {supplies saved_supplies : ℕ} → w ≡ v → IsKept w arrivals saved supplies saved_supplies
+    → IsKept v arrivals saved supplies saved_supplies
+kept_of {w} {v} {arrivals} {saved} {supplies} {saved_supplies} e h = subst (λ (z : Network). IsKept z arrivals saved supplies saved_supplies) e h
+
+pub stored_of : {w v : Network} {arrivals saved seen : List ℕ} {supplies saved_supplies : ℕ} → w ≡ v → seen ≡ arrivals
+    → IsKept w arrivals saved supplies saved_supplies → IsStored v seen
+stored_of {w} {v} {arrivals} e same h = subst (λ (z : List ℕ). IsStored v z) (sym same) (kept_of e h).stored
+
+pub kept_changed : {w v : Network} {arrivals saved more : List ℕ} {supplies saved_supplies count : ℕ} → IsKept w arrivals saved supplies saved_supplies
     → v.site ≡ w.site → v.saved ≡ w.saved → IsStored v more → count ≡ supply_limits v → IsKept v more saved count saved_supplies
-kept_changed w v arrivals saved more supplies saved_supplies count h e f g counted = record {
+kept_changed {w} {v} {arrivals} {saved} h e f g counted = record {
   stored = g;
   saved = subst (λ (z : Network). IsStored z saved) (sym (same_saved w v e f)) h.saved;
   counted = counted;
@@ -61,13 +70,13 @@ kept_changed w v arrivals saved more supplies saved_supplies count h e f g count
 }
 
 -- flow moves, and the limits stay
-pub kept_moved : (w v : Network) (arrivals saved now : List ℕ) (supplies saved_supplies len : ℕ) → IsKept w arrivals saved supplies saved_supplies → v.site ≡ w.site
+pub kept_moved : {w v : Network} {arrivals saved now : List ℕ} {supplies saved_supplies len : ℕ} → IsKept w arrivals saved supplies saved_supplies → v.site ≡ w.site
     → v.saved ≡ w.saved → ((p : Place) → IsPlace w.site p → limit_at v p ≡ limit_at w p) → IsStored v now → len ≡ length arrivals
     → IsKept v (take len (now ++ drop (length now) arrivals)) saved supplies saved_supplies
-kept_moved w v arrivals saved now supplies saved_supplies len h e f limits stored full =
+kept_moved {w} {v} {arrivals} {saved} {now} {supplies} {saved_supplies} {len} h e f limits stored full =
     let same : length now ≡ length arrivals = omega (arith, stored.moments, h.stored.moments, ap (λ (s : Site). s.shape.horizon) e) in
     subst (λ (z : List ℕ). IsKept v z saved supplies saved_supplies) (sym (refilled arrivals now now len full refl same))
-    (kept_changed w v arrivals saved now supplies saved_supplies supplies h e f stored (h.counted ∙ sym (same_supplies w v e limits)))
+    (kept_changed h e f stored (h.counted ∙ sym (same_supplies w v e limits)))
 
 -- ---- flows that are the same
 
@@ -123,18 +132,18 @@ supplies_moved w n t people i =
     at_place p (inl e) = rw e (let same = ap (limit_at w) (same-place (Supply n t) p e) in omega (arith, same))
     at_place p (inr e) = rw e refl
 
-pub supplies_then : (w : Network) (p : Place) (n t people supplies limit : ℕ) → p ≡ Supply n t → IsPlace w.site p → supplies ≡ supply_limits w → limit ≡ limit_at w p
+pub supplies_then : (w : Network) (people : ℕ) {p : Place} {n t supplies limit : ℕ} → p ≡ Supply n t → IsPlace w.site p → supplies ≡ supply_limits w → limit ≡ limit_at w p
     → (limit ≤ supplies) × (supplies - limit + people ≡ supply_limits_with w p people)
-supplies_then w p n t people supplies limit is i e f =
+supplies_then w people {p} {n} {t} {supplies} {limit} is i e f =
     let place : IsPlace w.site (Supply n t) = subst (IsPlace w.site) is i in
     let here = f ∙ ap (limit_at w) is in
     let less : limit ≤ supplies = omega (arith, e, here, supplies_moved w n t 0 place) in
     let moved : supplies - limit + people ≡ supply_limits_with w (Supply n t) people = omega (arith, e, here, less, supplies_moved w n t people place) in
     (less, moved ∙ ap (λ z. supply_limits_with w z people) (sym is))
 
-pub stored_limit : (w v : Network) (p : Place) (people : ℕ) (arrivals : List ℕ) → IsStored w arrivals → IsLimitSet w v p people → IsGrid v → IsPlace w.site p
+pub stored_limit : {w v : Network} {p : Place} {people : ℕ} {arrivals : List ℕ} → IsStored w arrivals → IsLimitSet w v p people → IsGrid v → IsPlace w.site p
     → (is_barred w.site p ≡ true → people ≡ 0) → supply_limits_with w p people ≤ supply_limit → IsStored v arrivals
-stored_limit w v p people arrivals h a g place open_place few = record {
+stored_limit {w} {v} {p} {people} h a g place open_place few = record {
   net = record {
     site = g.site;
     full = g.full;

@@ -14,7 +14,7 @@ use Rattle.residual_net.specs.declared.end.End.TheVariants.{Pair, Door}
 use Rattle.residual_net.specs.Network.{Network, IsNet, IsStored, flow_at, flow_into}
 use Rattle.residual_net.specs.Change.{rank}
 use Rattle.residual_net.specs.OfModel.{last_move, plan_of}
-use Rattle.residual_net.proofs.Places.{both_same}
+use Rattle.evac_law.proofs.SumLemmas.{pair_same}
 use Rattle.residual_net.proofs.Quiet.{arc_rank, drained, none_into, onward, part_into, rank_up}
 
 -- ---- lists of moves
@@ -48,7 +48,7 @@ move_counted : (p : List Move) (i : ℕ) (d : Move) → i < length p → (get_or
 unfolding moved
 move_counted [] i d l = absurd (omega (arith, l))
 move_counted (v ∷ p) zero d l =
-    let here : cond (eqb v.arc v.arc && eqb v.moment v.moment) v.people 0 ≡ v.people = ap (λ b. cond b v.people 0) (both_same v.arc v.arc v.moment v.moment refl refl) in
+    let here : cond (eqb v.arc v.arc && eqb v.moment v.moment) v.people 0 ≡ v.people = ap (λ b. cond b v.people 0) (pair_same v.arc v.arc v.moment v.moment refl refl) in
     omega (arith, here, sum_by-cons (λ (u : Move). cond (eqb u.arc v.arc && eqb u.moment v.moment) u.people 0) v p)
 move_counted (v ∷ p) (suc i) d l =
     let rest = move_counted p i d (omega (arith, l)) in

@@ -1,11 +1,11 @@
 -- Everybody who ever arrives has arrived by a moment exactly where the last move arrives by then.
-use Rattle.std.proofs.Common.{◌≡◌, ℕ, ◌+◌, ◌<◌, ◌≤◌, cond, eqb, leb, refl, sym, ◌∙◌, arith, inl, inr, ◌⊎◌}
+use Rattle.std.proofs.Common.{◌≡◌, ℕ, ◌+◌, ◌<◌, ◌≤◌, cond, refl, sym, ◌∙◌, arith, inl, inr, ◌⊎◌}
 use Rattle.std.proofs.lemmas.Bool.{cases_lt, le-leb}
 use Rattle.std.proofs.lemmas.Bool.Decides.{nat_tests}
 use Rattle.evac_law.proofs.SumLemmas.{cond_nothing}
 use Rattle.residual_net.specs.declared.place.Place.{Place}
 use Rattle.residual_net.specs.declared.end.End.{End}
-use Rattle.residual_net.specs.declared.end.End.TheVariants.{Source, Pair, Door}
+use Rattle.residual_net.specs.declared.end.End.TheVariants.{Door}
 use Rattle.residual_net.specs.Site.{IsPlace, at, door_by, head_of, is_door}
 use Rattle.residual_net.specs.Network.{Network, IsNet, arrived_by, flow_at, flow_into}
 use Rattle.residual_net.specs.OfModel.{last_move, plan_of}
@@ -18,13 +18,9 @@ pub arrived_rises : (w : Network) (j k : ℕ) → j ≤ k → arrived_by w j ≤
 unfolding flow_into
 arrived_rises w j k l = sum_places-le w.site _ _ (λ p i. at_end (head_of w.site p) (flow_at w p))
   where
-    less : (d f : ℕ) → cond (leb d j) f 0 ≤ cond (leb d k) f 0
-    less d f = grind (arith, nat_tests)
-
     at_end : (e : End) (f : ℕ) → cond (door_by j e) f 0 ≤ cond (door_by k e) f 0
-    at_end Source f = omega arith
-    at_end (Pair n t) f = omega arith
-    at_end (Door d) f = less d f
+    at_end (Door d) f = grind (arith, nat_tests)
+    at_end _ f = omega arith
 
 -- whoever arrives between two moments is counted at the later one alone
 between : (w : Network) (k j h : ℕ) → k < j → j ≤ h → arrived_by w k + flow_into w (at (Door j)) ≤ arrived_by w h
@@ -35,13 +31,9 @@ between w k j h l r =
     (λ p. cond (door_by h (head_of w.site p)) (flow_at w p) 0) (λ p i. at_end (head_of w.site p) (flow_at w p)) in
     omega (arith, both, le)
   where
-    less : (d f : ℕ) → cond (leb d k) f 0 + cond (eqb j d) f 0 ≤ cond (leb d h) f 0
-    less d f = grind (arith, nat_tests)
-
     at_end : (e : End) (f : ℕ) → cond (door_by k e) f 0 + cond (at (Door j) e) f 0 ≤ cond (door_by h e) f 0
-    at_end Source f = omega arith
-    at_end (Pair n t) f = omega arith
-    at_end (Door d) f = less d f
+    at_end (Door d) f = grind (arith, nat_tests)
+    at_end _ f = omega arith
 
 -- who ever arrives has arrived by a moment that no arrival is later than
 arrived_upto : (w : Network) → IsNet w → (k : ℕ) → ((j : ℕ) → k < j → j ≤ w.site.shape.horizon → flow_into w (at (Door j)) ≡ 0)

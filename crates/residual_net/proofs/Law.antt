@@ -1,7 +1,6 @@
 -- Arrivals of a net are at most the value of any cut, and equal to it where the net is closed.
 use Rattle.std.proofs.Common.{◌≡◌, ℕ, zero, suc, ◌+◌, ◌<◌, ◌≤◌, Bool, true, false, cond, not, ◌&&◌, ◌||◌, eqb, ltb, leb, List, [], ◌∷◌, length, get_or, refl, ap, sym, ◌∙◌, arith, inl, inr, ◌⊎◌, subst, pos, ◌≤ℤ◌}
 use Rattle.std.specs.List.{sum_by, All}
-use Rattle.std.proofs.lemmas.List.Elements.{All-get_or}
 use Rattle.std.proofs.lemmas.Bool.{cases_Bool, cases_lt, cond-false, false_from_ne_true, ne_eqb, le-leb, leb-true, and_parts}
 use Rattle.std.proofs.lemmas.Bool.Decides.{nat_tests}
 use Rattle.std.proofs.lemmas.Int.{ints}
@@ -12,18 +11,21 @@ use Rattle.evac_law.specs.declared.entrant.Entrant.{Entrant}
 use Rattle.evac_law.specs.declared.model.Model.{Model}
 use Rattle.evac_law.specs.declared.plan.Move.{Move}
 use Rattle.evac_law.specs.declared.model.NodeRow.{NodeRow}
-use Rattle.evac_law.specs.Sums.{below, moments_to, places}
-use Rattle.evac_law.specs.Building.{IsValid, IsNode, IsArc, IsEntrant, is_exit_at, node_at, arc_at, no_node, no_arc, tail, head, arrival, rate, entered_by, entry, people, capacity}
+use Rattle.evac_law.specs.Sums.{below}
+use Rattle.evac_law.specs.Building.{IsValid, IsNode, IsArc, IsEntrant, is_exit_at, node_at, arc_at, no_node, tail, head, arrival, rate, entered_by, entry, people, capacity}
 use Rattle.evac_law.specs.Certificates.{IsTight, label_cut}
 use Rattle.evac_law.specs.Cuts.{Cut, leaves_cut, cut_value}
 use Rattle.evac_law.specs.Names.{is_exit}
 use Rattle.evac_law.specs.Plans.{IsFeasible, moved, held, out_by}
+use Rattle.evac_law.specs.Parts.{IsPart}
 use Rattle.evac_law.specs.LabelTable.{LabelTable, label_at}
-use Rattle.evac_law.proofs.SumLemmas.{All-below, sum2, sum2-le, sum2-nothing, sum_by-same}
+use Rattle.evac_law.proofs.SumLemmas.{All-below, else_le, sum2, sum2-le, sum2-nothing, sum_by-same}
 use Rattle.evac_law.proofs.SumLemmas as sums
-use Rattle.evac_law.proofs.Entries.{entered_le, exit_entry}
+use Rattle.evac_law.proofs.Entries.{entered_le, exit_entry, none_late}
 use Rattle.evac_law.proofs.EntrantTable.{all_of_table, entering-table_entrants, entrants_are_table}
-use Rattle.evac_law.proofs.WeakDuality.{value_is, out_le_value}
+use Rattle.evac_law.proofs.WeakDuality.{out_le_value}
+use Rattle.evac_law.proofs.FewerLemmas.{entry_mono, leaves_same, worth_as_much, worth_less}
+use Rattle.evac_law.proofs.ValidLemmas.{arc_is}
 use Rattle.evac_law.proofs.Tight.{tight_is_equal}
 use Rattle.residual_net.specs.declared.place.Place.TheVariants.{Arc, Hold, Supply}
 use Rattle.residual_net.specs.Site.{IsPlace, door_by, head_of, tail_of, arc_count, sum_places}
@@ -215,19 +217,15 @@ module _ (m : Model) (w : Network) (valid : IsValid m) (net : IsNet w) (of : IsN
         let c = came_left m w net of valid sent.nodes sent.entrants n t i e l (λ s h. entry_sent n s i (omega arith)) in
         omega (arith, ints, c)
 
-    at_most : (b : Bool) (r : ℕ) → cond b 0 r ≤ r
-    at_most true r = omega arith
-    at_most false r = omega arith
-
     pub flow_rate : (a t : ℕ) → a < length m.arcs → t ≤ m.horizon → flow_at w (Arc a t) ≤ rate m a t
     flow_rate a t i l =
         let p = arc_in_site a t i l in
-        omega (arith, within (Arc a t) p, of.limits (Arc a t) p, at_most (ltb m.horizon (arrival m a t)) (rate m a t))
+        omega (arith, within (Arc a t) p, of.limits (Arc a t) p, else_le (ltb m.horizon (arrival m a t)) (rate m a t))
 
     pub hold_capacity : (n t : ℕ) → n < length m.nodes → t ≤ m.horizon → flow_at w (Hold n t) ≤ capacity m n
     hold_capacity n t i l =
         let p = in_site n t i l in
-        omega (arith, within (Hold n t) p, of.limits (Hold n t) p, at_most (eqb t m.horizon) (capacity m n))
+        omega (arith, within (Hold n t) p, of.limits (Hold n t) p, else_le (eqb t m.horizon) (capacity m n))
 
     pub arcs_in : All (λ (v : Move). v.arc < length m.arcs) plan
     arcs_in = subst (λ z. All (λ (v : Move). v.arc < z) plan) (arcs_same m w net of valid)
@@ -250,44 +248,29 @@ module _ (m : Model) (w : Network) (valid : IsValid m) (net : IsNet w) (of : IsN
 
     -- ---- cuts
 
-    leaves_same : (x : Cut) (k t a : ℕ) → leaves_cut sent x k t a ≡ leaves_cut m x k t a
-    leaves_same x k t a = ap (λ b. x (tail m a) t && (leb (arrival m a t) k && (b || not (x (head m a) (arrival m a t))))) (exit_same (head m a))
+    entry_less : (n t : ℕ) → (n < length m.nodes) ⊎ (length m.nodes ≤ n) → (m.horizon < t) ⊎ (t ≤ m.horizon) → entry sent n t ≤ entry m n t
+    entry_less n t (inr past) late = omega (arith, Rattle.evac_law.proofs.Entries.none_past sent n t valid_sent (omega (arith, past, count_same)))
+    entry_less n t (inl i) (inl late) = omega (arith, none_late sent n t valid_sent late)
+    entry_less n t (inl i) (inr j) = omega (arith, entry_sent n t i j, supply_le n t i j)
 
-    arcs_worth : (x : Cut) (k : ℕ)
-        → sum_by (λ t. sum_by (λ a. cond (leaves_cut sent x k t a) (rate sent a t) 0) (places sent.arcs)) (moments_to k)
-        ≡ sum_by (λ t. sum_by (λ a. cond (leaves_cut m x k t a) (rate m a t) 0) (places m.arcs)) (moments_to k)
-    arcs_worth x k =
-        sum_by-same _ _ (moments_to k) (λ t. sum_by-same _ _ (places m.arcs)
-        (λ a. ap (λ b. cond b (rate sent a t) 0) (leaves_same x k t a) ∙ ap (λ z. cond (leaves_cut m x k t a) z 0) (rate_same a t)))
-
-    holds_worth : (x : Cut) (k : ℕ)
-        → sum_by (λ n. sum_by (λ t. cond (x n t && not (x n (t + 1))) (capacity sent n) 0) (below k)) (places sent.nodes)
-        ≡ sum_by (λ n. sum_by (λ t. cond (x n t && not (x n (t + 1))) (capacity m n) 0) (below k)) (places m.nodes)
-    holds_worth x k =
-        ap (λ c. sum_by (λ n. sum_by (λ t. cond (x n t && not (x n (t + 1))) (capacity sent n) 0) (below k)) (below c)) count_same
-        ∙ sum_by-same _ _ (places m.nodes) (λ n. sum_by-same _ _ (below k) (λ t. ap (λ z. cond (x n t && not (x n (t + 1))) z 0) (capacity_same n)))
-
-    entries_count : (x : Cut) (k : ℕ)
-        → sum_by (λ n. sum_by (λ t. cond (x n t || eqb (entry sent n t) 0) 0 (entry sent n t)) (moments_to k)) (places sent.nodes)
-        ≡ sum2 (length m.nodes) (k + 1) (λ n t. cond (x n t || eqb (entry sent n t) 0) 0 (entry sent n t))
-    entries_count x k =
-        ap (λ c. sum_by (λ n. sum_by (λ t. cond (x n t || eqb (entry sent n t) 0) 0 (entry sent n t)) (moments_to k)) (below c)) count_same
-
-    entry_term : (b : Bool) (p q : ℕ) → p ≤ q → cond (b || eqb p 0) 0 p ≤ cond (b || eqb q 0) 0 q
-    entry_term b p q l = grind (arith, nat_tests)
-
-    sent_worth : (x : Cut) (k : ℕ) → k ≤ m.horizon → cut_value sent x k ≤ cut_value m x k
-    sent_worth x k l =
-        let entries = sum2-le (length m.nodes) (k + 1) (λ n t. cond (x n t || eqb (entry sent n t) 0) 0 (entry sent n t))
-        (λ n t. cond (x n t || eqb (entry m n t) 0) 0 (entry m n t))
-        (λ n t i j. entry_term (x n t) (entry sent n t) (entry m n t)
-        (omega (arith, entry_sent n t i (omega arith), supply_le n t i (omega arith)))) in
-        omega (arith, value_is sent x k, value_is m x k, arcs_worth x k, holds_worth x k, entries_count x k, entries)
+    pub part : IsPart m sent
+    part = record {
+      nodes = count_same;
+      arcs = refl;
+      horizon = refl;
+      exits = exit_same;
+      heads = λ a. refl;
+      tails = λ a. refl;
+      travels = λ a. refl;
+      rates = rate_same;
+      capacities = capacity_same;
+      entries = λ n t. entry_less n t (cases_lt n (length m.nodes)) (cases_lt m.horizon t);
+    }
 
     -- no cut is worth fewer than have arrived
     pub arrived_within : (x : Cut) (k : ℕ) → k ≤ m.horizon → arrived_by w k ≤ cut_value m x k
     arrived_within x k l =
-        omega (arith, arrived_is_out k, out_same k, out_le_value sent x plan k valid_sent (feasible k l), sent_worth x k l)
+        omega (arith, arrived_is_out k, out_same k, out_le_value sent x plan k valid_sent (feasible k l), worth_less m sent part x k)
 
     -- ---- closed sets
 
@@ -306,17 +289,11 @@ module _ (m : Model) (w : Network) (valid : IsValid m) (net : IsNet w) (of : IsN
       cut_is n t e h = turn (leb t k) (is_exit_at m n) (label_at l n t) (le-leb t k h) e
 
       flip : (b c : Bool) → b ≡ not c → (b ≡ true → c ≡ false) × (b ≡ false → c ≡ true)
-      flip true true e = absurd (cc)
-      flip true false e = ((λ u. refl), (λ u. absurd (cc)))
-      flip false true e = ((λ u. absurd (cc)), (λ u. refl))
-      flip false false e = absurd (cc)
+      flip b c e = ((λ u. grind arith), (λ u. grind arith))
 
       hold_limit : (n t : ℕ) → n < length m.nodes → t < k → limit_at w (Hold n t) ≡ capacity m n
       hold_limit n t i h =
-          of.limits (Hold n t) (in_site n t i (omega arith)) ∙ ap (λ b. cond b 0 (capacity m n)) (differ t m.horizon (omega arith))
-        where
-          differ : (t h : ℕ) → t < h → eqb t h ≡ false
-          differ t h l = grind (arith, nat_tests)
+          of.limits (Hold n t) (in_site n t i (omega arith)) ∙ ap (λ b. cond b 0 (capacity m n)) (ne_eqb t m.horizon (omega arith))
 
       arc_limit : (a t : ℕ) → a < length m.arcs → t ≤ m.horizon → arrival m a t ≤ m.horizon → limit_at w (Arc a t) ≡ rate m a t
       arc_limit a t i h r =
@@ -342,9 +319,6 @@ module _ (m : Model) (w : Network) (valid : IsValid m) (net : IsNet w) (of : IsN
           let from = (flip (x n k) (s n k) (cut_is n k e (omega arith))).1 u in
           none_past w s k net closed (Hold n k) (in_site n k i k_in) from n (k + 1) refl (omega arith)
 
-      arc_of : (a : ℕ) → a < length m.arcs → IsArc m.nodes (arc_at m a)
-      arc_of a i = All-get_or (IsArc m.nodes) m.arcs a no_arc i valid.arcs
-
       at_exit : (a t : ℕ) → a < length m.arcs → is_exit_at m (head m a) ≡ true → head_of w.site (Arc a t) ≡ Door (arrival m a t)
       at_exit a t i e = head_is m w net of valid a t i ∙ ap (λ b. cond b (Door (arrival m a t)) (Pair (head m a) (arrival m a t))) e
 
@@ -355,7 +329,7 @@ module _ (m : Model) (w : Network) (valid : IsValid m) (net : IsNet w) (of : IsN
       tail_reached a t i = ap (reached s k) (tail_is m w net of valid a t i)
 
       from_set : (a t : ℕ) → a < length m.arcs → t ≤ k → x (tail m a) t ≡ true → reached s k (tail_of w.site (Arc a t)) ≡ false
-      from_set a t i h u = tail_reached a t i ∙ (flip (x (tail m a) t) (s (tail m a) t) (cut_is (tail m a) t (arc_of a i).from_no_exit h)).0 u
+      from_set a t i h u = tail_reached a t i ∙ (flip (x (tail m a) t) (s (tail m a) t) (cut_is (tail m a) t (arc_is m a valid i).from_no_exit h)).0 u
 
       to_set : (a t : ℕ) → a < length m.arcs → arrival m a t ≤ k → leb (arrival m a t) k ≡ true
           → (is_exit_at m (head m a) || not (x (head m a) (arrival m a t))) ≡ true
@@ -386,7 +360,7 @@ module _ (m : Model) (w : Network) (valid : IsValid m) (net : IsNet w) (of : IsN
           → (leb (arrival m a t) k && (is_exit_at m (head m a) || not (x (head m a) (arrival m a t)))) ≡ false → flow_at w (Arc a t) ≡ 0
       arc_empty a t i h u v =
           let p = arc_in_site a t i (omega arith) in
-          let arc = arc_of a i in
+          let arc = arc_is m a valid i in
           let inside = tail_reached a t i ∙ (flip (x (tail m a) t) (s (tail m a) t) (cut_is (tail m a) t arc.from_no_exit h)).1 u in
           elim (cases_Bool (is_exit_at m (head m a))) [
             | inl e ↦
@@ -424,7 +398,7 @@ module _ (m : Model) (w : Network) (valid : IsValid m) (net : IsNet w) (of : IsN
             let j : n < length m.nodes = omega (arith, count_same, i) in
             let open_node = sym (exit_same n) ∙ e in
             held_is n k j open_node k_in ∙ ap pos (hold_last n j open_node u);
-        arcs_full = λ a t i h u. moved_is a t i (omega arith) ∙ arc_full a t i h (sym (leaves_same x k t a) ∙ u) ∙ sym (rate_same a t);
+        arcs_full = λ a t i h u. moved_is a t i (omega arith) ∙ arc_full a t i h (sym (leaves_same m sent part x k t a) ∙ u) ∙ sym (rate_same a t);
         arcs_empty = λ a t i h u v.
             moved_is a t i (omega arith)
             ∙ arc_empty a t i h u
@@ -438,9 +412,6 @@ module _ (m : Model) (w : Network) (valid : IsValid m) (net : IsNet w) (of : IsN
           let to = (flip (x n t) (s n t) (cut_is n t e (omega arith))).1 u in
           omega (arith, entering_full w s k closed (Supply n t) p to refl, of.limits (Supply n t) p, entry_sent n t i (omega arith))
 
-      no_entry : (n t : ℕ) → n < length m.nodes → is_exit_at m n ≡ true → entry m n t ≡ 0
-      no_entry n t i e = exit_entry m n t valid i e
-
       entry_ge : (n t : ℕ) → n < length m.nodes → t < k + 1
           → cond (x n t || eqb (entry m n t) 0) 0 (entry m n t) ≤ cond (x n t || eqb (entry sent n t) 0) 0 (entry sent n t)
       entry_ge n t i h = by_cut (cases_Bool (x n t)) (cases_Bool (is_exit_at m n))
@@ -448,17 +419,11 @@ module _ (m : Model) (w : Network) (valid : IsValid m) (net : IsNet w) (of : IsN
           by_cut : (x n t ≡ true) ⊎ (x n t ≡ false) → (is_exit_at m n ≡ true) ⊎ (is_exit_at m n ≡ false)
               → cond (x n t || eqb (entry m n t) 0) 0 (entry m n t) ≤ cond (x n t || eqb (entry sent n t) 0) 0 (entry sent n t)
           by_cut (inl u) e = rw u (omega arith)
-          by_cut (inr u) (inl e) = rw u (let none = no_entry n t i e in entry_term false (entry m n t) (entry sent n t) (omega (arith, none)))
-          by_cut (inr u) (inr e) = rw u (entry_term false (entry m n t) (entry sent n t) (all_sent n t i h e u))
-
-      sent_is_worth : cut_value m x k ≤ cut_value sent x k
-      sent_is_worth =
-          let entries = sum2-le (length m.nodes) (k + 1) (λ n t. cond (x n t || eqb (entry m n t) 0) 0 (entry m n t))
-          (λ n t. cond (x n t || eqb (entry sent n t) 0) 0 (entry sent n t)) entry_ge in
-          omega (arith, value_is sent x k, value_is m x k, arcs_worth x k, holds_worth x k, entries_count x k, entries)
+          by_cut (inr u) (inl e) = rw u (let none = exit_entry m n t valid i e in entry_mono false (entry m n t) (entry sent n t) (omega (arith, none)))
+          by_cut (inr u) (inr e) = rw u (entry_mono false (entry m n t) (entry sent n t) (all_sent n t i h e u))
 
       -- as many have arrived as the cut of the labels is worth
       pub closed_is_cut : arrived_by w k ≡ cut_value m x k
       closed_is_cut =
           let equal = tight_is_equal sent x plan k valid_sent (feasible k k_in) tight in
-          omega (arith, arrived_is_out k, out_same k, equal, sent_is_worth, sent_worth x k k_in)
+          omega (arith, arrived_is_out k, out_same k, equal, worth_less m sent part x k, worth_as_much m sent part x k entry_ge)

@@ -177,9 +177,9 @@ waits_pushed (suc c) w n t x i grid here can =
 -- ---- a push underway
 
 -- the first and the last step are over places of the network
-pub between_places : (v : Network) (arrivals : List ℕ) (first last : PathStep) (x : ℕ) → IsUnderwayBetween v arrivals first last x
+pub between_places : {v : Network} {arrivals : List ℕ} {first last : PathStep} {x : ℕ} → IsUnderwayBetween v arrivals first last x
     → IsPlace v.site first.place × IsPlace v.site last.place
-between_places v arrivals first last x u = (placed 0 first (u.first_step first) (omega (arith, some)), placed (length u.path - 1) last (u.last_step last) (omega (arith, some)))
+between_places {v} {arrivals} {first} {last} {x} u = (placed 0 first (u.first_step first) (omega (arith, some)), placed (length u.path - 1) last (u.last_step last) (omega (arith, some)))
   where
     some : 0 < length u.path
     some = path_some u.underway.before u.path x u.underway.pushable

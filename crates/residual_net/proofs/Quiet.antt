@@ -1,6 +1,6 @@
 -- How flow goes on through the moments, and that a closed set of an arrival moment has no flow past it.
 use Rattle.std.proofs.Common.{◌≡◌, ℕ, zero, suc, ◌+◌, ◌<◌, ◌≤◌, Bool, true, false, cond, ◌||◌, eqb, refl, ap, ap₂, sym, ◌∙◌, arith, inl, inr, ◌⊎◌}
-use Rattle.std.proofs.lemmas.Bool.{cases_Bool, cases_lt, eq-eqb, ltb-false, leb-true, eqb-true, and_parts}
+use Rattle.std.proofs.lemmas.Bool.{cases_Bool, cases_lt, eq-eqb, ltb-false, leb-true, eqb-true}
 use Rattle.std.proofs.lemmas.Bool.Decides.{nat_tests}
 use Rattle.time_expansion.specs.Expansion.{to_at}
 use Rattle.residual_net.specs.declared.place.Place.{Place}
@@ -11,7 +11,8 @@ use Rattle.residual_net.specs.Site.{Site, IsSite, IsPlace, at, is_barred, head_o
 use Rattle.residual_net.specs.Network.{Network, IsNet, flow_at, limit_at, flow_into, flow_out}
 use Rattle.residual_net.specs.Change.{rank}
 use Rattle.residual_net.specs.Closed.{IsClosed, reached}
-use Rattle.residual_net.proofs.Places.{both_same, sum_places-same, sum_places-none, sum_places-le, sum_places-pick, same-place}
+use Rattle.evac_law.proofs.SumLemmas.{pair_same, same_pair}
+use Rattle.residual_net.proofs.Places.{sum_places-same, sum_places-none, sum_places-le, sum_places-pick, same-place}
 
 -- what a closed set says of one place
 module _ (w : Network) (x : ℕ → ℕ → Bool) (k : ℕ) (closed : IsClosed w x k) where
@@ -33,20 +34,13 @@ module _ (w : Network) (x : ℕ → ℕ → Bool) (k : ℕ) (closed : IsClosed w
 
 pub at-same : (e f : End) → at e f ≡ true → f ≡ e
 at-same Source Source h = refl
-at-same Source (Pair m s) h = absurd (cc)
-at-same Source (Door j) h = absurd (cc)
-at-same (Pair n t) Source h = absurd (cc)
-at-same (Pair n t) (Pair m s) h =
-    let both = and_parts (eqb n m) (eqb t s) h in
-    ap₂ (λ a b. Pair a b) (sym (eqb-true n m both.0)) (sym (eqb-true t s both.1))
-at-same (Pair n t) (Door j) h = absurd (cc)
-at-same (Door t) Source h = absurd (cc)
-at-same (Door t) (Pair m s) h = absurd (cc)
-at-same (Door t) (Door j) h = ap (λ a. Door a) (sym (eqb-true t j h))
+at-same (Pair n t) (Pair m s) h = let both = same_pair n m t s h in ap₂ Pair (sym both.0) (sym both.1)
+at-same (Door t) (Door j) h = ap Door (sym (eqb-true t j h))
+at-same _ _ h = absurd (cc)
 
 pub at-self : (e : End) → at e e ≡ true
 at-self Source = refl
-at-self (Pair n t) = both_same n n t t refl refl
+at-self (Pair n t) = pair_same n n t t refl refl
 at-self (Door t) = eq-eqb t t refl
 
 -- one place is part of what leads to where it leads, and of what leads from where it does

@@ -2,7 +2,7 @@
 use Rattle.std.proofs.Common.{◌+◌, ◌<◌, ◌⊎◌, ap, false, subst, sym, true, ◌≡◌, ℕ, ◌≤◌, ◌↔◌, IsTrue, cond, nat_eq, refl, ◌∙◌, arith, inl, inr}
 use Rattle.std.proofs.lemmas.Bool.{cases_Bool, cases_lt, eq-eqb, eqb-true}
 use Rattle.residual_net.specs.declared.place.Place.{Place}
-use Rattle.residual_net.specs.declared.place.Place.TheVariants.{Arc, Hold, Supply}
+use Rattle.residual_net.specs.declared.place.Place.TheVariants.{Supply}
 use Rattle.residual_net.specs.Network.{Network, IsAllSent, IsNet, IsWithinLimits, arrived_by, flow_at, flow_out, limit_at, supply_limits}
 use Rattle.residual_net.specs.Site.{IsPlace, Site, is_source, same_place, tail_of}
 use Rattle.residual_net.specs.OfModel.{IsNetOf}
@@ -11,7 +11,8 @@ use Rattle.evac_law.specs.Building.{IsValid, entered_by, people}
 use Rattle.evac_law.proofs.Entries.{entered_all}
 use Rattle.residual_net.proofs.Begin.{supplies_enter}
 use Rattle.residual_net.proofs.LastArrival.{all_arrive}
-use Rattle.residual_net.proofs.Places.{cond_le, same-place, sum_places-le, sum_places-pick, sum_places-same, sum_places-split}
+use Rattle.evac_law.proofs.SumLemmas.{cond_mono}
+use Rattle.residual_net.proofs.Places.{same-place, sum_places-le, sum_places-pick, sum_places-same, sum_places-split}
 use Rattle.residual_net.proofs.Steps.{sent_fits}
 
 -- an unsent person is missing from the sum
@@ -24,7 +25,7 @@ one_missing w within n t i less =
     let split = sum_places-split w.site b (λ p. flow_at w p) (λ p. cond (same_place q p) 1 0) in
     let one = sum_places-pick w.site q i b 1 in
     let le = sum_places-le w.site (λ p. cond (b p) (flow_at w p + cond (same_place q p) 1 0) 0) (λ p. cond (b p) (limit_at w p) 0)
-    (λ p j. cond_le (b p) (flow_at w p + cond (same_place q p) 1 0) (limit_at w p) (at_place p j (cases_Bool (same_place q p)))) in
+    (λ p j. cond_mono (b p) (flow_at w p + cond (same_place q p) 1 0) (limit_at w p) (λ _. at_place p j (cases_Bool (same_place q p)))) in
     omega (arith, split, one, le)
   where
     at_place : (p : Place) → IsPlace w.site p → (same_place (Supply n t) p ≡ true) ⊎ (same_place (Supply n t) p ≡ false)
@@ -48,9 +49,8 @@ sent_arrive w net within all =
     arrived_is_sent w net ∙ same
   where
     at_place : (p : Place) → IsPlace w.site p → cond (is_source (tail_of w.site p)) (flow_at w p) 0 ≡ cond (is_source (tail_of w.site p)) (limit_at w p) 0
-    at_place (Arc a t) i = refl
-    at_place (Hold n t) i = refl
     at_place (Supply n t) i = omega (arith, within (Supply n t) i, all n t i)
+    at_place _ i = refl
 
 pub arrived_sent : (w : Network) → IsNet w → IsWithinLimits w → arrived_by w w.site.shape.horizon ≡ supply_limits w → IsAllSent w
 arrived_sent w net within e n t i = elim (cases_lt (flow_at w (Supply n t)) (limit_at w (Supply n t))) [

@@ -1,22 +1,22 @@
 -- Pushes one step after another.
 use Rattle.std.proofs.Common.{◌≡◌, ◌≢◌, ℕ, zero, suc, ◌+◌, ◌-◌, ◌<◌, ◌≤◌, Bool, true, false, cond, not, ◌&&◌, eqb, List, [], ◌∷◌, ◌++◌, length, take, get_or, refl, ap, sym, ◌∙◌, arith, subst, inl, inr, ◌⊎◌}
 use Rattle.std.specs.List.{All, AllPairs, sum_by}
-use Rattle.evac_law.proofs.SumLemmas.{sum_by-nothing, sum_by-same_all}
+use Rattle.evac_law.proofs.SumLemmas.{cond_le, cond_mono, sum_by-nothing, sum_by-same_all}
 use Rattle.std.proofs.lemmas.List.{get_or-take, get_or_default, length-take, take_more}
 use Rattle.std.proofs.lemmas.List.Sums.{sum_by-cons, sum_by-append}
 use Rattle.std.proofs.lemmas.List.Elements.{All-head, All-tail, All-weaker}
-use Rattle.std.proofs.lemmas.Bool.{cases_Bool}
+use Rattle.std.proofs.lemmas.Bool.{and_right, cases_Bool}
 use Rattle.residual_net.specs.declared.place.Place.{Place}
 use Rattle.residual_net.specs.declared.place.PathStep.{PathStep}
 use Rattle.residual_net.specs.declared.place.Cell.{Cell}
 use Rattle.residual_net.specs.Limits.{supply_limit}
 use Rattle.residual_net.specs.declared.end.End.{End}
-use Rattle.residual_net.specs.declared.end.End.TheVariants.{Source, Pair, Door}
+use Rattle.residual_net.specs.declared.end.End.TheVariants.{Door}
 use Rattle.residual_net.specs.Site.{Site, IsPlace, start_of, stop_of, head_of, tail_of, at, is_source, is_door, is_barred, sum_places, same_place, cell_of}
 use Rattle.residual_net.specs.Network.{Network, IsGrid, IsNet, IsWithinLimits, supply_limits, flow_into, flow_out, no_cell, flow_at, limit_at, residual_room, with_cell}
 use Rattle.residual_net.specs.Change.{IsLimitSet}
 use Rattle.residual_net.specs.Route.{IsPushed, IsPushable, IsOrigin, Leads, added, taken}
-use Rattle.residual_net.proofs.Places.{cell_below, cell_written, cond_le, cond_most, place-same, same-place, sum_places-le, sum_places-same}
+use Rattle.residual_net.proofs.Places.{cell_below, cell_written, place-same, same-place, sum_places-le, sum_places-same}
 use Rattle.residual_net.proofs.Push.{still_conserved}
 
 pub cell_in : (w : Network) (p : Place) → IsGrid w → IsPlace w.site p → cell_of w.site p < length w.cells
@@ -41,14 +41,10 @@ limit-with_cell w p q c g i j =
 
 one_flow : (b back : Bool) (x flow was now : ℕ) → (b ≡ true → flow ≡ was) → (back ≡ false → now ≡ flow + x) → (back ≡ true → now + x ≡ flow)
     → cond b now was + cond (back && b) x 0 ≡ was + cond (not back && b) x 0
-one_flow false true x f w n h i j = refl
-one_flow false false x f w n h i j = refl
-one_flow true true x f w n h i j = omega (arith, h refl, j refl)
-one_flow true false x f w n h i j = omega (arith, h refl, i refl)
+one_flow b back x flow was now h i j = grind arith
 
 one_limit : (b : Bool) (old was now : ℕ) → (b ≡ true → old ≡ was) → now ≡ old → cond b now was ≡ was
-one_limit true o w n h e = omega (arith, h refl, e)
-one_limit false o w n h e = refl
+one_limit b old was now h e = grind arith
 
 -- a push over one step
 pub push_one : (w : Network) (r : PathStep) (x : ℕ) (c : Cell) → IsGrid w → IsPlace w.site r.place
@@ -105,11 +101,8 @@ steps_none b x rs a =
     (All-weaker (λ r. b r ≡ false) (λ r. cond (b r) x 0 ≡ 0) (λ r e. ap (λ z. cond z x 0) e) rs a)
     ∙ sum_by-nothing rs
 
-and_none : (b c : Bool) → c ≡ false → (b && c) ≡ false
-and_none b c e = grind arith
-
 elsewhere : (b : Bool) (p q : Place) → p ≢ q → (b && same_place p q) ≡ false
-elsewhere b p q h = elim (cases_Bool (same_place p q)) [ inl e ↦ absurd (h (same-place p q e)) | inr e ↦ and_none b (same_place p q) e ]
+elsewhere b p q h = elim (cases_Bool (same_place p q)) [ inl e ↦ absurd (h (same-place p q e)) | inr e ↦ and_right b (same_place p q) e ]
 
 -- what a path leaves at a place that it doesn't visit
 none_there : (b : PathStep → Bool) (x : ℕ) (p : Place) (rs : List PathStep) → All (λ r. r.place ≢ p) rs
@@ -147,7 +140,7 @@ added_some [] x p some = absurd (omega (arith, some))
 added_some (r ∷ rs) x p some = elim (cases_Bool (same_place r.place p)) [
   | inl e ↦ (0, r, omega arith, refl, same-place r.place p e)
   | inr e ↦
-      let none : cond (not r.back && same_place r.place p) x 0 ≡ 0 = ap (λ z. cond z x 0) (and_none (not r.back) (same_place r.place p) e) in
+      let none : cond (not r.back && same_place r.place p) x 0 ≡ 0 = ap (λ z. cond z x 0) (and_right (not r.back) (same_place r.place p) e) in
       let more : 0 < added rs x p = omega (arith, some, sum_by-cons (λ (y : PathStep). cond (not y.back && same_place y.place p) x 0) r rs, none) in
       let rest = added_some rs x p more in
       (suc rest.0, rest.1, omega (arith, rest.2), rest.3, rest.4)
@@ -163,10 +156,7 @@ apart-cons r rs a = (
 -- what a path adds to a place is within the room there
 fits_one : (b back : Bool) (x flow limit room rest : ℕ) → flow ≤ limit → room ≡ cond back flow (limit - flow) → x ≤ room → (b ≡ true → rest ≡ 0)
     → (flow + rest ≤ limit) → flow + (cond (not back && b) x 0 + rest) ≤ limit
-fits_one false true x f l r s h i j k m = omega arith
-fits_one false false x f l r s h i j k m = omega arith
-fits_one true true x f l r s h i j k m = omega arith
-fits_one true false x f l r s h i j k m = omega (arith, k refl)
+fits_one b back x flow limit room rest h i j k m = grind arith
 
 pub added_fits : (w : Network) (rs : List PathStep) (x : ℕ) (p : Place) → flow_at w p ≤ limit_at w p → All (λ r. x ≤ residual_room w r) rs
     → AllPairs (λ y z. y.place ≢ z.place) rs → flow_at w p + added rs x p ≤ limit_at w p
@@ -191,7 +181,7 @@ added_fits w (r ∷ rs) x p h a b =
         let same = same-place r.place p e in
         fits_one (same_place r.place p) r.back x (flow_at w p) (limit_at w p) (residual_room w r) (added rs x p) h
         (ap (λ q. cond r.back (flow_at w q) (limit_at w q - flow_at w q)) same) room none rest
-    at_place (inr e) none rest room = omega (arith, rest, ap (λ z. cond z x 0) (and_none (not r.back) (same_place r.place p) e))
+    at_place (inr e) none rest room = omega (arith, rest, ap (λ z. cond z x 0) (and_right (not r.back) (same_place r.place p) e))
 
 -- a step of a path meets what it needs when the steps before it have been gone over
 pub apart_before : (path : List PathStep) (i : ℕ) (d : PathStep) → AllPairs (λ y z. y.place ≢ z.place) path → i < length path
@@ -237,7 +227,7 @@ same_supplies w v e h =
 
 pub sent_fits : (w : Network) → IsWithinLimits w → flow_out w is_source ≤ supply_limits w
 unfolding flow_out supply_limits
-sent_fits w h = sum_places-le w.site _ _ (λ p i. cond_le (is_source (tail_of w.site p)) (flow_at w p) (limit_at w p) (h p i))
+sent_fits w h = sum_places-le w.site _ _ (λ p i. cond_mono (is_source (tail_of w.site p)) (flow_at w p) (limit_at w p) (λ _. h p i))
 
 pub net_pushed : (w v : Network) (path : List PathStep) (x : ℕ) → IsNet w → IsWithinLimits w → IsPushable w path x → IsPushed w v path x → IsGrid v
     → IsNet v
@@ -262,9 +252,8 @@ unfolding flow_into
 door_le w j = sum_places-le w.site _ _ (λ p i. less (head_of w.site p) (flow_at w p))
   where
     less : (e : End) (f : ℕ) → cond (at (Door j) e) f 0 ≤ cond (is_door e) f 0
-    less Source f = omega arith
-    less (Pair n t) f = omega arith
-    less (Door t) f = cond_most (eqb j t) f
+    less (Door t) f = cond_le (eqb j t) f
+    less _ f = omega arith
 
 -- no arrival passes the limit on people
 pub few_arrive : (w : Network) (j : ℕ) → IsNet w → flow_into w (at (Door j)) ≤ supply_limit

@@ -1,19 +1,18 @@
 -- People taken off a flow path.
-use Rattle.std.proofs.Common.{◌≡◌, ℕ, ◌+◌, ◌-◌, ◌<◌, ◌≤◌, true, false, cond, not, ◌&&◌, eqb, List, [], ◌∷◌, length, take, get_or, refl, ap, sym, ◌∙◌, arith, subst}
+use Rattle.std.proofs.Common.{◌≡◌, ℕ, ◌+◌, ◌-◌, ◌<◌, ◌≤◌, true, false, cond, not, ◌&&◌, eqb, leb, List, [], ◌∷◌, length, take, get_or, refl, ap, sym, ◌∙◌, arith, subst}
 use Rattle.std.specs.List.{sum_by, All}
 use Rattle.std.proofs.lemmas.List.{take_more}
 use Rattle.std.proofs.lemmas.List.Sums.{sum_by-cons, sum_by-append}
 use Rattle.std.proofs.lemmas.List.Elements.{All-weaker}
 use Rattle.residual_net.specs.declared.place.Place.{Place}
 use Rattle.residual_net.specs.declared.place.PathStep.{PathStep}
-use Rattle.residual_net.specs.Site.{Site, IsPlace, at, head_of, is_barred, is_source, same_place, sum_places, tail_of}
+use Rattle.residual_net.specs.Site.{Site, IsPlace, at, head_of, is_barred, is_source, same_place}
 use Rattle.residual_net.specs.declared.end.End.{End}
 use Rattle.residual_net.specs.declared.end.End.TheVariants.{Source, Door}
-use Rattle.residual_net.specs.Network.{Network, IsGrid, IsNet, IsStored, flow_at, flow_into, flow_out}
+use Rattle.residual_net.specs.Network.{Network, IsGrid, IsNet, IsStored, arrived_by, flow_at, flow_into, flow_out}
 use Rattle.residual_net.specs.Route.{IsPushed, Leads, added, taken}
 use Rattle.residual_net.specs.Change.{IsFewerBy, IsFlowPath, IsLowering, IsTakeable, IsTaken}
-use Rattle.residual_net.proofs.Places.{cond_le, sum_places-le}
-use Rattle.residual_net.proofs.Push.{arrivals_moved, was_conserved}
+use Rattle.residual_net.proofs.Push.{arrivals_moved, arrived_moved, balance, into_source, was_conserved}
 use Rattle.residual_net.proofs.Steps.{added_none, apart_before, last_stop, same_supplies, steps_none}
 use Rattle.residual_net.proofs.Arrivals.{into_door, stored_counted, told_door, told_people}
 
@@ -67,24 +66,28 @@ undone w v path x a on = record {
   flows = λ q i. omega (arith, a.flows q (subst (λ (s : Site). IsPlace s q) a.site i), taken_forward path x q on);
 }
 
-fewer_sent : (w v : Network) (path : List PathStep) (x : ℕ) → IsTaken w v path x → flow_out v is_source ≤ flow_out w is_source
-unfolding flow_out
-fewer_sent w v path x a =
-    let same = ap (λ s. sum_places s (λ p. cond (is_source (tail_of s p)) (flow_at v p) 0)) a.site in
-    let le = sum_places-le w.site (λ p. cond (is_source (tail_of w.site p)) (flow_at v p) 0) (λ p. cond (is_source (tail_of w.site p)) (flow_at w p) 0)
-    (λ p i. cond_le (is_source (tail_of w.site p)) (flow_at v p) (flow_at w p) (omega (arith, a.flows p i))) in
-    omega (arith, same, le)
+module _ (w v : Network) (path : List PathStep) (x k : ℕ) (a : IsTaken w v path x) (flow : IsFlowPath w.site path k) where
+  back : IsPushed v w path x
+  back = undone w v path x a flow.forwards
 
-module _ (w v : Network) (path : List PathStep) (x k : ℕ) (net : IsNet w) (a : IsTaken w v path x) (flow : IsFlowPath w.site path k) (grid : IsGrid v) where
   places_after : All (λ r. IsPlace v.site r.place) path
   places_after = λ i d l. subst (λ (s : Site). IsPlace s (get_or path i d).place) (sym a.site) (flow.places i d l)
 
   leads_after : Leads v.site Source path (Door k)
   leads_after = subst (λ (s : Site). Leads s Source path (Door k)) (sym a.site) flow.leads
 
-  pub net_taken : IsNet v
-  net_taken =
-      let back = undone w v path x a flow.forwards in
+  -- those sent, and the arrivals at the path's last moment and by it, fall by the people
+  pub sent_falls : flow_out v is_source + x ≡ flow_out w is_source
+  sent_falls = omega (arith, balance v w path x back places_after is_source Source (Door k) leads_after, into_source v, into_source w)
+
+  pub arrivals_fall : (j : ℕ) → flow_into v (at (Door j)) + cond (eqb j k) x 0 ≡ flow_into w (at (Door j))
+  arrivals_fall j = omega (arith, arrivals_moved v w path x back places_after Source k tt leads_after j)
+
+  pub arrived_falls : (j : ℕ) → arrived_by v j + cond (leb k j) x 0 ≡ arrived_by w j
+  arrived_falls j = omega (arith, arrived_moved v w path x back places_after Source k tt leads_after j)
+
+  pub net_taken : IsNet w → IsGrid v → IsNet v
+  net_taken net grid =
       let same = same_supplies v w back.site back.limits in
       record {
         site = grid.site;
@@ -95,16 +98,12 @@ module _ (w v : Network) (path : List PathStep) (x k : ℕ) (net : IsNet w) (a :
             let was = net.barred q in_w (subst (λ (s : Site). is_barred s q ≡ true) a.site b) in
             (omega (arith, a.flows q in_w, was.0), a.limits q in_w ∙ was.1);
         supplies = omega (arith, same, net.supplies);
-        few_sent = omega (arith, fewer_sent w v path x a, net.few_sent);
+        few_sent = omega (arith, sent_falls, net.few_sent);
       }
-
-  -- the arrivals at the path's last moment fall by the people
-  pub arrivals_fall : (j : ℕ) → flow_into v (at (Door j)) + cond (eqb j k) x 0 ≡ flow_into w (at (Door j))
-  arrivals_fall j = omega (arith, arrivals_moved v w path x (undone w v path x a flow.forwards) places_after Source k tt leads_after j)
 
 -- ---- the arrivals of a cancel
 
-module _ (v : Network) (arrivals : List ℕ) (path : List PathStep) (x : ℕ) (d : PathStep) (h : IsLowering v arrivals path x) where
+module _ {v : Network} {arrivals : List ℕ} {path : List PathStep} {x : ℕ} (d : PathStep) (h : IsLowering v arrivals path x) where
   abbrev last : PathStep
   last = get_or path (length path - 1) d
 
@@ -121,7 +120,7 @@ module _ (v : Network) (arrivals : List ℕ) (path : List PathStep) (x : ℕ) (d
   last_head : head_of h.before.site last.place ≡ Door h.takeable.arrives.0
   last_head = (into_door h.before.site last h.takeable.arrives.0 (last_stop h.before.site Source (Door h.takeable.arrives.0) path d h.takeable.arrives.1.leads some)).1
 
-  module _ (from : End) (a : from ≡ head_of v.site last.place) where
+  module _ {from : End} (a : from ≡ head_of v.site last.place) where
     last_is : head_of h.before.site last.place ≡ from
     last_is = sym (a ∙ ap (λ z. head_of z last.place) h.taken.site)
 
@@ -134,8 +133,8 @@ module _ (v : Network) (arrivals : List ℕ) (path : List PathStep) (x : ℕ) (d
     stops : (j : ℕ) → eqb j h.takeable.arrives.0 ≡ at (Door j) from
     stops j = ap (at (Door j)) (sym last_head ∙ last_is)
 
-    pub stored_taken : (new : List ℕ) → IsFewerBy new arrivals from x → IsStored v new
-    stored_taken new n =
-        stored_counted h.before v arrivals new new from Source x h.stored (net_taken h.before v path x h.takeable.arrives.0 h.stored.net h.taken h.takeable.arrives.1 h.grid)
+    pub stored_taken : {new : List ℕ} → IsFewerBy new arrivals from x → IsStored v new
+    stored_taken {new} n =
+        stored_counted h.before v arrivals new new from Source x h.stored (net_taken h.before v path x h.takeable.arrives.0 h.taken h.takeable.arrives.1 h.stored.net h.grid)
         h.taken.site n (record { length_same = refl; each = λ j. omega arith })
-        (λ j. omega (arith, arrivals_fall h.before v path x h.takeable.arrives.0 h.stored.net h.taken h.takeable.arrives.1 h.grid j, ap (λ z. cond z x 0) (stops j)))
+        (λ j. omega (arith, arrivals_fall h.before v path x h.takeable.arrives.0 h.taken h.takeable.arrives.1 j, ap (λ z. cond z x 0) (stops j)))

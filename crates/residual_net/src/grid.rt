@@ -230,10 +230,8 @@ impl Grid {
         ensures pushed { IsPushed self.old self.new (steps_of_leg self.old.site (record { since = since; step = step_over (Arc arc moment) })) people }
         ensures grid { IsGrid self.new }
     {
-        if since < moment {
-            let node = self.shape().ends()[arc as usize].from;
-            self.shift_waits(node, since, moment, people);
-        }
+        let node = self.shape().ends()[arc as usize].from;
+        self.shift_waits(node, since, moment, people);
         self.raise(Place::Arc { arc, moment }, people);
     }
 

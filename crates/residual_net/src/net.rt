@@ -348,7 +348,8 @@ impl Net {
 
     /// The last moment at which a move arrives, or 0. Takes time in proportion to the horizon.
     pub fn last_arrival(&self) -> u16
-        ensures { result ≡ last_move self.now.site (plan_of self.now) }
+        ensures last { result ≡ last_move self.now.site (plan_of self.now) }
+        ensures net { IsNet self.now }
     {
         last_some(self.arrivals.as_slice()) as u16
     }
@@ -417,7 +418,8 @@ impl Net {
         requires place { IsPlace self.old.site place }
         requires open { IsTrue (is_barred self.old.site place) → people ≡ 0 }
         requires supplies { supply_limits_with self.old place people ≤ supply_limit }
-        ensures { IsLimitSet self.old self.new place people }
+        ensures set { IsLimitSet self.old self.new place people }
+        ensures net { IsNet self.new }
     {
         let supplies = self.supplies_with(place, people);
         self.grid.set_limit(place, people);
@@ -433,6 +435,7 @@ impl Net {
         requires over { 0 < excess_at self.old place }
         requires room { self.old.site.shape.horizon + 2 ≤ path.old.room }
         ensures cancelled { IsCancelled self.old self.new place path.new.steps result }
+        ensures net { IsNet self.new }
         ensures room { path.new.room ≡ path.old.room }
         ensures ticked { steps.new ≡ steps.old + 1 }
     {

@@ -1,7 +1,7 @@
 -- One place of a table with another item.
 use Rattle.std.proofs.Common.{◌≡◌, ℕ, ◌+◌, ◌*◌, ◌<◌, ◌≤◌, ◌⊎◌, inl, inr, Bool, true, false, cond, ◌&&◌, eqb, leb, ltb, length, get_or, replicate, refl, ap, sym, ◌∙◌, arith, subst}
 use Rattle.std.proofs.Math.ListN.{set}
-use Rattle.std.proofs.lemmas.Bool.{cases_Bool, false≢true}
+use Rattle.std.proofs.lemmas.Bool.{and_left, and_right, cases_Bool, false≢true, le-ltb, lt-leb}
 use Rattle.std.proofs.lemmas.Bool.Decides.{nat_tests}
 use Rattle.std.proofs.lemmas.List.{get_or-replicate, get_or-set_other, get_or-set_same}
 use Rattle.std.proofs.lemmas.Nat.{mul-add-lt, same_from_place}
@@ -18,12 +18,6 @@ apart n i t k e f g = grind (arith, nat_tests)
 
 within : (i r k w : ℕ) → i < r → k ≤ w → (ltb i r && leb k w) ≡ true
 within i r k w e f = grind (arith, nat_tests)
-
-past : (i r : ℕ) (b : Bool) → r ≤ i → (ltb i r && b) ≡ false
-past i r b e = grind (arith, nat_tests)
-
-late : (b : Bool) (k w : ℕ) → w < k → (b && leb k w) ≡ false
-late b k w e = grind (arith, nat_tests)
 
 inside : (i r k w : ℕ) → (ltb i r && leb k w) ≡ true → (i < r) × (k ≤ w)
 inside i r k w e = (grind (arith, nat_tests), grind (arith, nat_tests))
@@ -43,11 +37,11 @@ module _ {T : Type 0} (d : T) (c : TableView T) (n t : ℕ) where
   -- past the last row or moment there is another one
   pub item_at-past_rows : c.rows ≤ n → item_at d c n t ≡ d
   unfolding item_at
-  item_at-past_rows h = ap at (past n c.rows (leb t c.last) h)
+  item_at-past_rows h = ap at (and_left (ltb n c.rows) (leb t c.last) (le-ltb n c.rows h))
 
   pub item_at-past_last : c.last < t → item_at d c n t ≡ d
   unfolding item_at
-  item_at-past_last h = ap at (late (ltb n c.rows) t c.last h)
+  item_at-past_last h = ap at (and_right (ltb n c.rows) (leb t c.last) (lt-leb t c.last h))
 
 pub item_at-replicate : {T : Type 0} (d : T) (rows last n t : ℕ) → item_at d (record { rows = rows; last = last; items = replicate (rows * (last + 1)) d }) n t ≡ d
 unfolding item_at

@@ -76,24 +76,39 @@ impl Shape {
         (self.nodes + self.ends.len() as u32) * (self.horizon as u32 + 1)
     }
 
+    // The cell of a row at a moment. The rows are the arcs, and after them the nodes.
+    fn row_cell(&self, row: u32, moment: u16) -> u32
+        requires row_in { row < self.now.nodes + length self.now.ends }
+        requires moment_in { moment ≤ self.now.horizon }
+        ensures cell { result ≡ row * (self.now.horizon + 1) + moment }
+        ensures within { result < cells self.now }
+        ensures shape { IsExpansion self.now }
+    {
+        row * (self.horizon as u32 + 1) + moment as u32
+    }
+
     /// The cell of an arc at a moment.
+    #[tactic(auto, unfolding(crate::specs::Expansion::arc_cell))]
     pub fn arc_cell(&self, arc: u32, moment: u16) -> u32
         requires arc_in { arc < length self.now.ends }
         requires moment_in { moment ≤ self.now.horizon }
         ensures cell { result ≡ arc_cell self.now arc moment }
         ensures within { result < cells self.now }
     {
-        arc * (self.horizon as u32 + 1) + moment as u32
+        self.row_cell(arc, moment)
     }
 
     /// The cell of a node at a moment, for whoever waits there.
+    #[tactic(auto, unfolding(crate::specs::Expansion::hold_cell))]
     pub fn hold_cell(&self, node: u32, moment: u16) -> u32
         requires node_in { node < self.now.nodes }
         requires moment_in { moment ≤ self.now.horizon }
         ensures cell { result ≡ hold_cell self.now node moment }
         ensures within { result < cells self.now }
     {
-        (self.ends.as_slice().len() as u32 + node) * (self.horizon as u32 + 1) + moment as u32
+        let arcs = self.ends.as_slice().len() as u32;
+        let row = arcs + node;
+        self.row_cell(row, moment)
     }
 
     /// The arcs that leave a node, in file order.

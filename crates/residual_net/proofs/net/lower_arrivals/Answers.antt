@@ -8,9 +8,7 @@ abbrev blank : PathStep
 blank = record { place = Arc 0 0; back = false }
 
 pub lower-requires : goal.lower-requires
-lower-requires c = can_lower c.args.grid.now c.args.arrivals.now c.args.path.now c.args.people blank c.requires c.head-from.result c.head-from.ensures
+lower-requires c = can_lower blank c.requires c.head-from.ensures
 
 pub returns : goal.returns
-returns c =
-    stored_taken c.args.grid.now c.args.arrivals.now c.args.path.now c.args.people blank c.requires c.head-from.result c.head-from.ensures
-    c.lower.new.arrivals c.lower.ensures
+returns c = stored_taken blank c.requires c.head-from.ensures c.lower.ensures

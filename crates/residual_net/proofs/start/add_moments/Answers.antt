@@ -1,4 +1,4 @@
-use Rattle.std.proofs.Common.{◌≡◌, ◌∙◌, ◌++◌, ◌∷◌, [], List, ℕ, ap, ap₂, arith, append-nil, sym}
+use Rattle.std.proofs.Common.{◌≡◌, ◌∙◌, ◌++◌, ◌∷◌, [], List, ℕ, ap, ap₂, arith}
 use Rattle.evac_law.specs.Limits.{horizon_limit}
 use Rattle.residual_net.specs.declared.place.Cell.{Cell}
 use Rattle.residual_net.specs.OfModel.{model_limit}
@@ -9,9 +9,6 @@ use Rattle.residual_net.proofs.start.add_moments.Goals as goal
 pub overflow_add-moment-end : goal.overflow_add-moment-end
 unfolding horizon_limit
 overflow_add-moment-end c = omega (arith, c.requires.valid.horizon)
-
-pub loop-moment-init : goal.loop-moment-init
-loop-moment-init c = sym (append-nil _)
 
 pub loop-moment-preserved : goal.loop-moment-preserved
 loop-moment-preserved c =

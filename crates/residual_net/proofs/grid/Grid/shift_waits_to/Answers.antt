@@ -1,18 +1,9 @@
 use Rattle.std.proofs.Common.{subst, sym, ◌∙◌}
 use Rattle.residual_net.specs.declared.end.End.{End}
-use Rattle.residual_net.specs.Legs.{IsShiftable, waits_to}
+use Rattle.residual_net.specs.Legs.{waits_to}
 use Rattle.residual_net.specs.Route.{IsPushed}
 use Rattle.residual_net.proofs.Steps.{push_none}
 use Rattle.residual_net.proofs.grid.Grid.shift_waits_to.Goals as goal
-
-pub shift_waits-requires-clause-shiftable : goal.shift_waits-requires-clause-shiftable
-shift_waits-requires-clause-shiftable c =
-    subst (λ (e : End). IsShiftable c.args.self.now (waits_to e c.args.since) c.args.people) (sym c.start.ensures ∙ c.in-Pair.is) c.requires.shiftable
-
-pub returns-in-Pair-clause-pushed : goal.returns-in-Pair-clause-pushed
-returns-in-Pair-clause-pushed c =
-    subst (λ (e : End). IsPushed c.args.self.now c.shift_waits.new.self (waits_to e c.args.since) c.args.people) (sym c.in-Pair.is ∙ c.start.ensures)
-    c.shift_waits.ensures.pushed
 
 pub returns-in-Source-clause-pushed : goal.returns-in-Source-clause-pushed
 returns-in-Source-clause-pushed c =

@@ -1,6 +1,4 @@
-use Rattle.std.proofs.Common.{◌≡◌, ◌∙◌, ap, subst, sym, arith}
-use Rattle.residual_net.specs.Network.{Network, excess_at}
-use Rattle.residual_net.specs.Change.{IsCancelled}
+use Rattle.std.proofs.Common.{arith}
 use Rattle.residual_net.proofs.Kept.{kept_moved}
 use Rattle.residual_net.proofs.net.Net.cancel.Goals as goal
 
@@ -25,22 +23,18 @@ lower_arrivals-requires g c = record {
 }
 
 pub returns-clause-cancelled : goal.returns-clause-cancelled
-returns-clause-cancelled g c =
-    let w = c.self.inside.grid in
-    let excess : c.excess-excess.result ≡ excess_at w c.args.place =
-    c.excess-excess.ensures ∙ ap (λ (z : Network). excess_at z c.args.place) (sym c.self.view_is) in
-    subst (λ (z : Network). IsCancelled z c.take_all.new.grid c.args.place c.find_path.new.path.steps c.least-people.result) c.self.view_is
-    (record {
-      some = c.least-people.ensures.some;
-      most = omega (arith, c.least-people.ensures.most, excess);
-      arrives = c.find_path.ensures.arrives;
-      through = c.find_path.ensures.through;
-      taken = rw c.steps-list.ensures at c.take_all.ensures.taken;
-    })
+returns-clause-cancelled g c = record {
+  some = c.least-people.ensures.some;
+  most = omega (arith, c.least-people.ensures.most, c.excess-excess.ensures);
+  arrives = rw c.self.view_is at c.find_path.ensures.arrives;
+  through = c.find_path.ensures.through;
+  taken = rw (c.steps-list.ensures, c.self.view_is) at c.take_all.ensures.taken;
+}
+
+pub returns-clause-net : goal.returns-clause-net
+returns-clause-net g c = c.lower_arrivals.ensures.net
 
 pub invariant_of-self : goal.invariant_of-self
 invariant_of-self g c =
-    let was = c.self.inside in
-    let moved = c.take_all.ensures.taken in
-    kept_moved was.grid c.take_all.new.grid was.arrivals.items was.saved_arrivals.items c.lower_arrivals.new.arrivals was.supplies was.saved_supplies was.arrivals.len
-    c.self.invariant moved.site moved.saved moved.limits c.lower_arrivals.ensures was.arrivals.ok.0
+    let taken = c.take_all.ensures.taken in
+    kept_moved c.self.invariant taken.site taken.saved taken.limits c.lower_arrivals.ensures c.self.inside.arrivals.ok.0

@@ -1,12 +1,8 @@
-use Rattle.std.proofs.Common.{ap, subst, sym, ◌∙◌}
-use Rattle.residual_net.specs.Network.{IsNet, Network}
-use Rattle.residual_net.specs.Site.{IsOpenEnd, tail_of}
+use Rattle.residual_net.proofs.Kept.{kept_of}
 use Rattle.residual_net.proofs.Walks.{open_tail}
 use Rattle.residual_net.proofs.net.Net.tail.Goals as goal
 
 pub returns-clause-open : goal.returns-clause-open
 returns-clause-open c h =
-    let w = c.args.self.now in
-    let net = subst (λ (z : Network). IsNet z) c.self.view_is c.self.invariant.stored.net in
-    let end = c.tail.ensures ∙ ap (λ (z : Network). tail_of z.site c.args.place) c.self.view_is in
-    subst (IsOpenEnd w.site) (sym end) (open_tail w.site net.site c.args.place c.requires h)
+    let net = (kept_of c.self.view_is c.self.invariant).stored.net in
+    rw (c.tail.ensures, c.self.view_is) (open_tail c.args.self.now.site net.site c.args.place c.requires h)
