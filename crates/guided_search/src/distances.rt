@@ -3,6 +3,7 @@
 //! The distance label of a pair is meant to be at most the number of backward steps on any residual path from unsent people to it.
 ghost use Rattle.std.specs.Prelude.{◌≡◌, ◌+◌, ◌<◌, ◌≤◌, IfOk, length, vec_len};
 ghost use Rattle.residual_ways.specs.Steps.{IsStepWithin};
+ghost use Rattle.guided_search.specs.Labelled.{HasLabels};
 
 use crate::tuning::FAR;
 use evac_law::Labels;
@@ -158,10 +159,17 @@ impl Distances {
         }
     }
 
-    /// How many pairs aren't dead.
-    pub fn count_living(&self) -> usize {
-        let labels = self.labels.as_slice();
-        labels.iter().filter(|label| **label < FAR as u16).count()
+    /// How many pairs before a moment aren't dead.
+    pub fn count_living(&self, end: u32) -> usize {
+        let count = end.min(self.sizes.moments) as usize;
+        let mut living = 0usize;
+        for node in 0..self.sizes.nodes {
+            let first = self.sizes.first_pair(node) as usize;
+            let labels = self.labels[first..first + count].iter();
+            let here = labels.filter(|label| **label < FAR as u16).count();
+            living = living.saturating_add(here);
+        }
+        living
     }
 
     /// The moment after the last at which unsent people come into a node.
@@ -174,14 +182,24 @@ impl Distances {
 
     /// From no pair that the net labels below a moment can one get out.
     pub fn close(&mut self, labels: &Labels, k: u16)
-        requires nodes { labels.now.nodes ≡ self.old.sizes.nodes }
-        requires horizon { labels.now.horizon + 1 ≡ self.old.sizes.moments }
+        requires { HasLabels self.old.sizes labels.now }
         ensures { self.new.sizes ≡ self.old.sizes }
     {
-        for pair in 0..self.sizes.pairs {
-            let (node, moment) = self.sizes.node_and_moment(pair);
+        for node in 0..self.sizes.nodes {
+            self.close_in(labels, k, node);
+        }
+    }
+
+    // From no pair of a node that the net labels below a moment can one get out.
+    fn close_in(&mut self, labels: &Labels, k: u16, node: u32)
+        requires labels { HasLabels self.old.sizes labels.now }
+        requires node { node < self.old.sizes.nodes }
+        ensures { self.new.sizes ≡ self.old.sizes }
+    {
+        let first = self.sizes.first_pair(node);
+        for moment in 0..self.sizes.moments {
             if labels.get(node, moment as u16) < k {
-                self.labels[pair as usize] = FAR as u16;
+                self.labels[(first + moment) as usize] = FAR as u16;
             }
         }
     }

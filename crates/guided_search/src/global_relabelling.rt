@@ -26,7 +26,7 @@ impl BackwardSearch {
     }
 
     /// Computes the labels of all pairs before a moment anew, from the unsent people on, and lets the search begin anew. The pairs to which
-    /// these can't come are dead. The answer is how many pairs aren't.
+    /// these can't come are dead. The answer is how many pairs before the moment aren't.
     pub fn relabel_from_unsent(&mut self, residual: Residual<'_>, end: u32) -> usize
         requires { residual.ways.now.sizes ≡ self.old.sizes }
         ensures { self.new.sizes ≡ self.old.sizes }
@@ -39,7 +39,7 @@ impl BackwardSearch {
         self.scan_levels(residual);
         self.path.clear();
         self.forget();
-        self.distances.count_living()
+        self.distances.count_living(end)
     }
 
     // Lets the pairs at which unsent people come into a node have the label 0.

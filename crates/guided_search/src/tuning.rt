@@ -30,10 +30,18 @@ pub const ANCESTOR_GUESS: usize = 32;
 /// it is as many as there are.
 pub const ANCESTOR_SHARE: usize = 16;
 
+/// One of how many of the pairs up to the last arrival are taken to be living in a net from which some people were taken, until they were
+/// counted.
+pub const LIVING_GUESS: usize = 2;
+
+/// One of how many of them may be relabelled otherwise, before all are from the unsent people on. With 1 it takes four times as many
+/// instructions to shut an exit of a metro.
+pub const LIVING_SHARE: usize = 4;
+
 /// Along how many paths of others people may be sent in a net with unsent people before a target flow is sought. Where some were taken off,
-/// others can arrive sooner in their place, and each of these costs a path: with 4 in place of 6 a refused edit of a hospital takes half as
-/// many instructions more, and with 16 one of a drill takes a quarter more.
-pub const MISS_LIMIT: u32 = 6;
+/// others can arrive sooner in their place, and each of these costs a path: with 6 in place of 1 a refused edit of a drill takes a sixth more
+/// instructions, but one of a hospital a third fewer.
+pub const MISS_LIMIT: u32 = 1;
 
 /// For one of how many people a pair more may be relabelled globally in a net from which some people were taken, before a target flow is
 /// sought: a target flow is dearer the more people there are.
