@@ -19,8 +19,8 @@ use Rattle.residual_net.specs.Network.{Network, IsNet, IsWithinLimits, arrived_b
 use Rattle.residual_net.specs.OfModel.{IsNetOf, plan_of}
 use Rattle.residual_net.specs.Site.{Site, IsPlace, arc_count, arrival_at, is_source}
 use Rattle.residual_net.proofs.Held.{arcs_same, arrival_is, head_is, horizon_same, nodes_same}
-use Rattle.residual_net.proofs.Law.{arrived_is_out, entry_sent, exit_same, feasible, held_is, out_same}
-use Rattle.residual_net.proofs.PartLemmas.{is_valid, part, people_sent}
+use Rattle.residual_net.proofs.Law.{arrived_is_out, entry_sent, exit_same, feasible, held_is, out_same, part}
+use Rattle.residual_net.proofs.PartLemmas.{is_valid, people_sent}
 use Rattle.residual_net.proofs.Sent.{sent_model}
 use Rattle.residual_net.proofs.SentLemmas.{arrived_is_sent}
 use Rattle.flow_repair.specs.Opened.{IsLeastOpened, IsOpened, end_number, head_number}
@@ -29,7 +29,8 @@ use Rattle.edit_session.specs.declared.work.Work.{Work}
 use Rattle.edit_session.specs.Mended.{IsStanding, last_arrival_of}
 use Rattle.edit_session.specs.Laws.{CutsStay}
 use Rattle.edit_session.specs.Repairs.{AgreeBelow, IsRepairOf, OpensFrom}
-use Rattle.edit_session.proofs.Standing.{above_none, contents_by}
+use Rattle.edit_session.proofs.Standing.{contents_by}
+use Rattle.evac_law.proofs.WeakDuality.{above_pos}
 
 -- ---- who keeps the way
 
@@ -132,7 +133,7 @@ module _ (b m : Model) (w v : Network) (l : LabelTable) (h : IsBrought b m w v l
       by (inl e) = omega (arith, ap (λ x. cond x 0 stayed) e)
       by (inr e) =
           let open_node = sym (exit_same m v h.valid h.net h.of n) ∙ e in
-          let is = above_none (flow_at v (Hold n t)) (held (sent_model m v) (plan_of v) n t) (sym (held_is m v h.valid h.net h.of h.within n t i open_node j)) in
+          let is = above_pos (flow_at v (Hold n t)) (held (sent_model m v) (plan_of v) n t) (sym (held_is m v h.valid h.net h.of h.within n t i open_node j)) in
           omega (arith, ap (λ x. cond x 0 stayed) e, is)
 
   hold-opened : (n t : ℕ) → IsPlace w.site (Hold n t) → IsOpened w v (Hold n t)
@@ -144,7 +145,7 @@ module _ (b m : Model) (w v : Network) (l : LabelTable) (h : IsBrought b m w v l
       let nodes = nodes-in n i.0 in
       let moments = moment-in t i.1 in
       let nothing : Work = record { cancelled = 0; pushes = 0 } in
-      inr (omega (arith, fell, some-stay n t nodes.1 moments.1, contents_by b w l [] nothing n t before nodes.0 moments.0))
+      inr (omega (arith, fell, some-stay n t nodes.1 moments.1, contents_by [] nothing n t before nodes.0 moments.0))
 
   entry-opened : (n t : ℕ) → IsPlace w.site (Supply n t) → IsOpened w v (Supply n t) → (entry b n t < entry m n t) ⊎ (entry (sent_model m v) n t < entry b n t)
   entry-opened n t i (inl rose) = inl (omega (arith, rose, before.of.limits (Supply n t) i, h.of.limits (Supply n t) (in_v (Supply n t) i)))
@@ -178,9 +179,9 @@ module _ (b m : Model) (w v : Network) (l : LabelTable) (h : IsBrought b m w v l
 
 -- ---- labels
 
-agree : (b : Model) (l m : LabelTable) (from next k : ℕ) → l.nodes ≡ length b.nodes → l.horizon ≡ b.horizon → k ≤ from → k ≤ unset → IsRelabelled l m from next
+agree : (b : Model) {l m : LabelTable} {from next : ℕ} (k : ℕ) → l.nodes ≡ length b.nodes → l.horizon ≡ b.horizon → k ≤ from → k ≤ unset → IsRelabelled l m from next
     → AgreeBelow b l m k
-agree b l m from next k nodes horizon few set h = record {
+agree b {l} {m} {from} {next} k nodes horizon few set h = record {
   same = λ n t i j less. h.kept n t (omega (arith, i, nodes)) (omega (arith, j, horizon)) (omega (arith, less, few));
   others = λ n t i j more. by n t (omega (arith, i, nodes)) (omega (arith, j, horizon)) more (cases_lt (label_at l n t) from);
 }
@@ -195,11 +196,11 @@ agree b l m from next k nodes horizon few set h = record {
 
 -- ---- both
 
-pub repair_of : (b m : Model) (w v : Network) (l k : LabelTable) (lost first least next : ℕ) → IsBrought b m w v l
+pub repair_of : {b m : Model} {w v : Network} {l k : LabelTable} (lost : ℕ) {first least next : ℕ} → IsBrought b m w v l
     → flow_out v is_source + lost ≡ flow_out w is_source → first ≡ last_arrival_of w + 1 → IsLeastOpened l w v first least → IsRelabelled l k least next
     → IsRepairOf b (plan_of w) l (last_arrival_of w) m k lost
 unfolding horizon_limit
-repair_of b m w v l k lost first least next h exact is_first is_least relabelled = record {
+repair_of {b} {m} {w} {v} {l} lost {first} {least} h exact is_first is_least relabelled = record {
   way = record {
     moves = plan_of v;
     kept = arrived_by v m.horizon;
@@ -225,7 +226,7 @@ repair_of b m w v l k lost first least next h exact is_first is_least relabelled
     );
   };
   labels = λ i few opens.
-      agree b l k least next i (before.labels.nodes ∙ nodes_same b w before.net before.of before.valid)
+      agree b i (before.labels.nodes ∙ nodes_same b w before.net before.of before.valid)
       (before.labels.horizon ∙ horizon_same b w before.net before.of before.valid)
       (below-least b m w v l h i first least opens (omega (arith, few, is_first)) is_least)
       (omega (arith, few, before.cleared.certified.in_horizon, before.valid.horizon)) relabelled;
@@ -235,9 +236,9 @@ repair_of b m w v l k lost first least next h exact is_first is_least relabelled
     before = h.standing
 
 -- a net with its flow and limits saved opens as much
-pub least_saved : (l : LabelTable) (w v : Network) (first least : ℕ) → IsLeastOpened l (with_saved w) v first least → IsLeastOpened l w v first least
+pub least_saved : {l : LabelTable} (w : Network) {v : Network} {first least : ℕ} → IsLeastOpened l (with_saved w) v first least → IsLeastOpened l w v first least
 unfolding flow_at limit_at
-least_saved l w v first least h = record { most = h.most; places = h.places; one = h.one }
+least_saved w h = record { most = h.most; places = h.places; one = h.one }
 
 -- ---- cuts
 

@@ -33,9 +33,9 @@ edited_is m m' e e' h =
     (sym (ap (λ z. z.0) done.1), sym (ap (λ z. z.1) done.1))
 
 -- its inverse leads back
-pub back_more : (m m' : Model) (e e' : Edit) (ring : List Edit) → IsValid m → IsEditOf m e → applied m e ≡ Ok (m', e') → IsClearable m
+pub back_more : {m : Model} (m' : Model) (e e' : Edit) (ring : List Edit) → IsValid m → IsEditOf m e → applied m e ≡ Ok (m', e') → IsClearable m
     → LeadBack m ring → LeadBack m' (e' ∷ ring)
-back_more m m' e e' ring valid in_range h clear back =
+back_more {m} m' e e' ring valid in_range h clear back =
     let undone = inverse_undoes m m' e e' valid in_range h in
     let was = edited_is m' m e' e undone.1 in (
       undone.0,
@@ -45,9 +45,9 @@ back_more m m' e e' ring valid in_range h clear back =
     )
 
 -- and the models that the latest edits lead back to are the one before and those before it
-pub former_more : (m m' : Model) (e e' : Edit) (ring : List Edit) → IsValid m → IsEditOf m e → applied m e ≡ Ok (m', e')
+pub former_more : {m : Model} (m' : Model) (e e' : Edit) (ring : List Edit) → IsValid m → IsEditOf m e → applied m e ≡ Ok (m', e')
     → former_of m' (take kept_limit (e' ∷ ring)) ≡ take kept_limit (m ∷ former_of m ring)
-former_more m m' e e' ring valid in_range h =
+former_more {m} m' e e' ring valid in_range h =
     let undone = inverse_undoes m m' e e' valid in_range h in
     let was = edited_is m' m e' e undone.1 in
     former_take kept_limit m' (e' ∷ ring) ∙ ap (λ z. take kept_limit (z ∷ former_of z ring)) (sym was.0)

@@ -12,18 +12,18 @@ use Rattle.flow_repair.specs.Refit.{IsEditOfNet}
 use Rattle.flow_repair.specs.Repairs.{IsReshapable}
 use Rattle.edit_session.specs.Mended.{IsRepairable, last_arrival_of}
 
-pub of_saved : (m : Model) (w : Network) → IsNetOf m w → IsNetOf m (with_saved w)
+pub of_saved : {m : Model} {w : Network} → IsNetOf m w → IsNetOf m (with_saved w)
 unfolding limit_at
-of_saved m w h = record { site = h.site; limits = h.limits }
+of_saved h = record { site = h.site; limits = h.limits }
 
-pub edit_saved : (m : Model) (e : Edit) (w : Network) (l : LabelTable) → IsRepairable m e w l → IsEditOfNet m e (with_saved w)
-edit_saved m e w l h = record {
+pub edit_saved : {m : Model} {e : Edit} {w : Network} {l : LabelTable} → IsRepairable m e w l → IsEditOfNet m e (with_saved w)
+edit_saved h = record {
   before = h.before;
   inverse = h.inverse;
   valid = h.standing.valid;
   in_range = h.in_range;
   edited = h.edited;
-  of = of_saved h.before w h.standing.of;
+  of = of_saved h.standing.of;
 }
 
 within_saved : (w : Network) → IsWithinLimits w → IsWithinLimits (with_saved w)
@@ -51,10 +51,10 @@ unfolding flow_out flow_at
 sources_saved w = refl
 
 -- a saved net may be reshaped
-pub reshapable_saved : (m : Model) (e : Edit) (w : Network) (l : LabelTable) (path_room : ℕ) → IsRepairable m e w l → w.site.shape.horizon + 2 ≤ path_room
+pub reshapable_saved : {m : Model} {e : Edit} {w : Network} {l : LabelTable} (path_room : ℕ) → IsRepairable m e w l → w.site.shape.horizon + 2 ≤ path_room
     → IsReshapable m e (with_saved w) l path_room
-reshapable_saved m e w l path_room h room = record {
-  edited = edit_saved m e w l h;
+reshapable_saved {w} {l} path_room h room = record {
+  edited = edit_saved h;
   within = within_saved w h.standing.within;
   sent = sent_saved w h.standing.sent;
   labels = h.standing.labels;

@@ -1,5 +1,5 @@
 -- What a net that stands for a plan gives to a session.
-use Rattle.std.proofs.Common.{◌≡◌, ℕ, ◌+◌, ◌<◌, ◌≤◌, cond, ℤ, pos, arith, inl, inr, List, [], ◌∷◌, length, take, refl, ap, sym, ◌∙◌, subst, Ok}
+use Rattle.std.proofs.Common.{◌≡◌, ℕ, ◌+◌, ◌<◌, ◌≤◌, cond, pos, arith, inl, inr, List, [], ◌∷◌, length, take, refl, ap, sym, ◌∙◌, subst, Ok}
 use Rattle.evac_law.specs.declared.edit.Edit.{Edit}
 use Rattle.evac_law.specs.declared.model.Model.{Model}
 use Rattle.std.proofs.lemmas.Bool.{cases_Bool}
@@ -11,6 +11,7 @@ use Rattle.evac_law.specs.LabelTable.{LabelTable}
 use Rattle.evac_law.specs.Parts.{IsMost}
 use Rattle.evac_law.specs.Stands.{Fits, IsOrdered, Stands}
 use Rattle.evac_law.proofs.Optimal.{certified_is_clearable, certified_is_feasible, out_stays, shortfall_bars_clearing}
+use Rattle.evac_law.proofs.WeakDuality.{above_pos}
 use Rattle.residual_net.specs.Labelled.{IsLabelsOf}
 use Rattle.residual_net.specs.Network.{Network, flow_at, flow_into, flow_out, limit_at, supply_limits, with_saved}
 use Rattle.residual_net.specs.declared.place.Place.TheVariants.{Hold}
@@ -24,32 +25,32 @@ use Rattle.lex_flow.specs.Settling.{arrivals_below}
 use Rattle.edit_session.proofs.Ring.{former_more}
 use Rattle.edit_session.proofs.Thrifty.{thrifty_opening}
 
-pub table_of : (m : Model) (w : Network) (l k : LabelTable) → IsStanding m w l → IsLabelsOf w.site k → IsTableOf m k
-table_of m w l k h labels = record { nodes = labels.nodes ∙ h.cleared.fits.nodes_same; horizon = labels.horizon ∙ h.cleared.fits.horizon_same }
+pub table_of : {m : Model} {w : Network} {l k : LabelTable} → IsStanding m w l → IsLabelsOf w.site k → IsTableOf m k
+table_of h labels = record { nodes = labels.nodes ∙ h.cleared.fits.nodes_same; horizon = labels.horizon ∙ h.cleared.fits.horizon_same }
 
-pub solved_by : (m : Model) (w : Network) (l : LabelTable) (ring : List Edit) (work : Work) → IsStanding m w l → IsSolved (state_of m w l ring work)
-solved_by m w l ring work h =
+pub solved_by : {m : Model} {w : Network} {l : LabelTable} (ring : List Edit) (work : Work) → IsStanding m w l → IsSolved (state_of m w l ring work)
+solved_by {m} {w} ring work h =
     let fits = h.cleared.fits in
     let arcs : IsOrdered (length m.arcs) w.site.shape.horizon (plan_of w) =
     subst (λ z. IsOrdered z w.site.shape.horizon (plan_of w)) fits.arcs_same fits.ordered in
     record {
       valid = h.valid;
       ordered = subst (λ z. IsOrdered (length m.arcs) z (plan_of w)) fits.horizon_same arcs;
-      table = table_of m w l l h h.labels;
+      table = table_of h h.labels;
       certified = h.cleared.certified;
     }
 
-pub net_by : (m : Model) (w : Network) (l : LabelTable) (ring : List Edit) (work : Work) → IsStanding m w l
+pub net_by : {m : Model} {w : Network} {l : LabelTable} (ring : List Edit) (work : Work) → IsStanding m w l
     → IsNetOfState (state_of m w l ring work) w
-net_by m w l ring work h = record { net = h.net; limits = h.of; within = h.within; sent = h.sent; same_plan = refl }
+net_by ring work h = record { net = h.net; limits = h.of; within = h.within; sent = h.sent; same_plan = refl }
 
-pub clearable_by : (m : Model) (w : Network) (l : LabelTable) → IsStanding m w l → IsClearable m
-clearable_by m w l h = certified_is_clearable m (plan_of w) l (last_arrival_of w) h.valid h.cleared.certified
+pub clearable_by : {m : Model} {w : Network} {l : LabelTable} → IsStanding m w l → IsClearable m
+clearable_by {m} {w} {l} h = certified_is_clearable m (plan_of w) l (last_arrival_of w) h.valid h.cleared.certified
 
 -- ---- the session as a standing plan
 
-pub takes_all_out : (s : SessionState) → IsSolved s → TakesAllOut s.model s.plan
-takes_all_out s h =
+pub takes_all_out : {s : SessionState} → IsSolved s → TakesAllOut s.model s.plan
+takes_all_out {s} h =
     let good = h.certified in record {
       feasible = certified_is_feasible s.model s.plan s.labels s.last s.model.horizon h.valid good;
       all_out = out_stays s.model s.plan s.last s.model.horizon good.in_horizon good.arrives ∙ good.all_out;
@@ -57,20 +58,16 @@ takes_all_out s h =
 
 pub stands_of : (s : SessionState) (m : Model) → m ≡ s.model → IsSolved s → Fits s.model (stand_of_state s) → Stands m (stand_of_state s)
 stands_of s m e h fits =
-    subst (λ (x : Model). Stands x (stand_of_state s)) (sym e) (record { valid = h.valid; fits = fits; plan = takes_all_out s h })
-
--- what a whole number from 0 on is above 0
-pub above_none : (x : ℕ) (z : ℤ) → pos x ≡ z → above z 0 ≡ x
-above_none x z e = ap (λ y. above y 0) (sym e) ∙ omega arith
+    subst (λ (x : Model). Stands x (stand_of_state s)) (sym e) (record { valid = h.valid; fits = fits; plan = takes_all_out h })
 
 -- the contents are the flows of the holds
-pub contents_by : (m : Model) (w : Network) (l : LabelTable) (ring : List Edit) (work : Work) (n t : ℕ) → IsStanding m w l → n < length m.nodes
+pub contents_by : {m : Model} {w : Network} {l : LabelTable} (ring : List Edit) (work : Work) (n t : ℕ) → IsStanding m w l → n < length m.nodes
     → t ≤ m.horizon → (stand_of_state (state_of m w l ring work)).contents n t ≡ flow_at w (Hold n t)
-contents_by m w l ring work n t h i j = elim (cases_Bool (is_exit_at m n)) [
+contents_by {m} {w} ring work n t h i j = elim (cases_Bool (is_exit_at m n)) [
   | inl e ↦ ap (λ b. cond b 0 (above (held m (plan_of w) n t) 0)) e ∙ sym (fits.exits_hold_none n t in_nodes in_horizon e)
   | inr e ↦
       ap (λ b. cond b 0 (above (held m (plan_of w) n t) 0)) e
-      ∙ above_none (flow_at w (Hold n t)) (held m (plan_of w) n t) (fits.inside n t in_nodes in_horizon e)
+      ∙ above_pos (flow_at w (Hold n t)) (held m (plan_of w) n t) (fits.inside n t in_nodes in_horizon e)
 ]
   where
     fits : Fits m (stand_of w)
@@ -82,26 +79,26 @@ contents_by m w l ring work n t h i j = elim (cases_Bool (is_exit_at m n)) [
     in_horizon : t ≤ w.site.shape.horizon
     in_horizon = omega (arith, fits.horizon_same, j)
 
-pub stands_by : (m : Model) (w : Network) (l : LabelTable) (ring : List Edit) (work : Work) → IsStanding m w l
+pub stands_by : {m : Model} {w : Network} {l : LabelTable} (ring : List Edit) (work : Work) → IsStanding m w l
     → Fits m (stand_of_state (state_of m w l ring work))
-stands_by m w l ring work h =
+stands_by {m} {w} ring work h =
     let fits = h.cleared.fits in
     record {
       nodes_same = refl;
       arcs_same = refl;
       horizon_same = refl;
-      ordered = (solved_by m w l ring work h).ordered;
+      ordered = (solved_by ring work h).ordered;
       inside = λ n t i j e.
-          ap pos (contents_by m w l ring work n t h i j) ∙ fits.inside n t (omega (arith, fits.nodes_same, i)) (omega (arith, fits.horizon_same, j)) e;
+          ap pos (contents_by ring work n t h i j) ∙ fits.inside n t (omega (arith, fits.nodes_same, i)) (omega (arith, fits.horizon_same, j)) e;
       exits_hold_none = λ n t i j e. ap (λ b. cond b 0 (above (held m (plan_of w) n t) 0)) e;
       last_same = fits.last_same;
     }
 
 -- ---- a net with its flow and limits saved stands as before
 
-pub standing_saved : (m : Model) (w : Network) (l : LabelTable) → IsStanding m w l → IsStanding m (with_saved w) l
+pub standing_saved : {m : Model} {w : Network} {l : LabelTable} → IsStanding m w l → IsStanding m (with_saved w) l
 unfolding flow_at limit_at flow_into flow_out supply_limits
-standing_saved m w l h = record {
+standing_saved h = record {
   valid = h.valid;
   net = record {
     site = h.net.site;
@@ -121,19 +118,19 @@ standing_saved m w l h = record {
 
 -- ---- how a session begins
 
-pub begun_by : (m : Model) (w u : Network) (l : LabelTable) (ring : List Edit) (work : Work) → IsStanding m u l → ring ≡ [] → work.cancelled ≡ 0
+pub begun_by : {m : Model} (w : Network) {u : Network} {l : LabelTable} (ring : List Edit) (work : Work) → IsStanding m u l → ring ≡ [] → work.cancelled ≡ 0
     → work.pushes + arrivals_below w (last_arrival_of u + 1) ≤ arrivals_below u (last_arrival_of u + 1) → Begins m (state_of m u l ring work)
-begun_by m w u l ring work h none idle bounded = record {
+begun_by {m} w {u} ring work h none idle bounded = record {
   begun = refl;
-  solved = solved_by m u l ring work h;
+  solved = solved_by ring work h;
   none_former = ap (former_of m) none;
-  thrifty = thrifty_opening m w u (last_arrival_of u) work h.valid h.net h.of idle bounded;
+  thrifty = thrifty_opening w (last_arrival_of u) work h.valid h.net h.of idle bounded;
 }
 
 -- labels that show that not everybody gets out of a model
-pub not_cleared_by : (m : Model) (l : LabelTable) (most : ℕ) → IsValid m → IsShortfall m (label_cut m l m.horizon) most → IsMost m most
+pub not_cleared_by : {m : Model} (l : LabelTable) {most : ℕ} → IsValid m → IsShortfall m (label_cut m l m.horizon) most → IsMost m most
     → IsNotCleared m l (people m) most
-not_cleared_by m l most valid short greatest = record {
+not_cleared_by {m} l {most} valid short greatest = record {
   count = refl;
   shortfall = short;
   barred = shortfall_bars_clearing m (label_cut m l m.horizon) most valid short;
@@ -142,45 +139,45 @@ not_cleared_by m l most valid short greatest = record {
 
 -- ---- how a session goes on
 
-pub edited_by : (m m' : Model) (e e' : Edit) (w v : Network) (l k : LabelTable) (ring : List Edit) (old work : Work) → IsStanding m w l
+pub edited_by : {m m' : Model} (e e' : Edit) {w v : Network} {l k : LabelTable} (ring : List Edit) (old : Work) {work : Work} → IsStanding m w l
     → IsCarried m' w v l k work → IsEditOf m e → applied m e ≡ Ok (m', e')
     → IsEdited (state_of m w l ring old) e (state_of m' v k (take kept_limit (e' ∷ ring)) work)
-edited_by m m' e e' w v l k ring old work h done in_range accepted = record {
+edited_by {m} {m'} e e' ring old {work} h done in_range accepted = record {
   edited = m';
   inverse = e';
   accepted = accepted;
   goes_on = record {
     gone = refl;
-    solved = solved_by m' v k (take kept_limit (e' ∷ ring)) work done.standing;
-    kept = former_more m m' e e' ring h.valid in_range accepted;
+    solved = solved_by (take kept_limit (e' ∷ ring)) work done.standing;
+    kept = former_more m' e e' ring h.valid in_range accepted;
     repaired = done.repaired m h;
     thrifty = done.thrifty m h.valid h.of;
   };
 }
 
-pub undone_by : (m : Model) (e : Edit) (w v : Network) (l k : LabelTable) (ring : List Edit) (old work : Work) → IsStanding m w l
+pub undone_by : {m : Model} (e : Edit) {w v : Network} {l k : LabelTable} (ring : List Edit) (old : Work) {work : Work} → IsStanding m w l
     → IsCarried (edited m e) w v l k work → IsUndone (state_of m w l (e ∷ ring) old) (state_of (edited m e) v k ring work)
-undone_by m e w v l k ring old work h done = record {
+undone_by {m} e ring old {work} h done = record {
   before = edited m e;
   earlier = former_of (edited m e) ring;
   last_kept = refl;
   goes_on = record {
     gone = refl;
-    solved = solved_by (edited m e) v k ring work done.standing;
+    solved = solved_by ring work done.standing;
     kept = refl;
     repaired = done.repaired m h;
     thrifty = done.thrifty m h.valid h.of;
   };
 }
 
-pub barred_by : (m m' : Model) (e e' : Edit) (w v : Network) (l cut : LabelTable) (ring : List Edit) (old : Work) (all most steps : ℕ)
+pub barred_by : (m : Model) {m' : Model} (e e' : Edit) {w v : Network} (l : LabelTable) {cut : LabelTable} (ring : List Edit) (old : Work) (all : ℕ) {most : ℕ} (steps : ℕ)
     → IsValid m' → all ≡ people m' → IsRefused m' w v cut most → IsSpent m (plan_of w) m' most steps → applied m e ≡ Ok (m', e')
     → IsBarred (state_of m w l ring old) e cut all most steps
-barred_by m m' e e' w v l cut ring old all most steps valid count short spent accepted = record {
+barred_by m {m'} e e' l {cut} ring old all {most} steps valid count short spent accepted = record {
   edited = m';
   inverse = e';
   accepted = accepted;
   table = short.shown.table;
-  not_cleared = subst (λ (n : ℕ). IsNotCleared m' cut n most) (sym count) (not_cleared_by m' cut most valid short.shown.shortfall short.shown.greatest);
+  not_cleared = subst (λ (n : ℕ). IsNotCleared m' cut n most) (sym count) (not_cleared_by cut valid short.shown.shortfall short.shown.greatest);
   spent = spent;
 }

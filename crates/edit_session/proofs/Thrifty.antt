@@ -28,9 +28,9 @@ below_most w (suc n) k most l e =
     let rise = arrived_rises w n k (omega (arith, l)) in
     rw (sym (add-one n)) (omega (arith, below_more w n, below_most w n k most (omega (arith, l)) e, rise, e))
 
-pub outs_are : (m : Model) (w : Network) (k : ℕ) → IsValid m → IsNet w → IsNetOf m w → outs_to m (plan_of w) k ≡ arrivals_below w (k + 1)
+pub outs_are : {m : Model} {w : Network} (k : ℕ) → IsValid m → IsNet w → IsNetOf m w → outs_to m (plan_of w) k ≡ arrivals_below w (k + 1)
 unfolding outs_to arrivals_below
-outs_are m w k valid net of =
+outs_are {m} {w} k valid net of =
     sum_by-same (λ t. out_by m (plan_of w) t) (λ t. arrived_by w t) (below (k + 1)) (λ t. sym (arrived_is_out m w valid net of t))
 
 -- ---- the same flows have the same moves
@@ -60,7 +60,7 @@ pub thrifty : (m n : Model) (w v u : Network) (c : ℕ) (work : Work) → IsVali
     → IsThrifty m (plan_of w) n (plan_of u) c work
 thrifty m n w v u c work valid now net_w net_u of_w of_u site few falls idle bounded same = record {
   few_cancelled = few;
-  few_pushes = omega (arith, outs_are m w c valid net_w of_w, outs_are n u c now net_u of_u, below_le w v (c + 1) work.cancelled falls, bounded);
+  few_pushes = omega (arith, outs_are c valid net_w of_w, outs_are c now net_u of_u, below_le w v (c + 1) work.cancelled falls, bounded);
   idle = λ e f. ap plan_of (same f) ∙ plan_same w v site (idle e);
 }
 
@@ -72,7 +72,7 @@ spent m n w v u cancelled pushes most steps valid net of few falls bounded all f
     let times : (m.horizon + 2) * cancelled ≤ (m.horizon + 2) * violation m (plan_of w) n = times_le (m.horizon + 2) cancelled (violation m (plan_of w) n) few in
     omega (
       arith,
-      outs_are m w m.horizon valid net of,
+      outs_are m.horizon valid net of,
       below_le w v (m.horizon + 1) cancelled falls,
       below_most u (m.horizon + 1) m.horizon most (omega arith) all,
       bounded,
@@ -87,11 +87,11 @@ spent m n w v u cancelled pushes most steps valid net of few falls bounded all f
 -- ---- what the beginning costs
 
 -- u after pushes from w
-pub thrifty_opening : (m : Model) (w u : Network) (c : ℕ) (work : Work) → IsValid m → IsNet u → IsNetOf m u → work.cancelled ≡ 0
+pub thrifty_opening : {m : Model} (w : Network) {u : Network} (c : ℕ) (work : Work) → IsValid m → IsNet u → IsNetOf m u → work.cancelled ≡ 0
     → work.pushes + arrivals_below w (c + 1) ≤ arrivals_below u (c + 1) → IsThriftyOpening m (plan_of u) c work
-thrifty_opening m w u c work valid net of none bounded = record {
+thrifty_opening w c work valid net of none bounded = record {
   none_cancelled = none;
-  few_pushes = omega (arith, outs_are m u c valid net of, bounded);
+  few_pushes = omega (arith, outs_are c valid net of, bounded);
 }
 
 pub spent_opening : (m : Model) (w u : Network) (pushes most : ℕ) → arrived_by u m.horizon ≡ most

@@ -40,8 +40,6 @@ impl Planned {
             &mut self.scratch.path,
             steps,
         );
-        // a net keeps its flow in balance
-        let _ = self.net.shape();
         self.scratch.labels.copy_from(&self.labels);
         match settle_all(
             &mut self.net,
@@ -51,7 +49,6 @@ impl Planned {
             steps,
         ) {
             Outcome::Cleared { pushes, .. } => {
-                let _ = self.net.shape();
                 let work = Work {
                     cancelled: taken.cancelled,
                     pushes,

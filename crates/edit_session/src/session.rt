@@ -62,8 +62,6 @@ impl Session {
             steps,
         ) {
             Outcome::Cleared { pushes, .. } => {
-                // a net keeps its flow in balance
-                let _ = planned.net.shape();
                 let work = Work {
                     cancelled: 0,
                     pushes,

@@ -40,8 +40,8 @@ fewer_before m p l zero k late good = absurd (omega (arith, late))
 fewer_before m p l (suc b) k late good =
     omega (arith, good.cuts k (omega arith), good.least b (omega arith), out_le_out m p k b (omega arith))
 
-pub slow_before : (m : Model) (s : SessionState) (k : ℕ) → s.model ≡ m → IsSolved s → k < s.last → IsTooSlow m k
-slow_before m s k is h late =
+pub slow_before : (m : Model) {s : SessionState} (k : ℕ) → s.model ≡ m → IsSolved s → k < s.last → IsTooSlow m k
+slow_before m {s} k is h late =
     subst (λ (z : Model). IsTooSlow z k) is (record {
       cut = label_cut s.model s.labels k;
       moment = k;
@@ -51,12 +51,12 @@ slow_before m s k is h late =
       below_people = fewer_before s.model s.plan s.labels s.last k late h.certified;
     })
 
-pub cleared_by : (m : Model) (s : SessionState) (k : ℕ) → s.model ≡ m → IsSolved s → s.last ≤ k → IsClearedBy m k
-cleared_by m s k is h soon =
+pub cleared_by : (m : Model) {s : SessionState} (k : ℕ) → s.model ≡ m → IsSolved s → s.last ≤ k → IsClearedBy m k
+cleared_by m {s} k is h soon =
     subst (λ (z : Model). IsClearedBy z k) is (record { plan = s.plan; labels = s.labels; last = s.last; certified = h.certified; in_time = soon })
 
-pub slow_barred : (m : Model) (k : ℕ) (l : LabelTable) (all most : ℕ) → IsNotCleared m l all most → IsTooSlow m k
-slow_barred m k l all most h = record {
+pub slow_barred : {m : Model} (k : ℕ) {l : LabelTable} {all most : ℕ} → IsNotCleared m l all most → IsTooSlow m k
+slow_barred {m} k {l} h = record {
   cut = label_cut m l m.horizon;
   moment = m.horizon;
   by = inr refl;
@@ -66,23 +66,22 @@ slow_barred m k l all most h = record {
 }
 
 -- what an edit of the rate shows, by the last moment of its plan
-tried_made : (m : Model) (a k r : ℕ) (s t : SessionState) → s.model ≡ m → k ≤ m.horizon → IsEdited s (edits.Rate a r) t → TellsEnough m a k r (leb t.last k)
-tried_made m a k r s t is j h = by (leb t.last k) refl
+tried_made : (m : Model) (a k r : ℕ) {s t : SessionState} → s.model ≡ m → k ≤ m.horizon → IsEdited s (edits.Rate a r) t → TellsEnough m a k r (leb t.last k)
+tried_made m a k r {s} {t} is j h = by (leb t.last k) refl
   where
     now : t.model ≡ at_rate m a r
     now = h.goes_on.gone ∙ (edited_is s.model h.edited (edits.Rate a r) h.inverse h.accepted).0 ∙ ap (λ (z : Model). at_rate z a r) is
 
     by : (b : Bool) → leb t.last k ≡ b → TellsEnough m a k r b
-    by true e = cleared_by (at_rate m a r) t k now h.goes_on.solved (leb-true t.last k e)
-    by false e = slow_before (at_rate m a r) t k now h.goes_on.solved (leb-false t.last k e)
+    by true e = cleared_by (at_rate m a r) k now h.goes_on.solved (leb-true t.last k e)
+    by false e = slow_before (at_rate m a r) k now h.goes_on.solved (leb-false t.last k e)
 
-pub tried_told : (s : SessionState) (a k r last steps : ℕ) → k ≤ s.model.horizon → IsTrial s (edits.Rate a r) last steps → TellsEnough s.model a k r (leb last k)
-tried_told s a k r last steps j h =
-    subst (λ (c : ℕ). TellsEnough s.model a k r (leb c k)) h.out (tried_made s.model a k r s h.after refl j h.edited)
+pub tried_told : {s : SessionState} (a k r : ℕ) {last steps : ℕ} → k ≤ s.model.horizon → IsTrial s (edits.Rate a r) last steps → TellsEnough s.model a k r (leb last k)
+tried_told {s} a k r j h = subst (λ (c : ℕ). TellsEnough s.model a k r (leb c k)) h.out (tried_made s.model a k r refl j h.edited)
 
 -- what shutting an exit shows
-pub exit_tried : (s : SessionState) (x last steps : ℕ) → IsTrial s (edits.ShutExit x) last steps → IsClearedAt (without_exit s.model x) last
-exit_tried s x last steps h =
+pub exit_tried : {s : SessionState} (x : ℕ) {last steps : ℕ} → IsTrial s (edits.ShutExit x) last steps → IsClearedAt (without_exit s.model x) last
+exit_tried {s} x {last} h =
     let t = h.after in
     let now : t.model ≡ without_exit s.model x =
     h.edited.goes_on.gone ∙ (edited_is s.model h.edited.edited (edits.ShutExit x) h.edited.inverse h.edited.accepted).0 in
@@ -125,39 +124,39 @@ same_rate : (m : Model) (a : ℕ) → at_rate m a (arc_at m a).rate ≡ m
 same_rate m a = ap (λ (arcs : List ArcRow). record m { arcs = arcs }) (set-get_or m.arcs a no_arc)
 
 -- the session's plan is in time
-pub search_from_enough : (s : SessionState) (a k : ℕ) → IsSolved s → a < length s.model.arcs → s.last ≤ k → IsSearch s.model a k 0 (arc_at s.model a).rate
-search_from_enough s a k h l soon = record {
+pub search_from_enough : {s : SessionState} (a k : ℕ) → IsSolved s → a < length s.model.arcs → s.last ≤ k → IsSearch s.model a k 0 (arc_at s.model a).rate
+search_from_enough {s} a k h l soon = record {
   ordered = omega arith;
   in_range = omega (arith, rate_of s.model a h.valid l);
   too_slow = λ q e. absurd (omega (arith, e));
-  enough = λ _. cleared_by (at_rate s.model a (arc_at s.model a).rate) s k (sym (same_rate s.model a)) h soon;
+  enough = λ _. cleared_by (at_rate s.model a (arc_at s.model a).rate) k (sym (same_rate s.model a)) h soon;
 }
 
 -- the session's plan is too late
-pub search_from_slow : (s : SessionState) (a k : ℕ) → IsSolved s → a < length s.model.arcs → k < s.last
+pub search_from_slow : {s : SessionState} (a k : ℕ) → IsSolved s → a < length s.model.arcs → k < s.last
     → IsSearch s.model a k ((arc_at s.model a).rate + 1) (rate_limit + 1)
-search_from_slow s a k h l late = record {
+search_from_slow {s} a k h l late = record {
   ordered = omega (arith, rate_of s.model a h.valid l);
   in_range = omega arith;
   too_slow = λ q e.
       let same : (arc_at s.model a).rate ≡ q = omega (arith, e) in
       subst (λ (r : ℕ). IsTooSlow (at_rate s.model a r) k) same
-      (slow_before (at_rate s.model a (arc_at s.model a).rate) s k (sym (same_rate s.model a)) h late);
+      (slow_before (at_rate s.model a (arc_at s.model a).rate) k (sym (same_rate s.model a)) h late);
   enough = λ i. absurd (omega (arith, i));
 }
 
-pub search_down : (m : Model) (a k low high middle : ℕ) → IsSearch m a k low high → low ≤ middle → middle < high → IsClearedBy (at_rate m a middle) k
+pub search_down : {m : Model} {a k low high : ℕ} (middle : ℕ) → IsSearch m a k low high → low ≤ middle → middle < high → IsClearedBy (at_rate m a middle) k
     → IsSearch m a k low middle
-search_down m a k low high middle h l i done = record {
+search_down middle h l i done = record {
   ordered = l;
   in_range = omega (arith, h.in_range);
   too_slow = h.too_slow;
   enough = λ _. done;
 }
 
-pub search_up : (m : Model) (a k low high middle : ℕ) → IsSearch m a k low high → middle < high → IsTooSlow (at_rate m a middle) k
+pub search_up : {m : Model} {a k low high : ℕ} (middle : ℕ) → IsSearch m a k low high → middle < high → IsTooSlow (at_rate m a middle) k
     → IsSearch m a k (middle + 1) high
-search_up m a k low high middle h i slow = record {
+search_up {m} {a} {k} middle h i slow = record {
   ordered = omega arith;
   in_range = h.in_range;
   too_slow = λ q e. let same : middle ≡ q = omega (arith, e) in subst (λ (z : ℕ). IsTooSlow (at_rate m a z) k) same slow;

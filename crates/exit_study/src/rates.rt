@@ -38,30 +38,30 @@ fn try_rate<L: Ledger>(
 }
 
 // The rates that a search has before it: none below `low` is enough, and `high` is, where it is a rate.
-struct Span {
+struct RateRange {
     low: u32,
     high: u32,
 }
 
-// The span that the session's plan leaves of all rates, by the rate that the arc has.
+// The range that the session's plan leaves of all rates, by the rate that the arc has.
 #[tactic(auto, unfolding(evac_law::specs::Limits::rate_limit))]
-fn first_span(session: &Session, arc: u32, by: u16) -> Span
+fn first_range(session: &Session, arc: u32, by: u16) -> RateRange
     requires { arc < length session.now.state.model.arcs }
     ensures valid { IsValid session.now.state.model }
     ensures search { IsSearch session.now.state.model arc by result.low result.high }
 {
     let rate = session.model().arc(arc).rate;
     if session.cleared() <= by {
-        Span { low: 0, high: rate }
+        RateRange { low: 0, high: rate }
     } else {
-        Span {
+        RateRange {
             low: rate + 1,
             high: RATE_LIMIT + 1,
         }
     }
 }
 
-// How many times a search doubles the least rate that is left, before it halves the span.
+// How many times a search doubles the least rate that is left, before it halves the range.
 const DOUBLINGS: u32 = 2;
 
 // The rate to try next. While no rate is known to be enough, the first ones aren't far above the rate that the arc has: the answer is
@@ -95,7 +95,7 @@ pub fn least_rate<L: Ledger>(
     ensures unchanged { session.new.state ≡ session.old.state }
     ensures counted { (n : ℕ) × (steps.new ≡ steps.old + n) }
 {
-    let Span { mut low, mut high } = first_span(session, arc, by);
+    let RateRange { mut low, mut high } = first_range(session, arc, by);
     let mut doublings = DOUBLINGS;
     while low < high {
         let rate = next_rate(low, high, doublings);

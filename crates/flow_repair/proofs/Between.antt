@@ -1,5 +1,5 @@
 -- Limits on the way from one model to another.
-use Rattle.std.proofs.Common.{◌≡◌, ℕ, ◌≤◌, Bool, true, cond, ◌⊎◌, ap, sym, ◌∙◌, arith, inl, inr, subst}
+use Rattle.std.proofs.Common.{◌≡◌, ℕ, ◌≤◌, Bool, true, false, cond, ◌⊎◌, ap, sym, ◌∙◌, arith, inl, inr, subst}
 use Rattle.std.proofs.lemmas.Bool.{cases_Bool}
 use Rattle.evac_law.specs.declared.model.Model.{Model}
 use Rattle.evac_law.specs.Building.{IsValid, entry}
@@ -8,13 +8,13 @@ use Rattle.residual_net.specs.declared.place.Place.{Place}
 use Rattle.residual_net.specs.declared.place.Place.TheVariants.{Supply}
 use Rattle.residual_net.specs.Limits.{supply_limit}
 use Rattle.residual_net.specs.Site.{Site, IsPlace, same_place}
-use Rattle.residual_net.specs.Network.{Network, IsWithinLimits, excess_at, flow_at, limit_at}
+use Rattle.residual_net.specs.Network.{Network, IsNet, IsWithinLimits, excess_at, flow_at, limit_at}
 use Rattle.residual_net.specs.Change.{IsLimitSet, supply_limits_with}
 use Rattle.residual_net.specs.OfModel.{model_limit, site_of}
 use Rattle.residual_net.proofs.Effects.{supplies_between}
 use Rattle.residual_net.proofs.Places.{same-place}
 use Rattle.flow_repair.specs.declared.reshaped.Reshaped.{Reshaped}
-use Rattle.flow_repair.specs.Refit.{IsBetween, IsFittable, IsRefitted, IsThinned}
+use Rattle.flow_repair.specs.Refit.{IsBetween, IsFittable, IsRefitted}
 use Rattle.flow_repair.proofs.Refitting.{still_cancellable}
 
 -- the supplies fit, whichever of the two models gives each its limit
@@ -30,8 +30,8 @@ set_or_kept : (b : Bool) (x old other new : ℕ) → new ≡ cond b x old → (o
 set_or_kept b x old other new e o = grind arith
 
 -- limits between two models stay so
-pub still_between : (m : Model) (l : LabelTable) (w v : Network) (b : Place → Bool) (r s : Reshaped) → IsBetween m w → IsRefitted m l w v b r s → IsBetween m v
-still_between m l w v b r s h g = record {
+pub still_between : {m : Model} {l : LabelTable} {w v : Network} {b : Place → Bool} {r s : Reshaped} → IsBetween m w → IsRefitted m l w v b r s → IsBetween m v
+still_between {m} {w} {v} {b} h g = record {
   other = h.other;
   valid = h.valid;
   of_other = g.site ∙ h.of_other;
@@ -41,13 +41,13 @@ still_between m l w v b r s h g = record {
       set_or_kept (b p) (model_limit m p) (limit_at w p) (model_limit h.other p) (limit_at v p) (g.limits p at) (h.limits p at);
 }
 
-pub still_fittable : (m : Model) (l : LabelTable) (w v : Network) (b : Place → Bool) (x y : ℕ) (r s : Reshaped) → IsRefitted m l w v b r s
-    → IsWithinLimits v → y ≡ x → IsFittable m w l x r → IsFittable m v l y s
-still_fittable m l w v b x y r s g within same h = record {
+pub still_fittable : {m : Model} {l : LabelTable} {w v : Network} {b : Place → Bool} {x : ℕ} (y : ℕ) {r s : Reshaped} → IsRefitted m l w v b r s
+    → IsWithinLimits v → IsNet v → y ≡ x → IsFittable m w l x r → IsFittable m v l y s
+still_fittable {v} y {s} g within net same h = record {
   valid = h.valid;
-  between = still_between m l w v b r s h.between g;
+  between = still_between h.between g;
   within = within;
-  cancellable = still_cancellable w v l x y r s g.site g.sent same h.cancellable;
+  cancellable = still_cancellable v y s g.site g.sent same net h.cancellable;
 }
 
 -- ---- within limits again
@@ -55,25 +55,25 @@ still_fittable m l w v b x y r s g within same h = record {
 raised : (b : Bool) (x here old new f g : ℕ) → new ≡ cond b x old → (b ≡ true → here ≡ old) → here ≤ x → f ≤ old → g ≡ f → g ≤ new
 raised b x here old new f g e same more within kept = grind arith
 
-pub within_raised : (w v : Network) (p : Place) (x : ℕ) → IsWithinLimits w → IsLimitSet w v p x → limit_at w p ≤ x → IsWithinLimits v
-within_raised w v p x within set more q i =
+pub within_raised : {w v : Network} {p : Place} {x : ℕ} → IsWithinLimits w → IsLimitSet w v p x → limit_at w p ≤ x → IsWithinLimits v
+within_raised {w} {v} {p} {x} within set more q i =
     let at : IsPlace w.site q = subst (λ (z : Site). IsPlace z q) set.site i in
     raised (same_place p q) x (limit_at w p) (limit_at w q) (limit_at v q) (flow_at w q) (flow_at v q) (set.limits q at)
     (λ e. ap (limit_at w) (same-place p q e)) more (within q at) (set.flows q at)
 
-pub within_thinned : (l : LabelTable) (w v u : Network) (p : Place) (x : ℕ) (r s : Reshaped) → IsWithinLimits w → IsLimitSet w v p x → IsThinned p l v u r s
-    → excess_at u p ≡ 0 → IsWithinLimits u
-within_thinned l w v u p x r s within set thin fits q i = elim (cases_Bool (same_place p q)) [
+pub within_relieved : {m : Model} {l : LabelTable} {w v u : Network} {p : Place} {x : ℕ} {r s : Reshaped} → IsWithinLimits w → IsLimitSet w v p x
+    → IsRefitted m l v u (λ _. false) r s → excess_at u p ≡ 0 → IsWithinLimits u
+within_relieved {w} {v} {u} {p} {x} within set less fits q i = elim (cases_Bool (same_place p q)) [
   | inl e ↦
       let here : excess_at u q ≡ 0 = subst (λ z. excess_at u z ≡ 0) (same-place p q e) fits in
       omega (arith, here)
   | inr e ↦
       let kept : limit_at v q ≡ limit_at w q = set.limits q at_w ∙ ap (λ b. cond b x (limit_at w q)) e in
-      omega (arith, kept, within q at_w, set.flows q at_w, thin.flows q at, thin.limits q at)
+      omega (arith, kept, within q at_w, set.flows q at_w, less.flows q at, less.limits q at)
 ]
   where
     at : IsPlace v.site q
-    at = subst (λ (z : Site). IsPlace z q) thin.site i
+    at = subst (λ (z : Site). IsPlace z q) less.site i
 
     at_w : IsPlace w.site q
     at_w = subst (λ (z : Site). IsPlace z q) set.site at

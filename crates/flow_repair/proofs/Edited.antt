@@ -66,10 +66,6 @@ site_edited m (Unwindow a p q) = site_arc m a (windowed m a (without_window (win
 
 -- ---- limits that stay
 
--- the test fails and the place is of that kind
-not_number : (a b : ℕ) → (true && eqb a b) ≡ false → a ≢ b
-not_number a b e = eqb-false a b e
-
 arc_limit_kept : (m m' : Model) (a t : ℕ) → m'.horizon ≡ m.horizon → arc_at m' a ≡ arc_at m a → (node_at m' (head m a)).shut ≡ (node_at m (head m a)).shut
     → model_limit m' (places.Arc a t) ≡ model_limit m (places.Arc a t)
 arc_limit_kept m m' a t h e s =
@@ -90,16 +86,15 @@ entry_kept m m' n t e f =
 after_arc : (m : Model) (a : ℕ) (row : ArcRow) (p : Place) → (is_kind kinds.Arc p && eqb (row_of p) a) ≡ false
     → model_limit (with_arc m a row) p ≡ model_limit m p
 after_arc m a row (places.Arc b t) e =
-    arc_limit_kept m (with_arc m a row) b t refl (get_or-set_other m.arcs a b row no_arc (not_number b a e)) refl
-after_arc m a row (places.Hold n t) e = refl
-after_arc m a row (places.Supply n t) e = refl
+    arc_limit_kept m (with_arc m a row) b t refl (get_or-set_other m.arcs a b row no_arc (eqb-false b a e)) refl
+after_arc m a row _ e = refl
 
 -- another mark at an exit
 after_exit : (m : Model) (n : ℕ) (b : Bool) (p : Place) → IsPlace (site_of m) p → (is_kind kinds.Arc p && eqb (to_at (site_of m).shape (row_of p)) n) ≡ false
     → model_limit (with_node m n (record (node_at m n) { shut = b })) p ≡ model_limit m p
 after_exit m n b (places.Arc a t) i e =
     let in_arcs : a < length m.arcs = omega (arith, length-map m.arcs joined, i.0) in
-    let other : head m a ≢ n = λ f. not_number (to_at (site_of m).shape a) n e (to_is m a in_arcs ∙ f) in
+    let other : head m a ≢ n = λ f. eqb-false (to_at (site_of m).shape a) n e (to_is m a in_arcs ∙ f) in
     let row = record (node_at m n) { shut = b } in
     arc_limit_kept m (with_node m n row) a t refl refl (ap (λ (r : NodeRow). r.shut) (get_or-set_other m.nodes n (head m a) row no_node other))
 after_exit m n b (places.Hold k t) i e =
@@ -117,7 +112,7 @@ after_room m n c (places.Arc a t) e =
     arc_limit_kept m (with_node m n row) a t refl refl (at-set (λ (r : NodeRow). r.shut) m.nodes n row no_node refl (head m a))
 after_room m n c (places.Hold k t) e =
     let row = record (node_at m n) { capacity = c } in
-    hold_limit_kept m (with_node m n row) k t refl (ap (λ (r : NodeRow). r.capacity) (get_or-set_other m.nodes n k row no_node (not_number k n e)))
+    hold_limit_kept m (with_node m n row) k t refl (ap (λ (r : NodeRow). r.capacity) (get_or-set_other m.nodes n k row no_node (eqb-false k n e)))
 after_room m n c (places.Supply k t) e =
     let row = record (node_at m n) { capacity = c } in
     entry_kept m (with_node m n row) k t (at-set (λ (r : NodeRow). r.start) m.nodes n row no_node refl k) refl
@@ -132,7 +127,7 @@ after_start m n s (places.Hold k t) e =
     hold_limit_kept m (with_node m n row) k t refl (at-set (λ (r : NodeRow). r.capacity) m.nodes n row no_node refl k)
 after_start m n s (places.Supply k t) e =
     let row = record (node_at m n) { start = s } in
-    entry_kept m (with_node m n row) k t (ap (λ (r : NodeRow). r.start) (get_or-set_other m.nodes n k row no_node (not_number k n e))) refl
+    entry_kept m (with_node m n row) k t (ap (λ (r : NodeRow). r.start) (get_or-set_other m.nodes n k row no_node (eqb-false k n e))) refl
 
 pub untouched : (m : Model) (e : Edit) (p : Place) → IsPlace (site_of m) p → touches (site_of m) e p ≡ false → model_limit (edited m e) p ≡ model_limit m p
 untouched m (Shut a) p i t = after_arc m a (record (arc_at m a) { shut = true }) p t
@@ -159,21 +154,11 @@ arcs_long m e =
     sym (length-map (edited m e).arcs joined) ∙ ap (λ (s : Site). length s.shape.ends) (site_edited m e) ∙ length-map m.arcs joined
 
 pub still_edit : (m : Model) (e : Edit) → IsEditOf m e → IsEditOf (edited m e) e
-still_edit m (Shut a) i = omega (arith, arcs_long m (Shut a), i)
-still_edit m (Reopen a) i = omega (arith, arcs_long m (Reopen a), i)
-still_edit m (ShutExit n) i = omega (arith, nodes_long m (ShutExit n), i)
-still_edit m (ReopenExit n) i = omega (arith, nodes_long m (ReopenExit n), i)
-still_edit m (Rate a r) i = omega (arith, arcs_long m (Rate a r), i)
-still_edit m (Room n c) i = omega (arith, nodes_long m (Room n c), i)
-still_edit m (Shift a b x) i = (omega (arith, nodes_long m (Shift a b x), i.0), omega (arith, nodes_long m (Shift a b x), i.1))
-still_edit m (Enter n x) i = omega (arith, nodes_long m (Enter n x), i)
-still_edit m (Leave n x) i = omega (arith, nodes_long m (Leave n x), i)
-still_edit m (Window a f u) i = omega (arith, arcs_long m (Window a f u), i)
-still_edit m (Unwindow a f u) i = omega (arith, arcs_long m (Unwindow a f u), i)
+still_edit m e i = grind (arith, arcs_long m e, nodes_long m e)
 
 -- ---- an edit that is accepted
 
-pub valid_after : (m m' : Model) (e e' : Edit) → IsValid m → IsEditOf m e → applied m e ≡ Ok (m', e') → IsValid m'
-valid_after m m' e e' v i h =
+pub valid_after : {m : Model} (m' : Model) (e e' : Edit) → IsValid m → IsEditOf m e → applied m e ≡ Ok (m', e') → IsValid m'
+valid_after {m} m' e e' v i h =
     let done = unless-Ok (checks m e) (edited m e, inverse_of m e) (m', e') h in
     subst IsValid (ap (λ t. t.0) done.1) (valid_edited m e v i done.0)

@@ -7,36 +7,69 @@ use Rattle.evac_law.specs.LabelTable.{LabelTable}
 use Rattle.residual_net.specs.declared.place.Place.{Place}
 use Rattle.residual_net.specs.declared.place.PathStep.{PathStep}
 use Rattle.residual_net.specs.Site.{Site, IsPlace, door_by, is_source, same_place, sum_places}
-use Rattle.residual_net.specs.Network.{Network, flow_at, flow_out, limit_at}
+use Rattle.residual_net.specs.Network.{Network, IsNet, flow_at, flow_out, limit_at}
 use Rattle.residual_net.specs.Change.{IsCancelled, IsLimitSet}
 use Rattle.residual_net.specs.OfModel.{model_limit}
 use Rattle.residual_net.proofs.Effects.{cancel_lowers, fewer_sent}
 use Rattle.residual_net.proofs.Kept.{into_same, out_same}
-use Rattle.residual_net.proofs.Places.{cond_most, place-same, same-place, sum_places-add, sum_places-le, sum_places-pick, sum_places-same}
+use Rattle.evac_law.proofs.SumLemmas.{cond_le}
+use Rattle.residual_net.proofs.Places.{place-same, same-place, sum_places-add, sum_places-le, sum_places-pick, sum_places-same}
 use Rattle.flow_repair.specs.declared.reshaped.Reshaped.{Reshaped}
 use Rattle.flow_repair.specs.Opened.{IsLabelsOf, IsLeastOpened, IsOpened, head_number}
-use Rattle.flow_repair.specs.Refit.{IsCancellable, IsRefitted, IsStepPerPerson, IsThinned, overrun}
+use Rattle.flow_repair.specs.Refit.{IsCancellable, IsRefitted, IsStepPerPerson, overrun}
 use Rattle.residual_net.proofs.Steps.{added_some}
 use Rattle.flow_repair.proofs.Cancelling.{falls, less_over, on_path}
 use Rattle.flow_repair.proofs.Numbers.{least_of}
 
+-- ---- what is above the limits of a model
+
+over_at : (m : Model) (w v : Network) (p : Place) (x : ℕ) → IsPlace w.site p → ((q : Place) → IsPlace w.site q → flow_at v q ≤ flow_at w q)
+    → (flow_at v p - model_limit m p) + x ≤ flow_at w p - model_limit m p
+    → (q : Place) → IsPlace w.site q → (flow_at v q - model_limit m q) + cond (same_place p q) x 0 ≤ flow_at w q - model_limit m q
+over_at m w v p x i flows at_p q j = by (cases_Bool (same_place p q))
+  where
+    by : (same_place p q ≡ true) ⊎ (same_place p q ≡ false) → (flow_at v q - model_limit m q) + cond (same_place p q) x 0 ≤ flow_at w q - model_limit m q
+    by (inl e) = rw e (subst (λ z. (flow_at v z - model_limit m z) + x ≤ flow_at w z - model_limit m z) (same-place p q e) at_p)
+    by (inr e) = rw e (omega (arith, flows q j))
+
+over_falls : (m : Model) (w v : Network) (p : Place) (x : ℕ) → v.site ≡ w.site → IsPlace w.site p
+    → ((q : Place) → IsPlace w.site q → flow_at v q ≤ flow_at w q)
+    → (flow_at v p - model_limit m p) + x ≤ flow_at w p - model_limit m p → x + overrun m v ≤ overrun m w
+unfolding overrun
+over_falls m w v p x site i flows at_p =
+    let same = ap (λ s. sum_places s (λ q. flow_at v q - model_limit m q)) site in
+    let le = sum_places-le w.site (λ q. (flow_at v q - model_limit m q) + cond (same_place p q) x 0) (λ q. flow_at w q - model_limit m q)
+    (over_at m w v p x i flows at_p) in
+    let add = sum_places-add w.site (λ q. flow_at v q - model_limit m q) (λ q. cond (same_place p q) x 0) in
+    let one : sum_places w.site (λ q. cond (same_place p q) x 0) ≡ x = sum_places-pick w.site p i (λ _. true) x in
+    omega (arith, same, le, add, one)
+
+over_same : (m : Model) (w v : Network) → v.site ≡ w.site → ((q : Place) → IsPlace w.site q → flow_at v q ≡ flow_at w q) → overrun m v ≡ overrun m w
+unfolding overrun
+over_same m w v e h =
+    ap (λ s. sum_places s (λ q. flow_at v q - model_limit m q)) e
+    ∙ sum_places-same w.site _ _ (λ q i. ap (λ z. z - model_limit m q) (h q i))
+
 -- ---- one cancel
 
-pub one_cancelled : (l : LabelTable) (w v : Network) (p : Place) (path : List PathStep) (x : ℕ) (before after : Reshaped)
-    → IsCancelled w v p path x → after.cancelled ≡ before.cancelled + x
+pub one_cancelled : {m : Model} (l : LabelTable) {w v : Network} {p : Place} {path : List PathStep} {x : ℕ} (before after : Reshaped)
+    → IsCancelled w v p path x → IsPlace w.site p → limit_at w p ≡ model_limit m p → after.cancelled ≡ before.cancelled + x
     → after.least_label ≤ before.least_label
     → All (λ r. after.least_label ≤ head_number l v.site r.place) path
     → (after.least_label ≡ before.least_label) ⊎ Any (λ r. after.least_label ≡ head_number l v.site r.place) path
-    → IsThinned p l w v before after
-one_cancelled l w v p path x before after c sum most all one = record {
+    → IsRefitted m l w v (λ _. false) before after
+one_cancelled {m} l {w} {v} {p} {path} {x} before after c i limit sum most all one = record {
   site = c.taken.site;
   saved = c.taken.saved;
   limits = c.taken.limits;
   flows = falls w v p path x c;
   more = omega (arith, sum);
   sent = omega (arith, sum, fewer_sent w v p path x c);
-  bounded = omega (arith, sum, less_over w v p path x c);
-  arrivals = λ k. omega (arith, sum, cancel_lowers w v p path x c.arrives.0 c c.arrives.1 k, cond_most (leb c.arrives.0 k) x);
+  bounded =
+      let at_p : (flow_at v p - model_limit m p) + x ≤ flow_at w p - model_limit m p =
+      omega (arith, less_over w v p path x c, c.taken.limits p i, limit) in
+      omega (arith, sum, over_falls m w v p x c.taken.site i (falls w v p path x c) at_p);
+  arrivals = λ k. omega (arith, sum, cancel_lowers w v p path x c.arrives.0 c c.arrives.1 k, cond_le (leb c.arrives.0 k) x);
   idle = λ e. absurd (omega (arith, e, sum, c.some));
   least = record {
     most = most;
@@ -75,12 +108,12 @@ apart : (a b c x y z : ℕ) → (a < c) ⊎ (z < x) → ((a < b) ⊎ (y < x)) �
 apart a b c x y z o = grind arith
 
 -- what two changes open together is what the one or the other opens, where flows only fall and a limit that rose stays
-pub least_then : (l : LabelTable) (w v u : Network) (a b c : ℕ) → v.site ≡ w.site
+pub least_then : {l : LabelTable} {w v u : Network} {a b c : ℕ} → v.site ≡ w.site
     → ((p : Place) → IsPlace w.site p → flow_at v p ≤ flow_at w p) → ((p : Place) → IsPlace w.site p → flow_at u p ≤ flow_at v p)
     → ((p : Place) → IsPlace w.site p → limit_at w p < limit_at v p → limit_at w p < limit_at u p)
     → ((p : Place) → IsPlace w.site p → limit_at v p < limit_at u p → limit_at w p < limit_at u p)
     → IsLeastOpened l w v a b → IsLeastOpened l v u b c → IsLeastOpened l w u a c
-least_then l w v u a b c site falls_v falls_u stays late h g = record {
+least_then {l} {w} {v} {u} {c} site falls_v falls_u stays late h g = record {
   most = omega (arith, h.most, g.most);
   places = λ p i o. split p i (apart (limit_at w p) (limit_at v p) (limit_at u p) (flow_at w p) (flow_at v p) (flow_at u p) o);
   one = elim g.one [
@@ -104,35 +137,18 @@ least_then l w v u a b c site falls_v falls_u stays late h g = record {
     second : (p : Place) → IsPlace w.site p → IsOpened v u p → IsOpened w u p
     second p i o = grind (arith, late p i, falls_v p i)
 
-pub steps_then : (a b c : ℕ) (r s t : Reshaped) → IsStepPerPerson a b r s → IsStepPerPerson b c s t → IsStepPerPerson a c r t
-steps_then a b c r s t h g = record { counted = omega (arith, h.counted, g.counted); ticked = omega (arith, h.ticked, g.ticked) }
+pub steps_then : {a b c : ℕ} {r s t : Reshaped} → IsStepPerPerson a b r s → IsStepPerPerson b c s t → IsStepPerPerson a c r t
+steps_then h g = record { counted = omega (arith, h.counted, g.counted); ticked = omega (arith, h.ticked, g.ticked) }
 
 -- while the counts add up, more people can be taken off
-pub still_cancellable : (w v : Network) (l : LabelTable) (x y : ℕ) (r s : Reshaped) → v.site ≡ w.site
-    → flow_out v is_source + s.cancelled ≡ flow_out w is_source + r.cancelled → y ≡ x → IsCancellable w l x r → IsCancellable v l y s
-still_cancellable w v l x y r s site sent same h = record {
+pub still_cancellable : {w : Network} (v : Network) {l : LabelTable} {x : ℕ} (y : ℕ) {r : Reshaped} (s : Reshaped) → v.site ≡ w.site
+    → flow_out v is_source + s.cancelled ≡ flow_out w is_source + r.cancelled → y ≡ x → IsNet v → IsCancellable w l x r → IsCancellable v l y s
+still_cancellable v {l} y s site sent same net h = record {
+  net = net;
   labels = subst (λ (z : Site). IsLabelsOf z l) (sym site) h.labels;
   room = omega (arith, ap (λ (z : Site). z.shape.horizon) site, h.room, same);
   few = omega (arith, sent, h.few);
 }
-
-pub thinned_then : (l : LabelTable) (w v u : Network) (p : Place) (r s t : Reshaped) → IsThinned p l w v r s → IsThinned p l v u s t → IsThinned p l w u r t
-thinned_then l w v u p r s t h g = record {
-  site = g.site ∙ h.site;
-  saved = g.saved ∙ h.saved;
-  limits = λ q i. g.limits q (mid q i) ∙ h.limits q i;
-  flows = λ q i. omega (arith, h.flows q i, g.flows q (mid q i));
-  more = omega (arith, h.more, g.more);
-  sent = omega (arith, h.sent, g.sent);
-  bounded = omega (arith, h.bounded, g.bounded);
-  arrivals = λ k. omega (arith, h.arrivals k, g.arrivals k);
-  idle = λ e q i. g.idle (omega (arith, e, h.more, g.more)) q (mid q i) ∙ h.idle (omega (arith, e, h.more, g.more)) q i;
-  least = least_then l w v u r.least_label s.least_label t.least_label h.site (λ q i. omega (arith, h.flows q i)) (λ q i. omega (arith, g.flows q (mid q i)))
-      (λ q i rose. absurd (omega (arith, rose, h.limits q i))) (λ q i rose. absurd (omega (arith, rose, g.limits q (mid q i)))) h.least g.least;
-}
-  where
-    mid : (q : Place) → IsPlace w.site q → IsPlace v.site q
-    mid q i = subst (λ (z : Site). IsPlace z q) (sym h.site) i
 
 -- a number that is set where the one or the other test passes
 set_twice : (b c d : Bool) (x old mid new : ℕ) → mid ≡ cond b x old → new ≡ cond c x mid → d ≡ (c || b) → new ≡ cond d x old
@@ -145,9 +161,9 @@ rose_stays b c x o m n e f l = grind arith
 rose_late : (b c : Bool) (x old mid new : ℕ) → mid ≡ cond b x old → new ≡ cond c x mid → mid < new → old < new
 rose_late b c x o m n e f l = grind arith
 
-pub refitted_then : (m : Model) (l : LabelTable) (w v u : Network) (b c d : Place → Bool) (r s t : Reshaped) → IsRefitted m l w v b r s
+pub refitted_then : {m : Model} {l : LabelTable} {w v u : Network} {b c : Place → Bool} (d : Place → Bool) {r s t : Reshaped} → IsRefitted m l w v b r s
     → IsRefitted m l v u c s t → ((p : Place) → IsPlace w.site p → d p ≡ (c p || b p)) → IsRefitted m l w u d r t
-refitted_then m l w v u b c d r s t h g or = record {
+refitted_then {m} {w} {v} {u} {b} {c} d h g or = record {
   site = g.site ∙ h.site;
   saved = g.saved ∙ h.saved;
   limits = λ p i. set_twice (b p) (c p) (d p) (model_limit m p) (limit_at w p) (limit_at v p) (limit_at u p) (h.limits p i) (g.limits p (mid p i)) (or p i);
@@ -157,7 +173,7 @@ refitted_then m l w v u b c d r s t h g or = record {
   bounded = omega (arith, h.bounded, g.bounded);
   arrivals = λ k. omega (arith, h.arrivals k, g.arrivals k);
   idle = λ e p i. g.idle (omega (arith, e, h.more, g.more)) p (mid p i) ∙ h.idle (omega (arith, e, h.more, g.more)) p i;
-  least = least_then l w v u r.least_label s.least_label t.least_label h.site h.flows (λ p i. g.flows p (mid p i))
+  least = least_then h.site h.flows (λ p i. g.flows p (mid p i))
       (λ p i. rose_stays (b p) (c p) (model_limit m p) (limit_at w p) (limit_at v p) (limit_at u p) (h.limits p i) (g.limits p (mid p i)))
       (λ p i. rose_late (b p) (c p) (model_limit m p) (limit_at w p) (limit_at v p) (limit_at u p) (h.limits p i) (g.limits p (mid p i))) h.least g.least;
 }
@@ -165,55 +181,7 @@ refitted_then m l w v u b c d r s t h g or = record {
     mid : (p : Place) → IsPlace w.site p → IsPlace v.site p
     mid p i = subst (λ (z : Site). IsPlace z p) (sym h.site) i
 
--- ---- people taken off until a place fits
-
-over_at : (m : Model) (w v : Network) (p : Place) (x : ℕ) → IsPlace w.site p → ((q : Place) → IsPlace w.site q → flow_at v q ≤ flow_at w q)
-    → (flow_at v p - model_limit m p) + x ≤ flow_at w p - model_limit m p
-    → (q : Place) → IsPlace w.site q → (flow_at v q - model_limit m q) + cond (same_place p q) x 0 ≤ flow_at w q - model_limit m q
-over_at m w v p x i flows at_p q j = by (cases_Bool (same_place p q))
-  where
-    by : (same_place p q ≡ true) ⊎ (same_place p q ≡ false) → (flow_at v q - model_limit m q) + cond (same_place p q) x 0 ≤ flow_at w q - model_limit m q
-    by (inl e) = rw e (subst (λ z. (flow_at v z - model_limit m z) + x ≤ flow_at w z - model_limit m z) (same-place p q e) at_p)
-    by (inr e) = rw e (omega (arith, flows q j))
-
-over_falls : (m : Model) (w v : Network) (p : Place) (x : ℕ) → v.site ≡ w.site → IsPlace w.site p
-    → ((q : Place) → IsPlace w.site q → flow_at v q ≤ flow_at w q)
-    → (flow_at v p - model_limit m p) + x ≤ flow_at w p - model_limit m p → x + overrun m v ≤ overrun m w
-unfolding overrun
-over_falls m w v p x site i flows at_p =
-    let same = ap (λ s. sum_places s (λ q. flow_at v q - model_limit m q)) site in
-    let le = sum_places-le w.site (λ q. (flow_at v q - model_limit m q) + cond (same_place p q) x 0) (λ q. flow_at w q - model_limit m q)
-    (over_at m w v p x i flows at_p) in
-    let add = sum_places-add w.site (λ q. flow_at v q - model_limit m q) (λ q. cond (same_place p q) x 0) in
-    let one : sum_places w.site (λ q. cond (same_place p q) x 0) ≡ x = sum_places-pick w.site p i (λ _. true) x in
-    omega (arith, same, le, add, one)
-
-pub thinned_refits : (m : Model) (l : LabelTable) (w v : Network) (p : Place) (before after : Reshaped) → IsPlace w.site p → limit_at w p ≡ model_limit m p
-    → IsThinned p l w v before after → IsRefitted m l w v (λ _. false) before after
-thinned_refits m l w v p before after i limit h =
-    let x = after.cancelled - before.cancelled in
-    let at_p : (flow_at v p - model_limit m p) + x ≤ flow_at w p - model_limit m p = omega (arith, h.bounded, h.more, h.limits p i, limit) in
-    let less = over_falls m w v p x h.site i h.flows at_p in
-    record {
-      site = h.site;
-      saved = h.saved;
-      limits = h.limits;
-      flows = h.flows;
-      more = h.more;
-      sent = h.sent;
-      bounded = omega (arith, less, h.more);
-      arrivals = h.arrivals;
-      idle = h.idle;
-      least = h.least;
-    }
-
 -- ---- one limit set
-
-over_same : (m : Model) (w v : Network) → v.site ≡ w.site → ((q : Place) → IsPlace w.site q → flow_at v q ≡ flow_at w q) → overrun m v ≡ overrun m w
-unfolding overrun
-over_same m w v e h =
-    ap (λ s. sum_places s (λ q. flow_at v q - model_limit m q)) e
-    ∙ sum_places-same w.site _ _ (λ q i. ap (λ z. z - model_limit m q) (h q i))
 
 swap_limit : (m : Model) (w : Network) (p q : Place) → cond (same_place p q) (model_limit m p) (limit_at w q) ≡ cond (same_place p q) (model_limit m q) (limit_at w q)
 swap_limit m w p q = elim (cases_Bool (same_place p q)) [
@@ -221,9 +189,9 @@ swap_limit m w p q = elim (cases_Bool (same_place p q)) [
   | inr e ↦ rw e refl
 ]
 
-pub set_refitted : (m : Model) (l : LabelTable) (w v : Network) (p : Place) (before after : Reshaped) → IsLimitSet w v p (model_limit m p)
+pub set_refitted : (m : Model) {l : LabelTable} {w v : Network} {p : Place} (before after : Reshaped) → IsLimitSet w v p (model_limit m p)
     → after.cancelled ≡ before.cancelled → IsLeastOpened l w v before.least_label after.least_label → IsRefitted m l w v (same_place p) before after
-set_refitted m l w v p before after set same least = record {
+set_refitted m {w} {v} {p} before after set same least = record {
   site = set.site;
   saved = set.saved;
   limits = λ q i. set.limits q i ∙ swap_limit m w p q;
@@ -237,10 +205,10 @@ set_refitted m l w v p before after set same least = record {
 }
 
 -- only the place itself is opened, where its limit rises
-opened_one : (m : Model) (w v : Network) (p q : Place) → IsLimitSet w v p (model_limit m p) → IsPlace w.site q → IsOpened w v q
+opened_one : (m : Model) {w v : Network} {p : Place} (q : Place) → IsLimitSet w v p (model_limit m p) → IsPlace w.site q → IsOpened w v q
     → (p ≡ q) × (limit_at w q < model_limit m p)
-opened_one m w v p q set i (inr fell) = absurd (omega (arith, fell, set.flows q i))
-opened_one m w v p q set i (inl rose) = elim (cases_Bool (same_place p q)) [
+opened_one m q set i (inr fell) = absurd (omega (arith, fell, set.flows q i))
+opened_one m {w} {v} {p} q set i (inl rose) = elim (cases_Bool (same_place p q)) [
   | inl e ↦
       let new : limit_at v q ≡ model_limit m p = set.limits q i ∙ ap (λ b. cond b (model_limit m p) (limit_at w q)) e in
       (same-place p q e, omega (arith, rose, new))
@@ -249,12 +217,12 @@ opened_one m w v p q set i (inl rose) = elim (cases_Bool (same_place p q)) [
       absurd (omega (arith, rose, old))
 ]
 
-pub least_raised : (m : Model) (l : LabelTable) (w v : Network) (p : Place) (first x least : ℕ) → IsLimitSet w v p (model_limit m p) → IsPlace w.site p
+pub least_raised : (m : Model) (l : LabelTable) {w v : Network} {p : Place} (first x least : ℕ) → IsLimitSet w v p (model_limit m p) → IsPlace w.site p
     → limit_at w p < model_limit m p → x ≡ head_number l w.site p → least ≡ min first x → IsLeastOpened l w v first least
-least_raised m l w v p first x least set i rose e f = record {
+least_raised m l {w} {v} {p} first x least set i rose e f = record {
   most = (least_of least first x f).0;
   places = λ q j o.
-      let one = opened_one m w v p q set j o in
+      let one = opened_one m q set j o in
       subst (λ z. least ≤ head_number l w.site z) one.0 (omega (arith, e, (least_of least first x f).1));
   one = elim (least_of least first x f).2 [
     | inl g ↦ inl g
@@ -264,21 +232,12 @@ least_raised m l w v p first x least set i rose e f = record {
   ];
 }
 
-pub least_lowered : (m : Model) (l : LabelTable) (w v : Network) (p : Place) (first : ℕ) → IsLimitSet w v p (model_limit m p)
+pub least_lowered : (m : Model) (l : LabelTable) {w v : Network} {p : Place} (first : ℕ) → IsLimitSet w v p (model_limit m p)
     → model_limit m p ≤ limit_at w p → IsLeastOpened l w v first first
-least_lowered m l w v p first set low = record {
+least_lowered m l {w} first set low = record {
   most = omega arith;
   places = λ q j o.
-      let one = opened_one m w v p q set j o in
+      let one = opened_one m q set j o in
       absurd (omega (arith, low, one.1, ap (limit_at w) one.0));
   one = inl refl;
 }
-
--- a limit that doesn't rise, and then as many people taken off as are above it
-pub lowered_refits : (m : Model) (l : LabelTable) (w v u : Network) (p : Place) (r s : Reshaped) → IsLimitSet w v p (model_limit m p) → IsPlace w.site p
-    → model_limit m p ≤ limit_at w p → IsThinned p l v u r s → IsRefitted m l w u (same_place p) r s
-lowered_refits m l w v u p r s set i low thin =
-    let lower = set_refitted m l w v p r r set refl (least_lowered m l w v p r.least_label set low) in
-    let there : IsPlace v.site p = subst (λ (z : Site). IsPlace z p) (sym set.site) i in
-    let new : limit_at v p ≡ model_limit m p = set.limits p i ∙ ap (λ b. cond b (model_limit m p) (limit_at w p)) (place-same p) in
-    refitted_then m l w v u (same_place p) (λ _. false) (same_place p) r r s lower (thinned_refits m l v u p r s there new thin) (λ q _. refl)

@@ -39,9 +39,9 @@ reached_number l i (Pair n t) h = leb-true _ i h
 reached_number l i (Door t) h = leb-true t i h
 
 -- where flows only fall, the sets closed before stay closed at each moment below the number of each opened place
-pub closed_stays : (l : LabelTable) (w v : Network) (first least : ℕ) → v.site ≡ w.site → ((p : Place) → IsPlace w.site p → flow_at v p ≤ flow_at w p)
+pub closed_stays : {l : LabelTable} {w v : Network} {first least : ℕ} → v.site ≡ w.site → ((p : Place) → IsPlace w.site p → flow_at v p ≤ flow_at w p)
     → IsLeastOpened l w v first least → IsClosedBelow w l first → IsClosedBelow v l least
-closed_stays l w v first least site falls opened closed i q r place room stop =
+closed_stays {l} {w} {v} site falls opened closed i q r place room stop =
     ap (λ (s : Site). reached (labelled l i) i (start_of s r)) site ∙ closed i (omega (arith, q, opened.most)) r at (still (cases_Bool r.back)) there
   where
     at : IsPlace w.site r.place
@@ -72,8 +72,8 @@ closed_stays l w v first least site falls opened closed i q r place room stop =
 
 -- ---- the limits of the edited model
 
-pub now_of : (m : Model) (l : LabelTable) (e : Edit) (w v : Network) (r s : Reshaped) → IsEditOfNet m e w → IsRefitted m l w v (touches w.site e) r s → IsNetOf m v
-now_of m l e w v r s h g =
+pub now_of : {m : Model} {l : LabelTable} {e : Edit} {w v : Network} {r s : Reshaped} → IsEditOfNet m e w → IsRefitted m l w v (touches w.site e) r s → IsNetOf m v
+now_of {m} {e} {w} h g =
     let same : edited h.before e ≡ m = is_edited h.before m e h.inverse h.edited in
     let site : w.site ≡ site_of m = h.of.site ∙ sym (site_edited h.before e) ∙ ap site_of same in
     record {
@@ -90,11 +90,11 @@ now_of m l e w v r s h g =
           ];
     }
 
-pub valid_now : (m : Model) (e : Edit) (w : Network) → IsEditOfNet m e w → IsValid m
-valid_now m e w h = valid_after h.before m e h.inverse h.valid h.in_range h.edited
+pub valid_now : {m : Model} {e : Edit} {w : Network} → IsEditOfNet m e w → IsValid m
+valid_now {m} {e} h = valid_after m e h.inverse h.valid h.in_range h.edited
 
-pub between_now : (m : Model) (e : Edit) (w : Network) → IsEditOfNet m e w → IsBetween m w
-between_now m e w h = record {
+pub between_now : {m : Model} {e : Edit} {w : Network} → IsEditOfNet m e w → IsBetween m w
+between_now {m} {e} h = record {
   other = h.before;
   valid = h.valid;
   of_other = h.of.site;
@@ -102,9 +102,8 @@ between_now m e w h = record {
   limits = λ p i. inl (h.of.limits p i);
 }
 
-pub edit_now : (m : Model) (e : Edit) (w : Network) → IsEditOfNet m e w → IsEditOf m e
-edit_now m e w h =
-    subst (λ z. IsEditOf z e) (is_edited h.before m e h.inverse h.edited) (still_edit h.before e h.in_range)
+pub edit_now : {m : Model} {e : Edit} {w : Network} → IsEditOfNet m e w → IsEditOf m e
+edit_now {m} {e} h = subst (λ z. IsEditOf z e) (is_edited h.before m e h.inverse h.edited) (still_edit h.before e h.in_range)
 
 -- ---- what is taken off is at most what the edit breaks
 

@@ -7,7 +7,7 @@ use Rattle.evac_law.specs.Edits.{IsEditOf, applied}
 use Rattle.evac_law.specs.LabelTable.{LabelTable}
 use Rattle.residual_net.specs.declared.place.Place.{Place}
 use Rattle.residual_net.specs.Limits.{supply_limit}
-use Rattle.residual_net.specs.Network.{Network, IsWithinLimits, arrived_by, excess_at, flow_at, flow_out, limit_at}
+use Rattle.residual_net.specs.Network.{Network, IsNet, IsWithinLimits, arrived_by, flow_at, flow_out, limit_at}
 use Rattle.residual_net.specs.OfModel.{IsNetOf, model_limit, site_of}
 use Rattle.residual_net.specs.Site.{IsPlace, is_source, sum_places}
 use Rattle.flow_repair.specs.declared.reshaped.Reshaped.{Reshaped}
@@ -16,25 +16,6 @@ use Rattle.flow_repair.specs.Opened.{IsLabelsOf, IsLeastOpened}
 -- the people by whom the flow is above what a model allows, all places together
 unfoldable pub overrun : Model → Network → ℕ
 overrun m w = sum_places w.site (λ p. flow_at w p - model_limit m p)
-
--- flow is taken off along whole paths through a place, no more than is above its limit
-pub record IsThinned (p : Place) (l : LabelTable) (w v : Network) (before after : Reshaped) : Type 0 where
-  pub site : v.site ≡ w.site
-  pub saved : v.saved ≡ w.saved
-  pub limits : (q : Place) → IsPlace w.site q → limit_at v q ≡ limit_at w q
-  pub flows : (q : Place) → IsPlace w.site q → flow_at v q ≤ flow_at w q
-  pub more : before.cancelled ≤ after.cancelled
-  pub sent : flow_out v is_source + after.cancelled ≡ flow_out w is_source + before.cancelled
-  pub bounded : after.cancelled + excess_at v p ≤ before.cancelled + excess_at w p
-  pub arrivals : (k : ℕ) → arrived_by w k + before.cancelled ≤ arrived_by v k + after.cancelled
-  pub idle : after.cancelled ≡ before.cancelled → (q : Place) → IsPlace w.site q → flow_at v q ≡ flow_at w q
-  pub least : IsLeastOpened l w v before.least_label after.least_label
-
--- somebody is taken off along a path through a place
-pub record IsOneTaken (p : Place) (l : LabelTable) (w v : Network) (before after : Reshaped) : Type 0 where
-  pub thinned : IsThinned p l w v before after
-  pub less : flow_at v p < flow_at w p
-  pub more : before.cancelled + 1 ≤ after.cancelled
 
 -- at most one step for each person taken off
 pub record IsStepPerPerson (before after : ℕ) (done now : Reshaped) : Type 0 where
@@ -71,8 +52,9 @@ pub record IsEditOfNet (m : Model) (e : Edit) (w : Network) : Type 0 where
   pub edited : applied before e ≡ Ok (m, inverse)
   pub of : IsNetOf before w
 
--- the labels are the net's, a path has room for every way through it, and the count of those taken off cannot grow too large
+-- flow is conserved, the labels are the net's, a path has room for every way through it, and the count of those taken off cannot grow too large
 pub record IsCancellable (w : Network) (l : LabelTable) (path_room : ℕ) (done : Reshaped) : Type 0 where
+  pub net : IsNet w
   pub labels : IsLabelsOf w.site l
   pub room : w.site.shape.horizon + 2 ≤ path_room
   pub few : done.cancelled + flow_out w is_source ≤ supply_limit

@@ -1,9 +1,9 @@
 -- A repair under way: what it may do, and what it leaves.
-use Rattle.std.specs.Prelude.{◌≡◌, ◌+◌, Bool}
+use Rattle.std.specs.Prelude.{◌≡◌, ◌<◌, Bool, false}
 use Rattle.residual_net.specs.declared.place.Place.{Place}
-use Rattle.residual_net.specs.Network.{IsWithinLimits, excess_at}
+use Rattle.residual_net.specs.Network.{IsNet, IsWithinLimits, excess_at, flow_at}
 use Rattle.flow_repair.specs.declared.repair.Repair.{Repair}
-use Rattle.flow_repair.specs.Refit.{IsCancellable, IsFittable, IsOneTaken, IsRefitted, IsStepPerPerson, IsThinned}
+use Rattle.flow_repair.specs.Refit.{IsCancellable, IsFittable, IsRefitted, IsStepPerPerson}
 
 -- people can be taken off
 abbrev pub CanCancel : {S : Type 0} → Repair S → Type 0
@@ -22,22 +22,24 @@ pub record IsSameRepair {S : Type 0} (before after : Repair S) : Type 0 where
   pub same_path : after.path.ghost_name ≡ before.path.ghost_name
   pub same_steps : after.steps.ghost_name ≡ before.steps.ghost_name
 
--- somebody is taken off along a path through a place, in a step
-pub record TakesOneOff {S : Type 0} (p : Place) (before after : Repair S) : Type 0 where
-  pub same : IsSameRepair before after
-  pub taken : IsOneTaken p before.labels.now before.net.now after.net.now before.done after.done
-  pub ticked : after.steps.now ≡ before.steps.now + 1
-
--- people are taken off along paths through a place until it fits, and each taking is a step
-pub record Relieves {S : Type 0} (p : Place) (before after : Repair S) : Type 0 where
-  pub same : IsSameRepair before after
-  pub thinned : IsThinned p before.labels.now before.net.now after.net.now before.done after.done
-  pub fits : excess_at after.net.now p ≡ 0
-  pub steps : IsStepPerPerson before.steps.now after.steps.now before.done after.done
-
--- the limits at the places that pass a test become the model's, people are taken off until every place fits, and each taking is a step
-pub record Refits {S : Type 0} (b : Place → Bool) (before after : Repair S) : Type 0 where
+-- the limits at the places that pass a test become the model's, people are taken off along paths through places above them, and each taking is a step
+pub record RepairsOn {S : Type 0} (b : Place → Bool) (before after : Repair S) : Type 0 where
   pub same : IsSameRepair before after
   pub refitted : IsRefitted before.model.now before.labels.now before.net.now after.net.now b before.done after.done
-  pub within : IsWithinLimits after.net.now
+  pub net : IsNet after.net.now
   pub steps : IsStepPerPerson before.steps.now after.steps.now before.done after.done
+
+-- somebody is taken off along a path through a place
+pub record TakesOneOff {S : Type 0} (p : Place) (before after : Repair S) : Type 0 where
+  pub goes_on : RepairsOn (λ _. false) before after
+  pub less : flow_at after.net.now p < flow_at before.net.now p
+
+-- people are taken off along paths through a place until it fits
+pub record Relieves {S : Type 0} (p : Place) (before after : Repair S) : Type 0 where
+  pub goes_on : RepairsOn (λ _. false) before after
+  pub fits : excess_at after.net.now p ≡ 0
+
+-- and until every place fits
+pub record Refits {S : Type 0} (b : Place → Bool) (before after : Repair S) : Type 0 where
+  pub goes_on : RepairsOn b before after
+  pub within : IsWithinLimits after.net.now

@@ -6,7 +6,7 @@ use Rattle.evac_law.specs.Building.{IsValid}
 use Rattle.evac_law.specs.LabelTable.{LabelTable}
 use Rattle.evac_law.specs.Plans.{violation}
 use Rattle.residual_net.specs.declared.place.Place.{Place}
-use Rattle.residual_net.specs.Network.{Network, IsAllSent, IsWithinLimits, arrived_by, flow_at, flow_out}
+use Rattle.residual_net.specs.Network.{Network, IsAllSent, IsNet, IsWithinLimits, arrived_by, flow_at, flow_out}
 use Rattle.residual_net.specs.OfModel.{IsNetOf, last_move, plan_of}
 use Rattle.residual_net.specs.Site.{IsPlace, is_source}
 use Rattle.flow_repair.specs.Opened.{IsClosedBelow, IsLabelsOf, IsLeastOpened}
@@ -22,11 +22,12 @@ pub record IsReshapable (m : Model) (e : Edit) (w : Network) (l : LabelTable) (p
   pub closed : IsClosedBelow w l (last_move w.site (plan_of w) + 1)
   pub room : w.site.shape.horizon + 2 ≤ path_room
 
--- the net has come under a model's limits, and what was saved of it stays
+-- the net has come under a model's limits, its flow is conserved, and what was saved of it stays
 pub record IsReshaped (m : Model) (w v : Network) : Type 0 where
   pub site : v.site ≡ w.site
   pub of : IsNetOf m v
   pub within : IsWithinLimits v
+  pub net : IsNet v
   pub saved : v.saved ≡ w.saved
 
 -- so many people are taken off: just so many fewer are sent, and no more than the edit breaks; no flow rises, no moment's arrivals fall by more, and

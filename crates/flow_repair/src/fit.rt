@@ -1,6 +1,7 @@
 //! A place brought under its limit.
-ghost use Rattle.std.specs.Prelude.{◌<◌};
-ghost use Rattle.residual_net.specs.Network.{excess_at};
+ghost use Rattle.std.specs.Prelude.{◌≡◌, ◌<◌};
+ghost use Rattle.residual_net.specs.Network.{excess_at, limit_at};
+ghost use Rattle.residual_net.specs.OfModel.{model_limit};
 ghost use Rattle.residual_net.specs.Site.{IsPlace, same_place};
 ghost use Rattle.flow_repair.specs.Repairing.{CanCancel, CanFit, Refits, Relieves, TakesOneOff};
 
@@ -16,10 +17,10 @@ impl<L: Ledger> Repair<'_, L> {
     fn cancel_one(&mut self, place: Place)
         requires place { IsPlace self.old.net.now.site place }
         requires over { 0 < excess_at self.old.net.now place }
+        requires limit { limit_at self.old.net.now place ≡ model_limit self.old.model.now place }
         requires cancellable { CanCancel self.old }
         ensures { TakesOneOff place self.old self.new }
     {
-        let _ = self.net.shape();
         let people = self.net.cancel(place, self.path, self.steps);
         let first = self.done.least_label;
         let least_label = least_on(self.net, self.labels, self.path.steps(), first);
@@ -32,6 +33,7 @@ impl<L: Ledger> Repair<'_, L> {
     // Takes people off flow paths through a place until it fits.
     fn cancel_all(&mut self, place: Place)
         requires place { IsPlace self.old.net.now.site place }
+        requires limit { limit_at self.old.net.now place ≡ model_limit self.old.model.now place }
         requires cancellable { CanCancel self.old }
         ensures { Relieves place self.old self.new }
     {

@@ -66,7 +66,6 @@ pub fn reshape<L: Ledger>(
     ensures steps { IsSteppedFor result.cancelled steps.old steps.new }
     ensures room { path.new.room ≡ path.old.room }
 {
-    let _ = net.shape();
     let first = net.last_arrival() + 1;
     let mut repair = Repair {
         net,

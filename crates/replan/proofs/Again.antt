@@ -104,7 +104,7 @@ module _ (m : Model) (p r : List Move) (s t : ℕ) (valid : IsValid m) (first : 
         ap₂ (λ (x : List NodeRow) (y : List Entrant). record m { nodes = x; entrants = y }) (emptied_again m.nodes) entrants;
     gone_add = λ k. omega (
       arith,
-      same_out m left p (moves_before t r) s k of,
+      same_out (moves_before t r) k of,
       ap (λ (x : List Move). out_by m x k) (before_whole p r s t ordered),
       outs_behind m p (moves_before t r) (moves_before s p ++ moves_before t r) s (whole_behind m p s (moves_before t r) all.feasible.arcs) k,
     );

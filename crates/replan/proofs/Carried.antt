@@ -7,7 +7,7 @@ use Rattle.std.proofs.lemmas.Bool.{cases_lt}
 use Rattle.std.proofs.lemmas.Bool.Decides.{nat_tests}
 use Rattle.evac_law.specs.Plans.{TakesAllOut}
 use Rattle.evac_law.specs.declared.edit.Edit.{Edit}
-use Rattle.evac_law.specs.declared.edit.Edit.TheVariants.{Shut, Reopen, ShutExit, ReopenExit, Rate, Room, Shift, Enter, Leave, Window, Unwindow}
+use Rattle.evac_law.specs.declared.edit.Edit.TheVariants.{ShutExit, ReopenExit, Room, Shift, Enter, Leave}
 use Rattle.evac_law.specs.declared.model.Model.{Model}
 use Rattle.evac_law.specs.declared.plan.Move.{Move}
 use Rattle.evac_law.specs.Building.{IsValid, node_at, people}
@@ -50,9 +50,9 @@ not_bad : (s h last : ℕ) → (eqb s 0 || (ltb h s || ltb s last)) ≡ false �
 not_bad s h last e = (grind (arith, nat_tests), grind (arith, nat_tests))
 
 -- those who are gone and those who are in the model are few
-pub few_now : (s : SessionState) (moment : ℕ) (gone : List ℕ) → IsReplan s moment gone → IsValid s.model → (k : ℕ) → k ≤ s.model.horizon
+pub few_now : {s : SessionState} {moment : ℕ} {gone : List ℕ} → IsReplan s moment gone → IsValid s.model → (k : ℕ) → k ≤ s.model.horizon
     → get_or gone k 0 + people s.model ≤ people_limit
-few_now s moment gone replan valid k l = elim (cases_lt moment 1) [
+few_now {s} {moment} {gone} replan valid k l = elim (cases_lt moment 1) [
   | inl none ↦ omega (arith, replan.none_gone (omega (arith, none)) k l, valid.people_fit)
   | inr some ↦ (All-head (IsReachable s.model.horizon moment gone) s.model s.former replan.models).few some k l
 ]
@@ -65,7 +65,7 @@ few_in v layout slice replan valid same same_gone k l =
       arith,
       ap (λ (xs : List ℕ). get_or xs k 0) same_gone,
       ap people same,
-      few_now v.session.state v.moment v.gone replan valid k (omega (arith, l, ap (λ (x : Model). x.horizon) same)),
+      few_now replan valid k (omega (arith, l, ap (λ (x : Model). x.horizon) same)),
     )
 
 -- what a layout of the model and a slice of those who are gone show
@@ -102,7 +102,7 @@ module _ (v : ReplanView) (s : ℕ) (fair : is_bad_moment s v.session.state.mode
   good = not_bad s m.horizon v.moment fair
 
   all : TakesAllOut m p
-  all = takes_all_out v.session.state done.solved
+  all = takes_all_out done.solved
 
   over : IsLeftOver m p s
   over = left_over m p s valid good.0 good.1 all
@@ -129,7 +129,7 @@ module _ (v : ReplanView) (s : ℕ) (fair : is_bad_moment s v.session.state.mode
           arith,
           ap people begins.begun,
           done.gone k (omega (arith, l, h_same)),
-          few_now v.session.state v.moment v.gone done.before valid k (omega (arith, l, h_same)),
+          few_now done.before valid k (omega (arith, l, h_same)),
           out_le_out m (moves_before s p) k m.horizon (omega (arith, l, h_same)),
           over.nobody_lost,
         )
@@ -159,38 +159,34 @@ module _ (v : ReplanView) (s : ℕ) (fair : is_bad_moment s v.session.state.mode
 
 pub keeps_people : (m : Model) (e : Edit) → IsEditOf m e → is_of_people e ≡ false → people (edited m e) ≡ people m
 unfolding people
-keeps_people m (Shut a) i h = refl
-keeps_people m (Reopen a) i h = refl
 keeps_people m (ShutExit n) i h = omega (arith, people-set m n (record (node_at m n) { shut = true }) i)
 keeps_people m (ReopenExit n) i h = omega (arith, people-set m n (record (node_at m n) { shut = false }) i)
-keeps_people m (Rate a r) i h = refl
 keeps_people m (Room n c) i h = omega (arith, people-set m n (record (node_at m n) { capacity = c }) i)
 keeps_people m (Shift a b p) i h = absurd (cc)
 keeps_people m (Enter n p) i h = absurd (cc)
 keeps_people m (Leave n p) i h = absurd (cc)
-keeps_people m (Window a p q) i h = refl
-keeps_people m (Unwindow a p q) i h = refl
+keeps_people m _ i h = refl
 
 -- a model of the same horizon, with no more people, may be come to as well
-within_too : (h moment : ℕ) (gone : List ℕ) (m m' : Model) → IsReachable h moment gone m → m'.horizon ≡ m.horizon → (1 ≤ moment → people m' ≡ people m)
+within_too : {h moment : ℕ} {gone : List ℕ} {m : Model} (m' : Model) → IsReachable h moment gone m → m'.horizon ≡ m.horizon → (1 ≤ moment → people m' ≡ people m)
     → IsReachable h moment gone m'
-within_too h moment gone m m' w same few = record {
+within_too m' w same few = record {
   horizon_same = same ∙ w.horizon_same;
   few = λ i k l. let e = few i in omega (arith, e, w.few i k l);
 }
 
 -- what is true over a horizon is true over the same horizon
-replan_at : (s s' : SessionState) (moment : ℕ) (gone : List ℕ) → IsReplan s moment gone → s'.model.horizon ≡ s.model.horizon
+replan_at : {s : SessionState} (s' : SessionState) {moment : ℕ} {gone : List ℕ} → IsReplan s moment gone → s'.model.horizon ≡ s.model.horizon
     → All (IsReachable s.model.horizon moment gone) (s'.model ∷ s'.former) → IsReplan s' moment gone
-replan_at s s' moment gone replan alike models = record {
+replan_at s' {moment} {gone} replan alike models = record {
   size = omega (arith, replan.size, alike);
   none_gone = λ e k l. replan.none_gone e k (omega (arith, l, alike));
   models = subst (λ (h : ℕ). All (IsReachable h moment gone) (s'.model ∷ s'.former)) (sym alike) models;
 }
 
-pub edit_keeps : (v v' : SessionView) (e : Edit) (r : Result Work EditRefusal) (n moment : ℕ) (gone : List ℕ) → IsEditOf v.state.model e
+pub edit_keeps : (v v' : SessionView) (e : Edit) (r : Result Work EditRefusal) (n : ℕ) {moment : ℕ} {gone : List ℕ} → IsEditOf v.state.model e
     → (ltb 0 moment && is_of_people e) ≡ false → EditEnds v e r v' n → IsReplan v.state moment gone → IsReplan v'.state moment gone
-edit_keeps v v' e (Ok work) n moment gone i free ends replan =
+edit_keeps v v' e (Ok work) n {moment} {gone} i free ends replan =
     let m = v.state.model in
     let m' = v'.state.model in
     let on = ends.0 in
@@ -198,28 +194,27 @@ edit_keeps v v' e (Ok work) n moment gone i free ends replan =
     let same : m'.horizon ≡ m.horizon = sym (ap (λ (x : Model). x.horizon) is) ∙ (edited_keeps_shape m e).horizon in
     let same_people = λ (l : 1 ≤ moment). sym (ap people is) ∙ keeps_people m e i (not_of_people moment (is_of_people e) l free) in
     let here = All-head (IsReachable m.horizon moment gone) m v.state.former replan.models in
-    replan_at v.state v'.state moment gone replan same
-    (All-cons (IsReachable m.horizon moment gone) m' v'.state.former (within_too m.horizon moment gone m m' here same same_people)
+    replan_at v'.state replan same (All-cons (IsReachable m.horizon moment gone) m' v'.state.former (within_too m' here same same_people)
     (rw on.goes_on.kept (All-take (IsReachable m.horizon moment gone) kept_limit (m ∷ v.state.former) replan.models)))
   where
     not_of_people : (moment : ℕ) (b : Bool) → 1 ≤ moment → (ltb 0 moment && b) ≡ false → b ≡ false
     not_of_people moment b l e = grind (arith, nat_tests)
-edit_keeps v v' e (Err (Fault fault)) n moment gone i free ends replan =
+edit_keeps v v' e (Err (Fault fault)) n {moment} {gone} i free ends replan =
     subst (λ (x : SessionView). IsReplan x.state moment gone) (sym ends.1) replan
-edit_keeps v v' e (Err (NotCleared everybody most)) n moment gone i free ends replan =
+edit_keeps v v' e (Err (NotCleared everybody most)) n {moment} {gone} i free ends replan =
     subst (λ (x : SessionState). IsReplan x moment gone) (sym ends.1) replan
 
-pub undo_keeps : (v v' : SessionView) (r : Result Work UndoRefusal) (n moment : ℕ) (gone : List ℕ) → UndoEnds v r v' n → IsReplan v.state moment gone
+pub undo_keeps : (v v' : SessionView) (r : Result Work UndoRefusal) (n : ℕ) {moment : ℕ} {gone : List ℕ} → UndoEnds v r v' n → IsReplan v.state moment gone
     → IsReplan v'.state moment gone
-undo_keeps v v' (Ok work) n moment gone ends replan =
+undo_keeps v v' (Ok work) n {moment} {gone} ends replan =
     let h = v.state.model.horizon in
     let on = ends.0 in
     let former : All (λ x. IsReachable h moment gone x) (on.before ∷ on.earlier) =
     rw on.last_kept at (All-tail (λ x. IsReachable h moment gone x) v.state.model v.state.former replan.models) in
     let same : v'.state.model.horizon ≡ h =
     ap (λ (x : Model). x.horizon) on.goes_on.gone ∙ (All-head (λ x. IsReachable h moment gone x) on.before on.earlier former).horizon_same in
-    replan_at v.state v'.state moment gone replan same (rw (on.goes_on.gone, on.goes_on.kept) former)
-undo_keeps v v' (Err NothingToUndo) n moment gone ends replan =
+    replan_at v'.state replan same (rw (on.goes_on.gone, on.goes_on.kept) former)
+undo_keeps v v' (Err NothingToUndo) n {moment} {gone} ends replan =
     subst (λ (x : SessionView). IsReplan x.state moment gone) (sym ends.1) replan
 
 -- a model that can be cleared isn't refused

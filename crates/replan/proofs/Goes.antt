@@ -100,7 +100,7 @@ module _ (m m' : Model) (p r w : List Move) (s : ℕ) (valid : IsValid m) (in_ho
     where
       by_rate : (a t : ℕ) → a < length m.arcs → t ≤ k → (t < s) ⊎ (s ≤ t) → moved r a t ≤ rate m' a t
       by_rate a t i l (inl before) = omega (arith, moved_none r a s t late before)
-      by_rate a t i l (inr since) = omega (arith, same_rate m m' p s a t of, moved_after a t since, h.rates a t i l)
+      by_rate a t i l (inr since) = omega (arith, same_rate a t of, moved_after a t since, h.rates a t i l)
 
       by_hold : (n t : ℕ) → n < length m.nodes → IsFalse (is_exit_at m n) → t ≤ k → (t < s) ⊎ (s ≤ t)
           → (pos 0 ≤ℤ held m' r n t) × (held m' r n t ≤ℤ pos (capacity m' n))
@@ -117,7 +117,7 @@ module _ (m m' : Model) (p r w : List Move) (s : ℕ) (valid : IsValid m) (in_ho
     where
       by_rate : (a t : ℕ) → a < length m.arcs → t ≤ k → (t < s) ⊎ (s ≤ t) → moved w a t ≤ rate m a t
       by_rate a t i l (inl before) = omega (arith, moved_before a t before, all.feasible.rates a t i (omega arith))
-      by_rate a t i l (inr since) = omega (arith, same_rate m m' p s a t of, moved_after a t since, h.rates a t (omega (arith, i, as_many)) l)
+      by_rate a t i l (inr since) = omega (arith, same_rate a t of, moved_after a t since, h.rates a t (omega (arith, i, as_many)) l)
 
       by_hold : (n t : ℕ) → n < length m.nodes → IsFalse (is_exit_at m n) → t ≤ k → (t < s) ⊎ (s ≤ t)
           → (pos 0 ≤ℤ held m w n t) × (held m w n t ≤ℤ pos (capacity m n))

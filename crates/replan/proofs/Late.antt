@@ -55,12 +55,12 @@ module _ (m : Model) (r : List Move) (s : ℕ) (valid : IsValid m) (feasible : (
       sum_by-same_all _ (λ _. 0) r
       (λ j d k. let v = get_or r j d in
       let range = (feasible 0).arcs j d k in
-      nobody_there (eqb (head m v.arc) n) v.moment (arc_at m v.arc).travel t v.people (slow m r valid (feasible 0).arcs j d k)
+      nobody_there (eqb (head m v.arc) n) v.moment (arc_at m v.arc).travel t v.people (slow r valid (feasible 0).arcs j d k)
       (λ h. idle j d t k h (quiet (tail m v.arc) (tail_in m v.arc valid range) (arc_is m v.arc valid range).from_no_exit)))
       ∙ sum_by-nothing r
 
   nobody_leaves : (t : ℕ) → t < s → (n : ℕ) → n < length m.nodes → IsFalse (is_exit_at m n) → left m r n t ≡ 0
-  nobody_leaves zero l n i e = stays n 0 i e l (arrived_not_yet m r n 0 (λ j d k _. omega arith) (slow m r valid (feasible 0).arcs))
+  nobody_leaves zero l n i e = stays n 0 i e l (arrived_not_yet m r n 0 (λ j d k _. omega arith) (slow r valid (feasible 0).arcs))
   nobody_leaves (suc t) l n i e = stays n (suc t) i e l (nobody_arrives n t (nobody_leaves t (omega (arith, l))))
 
   -- nobody moves before s

@@ -41,10 +41,10 @@ late_move : (b : Bool) (x t w : ℕ) → (0 < w → x < t) → cond (b && eqb x 
 late_move b x t w h = grind (arith, nat_tests)
 
 -- nobody comes along an arc after the horizon
-coming_late : (m : Model) (p : List Move) (s n t : ℕ) → IsValid m → s ≤ m.horizon → TakesAllOut m p → m.horizon < t
+coming_late : {m : Model} {p : List Move} (s n t : ℕ) → IsValid m → s ≤ m.horizon → TakesAllOut m p → m.horizon < t
     → coming m (moves_before s p) n t ≡ 0
 unfolding coming
-coming_late m p s n t valid l all late =
+coming_late {m} {p} s n t valid l all late =
     let made = moves_before s p in
     sum_by-same_all _ (λ _. 0) made
     (λ i d k. let v = get_or made i d in
@@ -77,7 +77,7 @@ module _ (m : Model) (p : List Move) (s : ℕ) (valid : IsValid m) (first : 1 �
       arith,
       rest_later m p s n t no_exit (omega (arith, in_horizon, l)),
       none_late m n t valid l,
-      coming_late m p s n t valid in_horizon all l,
+      coming_late s n t valid in_horizon all l,
     )
   ]
 

@@ -1,10 +1,10 @@
 -- The sums of a plan, parted at a moment: what the moves before it and those from it on add up to.
-use Rattle.std.proofs.Common.{◌≡◌, ℕ, suc, ◌+◌, ◌<◌, ◌≤◌, Bool, true, false, cond, not, ◌&&◌, eqb, leb, ltb, List, [], ◌∷◌, ◌++◌, ◌↔◌, length, get_or, refl, ap, sym, ◌∙◌, ◌⊎◌, inl, inr, arith}
+use Rattle.std.proofs.Common.{◌≡◌, ℕ, suc, ◌+◌, ◌<◌, ◌≤◌, Bool, true, false, cond, not, ◌&&◌, eqb, leb, ltb, List, [], ◌∷◌, ◌++◌, ◌↔◌, length, get_or, refl, ap, sym, ◌∙◌, arith}
 use Rattle.std.specs.List.{All, sum_by, filter}
 use Rattle.std.proofs.lemmas.List.Filters.{sum_by-filter_both}
 use Rattle.std.proofs.lemmas.List.Sums.{sum_by-append}
 use Rattle.std.proofs.lemmas.List.Elements.{All-append, All-filter, All-tail, All-weaker, filter_passes}
-use Rattle.std.proofs.lemmas.Bool.{leb-true, ltb-true, not-true}
+use Rattle.std.proofs.lemmas.Bool.{and_right, leb-true, lt-leb, ltb-true, ne_eqb, not-true}
 use Rattle.std.proofs.lemmas.Bool.Decides.{nat_tests}
 use Rattle.evac_law.specs.declared.model.Model.{Model}
 use Rattle.evac_law.specs.declared.plan.Move.{Move}
@@ -94,48 +94,41 @@ pub came_is : (m : Model) (p : List Move) (n t : ℕ) → came m p n t ≡ sum_b
 unfolding came arrived
 came_is m p n t = refl
 
-not_by : (b : Bool) (x t : ℕ) → t < x → (b && leb x t) ≡ false
-not_by b x t h = grind (arith, nat_tests)
-
-not_at : (b : Bool) (x t : ℕ) → (x < t) ⊎ (t < x) → (b && eqb x t) ≡ false
-not_at b x t (inl h) = grind (arith, nat_tests)
-not_at b x t (inr h) = grind (arith, nat_tests)
-
 -- where nobody moves before s, nobody does anything before s
 pub left_none : (m : Model) (r : List Move) (n s t : ℕ) → IsLate s r → t < s → left m r n t ≡ 0
 unfolding left
-left_none m r n s t h l = none_late (λ i j. eqb (tail m i) n && leb j t) r s h (λ i j k. not_by (eqb (tail m i) n) j t (omega (arith, k, l)))
+left_none m r n s t h l = none_late (λ i j. eqb (tail m i) n && leb j t) r s h (λ i j k. and_right (eqb (tail m i) n) _ (lt-leb _ _ (omega (arith, k, l))))
 
 pub arrived_none : (m : Model) (r : List Move) (n s t : ℕ) → IsLate s r → t < s → arrived m r n t ≡ 0
 unfolding arrived
 arrived_none m r n s t h l =
-    none_late (λ i j. eqb (head m i) n && leb (arrival m i j) t) r s h (λ i j k. not_by (eqb (head m i) n) (arrival m i j) t (omega (arith, k, l)))
+    none_late (λ i j. eqb (head m i) n && leb (arrival m i j) t) r s h (λ i j k. and_right (eqb (head m i) n) _ (lt-leb _ _ (omega (arith, k, l))))
 
 pub moved_none : (r : List Move) (a s t : ℕ) → IsLate s r → t < s → moved r a t ≡ 0
 unfolding moved
-moved_none r a s t h l = none_late (λ i j. eqb i a && eqb j t) r s h (λ i j k. not_at (eqb i a) j t (inr (omega (arith, k, l))))
+moved_none r a s t h l = none_late (λ i j. eqb i a && eqb j t) r s h (λ i j k. and_right (eqb i a) _ (ne_eqb _ _ (omega (arith, k, l))))
 
 pub out_none : (m : Model) (r : List Move) (s t : ℕ) → IsLate s r → t < s → out_by m r t ≡ 0
 unfolding out_by
 out_none m r s t h l =
     none_late (λ i j. is_exit_at m (head m i) && leb (arrival m i j) t) r s h
-    (λ i j k. not_by (is_exit_at m (head m i)) (arrival m i j) t (omega (arith, k, l)))
+    (λ i j k. and_right (is_exit_at m (head m i)) _ (lt-leb _ _ (omega (arith, k, l))))
 
 -- nor does anybody arrive at s itself
 pub arrived_not_yet : (m : Model) (r : List Move) (n s : ℕ) → IsLate s r → All (λ v. 1 ≤ (arc_at m v.arc).travel) r → arrived m r n s ≡ 0
 unfolding arrived
 arrived_not_yet m r n s h one =
     nobody_counted (λ i j. eqb (head m i) n && leb (arrival m i j) s) r
-    (λ i d k some. let v = get_or r i d in not_by (eqb (head m v.arc) n) (arrival m v.arc v.moment) s (omega (arith, h i d k some, one i d k)))
+    (λ i d k some. let v = get_or r i d in and_right (eqb (head m v.arc) n) _ (lt-leb _ _ (omega (arith, h i d k some, one i d k))))
 
 -- by the moves before s nobody enters an arc from s on
 pub moved_over : (p : List Move) (a s t : ℕ) → s ≤ t → moved (moves_before s p) a t ≡ 0
 unfolding moved
-moved_over p a s t l = none_made (λ i j. eqb i a && eqb j t) p s (λ i j k. not_at (eqb i a) j t (inl (omega (arith, k, l))))
+moved_over p a s t l = none_made (λ i j. eqb i a && eqb j t) p s (λ i j k. and_right (eqb i a) _ (ne_eqb _ _ (omega (arith, k, l))))
 
 pub leaving_over : (m : Model) (p : List Move) (n s t : ℕ) → s ≤ t → leaving m (moves_before s p) n t ≡ 0
 unfolding leaving
-leaving_over m p n s t l = none_made (λ i j. eqb (tail m i) n && eqb j t) p s (λ i j k. not_at (eqb (tail m i) n) j t (inl (omega (arith, k, l))))
+leaving_over m p n s t l = none_made (λ i j. eqb (tail m i) n && eqb j t) p s (λ i j k. and_right (eqb (tail m i) n) _ (ne_eqb _ _ (omega (arith, k, l))))
 
 just_now : (b : Bool) (x s p : ℕ) → (0 < p → s ≤ x) → cond (b && leb x s) p 0 ≡ cond (b && eqb x s) p 0
 just_now b x s p h = grind (arith, nat_tests)

@@ -27,7 +27,7 @@ module _ (m : Model) (p : List Move) (s : ℕ) (valid : IsValid m) (first : 1 �
   feasible r w k late behind = feasible_both m (rest m p s) p r w s valid in_horizon all late of behind k
 
   outs : (r w : List Move) (k : ℕ) → IsBehind m p s r w → out_by m w k ≡ gone_by m p s k + out_by (rest m p s) r k
-  outs r w k behind = omega (arith, outs_behind m p r w s behind k, same_out m (rest m p s) p r s k of)
+  outs r w k behind = omega (arith, outs_behind m p r w s behind k, same_out r k of)
 
   whole : (r : List Move) → IsBehind m p s r (moves_before s p ++ r)
   whole r = whole_behind m p s r all.feasible.arcs

@@ -24,9 +24,9 @@ abbrev pub arriving_at : Model → List Move → ℕ → ℕ
 arriving_at m p t = sum_by (coming_out m p t) (places m.nodes)
 
 -- they are those of the moves that arrive there then
-arriving_is : (m : Model) (p : List Move) (t : ℕ) → IsValid m → All (λ v. v.arc < length m.arcs) p → arriving m p t ≡ arriving_at m p t
+arriving_is : {m : Model} (p : List Move) (t : ℕ) → IsValid m → All (λ v. v.arc < length m.arcs) p → arriving m p t ≡ arriving_at m p t
 unfolding arriving coming
-arriving_is m p t valid arcs =
+arriving_is {m} p t valid arcs =
     sym (by_place (is_exit_at m) (λ v. head m v.arc) (λ v. v.people) (λ n v. eqb (arrival m v.arc v.moment) t) (length m.nodes) p
     (All-weaker (λ v. v.arc < length m.arcs) (λ v. head m v.arc < length m.nodes) (λ v l. head_in m v.arc valid l) p arcs))
 
@@ -41,7 +41,7 @@ module _ (m : Model) (p : List Move) (s : ℕ) (valid : IsValid m) (all : TakesA
         a,
         b,
         out_is_sum m made t,
-        sum_by-same (arriving m made) (arriving_at m made) (moments_to t) (λ k. arriving_is m made k valid (All-made (λ v. v.arc < length m.arcs) s p all.feasible.arcs)),
+        sum_by-same (arriving m made) (arriving_at m made) (moments_to t) (λ k. arriving_is made k valid (All-made (λ v. v.arc < length m.arcs) s p all.feasible.arcs)),
         sum_below-more (arriving_at m made) t,
       )
 

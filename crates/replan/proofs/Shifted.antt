@@ -33,36 +33,36 @@ pub record IsLeft (m : Model) (p : List Move) (s : ℕ) (m' : Model) : Type 0 wh
 same_arc : (m m' : Model) (a : ℕ) → m'.arcs ≡ m.arcs → arc_at m' a ≡ arc_at m a
 same_arc m m' a e = ap (λ (l : List ArcRow). get_or l a no_arc) e
 
-pub same_rate : (m m' : Model) (p : List Move) (s a t : ℕ) → IsLeft m p s m' → rate m' a t ≡ rate m a t
-same_rate m m' p s a t of =
+pub same_rate : {m m' : Model} {p : List Move} {s : ℕ} (a t : ℕ) → IsLeft m p s m' → rate m' a t ≡ rate m a t
+same_rate {m} {m'} a t of =
     let row = same_arc m m' a of.arcs in
     let to = of.shut (head m' a) ∙ ap (λ (r : ArcRow). (node_at m r.to).shut) row in
     ap₂ (λ (r : ArcRow) b. cond ((r.shut || b) || is_closed_at r.windows.items t) 0 r.rate) row to
 
+-- whatever is counted of moves by their arcs is the same
+same_counted : (m m' : Model) (T : ArcRow → ℕ → Bool) (r : List Move) → m'.arcs ≡ m.arcs
+    → sum_by (λ v. cond (T (arc_at m' v.arc) v.moment) v.people 0) r ≡ sum_by (λ v. cond (T (arc_at m v.arc) v.moment) v.people 0) r
+same_counted m m' T r e = ap (λ (l : List ArcRow). sum_by (λ v. cond (T (get_or l v.arc no_arc) v.moment) v.people 0) r) e
+
 pub same_left : (m m' : Model) (r : List Move) (n t : ℕ) → m'.arcs ≡ m.arcs → left m' r n t ≡ left m r n t
 unfolding left
-same_left m m' r n t e =
-    sum_by-same _ _ r (λ v. ap (λ (x : ArcRow). cond (eqb x.from n && leb v.moment t) v.people 0) (same_arc m m' v.arc e))
+same_left m m' r n t e = same_counted m m' (λ x i. eqb x.from n && leb i t) r e
 
 pub same_arrived : (m m' : Model) (r : List Move) (n t : ℕ) → m'.arcs ≡ m.arcs → arrived m' r n t ≡ arrived m r n t
 unfolding arrived
-same_arrived m m' r n t e =
-    sum_by-same _ _ r
-    (λ v. ap (λ (x : ArcRow). cond (eqb x.to n && leb (v.moment + x.travel) t) v.people 0) (same_arc m m' v.arc e))
+same_arrived m m' r n t e = same_counted m m' (λ x i. eqb x.to n && leb (i + x.travel) t) r e
 
 pub same_leaving : (m m' : Model) (r : List Move) (n t : ℕ) → m'.arcs ≡ m.arcs → leaving m' r n t ≡ leaving m r n t
 unfolding leaving
-same_leaving m m' r n t e =
-    sum_by-same _ _ r (λ v. ap (λ (x : ArcRow). cond (eqb x.from n && eqb v.moment t) v.people 0) (same_arc m m' v.arc e))
+same_leaving m m' r n t e = same_counted m m' (λ x i. eqb x.from n && eqb i t) r e
 
 pub same_coming : (m m' : Model) (r : List Move) (n t : ℕ) → m'.arcs ≡ m.arcs → coming m' r n t ≡ coming m r n t
 unfolding coming
-same_coming m m' r n t e =
-    sum_by-same _ _ r (λ v. ap (λ (x : ArcRow). cond (eqb x.to n && eqb (v.moment + x.travel) t) v.people 0) (same_arc m m' v.arc e))
+same_coming m m' r n t e = same_counted m m' (λ x i. eqb x.to n && eqb (i + x.travel) t) r e
 
-pub same_out : (m m' : Model) (p r : List Move) (s k : ℕ) → IsLeft m p s m' → out_by m' r k ≡ out_by m r k
+pub same_out : {m m' : Model} {p : List Move} (r : List Move) {s : ℕ} (k : ℕ) → IsLeft m p s m' → out_by m' r k ≡ out_by m r k
 unfolding out_by
-same_out m m' p r s k of =
+same_out {m} {m'} r k of =
     sum_by-same _ _ r
     (λ v. let row = same_arc m m' v.arc of.arcs in
     ap₂ (λ (x : ArcRow) b. cond (b && leb (v.moment + x.travel) k) v.people 0) row
@@ -119,8 +119,8 @@ left_stays m p n s t h l =
     sum_by-same_all _ _ p (λ i d k. let v = get_or p i d in stays (eqb (tail m v.arc) n) v.moment s t v.people (h i d k) l)
 
 -- each move takes time
-pub slow : (m : Model) (r : List Move) → IsValid m → All (λ v. v.arc < length m.arcs) r → All (λ v. 1 ≤ (arc_at m v.arc).travel) r
-slow m r valid arcs =
+pub slow : {m : Model} (r : List Move) → IsValid m → All (λ v. v.arc < length m.arcs) r → All (λ v. 1 ≤ (arc_at m v.arc).travel) r
+slow {m} r valid arcs =
     All-weaker (λ v. v.arc < length m.arcs) (λ v. 1 ≤ (arc_at m v.arc).travel) (λ v l. (arc_is m v.arc valid l).travel_fits.0) r arcs
 
 module _ (m : Model) (p : List Move) (s : ℕ) (valid : IsValid m) (in_horizon : s ≤ m.horizon) (all : TakesAllOut m p) (n : ℕ)
@@ -139,7 +139,7 @@ module _ (m : Model) (p : List Move) (s : ℕ) (valid : IsValid m) (in_horizon :
         came_is m p n s,
         arrived_behind m p after p s own n s,
         arrived_not_yet m after n s (from_late s p)
-            (All-filter (λ v. leb s v.moment) (λ v. 1 ≤ (arc_at m v.arc).travel) p (slow m p valid all.feasible.arcs)),
+            (All-filter (λ v. leb s v.moment) (λ v. 1 ≤ (arc_at m v.arc).travel) p (slow p valid all.feasible.arcs)),
         left_behind m p after p s own n s,
         left_now m after n s (from_late s p),
         leaving_behind m p after p s own n s,

@@ -85,29 +85,12 @@ fn comes_at<F: Standing>(layout: &Layout, standing: &F, from: u16, node: u32, mo
 }
 
 // Adds those who come into a node at a moment, if there are any.
-fn push_comer<F: Standing>(
-    comers: &mut Vec<Entrant>,
-    layout: &Layout,
-    standing: &F,
-    from: u16,
-    node: u32,
-    moment: u16,
-) -> Result<(), AllocError>
-    requires stands { Stands layout.now (F.stand standing.now) }
-    requires first { 1 ≤ from }
-    requires in_horizon { from ≤ layout.now.horizon }
-    requires node_in { node < length layout.now.nodes }
-    requires moment_in { moment ≤ layout.now.horizon }
-    ensures { IfOk result (λ _. comers.new.items
-        ≡ comers.old.items ++ table_entrant (rest_entry layout.now (F.stand standing.now).plan from) node moment) }
+fn push_comer(comers: &mut Vec<Entrant>, comer: Entrant) -> Result<(), AllocError>
+    requires { comer.moment ≡ 0 → comer.people ≡ 0 }
+    ensures { IfOk result (λ _. comers.new.items ≡ comers.old.items ++ table_entrant (λ _ _. comer.people) comer.node comer.moment) }
 {
-    let people = comes_at(layout, standing, from, node, moment);
-    if people > 0 {
-        comers.push(Entrant {
-            node,
-            moment,
-            people: people as u32,
-        })?;
+    if comer.people > 0 {
+        comers.push(comer)?;
     }
     Ok(())
 }
@@ -129,7 +112,13 @@ fn push_comers<F: Standing>(
         ≡ comers.old.items ++ flat_map (table_entrant (rest_entry layout.now (F.stand standing.now).plan from) node) (moments_to layout.now.horizon)) }
 {
     for moment in 0..layout.model().horizon + 1 {
-        push_comer(comers, layout, standing, from, node, moment)?;
+        let people = comes_at(layout, standing, from, node, moment) as u32;
+        let comer = Entrant {
+            node,
+            moment,
+            people,
+        };
+        push_comer(comers, comer)?;
     }
     Ok(())
 }

@@ -1,26 +1,21 @@
 -- The scratch of a search after pushes.
-use Rattle.std.proofs.Common.{◌≡◌, ℕ, subst, sym, ◌∙◌, arith}
+use Rattle.std.proofs.Common.{◌≡◌, ℕ, subst, sym, arith}
+use Rattle.guided_search.specs.declared.path_finder.PathFinder.{PathFinder}
 use Rattle.residual_net.specs.Network.{Network}
-use Rattle.residual_net.specs.Route.{Trail}
 use Rattle.residual_net.specs.Site.{Site}
 use Rattle.terminal_augment.specs.declared.spot.Met.{Met}
 use Rattle.terminal_augment.specs.declared.buffers.Buffers.{Buffers}
-use Rattle.terminal_augment.specs.Hints.{IsMarkedOn}
-use Rattle.terminal_augment.specs.Marking.{MarkTable}
 use Rattle.terminal_augment.specs.Queues.{Queue}
-use Rattle.terminal_augment.specs.Searches.{AreBuffers}
+use Rattle.terminal_augment.specs.Searches.{AreBuffers, KeepsBuffers}
 use Rattle.terminal_augment.specs.Settled.{IsPushedOn}
 
-abbrev BuffersOf : Site → Buffers → Type 0
-BuffersOf s x = AreBuffers s.shape.nodes s.shape.horizon x
+pub buffers_kept : {w v : Network} {k pushes : ℕ} {x y : Buffers} → IsPushedOn w v k pushes → KeepsBuffers x y
+    → AreBuffers w.site.shape.nodes w.site.shape.horizon x → AreBuffers v.site.shape.nodes v.site.shape.horizon y
+buffers_kept {y} pushed keeps old = subst (λ (s : Site). AreBuffers s.shape.nodes s.shape.horizon y) (sym pushed.limits.site) (keeps _ _ old)
 
-pub buffers_kept : (w v : Network) (k pushes : ℕ) (x : Buffers) (m : MarkTable) (p : Queue Met) (q : Trail) → IsPushedOn w v k pushes
-    → AreBuffers w.site.shape.nodes w.site.shape.horizon x → IsMarkedOn x.marks m → p.room ≡ x.queue.room → q.room ≡ x.path.room
-    → AreBuffers v.site.shape.nodes v.site.shape.horizon (record { marks = m; queue = p; path = q })
-buffers_kept w v k pushes x m p q pushed buffers on queue path = subst (λ (s : Site). BuffersOf s (record { marks = m; queue = p; path = q })) (sym pushed.limits.site) (record {
-  marks = on.marks buffers.marks;
-  nodes = on.nodes ∙ buffers.nodes;
-  horizon = on.horizon ∙ buffers.horizon;
-  queue = omega (arith, buffers.queue, queue);
-  path = omega (arith, buffers.path, queue, path);
-})
+-- another finder, and another queue with the same room
+pub buffers_with : {n h : ℕ} {x : Buffers} (f : PathFinder) → AreBuffers n h x → AreBuffers n h (record x { finder = f })
+buffers_with f h = record { marks = h.marks; nodes = h.nodes; horizon = h.horizon; queue = h.queue; path = h.path }
+
+pub queue_with : {n h : ℕ} {x : Buffers} {q : Queue Met} → q.room ≡ x.queue.room → AreBuffers n h x → AreBuffers n h (record x { queue = q })
+queue_with same h = record { marks = h.marks; nodes = h.nodes; horizon = h.horizon; queue = omega (arith, h.queue, same); path = omega (arith, h.path, same) }

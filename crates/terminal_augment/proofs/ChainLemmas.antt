@@ -23,12 +23,11 @@ at_same (Door j) p h = absurd (cc)
 
 -- an end that isn't the first of some pairs is among the rest
 among_rest : (k : ℕ) (e : End) (m : Met) (ms : List Met) → is_at e m.spot ≡ false → IsAmong k (spots (m ∷ ms)) e → IsAmong k (spots ms) e
-among_rest k Source m ms off h = h
 among_rest k (Pair n t) m ms off h = elim (or_cases (eqb m.spot.node n && eqb m.spot.moment t) (has (spots ms) n t) h) [
   | inl here ↦ absurd (true≢false (sym here ∙ off))
   | inr later ↦ later
 ]
-among_rest k (Door j) m ms off h = h
+among_rest k _ m ms off h = h
 
 -- the way on goes over some of the pairs
 way_has : (s : Site) (e : End) (ms : List Met) (n t : ℕ) → has (spots (way_on s e ms)) n t ≡ true → has (spots ms) n t ≡ true

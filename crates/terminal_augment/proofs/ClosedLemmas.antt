@@ -26,24 +26,22 @@ closed_same w x y k net same closed r place room inside =
     at_end (start_of w.site r) refl (closed r place room (from_end (stop_of w.site r) refl inside))
   where
     at_end : (e : End) → start_of w.site r ≡ e → reached x k e ≡ true → reached y k e ≡ true
-    at_end Source q h = h
     at_end (Pair n t) q h = same n t (subst (IsOpenEnd w.site) q (start_open w r net place room)) ∙ h
-    at_end (Door j) q h = h
+    at_end _ q h = h
 
     from_end : (e : End) → stop_of w.site r ≡ e → reached y k e ≡ true → reached x k e ≡ true
-    from_end Source q h = h
     from_end (Pair n t) q h = sym (same n t (subst (IsOpenEnd w.site) q (stop_open w r net place room))) ∙ h
-    from_end (Door j) q h = h
+    from_end _ q h = h
 
 -- the pairs labelled at most a moment before k are the same after a flood
-before_same : (k i : ℕ) (l m : LabelTable) (x y : Queue Met) (n t : ℕ) → IsGrown k l m x y → i < k → labelled m i n t ≡ labelled l i n t
-before_same k i l m x y n t g before = elim (g.labels n t) [
+before_same : {k : ℕ} (i : ℕ) {l m : LabelTable} {x y : Queue Met} (n t : ℕ) → IsGrown k l m x y → i < k → labelled m i n t ≡ labelled l i n t
+before_same i n t g before = elim (g.labels n t) [
   | inl same ↦ ap (λ z. leb z i) same
   | inr new ↦ lt-leb _ _ (omega (arith, new.1, before)) ∙ sym (lt-leb _ _ (omega (arith, new.0, before)))
 ]
 
-pub labelled_after : (k : ℕ) (l m : LabelTable) (x y : Queue Met) → IsGrown k l m x y → IsUnsetFrom l k → IsLabelled l m k
-labelled_after k l m x y g free = record {
+pub labelled_after : {k : ℕ} {l m : LabelTable} {x y : Queue Met} → IsGrown k l m x y → IsUnsetFrom l k → IsLabelled l m k
+labelled_after g free = record {
   nodes = g.nodes;
   horizon = g.horizon;
   kept = λ n t a b less. elim (g.labels n t) [
@@ -63,17 +61,17 @@ earlier_reached l k i (Pair n t) q h = le-leb _ _ (omega (arith, leb-true _ _ h,
 earlier_reached l k i (Door j) q h = le-leb _ _ (omega (arith, leb-true _ _ h, q))
 
 -- where each step is done into the pairs labelled k and into the arrivals at k, the pairs labelled at most k are closed
-now_closed : (w : Network) (m : LabelTable) (k : ℕ) → IsNet w → IsClosedBelow w m k → ((n t : ℕ) → IsOpenPair w.site n t → label_at m n t ≡ k → IsExpanded w m k n t)
+now_closed : {w : Network} (m : LabelTable) (k : ℕ) → IsNet w → IsClosedBelow w m k → ((n t : ℕ) → IsOpenPair w.site n t → label_at m n t ≡ k → IsExpanded w m k n t)
     → IsSeededBelow w m k (arc_count w.site) → IsClosed w (labelled m k) k
-now_closed w m k net closed expanded seeded y place room inside = by (stop_of w.site y) refl inside
+now_closed {w} m k net closed expanded seeded y place room inside = by (stop_of w.site y) refl inside
   where
     old : (i : ℕ) → i < k → reached (labelled m i) i (stop_of w.site y) ≡ true → reached (labelled m k) k (start_of w.site y) ≡ true
     old i q h = earlier_reached m k i (start_of w.site y) q (closed i q y place room h)
 
     at_door : (p : Place) (b : Bool) → IsPlace w.site p → 0 < residual_room w (record { place = p; back = b }) → stop_of w.site (record { place = p; back = b }) ≡ Door k
         → reached (labelled m k) k (start_of w.site (record { place = p; back = b })) ≡ true
-    at_door (Arc a t) true at some q = absurd (cc)
     at_door (Arc a t) false at some q = seeded a t at.0 at q some
+    at_door (Arc a t) true at some q = absurd (cc)
     at_door (Hold n t) true at some q = absurd (cc)
     at_door (Hold n t) false at some q = absurd (cc)
     at_door (Supply n t) true at some q = absurd (cc)
@@ -95,20 +93,20 @@ now_closed w m k net closed expanded seeded y place room inside = by (stop_of w.
     ]
 
 -- a flood that came to nobody is over
-pub over_after : (w : Network) (l m : LabelTable) (k : ℕ) (x y : Queue Met) → IsSettledBelow w l k → IsGrown k l m x y → IsFlooding w m k y
+pub over_after : {w : Network} {l m : LabelTable} {k : ℕ} {x y : Queue Met} → IsSettledBelow w l k → IsGrown k l m x y → IsFlooding w m k y
     → AreExpanded w m k (length y.list) y.list → IsSeededBelow w m k (arc_count w.site) → IsFloodOver w l m k
-over_after w l m k x y settled g flooding all seeded = record {
-  labels = labelled_after k l m x y g settled.unset;
+over_after {w} {l} {m} {k} {y} settled g flooding all seeded = record {
+  labels = labelled_after g settled.unset;
   closed = λ i q. elim (cases_lt i k) [
     | inl before ↦ earlier i before
     | inr after ↦
         let same : k ≡ i = omega (arith, after, q) in
-        subst (λ z. IsClosed w (labelled m z) z) same (now_closed w m k flooding.net earlier expanded seeded)
+        subst (λ z. IsClosed w (labelled m z) z) same (now_closed m k flooding.net earlier expanded seeded)
   ];
 }
   where
     earlier : IsClosedBelow w m k
-    earlier i before = closed_same w (labelled l i) (labelled m i) i flooding.net (λ n t a. before_same k i l m x y n t g before) (settled.closed i before)
+    earlier i before = closed_same w (labelled l i) (labelled m i) i flooding.net (λ n t a. before_same i n t g before) (settled.closed i before)
 
     whole : All (λ r. IsExpanded w m k r.spot.node r.spot.moment) y.list
     whole = subst (λ (i : ℕ). All (λ r. IsExpanded w m k r.spot.node r.spot.moment) (drop i y.list)) (let none : length y.list - length y.list ≡ 0 = omega arith in none) all
@@ -117,9 +115,9 @@ over_after w l m k x y settled g flooding all seeded = record {
     expanded n t inside same = all_has (λ u v. IsExpanded w m k u v) y.list whole n t (sym (flooding.listed n t inside) ∙ eq-eqb _ _ same)
 
 -- the labels of a flood taken back are those before it
-pub alike_after : (k : ℕ) (l m v : LabelTable) (x y : Queue Met) → IsGrown k l m x y → IsUnsetFrom l k → length m.list ≡ m.nodes * (m.horizon + 1)
+pub alike_after : {k : ℕ} {l m : LabelTable} (v : LabelTable) {x y : Queue Met} → IsGrown k l m x y → IsUnsetFrom l k → length m.list ≡ m.nodes * (m.horizon + 1)
     → v ≡ unset_from m k → HaveSameLabels l v
-alike_after k l m v x y g free full same = record {
+alike_after {k} {l} {m} v g free full same = record {
   nodes = ap (λ (z : LabelTable). z.nodes) same ∙ g.nodes;
   horizon = ap (λ (z : LabelTable). z.horizon) same ∙ g.horizon;
   labels = λ n t a b.
@@ -143,8 +141,8 @@ alike_after k l m v x y g free full same = record {
     ]
 
 -- labels that are alike serve a net alike
-pub settled_alike : (w : Network) (l m : LabelTable) (k : ℕ) → IsNet w → HaveSameLabels l m → IsSettledBelow w l k → IsSettledBelow w m k
-settled_alike w l m k net alike old = record {
+pub settled_alike : {w : Network} {l m : LabelTable} {k : ℕ} → IsNet w → HaveSameLabels l m → IsSettledBelow w l k → IsSettledBelow w m k
+settled_alike {w} {l} {m} net alike old = record {
   within = old.within;
   labels = record { nodes = alike.nodes ∙ old.labels.nodes; horizon = alike.horizon ∙ old.labels.horizon };
   moment = old.moment;
@@ -155,8 +153,8 @@ settled_alike w l m k net alike old = record {
       same ∙ old.unset n t (omega (arith, a, alike.nodes)) (omega (arith, b, alike.horizon)) (omega (arith, q, same));
 }
 
-pub labelled_alike : (l m v : LabelTable) (k : ℕ) → HaveSameLabels l m → IsLabelled m v k → IsLabelled l v k
-labelled_alike l m v k alike after = record {
+pub labelled_alike : {l m v : LabelTable} {k : ℕ} → HaveSameLabels l m → IsLabelled m v k → IsLabelled l v k
+labelled_alike alike after = record {
   nodes = after.nodes ∙ alike.nodes;
   horizon = after.horizon ∙ alike.horizon;
   kept = λ n t a b less.
@@ -165,8 +163,8 @@ labelled_alike l m v k alike after = record {
   others = λ n t a b more. after.others n t (omega (arith, a, alike.nodes)) (omega (arith, b, alike.horizon)) (omega (arith, more, alike.labels n t a b));
 }
 
-pub alike_then : (l m v : LabelTable) → HaveSameLabels l m → HaveSameLabels m v → HaveSameLabels l v
-alike_then l m v a b = record {
+pub alike_then : {l m v : LabelTable} → HaveSameLabels l m → HaveSameLabels m v → HaveSameLabels l v
+alike_then a b = record {
   nodes = b.nodes ∙ a.nodes;
   horizon = b.horizon ∙ a.horizon;
   labels = λ n t p q. b.labels n t (omega (arith, p, a.nodes)) (omega (arith, q, a.horizon)) ∙ a.labels n t p q;

@@ -38,21 +38,21 @@ grown_none k l x = record {
   below = ap (λ i. drop i x.list) (let none : length x.list - length x.list ≡ 0 = omega arith in none);
 }
 
-below_grown : (k : ℕ) (l m : LabelTable) (x y : Queue Met) (j : ℕ) → IsGrown k l m x y → j ≤ length x.list → drop (length y.list - j) y.list ≡ drop (length x.list - j) x.list
-below_grown k l m x y j g few =
+below_grown : {k : ℕ} {l m : LabelTable} {x y : Queue Met} (j : ℕ) → IsGrown k l m x y → j ≤ length x.list → drop (length y.list - j) y.list ≡ drop (length x.list - j) x.list
+below_grown {x} {y} j g few =
     let sum : length y.list - j ≡ (length y.list - length x.list) + (length x.list - j) = omega (arith, g.more, few) in
     ap (λ i. drop i y.list) sum
     ∙ sym (drop-drop (length x.list - j) (length y.list - length x.list) y.list)
     ∙ ap (λ (z : List Met). drop (length x.list - j) z) g.below
 
-pub grown_then : (k : ℕ) (l m v : LabelTable) (x y z : Queue Met) → IsGrown k l m x y → IsGrown k m v y z → IsGrown k l v x z
-grown_then k l m v x y z g h = record {
+pub grown_then : {k : ℕ} {l m v : LabelTable} {x y z : Queue Met} → IsGrown k l m x y → IsGrown k m v y z → IsGrown k l v x z
+grown_then {k} {l} {m} {v} {x} g h = record {
   nodes = h.nodes ∙ g.nodes;
   horizon = h.horizon ∙ g.horizon;
   labels = λ n t. both n t (g.labels n t) (h.labels n t);
   room = h.room ∙ g.room;
   more = omega (arith, g.more, h.more);
-  below = below_grown k m v y z (length x.list) h g.more ∙ g.below;
+  below = below_grown (length x.list) h g.more ∙ g.below;
 }
   where
     both : (n t : ℕ) → (label_at m n t ≡ label_at l n t) ⊎ ((k < label_at l n t) × (label_at m n t ≡ k))
@@ -62,12 +62,12 @@ grown_then k l m v x y z g h = record {
     both n t (inr a) (inl b) = inr (a.0, b ∙ a.1)
     both n t (inr a) (inr b) = absurd (omega (arith, a.1, b.0))
 
-pub has_later : (k : ℕ) (l m : LabelTable) (x y : Queue Met) (n t : ℕ) → IsGrown k l m x y → has (spots x.list) n t ≡ true → has (spots y.list) n t ≡ true
-has_later k l m x y n t g h = has_drop (length y.list - length x.list) y.list n t (subst (λ (z : List Met). has (spots z) n t ≡ true) (sym g.below) h)
+pub has_later : {k : ℕ} {l m : LabelTable} {x y : Queue Met} (n t : ℕ) → IsGrown k l m x y → has (spots x.list) n t ≡ true → has (spots y.list) n t ≡ true
+has_later {x} {y} n t g h = has_drop (length y.list - length x.list) y.list n t (subst (λ (z : List Met). has (spots z) n t ≡ true) (sym g.below) h)
 
 -- what is done stays so while labels are set
-pub done_later : (w : Network) (k : ℕ) (l m : LabelTable) (x y : Queue Met) (z : PathStep) → IsGrown k l m x y → IsDone w l k z → IsDone w m k z
-done_later w k l m x y z g done room = reach (start_of w.site z) (done room)
+pub done_later : (w : Network) {k : ℕ} {l m : LabelTable} {x y : Queue Met} (z : PathStep) → IsGrown k l m x y → IsDone w l k z → IsDone w m k z
+done_later w {k} {l} {m} z g done room = reach (start_of w.site z) (done room)
   where
     reach : (e : End) → reached (labelled l k) k e ≡ true → reached (labelled m k) k e ≡ true
     reach Source h = absurd (cc)
@@ -77,15 +77,15 @@ done_later w k l m x y z g done room = reach (start_of w.site z) (done room)
     ]
     reach (Door j) h = h
 
-pub way_later : (w : Network) (k : ℕ) (l m : LabelTable) (x y : Queue Met) (o : Option PathStep) → IsGrown k l m x y → IsWayDone w l k o → IsWayDone w m k o
-way_later w k l m x y None g h = tt
-way_later w k l m x y (Some z) g h = done_later w k l m x y z g h
+pub way_later : (w : Network) {k : ℕ} {l m : LabelTable} {x y : Queue Met} (o : Option PathStep) → IsGrown k l m x y → IsWayDone w l k o → IsWayDone w m k o
+way_later w None g h = tt
+way_later w (Some z) g h = done_later w z g h
 
 -- the wait before a pair is done once the waits before it are gone through, the last of them first
-pub before_later : (w : Network) (k n t u : ℕ) (l m : LabelTable) (x y : Queue Met) → IsGrown k l m x y → 0 < u → u ≤ t → (u < t → IsWayDone w l k (way_before n t))
+pub before_later : (w : Network) {k : ℕ} (n t u : ℕ) {l m : LabelTable} {x y : Queue Met} → IsGrown k l m x y → 0 < u → u ≤ t → (u < t → IsWayDone w l k (way_before n t))
     → IsDone w m k (record { place = Hold n (u - 1); back = false }) → IsWayDone w m k (way_before n t)
-before_later w k n t u l m x y g some few old here = elim (cases_lt u t) [
-  | inl before ↦ way_later w k l m x y (way_before n t) g (old before)
+before_later w {k} n t u {m} g some few old here = elim (cases_lt u t) [
+  | inl before ↦ way_later w (way_before n t) g (old before)
   | inr after ↦
       let same : u ≡ t = omega (arith, few, after) in
       let there : IsDone w m k (record { place = Hold n (t - 1); back = false }) = subst (λ z. IsDone w m k (record { place = Hold n (z - 1); back = false })) same here in
@@ -93,14 +93,14 @@ before_later w k n t u l m x y g some few old here = elim (cases_lt u t) [
       rw later there
 ]
 
-pub seeded_later : (w : Network) (k n : ℕ) (l m : LabelTable) (x y : Queue Met) → IsGrown k l m x y → IsSeededBelow w l k n → IsSeededBelow w m k n
-seeded_later w k n l m x y g h a t q place stop = done_later w k l m x y (record { place = Arc a t; back = false }) g (h a t q place stop)
+pub seeded_later : (w : Network) {k : ℕ} (n : ℕ) {l m : LabelTable} {x y : Queue Met} → IsGrown k l m x y → IsSeededBelow w l k n → IsSeededBelow w m k n
+seeded_later w n g h a t q place stop = done_later w (record { place = Arc a t; back = false }) g (h a t q place stop)
 
 -- ---- a search begins
 
-pub flooding_begins : (w : Network) (l : LabelTable) (k : ℕ) (x y : Queue Met) → IsNet w → IsSettledBelow w l k → length l.list ≡ l.nodes * (l.horizon + 1)
+pub flooding_begins : {w : Network} {l : LabelTable} {k : ℕ} (x y : Queue Met) → IsNet w → IsSettledBelow w l k → length l.list ≡ l.nodes * (l.horizon + 1)
     → w.site.shape.nodes * (w.site.shape.horizon + 1) ≤ x.room → y ≡ record { list = []; room = x.room } → IsFlooding w l k y
-flooding_begins w l k x y net settled full room same = subst (λ (p : Queue Met). IsFlooding w l k p) (sym same) (record {
+flooding_begins {w} {l} {k} x y net settled full room same = subst (λ (p : Queue Met). IsFlooding w l k p) (sym same) (record {
   net = net;
   within = settled.within;
   labels = settled.labels;
@@ -136,22 +136,22 @@ labelled_too l k m = with_label l m.spot.node m.spot.moment k
 abbrev pub met_too : Queue Met → Met → Queue Met
 met_too p m = record { list = m ∷ p.list; room = p.room }
 
-one_less : (w : Network) (l : LabelTable) (k : ℕ) (p : Queue Met) (m : Met) → IsFlooding w l k p → IsNew w l k p m → open_count (labelled_too l k m) k + 1 ≡ open_count l k
-one_less w l k p m h e =
+one_less : {w : Network} {l : LabelTable} {k : ℕ} {p : Queue Met} {m : Met} → IsFlooding w l k p → IsNew w l k p m → open_count (labelled_too l k m) k + 1 ≡ open_count l k
+one_less {l} {k} {m} h e =
     open_labelled l m.spot.node m.spot.moment k h.full (omega (arith, e.inside.node, h.labels.nodes)) (omega (arith, e.inside.moment, h.labels.horizon)) (omega (arith, e.above))
 
-pub met_room : (w : Network) (l : LabelTable) (k : ℕ) (p : Queue Met) (m : Met) → IsFlooding w l k p → IsNew w l k p m → length p.list < p.room
-met_room w l k p m h e = omega (arith, one_less w l k p m h e, h.room)
+pub met_room : {w : Network} {l : LabelTable} {k : ℕ} {p : Queue Met} {m : Met} → IsFlooding w l k p → IsNew w l k p m → length p.list < p.room
+met_room h e = omega (arith, one_less h e, h.room)
 
-noted_here : (w : Network) (l : LabelTable) (k : ℕ) (p : Queue Met) (m : Met) → IsFlooding w l k p → IsNew w l k p m → 0 < residual_room w m.step
+noted_here : {w : Network} {l : LabelTable} {k : ℕ} {p : Queue Met} {m : Met} → IsFlooding w l k p → IsNew w l k p m → 0 < residual_room w m.step
     → IsFlooding w (labelled_too l k m) k (met_too p m)
-noted_here w l k p m h e room = record {
+noted_here {w} {l} {k} {p} {m} h e room = record {
   net = h.net;
   within = h.within;
   labels = record { nodes = h.labels.nodes; horizon = h.labels.horizon };
   full = length-set l.list (label_place l m.spot.node m.spot.moment) k ∙ h.full;
   moment = h.moment;
-  room = omega (arith, one_less w l k p m h e, h.room);
+  room = omega (arith, one_less h e, h.room);
   listed = λ n t i. by n t i (eqb m.spot.node n && eqb m.spot.moment t)
       (label_set l m.spot.node m.spot.moment n t k h.full (omega (arith, e.inside.node, h.labels.nodes)) (omega (arith, e.inside.moment, h.labels.horizon))
       (omega (arith, i.node, h.labels.nodes)) (omega (arith, i.moment, h.labels.horizon)));
@@ -166,10 +166,10 @@ noted_here w l k p m h e room = record {
     fresh : has (spots p.list) m.spot.node m.spot.moment ≡ false
     fresh = sym (h.listed m.spot.node m.spot.moment e.inside) ∙ ne_eqb _ _ (omega (arith, e.above))
 
-pub flooding_noted : (w : Network) (l v : LabelTable) (k : ℕ) (p q : Queue Met) (m : Met) → IsFlooding w l k p → IsNew w l k p m → 0 < residual_room w m.step
+pub flooding_noted : {w : Network} {l : LabelTable} (v : LabelTable) {k : ℕ} {p : Queue Met} (q : Queue Met) {m : Met} → IsFlooding w l k p → IsNew w l k p m → 0 < residual_room w m.step
     → v ≡ labelled_too l k m → q ≡ met_too p m → IsFlooding w v k q
-flooding_noted w l v k p q m h e room a b =
-    subst (λ (z : LabelTable). IsFlooding w z k q) (sym a) (subst (λ (z : Queue Met). IsFlooding w (labelled_too l k m) k z) (sym b) (noted_here w l k p m h e room))
+flooding_noted {w} {l} v {k} q {m} h e room a b =
+    subst (λ (z : LabelTable). IsFlooding w z k q) (sym a) (subst (λ (z : Queue Met). IsFlooding w (labelled_too l k m) k z) (sym b) (noted_here h e room))
 
 grown_here : (k : ℕ) (l : LabelTable) (p : Queue Met) (m : Met) → k < label_at l m.spot.node m.spot.moment → label_place l m.spot.node m.spot.moment < length l.list
     → IsGrown k l (labelled_too l k m) p (met_too p m)
@@ -185,14 +185,14 @@ grown_here k l p m above within = record {
   below = ap (λ i. drop i (m ∷ p.list)) (let one : length (m ∷ p.list) - length p.list ≡ 1 = omega arith in one);
 }
 
-pub grown_noted : (w : Network) (l v : LabelTable) (k : ℕ) (p q : Queue Met) (m : Met) → IsFlooding w l k p → IsNew w l k p m → v ≡ labelled_too l k m → q ≡ met_too p m
+pub grown_noted : {w : Network} {l : LabelTable} (v : LabelTable) {k : ℕ} {p : Queue Met} (q : Queue Met) {m : Met} → IsFlooding w l k p → IsNew w l k p m → v ≡ labelled_too l k m → q ≡ met_too p m
     → IsGrown k l v p q
-grown_noted w l v k p q m h e a b =
+grown_noted {l} v {k} {p} q {m} h e a b =
     let within = label_within l m.spot.node m.spot.moment h.full (omega (arith, e.inside.node, h.labels.nodes)) (omega (arith, e.inside.moment, h.labels.horizon)) in
     subst (λ (z : LabelTable). IsGrown k l z p q) (sym a) (subst (λ (z : Queue Met). IsGrown k l (labelled_too l k m) p z) (sym b) (grown_here k l p m e.above within))
 
-pub done_noted : (w : Network) (l v : LabelTable) (k : ℕ) (p : Queue Met) (m : Met) → IsFlooding w l k p → IsNew w l k p m → v ≡ labelled_too l k m → IsDone w v k m.step
-done_noted w l v k p m h e a room =
+pub done_noted : {w : Network} {l : LabelTable} (v : LabelTable) {k : ℕ} {p : Queue Met} {m : Met} → IsFlooding w l k p → IsNew w l k p m → v ≡ labelled_too l k m → IsDone w v k m.step
+done_noted {l} v {k} {m} h e a room =
     let within = label_within l m.spot.node m.spot.moment h.full (omega (arith, e.inside.node, h.labels.nodes)) (omega (arith, e.inside.moment, h.labels.horizon)) in
     let here : label_at v m.spot.node m.spot.moment ≡ k = ap (λ (z : LabelTable). label_at z m.spot.node m.spot.moment) a ∙ get_or-set_same l.list _ k 0 within in
     ap (reached (labelled v k) k) e.start ∙ le-leb _ _ (omega (arith, here))
@@ -209,8 +209,8 @@ done_passed w l k n t y start few room = ap (reached (labelled l k) k) start ∙
 -- ---- arcs
 
 -- an arc leads from a pair that people can be at
-pub arc_inside : (s : Site) (a t : ℕ) → IsSite s → a < arc_count s → t ≤ s.shape.horizon → IsOpenPair s (from_at s.shape a) t
-arc_inside s a t h i j = record { node = (h.shape.ends_in a no_ends i).0; moment = j; no_exit = h.from_no_exit a i }
+pub arc_inside : {s : Site} (a t : ℕ) → IsSite s → a < arc_count s → t ≤ s.shape.horizon → IsOpenPair s (from_at s.shape a) t
+arc_inside a t h i j = record { node = (h.shape.ends_in a no_ends i).0; moment = j; no_exit = h.from_no_exit a i }
 
 -- the step over an arc that arrives at moment k is done where the way over the arc is
 by_way : (w : Network) (m : LabelTable) (k a t : ℕ) → IsWayDone w m k (way_in w.site a k) → arrival_at w.site a t ≡ k → IsDone w m k (record { place = Arc a t; back = false })
@@ -220,9 +220,9 @@ by_way w m k a t done when =
     subst (λ i. IsDone w m k (record { place = Arc a i; back = false })) same (rw early at done)
 
 -- one more arc is done, where it leads into an exit
-pub seeded_next : (w : Network) (k a : ℕ) (l m : LabelTable) (x y : Queue Met) → IsGrown k l m x y
+pub seeded_next : (w : Network) {k : ℕ} (a : ℕ) {l m : LabelTable} {x y : Queue Met} → IsGrown k l m x y
     → (exit_at w.site (to_at w.site.shape a) ≡ true → IsWayDone w m k (way_in w.site a k)) → IsSeededBelow w l k a → IsSeededBelow w m k (a + 1)
-seeded_next w k a l m x y g here old = seeded_more w m k a (seeded_later w k a l m x y g old) (λ t place stop. by_exit t (exit_at w.site (to_at w.site.shape a)) refl stop)
+seeded_next w {k} a {m} g here old = seeded_more w m k a (seeded_later w a g old) (λ t place stop. by_exit t (exit_at w.site (to_at w.site.shape a)) refl stop)
   where
     by_exit : (t : ℕ) (e : Bool) → exit_at w.site (to_at w.site.shape a) ≡ e
         → cond e (Door (arrival_at w.site a t)) (Pair (to_at w.site.shape a) (arrival_at w.site a t)) ≡ Door k
@@ -232,22 +232,32 @@ seeded_next w k a l m x y g here old = seeded_more w m k a (seeded_later w k a l
 
 -- ---- all that was met
 
-pub has_each : (ms : List Met) (i : ℕ) (d : Met) → i < length ms → has (spots ms) (get_or ms i d).spot.node (get_or ms i d).spot.moment ≡ true
-has_each [] i d q = absurd (omega (arith, q))
-has_each (m ∷ ms) zero d q = or_left _ _ (and_from _ _ (eq-eqb m.spot.node m.spot.node refl) (eq-eqb m.spot.moment m.spot.moment refl))
-has_each (m ∷ ms) (suc i) d q = or_right _ _ (has_each ms i d (omega (arith, q)))
+met_each : (ms : List Met) (i : ℕ) (d : Met) → i < length ms → has (spots ms) (get_or ms i d).spot.node (get_or ms i d).spot.moment ≡ true
+met_each [] i d q = absurd (omega (arith, q))
+met_each (m ∷ ms) zero d q = or_left _ _ (and_from _ _ (eq-eqb m.spot.node m.spot.node refl) (eq-eqb m.spot.moment m.spot.moment refl))
+met_each (m ∷ ms) (suc i) d q = or_right _ _ (met_each ms i d (omega (arith, q)))
 
-pub inside_each : (w : Network) (k : ℕ) (ms : List Met) (i : ℕ) (d : Met) → AreMet w k ms → i < length ms → IsOpenPair w.site (get_or ms i d).spot.node (get_or ms i d).spot.moment
-inside_each w k [] i d met q = absurd (omega (arith, q))
-inside_each w k (m ∷ ms) zero d met q = met.0.inside
-inside_each w k (m ∷ ms) (suc i) d met q = inside_each w k ms i d met.1 (omega (arith, q))
+open_each : (w : Network) (k : ℕ) (ms : List Met) (i : ℕ) (d : Met) → AreMet w k ms → i < length ms → IsOpenPair w.site (get_or ms i d).spot.node (get_or ms i d).spot.moment
+open_each w k [] i d met q = absurd (omega (arith, q))
+open_each w k (m ∷ ms) zero d met q = met.0.inside
+open_each w k (m ∷ ms) (suc i) d met q = open_each w k ms i d met.1 (omega (arith, q))
 
-pub expanded_more : (w : Network) (k done : ℕ) (l m : LabelTable) (x y : Queue Met) (blank : Met) → IsGrown k l m x y → done < length x.list → AreExpanded w l k done x.list
+-- a pair that was met as the one after so many others
+pub has_each : (ms : List Met) {i : ℕ} {m : Met} → m ≡ get_or ms (length ms - i - 1) m → i < length ms → has (spots ms) m.spot.node m.spot.moment ≡ true
+has_each ms {i} {m} is q =
+    subst (λ (z : Met). has (spots ms) z.spot.node z.spot.moment ≡ true) (sym is) (met_each ms (length ms - i - 1) m (omega (arith, q)))
+
+pub inside_each : (w : Network) (k : ℕ) (ms : List Met) {i : ℕ} {m : Met} → AreMet w k ms → m ≡ get_or ms (length ms - i - 1) m → i < length ms
+    → IsOpenPair w.site m.spot.node m.spot.moment
+inside_each w k ms {i} {m} met is q =
+    subst (λ (z : Met). IsOpenPair w.site z.spot.node z.spot.moment) (sym is) (open_each w k ms (length ms - i - 1) m met (omega (arith, q)))
+
+pub expanded_more : (w : Network) {k : ℕ} (done : ℕ) {l m : LabelTable} {x y : Queue Met} (blank : Met) → IsGrown k l m x y → done < length x.list → AreExpanded w l k done x.list
     → IsExpanded w m k (get_or x.list (length x.list - done - 1) blank).spot.node (get_or x.list (length x.list - done - 1) blank).spot.moment
     → AreExpanded w m k (done + 1) y.list
-expanded_more w k done l m x y blank g q old here =
+expanded_more w {k} done {m} {x} {y} blank g q old here =
     subst (λ (z : List Met). All (λ r. IsExpanded w m k r.spot.node r.spot.moment) z) (sym same)
-    (all_cons (λ (r : Met). IsExpanded w m k r.spot.node r.spot.moment) _ _ last (λ j d a z place stop. done_later w k l m x y z g (old j d a z place stop)))
+    (all_cons (λ (r : Met). IsExpanded w m k r.spot.node r.spot.moment) _ _ last (λ j d a z place stop. done_later w z g (old j d a z place stop)))
   where
     left : ℕ
     left = length x.list - done
@@ -265,5 +275,5 @@ expanded_more w k done l m x y blank g q old here =
     first = omega arith
 
     same : drop (length y.list - (done + 1)) y.list ≡ get_or x.list (left - 1) blank ∷ drop left x.list
-    same = below_grown k l m x y (done + 1) g (omega (arith, q)) ∙ ap (λ i. drop i x.list) first ∙ drop-cons x.list (left - 1) blank lt
+    same = below_grown (done + 1) g (omega (arith, q)) ∙ ap (λ i. drop i x.list) first ∙ drop-cons x.list (left - 1) blank lt
         ∙ ap (λ (i : ℕ). get_or x.list (left - 1) blank ∷ drop i x.list) (sym (add-one (left - 1)) ∙ next)

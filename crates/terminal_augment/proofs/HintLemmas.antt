@@ -32,9 +32,8 @@ use Rattle.terminal_augment.proofs.SendLemmas.{IsBegun, augments, pushed_on}
 
 -- the pair of an end, where it is one
 abbrev pub spot_of : End → Spot
-spot_of Source = record { node = 0; moment = 0 }
 spot_of (Pair n t) = record { node = n; moment = t }
-spot_of (Door j) = record { node = 0; moment = 0 }
+spot_of _ = record { node = 0; moment = 0 }
 
 -- the steps of a path, each with the pair at which it begins
 abbrev pub met_by : Site → PathStep → Met
@@ -52,8 +51,8 @@ pub record IsTail (w : Network) (k : ℕ) (s : ℕ → ℕ → Type 0) (e : End)
   pub over : (n t : ℕ) → has (spots (all_by w.site path)) n t ≡ true → s n t
 
 -- people can be at the end at which such steps begin
-pub tail_open : (w : Network) (k : ℕ) (s : ℕ → ℕ → Type 0) (e : End) (people : ℕ) (path : List PathStep) → IsTail w k s e people path → IsOpenEnd w.site e
-tail_open w k s e people path tail = subst (IsOpenEnd w.site) (sym tail.top) (by (all_by w.site path) tail.chain)
+pub tail_open : {w : Network} {k : ℕ} {s : ℕ → ℕ → Type 0} {e : End} {people : ℕ} {path : List PathStep} → IsTail w k s e people path → IsOpenEnd w.site e
+tail_open {w} {k} {path} tail = subst (IsOpenEnd w.site) (sym tail.top) (by (all_by w.site path) tail.chain)
   where
     by : (ms : List Met) → IsChain w.site k ms → IsOpenEnd w.site (top_end k ms)
     by [] chain = tt
@@ -69,9 +68,9 @@ tail_none w k s people one = record {
 }
 
 -- the same steps for fewer people, over some pairs more
-pub tail_wider : (w : Network) (k : ℕ) (s r : ℕ → ℕ → Type 0) (e : End) (people next : ℕ) (path : List PathStep) → IsTail w k s e people path
+pub tail_wider : {w : Network} {k : ℕ} {s : ℕ → ℕ → Type 0} (r : ℕ → ℕ → Type 0) {e : End} {people : ℕ} (next : ℕ) {path : List PathStep} → IsTail w k s e people path
     → ((n t : ℕ) → s n t → r n t) → 1 ≤ next → next ≤ people → IsTail w k r e next path
-tail_wider w k s r e people next path tail wider one few = record {
+tail_wider r next tail wider one few = record {
   chain = tail.chain;
   top = tail.top;
   some = one;
@@ -86,10 +85,10 @@ met_at : (s : Site) (y : PathStep) (p : Spot) → start_of s y ≡ Pair p.node p
 met_at s y p e = ap (λ (z : End). with_spot y (spot_of z)) e
 
 -- one more step, from a pair that isn't among those come over
-pub tail_more : (w : Network) (k : ℕ) (s r : ℕ → ℕ → Type 0) (e : End) (p : Spot) (people next : ℕ) (y : PathStep) (path : List PathStep)
+pub tail_more : {w : Network} {k : ℕ} {s : ℕ → ℕ → Type 0} (r : ℕ → ℕ → Type 0) {e : End} (p : Spot) {people : ℕ} (next : ℕ) {y : PathStep} {path : List PathStep}
     → IsTail w k s e people path → IsStep w y (Pair p.node p.moment) e → (s p.node p.moment → ⊥) → ((n t : ℕ) → s n t → r n t) → r p.node p.moment
     → 1 ≤ next → next ≤ people → next ≤ residual_room w y → IsTail w k r (Pair p.node p.moment) next (y ∷ path)
-tail_more w k s r e p people next y path tail step off wider with_it one few room = record {
+tail_more {w} {k} r p next {y} {path} tail step off wider with_it one few room = record {
   chain = subst (λ (m : Met). IsChain w.site k (m ∷ all_by w.site path)) (sym here) (link, tail.chain);
   top = ap (λ (m : Met). top_end k (m ∷ all_by w.site path)) (sym here);
   some = one;
@@ -123,9 +122,9 @@ steps_of_all : (s : Site) (xs : List PathStep) → steps_of (all_by s xs) ≡ xs
 steps_of_all s [] = refl
 steps_of_all s (x ∷ xs) = ap (λ (z : List PathStep). x ∷ z) (steps_of_all s xs)
 
-pub all_carried : (w : Network) (k : ℕ) (s : ℕ → ℕ → Type 0) (e r : End) (people next : ℕ) (y : PathStep) (path whole : List PathStep) → IsTail w k s e people path
+pub all_carried : {w : Network} {k : ℕ} {s : ℕ → ℕ → Type 0} {e r : End} {people : ℕ} (next : ℕ) {y : PathStep} {path : List PathStep} (whole : List PathStep) → IsTail w k s e people path
     → IsStep w y r e → IsOrigin k r → next ≤ people → next ≤ residual_room w y → whole ≡ y ∷ path → CarriesPeople w k whole next
-all_carried w k s e r people next y path whole tail step origin few room same = (start_of w.site y, subst (λ (z : List PathStep). IsAugmentingPath w z next (start_of w.site y) k) (sym same) here)
+all_carried {w} {k} next {y} {path} whole tail step origin few room same = (start_of w.site y, subst (λ (z : List PathStep). IsAugmentingPath w z next (start_of w.site y) k) (sym same) here)
   where
     begun : IsBegun w k (all_by w.site path) y
     begun = record { place = step.place; stop = step.stop ∙ tail.top; origin = subst (λ (z : End). IsOrigin k z) (sym step.start) origin }
@@ -165,19 +164,19 @@ legs_whole s k gs left blank some fits first origin =
 -- ---- waits
 
 -- the cell of a wait, by where the waits in its node begin
-pub wait_cell : (w : Network) (n t first : ℕ) → IsNet w → n < w.site.shape.nodes → t ≤ w.site.shape.horizon → first ≡ hold_cell w.site.shape n 0
+pub wait_cell : {w : Network} (n t first : ℕ) → IsNet w → n < w.site.shape.nodes → t ≤ w.site.shape.horizon → first ≡ hold_cell w.site.shape n 0
     → (first + t < length w.cells) × (first + t ≡ cell_of w.site (Hold n t))
 unfolding cell_of hold_cell
-wait_cell w n t first net node moment here =
+wait_cell {w} n t first net node moment here =
     let same : first + t ≡ (length w.site.shape.ends + n) * (w.site.shape.horizon + 1) + t = omega (arith, here) in
     (omega (arith, same, cell_below w.site (Hold n t) (node, moment), net.full), same)
 
 -- a cell of some waits one after another is that of a wait
-pub wait_among : (w : Network) (n from to first i : ℕ) (d : Cell) → IsNet w → n < w.site.shape.nodes → to ≤ w.site.shape.horizon
+pub wait_among : {w : Network} (n from to first i : ℕ) (d : Cell) → IsNet w → n < w.site.shape.nodes → to ≤ w.site.shape.horizon
     → first ≡ hold_cell w.site.shape n 0 → from + i < to
     → get_or (between (first + from) (first + to) w.cells) i d ≡ get_or w.cells (cell_of w.site (Hold n (from + i))) no_cell
-wait_among w n from to first i d net node moment here lt =
-    let cell = wait_cell w n (from + i) first net node (omega (arith, lt, moment)) here in
+wait_among {w} n from to first i d net node moment here lt =
+    let cell = wait_cell n (from + i) first net node (omega (arith, lt, moment)) here in
     let at : (first + from) + i ≡ first + (from + i) = omega arith in
     get_or-between w.cells (first + from) (first + to) i d (omega (arith, lt))
     ∙ get_or_default w.cells ((first + from) + i) d no_cell (omega (arith, at, cell.0))
@@ -194,8 +193,8 @@ wait_counted w first from to i fits l = omega (arith, l, length-between w.cells 
 pub wait_first : (w : Network) (n first : ℕ) {x : Expansion} → first ≡ hold_cell x n 0 → x ≡ w.site.shape → first ≡ hold_cell w.site.shape n 0
 wait_first w n first here same = here ∙ ap (λ (z : Expansion). hold_cell z n 0) same
 
-wait_step : (w : Network) (n t : ℕ) → IsOpenPair w.site n t → 0 < residual_room w (wait_at n t) → IsStep w (wait_at n t) (Pair n t) (Pair n (t + 1))
-wait_step w n t inside room = record { place = (inside.node, inside.moment); room = room; start = refl; inside = inside; stop = refl }
+wait_step : (w : Network) {n t : ℕ} → IsOpenPair w.site n t → 0 < residual_room w (wait_at n t) → IsStep w (wait_at n t) (Pair n t) (Pair n (t + 1))
+wait_step w inside room = record { place = (inside.node, inside.moment); room = room; start = refl; inside = inside; stop = refl }
 
 -- some pairs, and those of a node from one moment up to another
 abbrev with_stay : (ℕ → ℕ → Type 0) → ℕ → ℕ → ℕ → ℕ → ℕ → Type 0
@@ -210,42 +209,40 @@ not_in_stay s n from past t before off (inl h) = off h
 not_in_stay s n from past t before off (inr h) = absurd (omega (arith, before, h.1))
 
 -- waits in a node one after another
-tail_waits : (c : ℕ) (w : Network) (k : ℕ) (s : ℕ → ℕ → Type 0) (n t to people next : ℕ) (path : List PathStep) → t + c ≡ to → IsOpenPair w.site n to
+tail_waits : (c : ℕ) {w : Network} {k : ℕ} {s : ℕ → ℕ → Type 0} {n : ℕ} (t : ℕ) {to people : ℕ} (next : ℕ) {path : List PathStep} → t + c ≡ to → IsOpenPair w.site n to
     → IsTail w k s (Pair n to) people path → ((u : ℕ) → t ≤ u → u < to → s n u → ⊥)
     → ((u : ℕ) → t ≤ u → u < to → next ≤ residual_room w (wait_at n u)) → 1 ≤ next → next ≤ people
     → IsTail w k (with_stay s n t to) (Pair n t) next (waits_at n t c ++ path)
-tail_waits zero w k s n t to people next path same inside tail off room one few =
+tail_waits zero {w} {k} {s} {n} t {to} next {path} same inside tail off room one few =
     let here : to ≡ t = omega (arith, same) in
     subst (λ z. IsTail w k (with_stay s n t to) (Pair n z) next path) here
-    (tail_wider w k s (with_stay s n t to) (Pair n to) people next path tail (λ i u h. inl h) one few)
-tail_waits (suc c) w k s n t to people next path same inside tail off room one few =
-    let rest = tail_waits c w k s n (t + 1) to people next path (omega (arith, same)) inside tail (λ u l h. off u (omega (arith, l)) h)
+    (tail_wider (with_stay s n t to) next tail (λ i u h. inl h) one few)
+tail_waits (suc c) {w} {s} {n} t {to} next same inside tail off room one few =
+    let rest = tail_waits c (t + 1) next (omega (arith, same)) inside tail (λ u l h. off u (omega (arith, l)) h)
     (λ u l h. room u (omega (arith, l)) h) one few in
     let here : next ≤ residual_room w (wait_at n t) = room t (omega arith) (omega (arith, same)) in
     let at_first : IsOpenPair w.site n t = record { node = inside.node; moment = omega (arith, same, inside.moment); no_exit = inside.no_exit } in
-    tail_more w k (with_stay s n (t + 1) to) (with_stay s n t to) (Pair n (t + 1)) (record { node = n; moment = t }) next next (wait_at n t)
-    (waits_at n (t + 1) c ++ path) rest (wait_step w n t at_first (omega (arith, one, here)))
+    tail_more (with_stay s n t to) (record { node = n; moment = t }) next rest (wait_step w at_first (omega (arith, one, here)))
     (not_in_stay s n (t + 1) to t (omega arith) (off t (omega arith) (omega (arith, same))))
     (λ i u h. stay_longer s n (t + 1) to t to i u (omega arith) (omega arith) h)
     (inr (refl, omega arith, omega (arith, same))) one (omega arith) here
 
 -- a leg: its step, and the waits before it
-tail_leg : (w : Network) (k : ℕ) (s : ℕ → ℕ → Type 0) (e : End) (g : Leg) (x y : Checked) (people : ℕ) (path : List PathStep)
+tail_leg : {w : Network} {k : ℕ} {s : ℕ → ℕ → Type 0} {e : End} (g : Leg) {x y : Checked} {people : ℕ} {path : List PathStep}
     → IsTail w k s e people path → IsStep w g.step (Pair x.spot.node x.spot.moment) e → IsCheckedBack w g.since x y → 1 ≤ x.people → x.people ≤ people
     → x.people ≤ residual_room w g.step → ((u : ℕ) → y.spot.moment ≤ u → u ≤ x.spot.moment → s x.spot.node u → ⊥)
     → IsTail w k (with_stay s x.spot.node y.spot.moment (x.spot.moment + 1)) (Pair y.spot.node y.spot.moment) y.people (waits_of w.site g ++ g.step ∷ path)
-tail_leg w k s e g x y people path tail step back one few room off =
+tail_leg {w} {k} {s} g {x} {y} {people} {path} tail step back one few room off =
     let n = x.spot.node in
     let t = y.spot.moment in
     let to = x.spot.moment in
     let past = x.spot.moment + 1 in
     let some : 1 ≤ y.people = omega (arith, back.some (omega (arith, one))) in
-    let first = tail_more w k s (with_stay s n to past) e x.spot people x.people g.step path tail step (off to back.earlier (omega arith)) (λ i u h. inl h)
+    let first = tail_more (with_stay s n to past) x.spot x.people tail step (off to back.earlier (omega arith)) (λ i u h. inl h)
     (inr (refl, omega arith, omega arith)) one few room in
-    let all = tail_waits (to - t) w k (with_stay s n to past) n t to x.people y.people (g.step ∷ path) (omega (arith, back.earlier)) step.inside first
+    let all = tail_waits (to - t) t y.people (omega (arith, back.earlier)) step.inside first
     (λ u a b. not_in_stay s n to past u b (off u a (omega (arith, b)))) back.room some back.fewer in
-    let wide = tail_wider w k _ (with_stay s n t past) (Pair n t) y.people y.people (waits_at n t (to - t) ++ g.step ∷ path) all
-    (λ i u h. both i u h) some (omega arith) in
+    let wide = tail_wider (with_stay s n t past) y.people all (λ i u h. both i u h) some (omega arith) in
     subst (λ (z : List PathStep). IsTail w k (with_stay s n t past) (Pair y.spot.node t) y.people (z ++ g.step ∷ path)) (sym (ap (λ (z : End). waits_to z g.since) step.start ∙ back.waits))
     (subst (λ (i : ℕ). IsTail w k (with_stay s n t past) (Pair i t) y.people (waits_at n t (to - t) ++ g.step ∷ path)) (sym back.node) wide)
   where
@@ -281,34 +278,31 @@ rises s (Hold m u) n t site place tail = let same : u ≡ t = cc in omega (arith
 rises s (Supply m u) n t site place tail = absurd (cc)
 
 -- a step forwards begins before it stops
-pub begins_before : (w : Network) (y : PathStep) (n t : ℕ) (e : End) → IsSite w.site → IsStep w y (Pair n t) e → y.back ≡ false → t < moment_of e
-begins_before w y n t e site step forwards =
+pub begins_before : {w : Network} {y : PathStep} (n t : ℕ) {e : End} → IsSite w.site → IsStep w y (Pair n t) e → y.back ≡ false → t < moment_of e
+begins_before {w} {y} n t {e} site step forwards =
     let tail : tail_of w.site y.place ≡ Pair n t = rw forwards at step.start in
     let head : head_of w.site y.place ≡ e = rw forwards at step.stop in
     omega (arith, rises w.site y.place n t site step.place tail, ap moment_of head)
 
 -- a check that has gone back over a leg
-pub leg_over : (turns : Bool) (w : Network) (k : ℕ) (m v : MarkTable) (e : End) (g : Leg) (x y : Checked) (people : ℕ) (path : List PathStep)
+pub leg_over : (turns : Bool) {w : Network} {k : ℕ} (m v : MarkTable) {e : End} (g : Leg) {x y : Checked} {people : ℕ} {path : List PathStep}
     → IsTail w k (IsOver turns m e) e people path → IsStep w g.step (Pair x.spot.node x.spot.moment) e → IsCheckedBack w g.since x y → 1 ≤ x.people
     → x.people ≤ people → x.people ≤ residual_room w g.step → (turns ≡ false → x.spot.moment < moment_of e)
     → (turns ≡ true → IsMarkedOver m v x.spot.node y.spot.moment (x.spot.moment + 1))
     → IsTail w k (IsOver turns v (Pair y.spot.node y.spot.moment)) (Pair y.spot.node y.spot.moment) y.people (waits_of w.site g ++ g.step ∷ path)
-leg_over true w k m v e g x y people path tail step back one few room falls marked =
+leg_over true m v {e} g {x} {y} {people} tail step back one few room falls marked =
     let new = marked refl in
-    let leg = tail_leg w k (IsOver true m e) e g x y people path tail step back one few room
-    (λ u a b h. true≢false (sym h ∙ new.fresh u a (omega (arith, b)))) in
-    tail_wider w k _ (IsOver true v (Pair y.spot.node y.spot.moment)) (Pair y.spot.node y.spot.moment) y.people y.people (waits_of w.site g ++ g.step ∷ path) leg
-    (λ i u h. now new i u h) leg.some (omega arith)
+    let leg = tail_leg g tail step back one few room (λ u a b h. true≢false (sym h ∙ new.fresh u a (omega (arith, b)))) in
+    tail_wider (IsOver true v (Pair y.spot.node y.spot.moment)) y.people leg (λ i u h. now new i u h) leg.some (omega arith)
   where
     now : IsMarkedOver m v x.spot.node y.spot.moment (x.spot.moment + 1) → (i u : ℕ)
         → with_stay (IsOver true m e) x.spot.node y.spot.moment (x.spot.moment + 1) i u → is_marked v i u ≡ true
     now new i u (inl h) = new.others i u h
     now new i u (inr h) = subst (λ (z : ℕ). is_marked v z u ≡ true) (sym h.0) (new.here u h.1 h.2)
-leg_over false w k m v e g x y people path tail step back one few room falls marked =
+leg_over false m v {e} g {x} {y} {people} tail step back one few room falls marked =
     let before : x.spot.moment < moment_of e = falls refl in
-    let leg = tail_leg w k (IsOver false m e) e g x y people path tail step back one few room (λ u a b h. absurd (omega (arith, before, b, h))) in
-    tail_wider w k _ (IsOver false v (Pair y.spot.node y.spot.moment)) (Pair y.spot.node y.spot.moment) y.people y.people (waits_of w.site g ++ g.step ∷ path) leg
-    (λ i u h. now before i u h) leg.some (omega arith)
+    let leg = tail_leg g tail step back one few room (λ u a b h. absurd (omega (arith, before, b, h))) in
+    tail_wider (IsOver false v (Pair y.spot.node y.spot.moment)) y.people leg (λ i u h. now before i u h) leg.some (omega arith)
   where
     now : x.spot.moment < moment_of e → (i u : ℕ) → with_stay (IsOver false m e) x.spot.node y.spot.moment (x.spot.moment + 1) i u → y.spot.moment ≤ u
     now before i u (inl h) = omega (arith, before, h, back.earlier)
@@ -317,18 +311,18 @@ leg_over false w k m v e g x y people path tail step back one few room falls mar
 -- ---- marks
 
 -- a node marked at one moment more
-pub marked_more : (m v u : MarkTable) (n from t : ℕ) → IsMarks v → IsIn v n t → IsMarkedOver m v n from t → is_marked v n t ≡ false
+pub marked_more : {m v : MarkTable} (u : MarkTable) {n from t : ℕ} → IsMarks v → IsIn v n t → IsMarkedOver m v n from t → is_marked v n t ≡ false
     → u ≡ with_stamp v n t v.stamp → IsMarkedOver m u n from (t + 1)
-marked_more m v u n from t marks inside old off same = record {
+marked_more {m} {v} u {n} {t} marks inside old off same = record {
   fresh = λ i a b. elim (cases_lt i t) [
     | inl before ↦ old.fresh i a before
     | inr after ↦ (let here : i ≡ t = omega (arith, b, after) in subst (λ (z : ℕ). is_marked m n z ≡ false) (sym here) (not_yet (cases_Bool (is_marked m n t))))
   ];
   here = λ i a b. elim (cases_lt i t) [
-    | inl before ↦ stamped n i (marked_grows v n t n i marks inside (old.here i a before))
-    | inr after ↦ (let here : t ≡ i = omega (arith, b, after) in stamped n i (subst (λ (z : ℕ). is_marked (with_stamp v n t v.stamp) n z ≡ true) here (marked_here v n t marks inside)))
+    | inl before ↦ stamped n i (marked_grows n i marks inside (old.here i a before))
+    | inr after ↦ (let here : t ≡ i = omega (arith, b, after) in stamped n i (subst (λ (z : ℕ). is_marked (with_stamp v n t v.stamp) n z ≡ true) here (marked_here marks inside)))
   ];
-  others = λ i j h. stamped i j (marked_grows v n t i j marks inside (old.others i j h));
+  others = λ i j h. stamped i j (marked_grows i j marks inside (old.others i j h));
 }
   where
     stamped : (i j : ℕ) → is_marked (with_stamp v n t v.stamp) i j ≡ true → is_marked u i j ≡ true
@@ -339,21 +333,21 @@ marked_more m v u n from t marks inside old off same = record {
     not_yet (inr h) = h
 
 -- marks on the same nodes and moments with one more
-pub marked_on : (m v u : MarkTable) (n t : ℕ) → IsMarkedOn m v → u ≡ with_stamp v n t v.stamp → IsMarks u → IsMarkedOn m u
-marked_on m v u n t on same marks = record {
+pub marked_on : {m v u : MarkTable} (n t : ℕ) → IsMarkedOn m v → u ≡ with_stamp v n t v.stamp → IsMarks u → IsMarkedOn m u
+marked_on n t on same marks = record {
   nodes = ap (λ (z : MarkTable). z.nodes) same ∙ on.nodes;
   horizon = ap (λ (z : MarkTable). z.horizon) same ∙ on.horizon;
   marks = λ _. marks;
 }
 
-pub marked_on_then : (m v u : MarkTable) → IsMarkedOn m v → IsMarkedOn v u → IsMarkedOn m u
-marked_on_then m v u a b = record {
+pub marked_on_then : {m v u : MarkTable} → IsMarkedOn m v → IsMarkedOn v u → IsMarkedOn m u
+marked_on_then a b = record {
   nodes = b.nodes ∙ a.nodes;
   horizon = b.horizon ∙ a.horizon;
   marks = λ h. b.marks (a.marks h);
 }
 
 -- a push along a path that was checked
-pub carried_pushed : (w v : Network) (k people : ℕ) (path : List PathStep) → IsNet v → IsWithinLimits v → 1 ≤ people → CarriesPeople w k path people
+pub carried_pushed : {w v : Network} (k : ℕ) {people : ℕ} {path : List PathStep} → IsNet v → IsWithinLimits v → 1 ≤ people → CarriesPeople w k path people
     → IsPushed w v path people → IsPushedOn w v k 1
-carried_pushed w v k people path net within one carried pushed = pushed_on w v path people carried.0 k net within one carried.1 pushed
+carried_pushed k net within one carried pushed = pushed_on net within one carried.1 pushed

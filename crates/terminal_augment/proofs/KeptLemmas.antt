@@ -25,9 +25,9 @@ net_of_kept m w v kept of = record {
   limits = λ p i. let there : IsPlace w.site p = subst (λ (s : Site). IsPlace s p) kept.site i in kept.limits p there ∙ of.limits p there;
 }
 
-pub supplies_kept : (w v : Network) → KeepsLimits w v → supply_limits v ≡ supply_limits w
+pub supplies_kept : {w v : Network} → KeepsLimits w v → supply_limits v ≡ supply_limits w
 unfolding supply_limits
-supplies_kept w v kept =
+supplies_kept {w} {v} kept =
     ap (λ s. sum_places s (λ q. cond (is_source (tail_of s q)) (limit_at v q) 0)) kept.site
     ∙ sum_places-same w.site _ _ (λ q i. ap (λ z. cond (is_source (tail_of w.site q)) z 0) (kept.limits q i))
 
@@ -38,7 +38,7 @@ pub over_before : (w v : Network) (k : ℕ) → KeepsLimits w v → IsNet w → 
 over_before w v k kept net within net_v within_v earlier late sent before =
     let by_last = arrived_by_last v net_v (k - 1) (omega (arith, before)) in
     let by_then : arrived_by w (k - 1) ≡ supply_limits w =
-    sym (earlier (k - 1) (omega (arith, before))) ∙ by_last ∙ sent_arrive v net_v within_v sent ∙ supplies_kept w v kept in
+    sym (earlier (k - 1) (omega (arith, before))) ∙ by_last ∙ sent_arrive v net_v within_v sent ∙ supplies_kept kept in
     let rises = arrived_rises w (k - 1) w.site.shape.horizon (omega (arith, late)) in
     let everybody : arrived_by w w.site.shape.horizon ≡ supply_limits w = omega (arith, by_then, rises, few_arrive w net within) in
     (arrived_sent w net within everybody, omega (arith, before, last_by_arrived w net (k - 1) (by_then ∙ sym everybody)))

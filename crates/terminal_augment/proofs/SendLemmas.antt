@@ -15,7 +15,7 @@ use Rattle.residual_net.specs.Site.{Site, IsPlace, door_by, head_of, start_of, s
 use Rattle.time_expansion.specs.declared.limits.TheConstants.{HORIZON_LIMIT}
 use Rattle.time_expansion.proofs.Cells.{sizes}
 use Rattle.residual_net.specs.Limits.{supply_limit}
-use Rattle.residual_net.proofs.Places.{cond_most}
+use Rattle.evac_law.proofs.SumLemmas.{cond_le}
 use Rattle.residual_net.proofs.Arrivals.{arrived_all, arrivals_fit}
 use Rattle.residual_net.proofs.Effects.{push_moves}
 use Rattle.residual_net.proofs.Survive.{closed_survives}
@@ -99,9 +99,9 @@ pub record IsBegun (w : Network) (k : ℕ) (ms : List Met) (y : PathStep) : Type
   pub stop : stop_of w.site y ≡ top_end k ms
   pub origin : IsOrigin k (start_of w.site y)
 
-chain_augments : (w : Network) (k : ℕ) (ms : List Met) (y : PathStep) (people : ℕ) → IsBegun w k ms y → IsChain w.site k ms
+chain_augments : {w : Network} {k : ℕ} {ms : List Met} {y : PathStep} (people : ℕ) → IsBegun w k ms y → IsChain w.site k ms
     → All (λ (z : PathStep). people ≤ residual_room w z) (y ∷ steps_of ms) → IsAugmentingPath w (y ∷ steps_of ms) people (start_of w.site y) k
-chain_augments w k ms y people begun chain room = record {
+chain_augments {w} {k} {ms} {y} people begun chain room = record {
   origin = begun.origin;
   leads = (refl, subst (λ (e : End). Leads w.site e (steps_of ms) (Door k)) (sym begun.stop) (chain_leads w.site k ms chain));
   places = all_cons (λ (z : PathStep). IsPlace w.site z.place) y (steps_of ms) begun.place
@@ -114,14 +114,14 @@ chain_augments w k ms y people begun chain room = record {
 pub augments : (w : Network) (k : ℕ) (ms : List Met) (y : PathStep) (people : ℕ) (path : List PathStep) → IsBegun w k ms y → IsChain w.site k ms
     → path ≡ y ∷ steps_of ms → All (λ (z : PathStep). people ≤ residual_room w z) path → IsAugmentingPath w path people (start_of w.site y) k
 augments w k ms y people path begun chain same room =
-    let here = chain_augments w k ms y people begun chain (subst (λ (p : List PathStep). All (λ (z : PathStep). people ≤ residual_room w z) p) same room) in
+    let here = chain_augments people begun chain (subst (λ (p : List PathStep). All (λ (z : PathStep). people ≤ residual_room w z) p) same room) in
     subst (λ (p : List PathStep). IsAugmentingPath w p people (start_of w.site y) k) (sym same) here
 
 -- the path by which a flood came to somebody
-pub found_augments : (w : Network) (k : ℕ) (ms : List Met) (y : PathStep) (people : ℕ) (path : List PathStep) → AreMet w k ms → IsFound w k ms y
+pub found_augments : {w : Network} {k : ℕ} {ms : List Met} {y : PathStep} (people : ℕ) (path : List PathStep) → AreMet w k ms → IsFound w k ms y
     → path ≡ y ∷ steps_of (way_on w.site (stop_of w.site y) ms) → All (λ (z : PathStep). people ≤ residual_room w z) path
     → IsAugmentingPath w path people (start_of w.site y) k
-found_augments w k ms y people path met found same room =
+found_augments {w} {k} {ms} {y} people path met found same room =
     let way = leads_on w k (stop_of w.site y) ms met found.stop in
     augments w k (way_on w.site (stop_of w.site y) ms) y people path (record { place = found.place; stop = sym way.top; origin = found.origin }) way.chain same room
 
@@ -145,9 +145,9 @@ cond_all : (b : Bool) (x : ℕ) → b ≡ true → cond b x 0 ≡ x
 cond_all true x e = refl
 cond_all false x e = absurd (cc)
 
-pub pushed_on : (w v : Network) (path : List PathStep) (x : ℕ) (e : End) (k : ℕ) → IsNet v → IsWithinLimits v → 1 ≤ x
+pub pushed_on : {w v : Network} {path : List PathStep} {x : ℕ} {e : End} {k : ℕ} → IsNet v → IsWithinLimits v → 1 ≤ x
     → IsAugmentingPath w path x e k → IsPushed w v path x → IsPushedOn w v k 1
-pushed_on w v path x e k net within one p a = record {
+pushed_on {w} {v} {path} {x} {e} {k} net within one p a = record {
   limits = record { site = a.site; saved = a.saved; limits = a.limits };
   within = within;
   net = net;
@@ -165,10 +165,10 @@ pushed_on w v path x e k net within one p a = record {
 
     by : (i : ℕ) → (i < k) ⊎ (k ≤ i) → arrived_by w i ≤ arrived_by v i
     by i (inl l) = omega (arith, moves i, cond_none (door_by i e) x (early k i e p.origin (omega (arith, l))), cond_none (leb k i) x (lt-leb k i l))
-    by i (inr l) = omega (arith, moves i, cond_most (door_by i e) x, cond_all (leb k i) x (le-leb k i l))
+    by i (inr l) = omega (arith, moves i, cond_le (door_by i e) x, cond_all (leb k i) x (le-leb k i l))
 
-pub pushed_none : (w : Network) (k : ℕ) → IsNet w → IsWithinLimits w → IsPushedOn w w k 0
-pushed_none w k net within = record {
+pub pushed_none : {w : Network} (k : ℕ) → IsNet w → IsWithinLimits w → IsPushedOn w w k 0
+pushed_none {w} k net within = record {
   limits = limits_stay w;
   within = within;
   net = net;
@@ -176,8 +176,8 @@ pushed_none w k net within = record {
   closed = λ s i l closed. closed;
 }
 
-pub pushed_more : (w v u : Network) (k a b c : ℕ) → IsPushedOn w v k a → IsPushedOn v u k b → a + b ≡ c → IsPushedOn w u k c
-pushed_more w v u k a b c p q e = record {
+pub pushed_more : {w v u : Network} {k a b : ℕ} (c : ℕ) → IsPushedOn w v k a → IsPushedOn v u k b → a + b ≡ c → IsPushedOn w u k c
+pushed_more {w} {v} {u} c p q e = record {
   limits = limits_then w v u p.limits q.limits;
   within = q.within;
   net = q.net;
@@ -190,13 +190,13 @@ pushed_more w v u k a b c p q e = record {
   closed = λ s i l closed. q.closed s i l (p.closed s i l closed);
 }
 
-pub counted_none : (w : Network) (k before : ℕ) → IsNet w → IsWithinLimits w → IsCountedOn w w k 0 before before
-counted_none w k before net within = record { pushed = pushed_none w k net within; ticked = omega arith }
+pub counted_none : {w : Network} (k before : ℕ) → IsNet w → IsWithinLimits w → IsCountedOn w w k 0 before before
+counted_none k before net within = record { pushed = pushed_none k net within; ticked = omega arith }
 
-pub counted_more : (w v u : Network) (k a b c before next after : ℕ) → IsCountedOn w v k a before next → IsCountedOn v u k b next after → a + b ≡ c
+pub counted_more : {w v u : Network} {k a b : ℕ} (c : ℕ) {before next after : ℕ} → IsCountedOn w v k a before next → IsCountedOn v u k b next after → a + b ≡ c
     → IsCountedOn w u k c before after
-counted_more w v u k a b c before next after p q e = record {
-  pushed = pushed_more w v u k a b c p.pushed q.pushed e;
+counted_more c p q e = record {
+  pushed = pushed_more c p.pushed q.pushed e;
   ticked = omega (arith, p.ticked, q.ticked, e);
 }
 
@@ -209,8 +209,8 @@ pub horizon_small : (w : Network) → IsNet w → w.site.shape.horizon ≤ HORIZ
 horizon_small w n = (sizes w.site.shape n.site.shape).horizon
 
 -- what is settled stays so by pushes to the moment after
-pub settled_pushed : (w v : Network) (l : LabelTable) (k pushes : ℕ) → IsPushedOn w v k pushes → IsSettledBelow w l k → IsSettledBelow v l k
-settled_pushed w v l k pushes p old = record {
+pub settled_pushed : {w v : Network} {l : LabelTable} {k pushes : ℕ} → IsPushedOn w v k pushes → IsSettledBelow w l k → IsSettledBelow v l k
+settled_pushed {l} {k} p old = record {
   within = p.within;
   labels = subst (λ (s : Site). IsLabelsOf s l) (sym p.limits.site) old.labels;
   moment = subst (λ (s : Site). k ≤ s.shape.horizon) (sym p.limits.site) old.moment;

@@ -34,11 +34,11 @@ in_stops s a t P h = elim (cases_Bool (leb (arrival_at s a 0) t)) [
 abbrev pub Done : Network → LabelTable → ℕ → Place → Bool → Type 0
 Done w l k p b = IsDone w l k (record { place = p; back = b })
 
-pub expanded_by : (w : Network) (l : LabelTable) (k n t : ℕ) → IsOpenPair w.site n t → IsDone w l k (record { place = Supply n t; back = false })
+pub expanded_by : (w : Network) (l : LabelTable) (k : ℕ) {n t : ℕ} → IsOpenPair w.site n t → IsDone w l k (record { place = Supply n t; back = false })
     → ((i : ℕ) → i < in_count w.site n → IsWayDone w l k (way_in w.site (get_or (arcs_to w.site.shape n) i 0) t)) → IsWayDone w l k (way_before n t)
     → ((i : ℕ) → i < out_count w.site n → IsDone w l k (record { place = Arc (get_or (arcs_from w.site.shape n) i 0) t; back = true }))
     → IsDone w l k (record { place = Hold n t; back = true }) → IsExpanded w l k n t
-expanded_by w l k n t inside supply entering before leaving after y place stop = by y.place y.back place stop
+expanded_by w l k {n} {t} inside supply entering before leaving after y place stop = by y.place y.back place stop
   where
     by : (p : Place) (b : Bool) → IsPlace w.site p → stop_of w.site (record { place = p; back = b }) ≡ Pair n t → Done w l k p b
     by (Supply i u) true at e = absurd (cc)

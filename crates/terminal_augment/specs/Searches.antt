@@ -10,3 +10,7 @@ pub record AreBuffers (n h : ℕ) (x : Buffers) : Type 0 where
   pub horizon : x.marks.horizon ≡ h
   pub queue : n * (h + 1) ≤ x.queue.room
   pub path : x.queue.room + 1 ≤ x.path.room
+
+-- scratch that is used stays scratch for the same nodes and horizon
+abbrev pub KeepsBuffers : Buffers → Buffers → Type 0
+KeepsBuffers x y = (n h : ℕ) → AreBuffers n h x → AreBuffers n h y

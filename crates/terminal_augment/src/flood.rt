@@ -12,59 +12,54 @@ ghost use Rattle.terminal_augment.specs.Spots.{has};
 ghost use Rattle.terminal_augment.specs.Ways.{IsArcAt, in_count, out_count, way_before, way_in};
 
 use crate::queue::Queue;
-use crate::spot::{Met, Spot};
+use crate::spot::{ArcAt, Met, Spot};
 use crate::steps::{back, forth};
 use evac_law::Labels;
 use residual_net::{End, Net, PathStep, Place};
 
 // Meets the pair at which a step starts, if the step may be taken. Whether it is.
-fn meet(
-    net: &Net,
-    labels: &mut Labels,
-    queue: &mut Queue<Met>,
-    spot: Spot,
-    step: PathStep,
-    k: u16,
-) -> bool
-    requires place { IsPlace net.now.site step.place }
-    requires start { start_of net.now.site step ≡ Pair spot.node spot.moment }
-    requires inside { IsOpenPair net.now.site spot.node spot.moment }
-    requires stop { IsAmong k (spots queue.old.list) (stop_of net.now.site step) }
+fn meet(net: &Net, labels: &mut Labels, queue: &mut Queue<Met>, met: Met, k: u16) -> bool
+    requires place { IsPlace net.now.site met.step.place }
+    requires start { start_of net.now.site met.step ≡ Pair met.spot.node met.spot.moment }
+    requires inside { IsOpenPair net.now.site met.spot.node met.spot.moment }
+    requires stop { IsAmong k (spots queue.old.list) (stop_of net.now.site met.step) }
     requires flooding { IsFlooding net.now labels.old k queue.old }
     ensures flooding { IsFlooding net.now labels.new k queue.new }
     ensures grown { IsGrown k labels.old labels.new queue.old queue.new }
-    ensures done { IsDone net.now labels.new k step }
-    ensures met { IsTrue result → IsTrue (has (spots queue.new.list) spot.node spot.moment) }
+    ensures done { IsDone net.now labels.new k met.step }
+    ensures met { IsTrue result → IsTrue (has (spots queue.new.list) met.spot.node met.spot.moment) }
 {
+    let spot = met.spot;
     if labels.get(spot.node, spot.moment) <= k {
         return false;
     }
-    if net.room(step) == 0 {
+    if net.room(met.step) == 0 {
         return false;
     }
     labels.set(spot.node, spot.moment, k);
-    queue.push(Met { spot, step });
+    queue.push(met);
     true
 }
 
 // Meets the pair at which an arc begins by which people come to its end at a moment.
-fn meet_in(net: &Net, labels: &mut Labels, queue: &mut Queue<Met>, arc: u32, moment: u16, k: u16)
-    requires arc { IsArcAt net.now.site arc moment }
-    requires stop { MatchOption (way_in net.now.site arc moment) (Unit {0}) (λ y. IsAmong k (spots queue.old.list) (stop_of net.now.site y)) }
+fn meet_in(net: &Net, labels: &mut Labels, queue: &mut Queue<Met>, at: ArcAt, k: u16)
+    requires arc { IsArcAt net.now.site at.arc at.moment }
+    requires stop { MatchOption (way_in net.now.site at.arc at.moment) (Unit {0}) (λ y. IsAmong k (spots queue.old.list) (stop_of net.now.site y)) }
     requires flooding { IsFlooding net.now labels.old k queue.old }
     ensures flooding { IsFlooding net.now labels.new k queue.new }
     ensures grown { IsGrown k labels.old labels.new queue.old queue.new }
-    ensures done { IsWayDone net.now labels.new k (way_in net.now.site arc moment) }
+    ensures done { IsWayDone net.now labels.new k (way_in net.now.site at.arc at.moment) }
 {
+    let arc = at.arc;
     let travel = net.travel(arc);
-    if travel > moment {
+    if travel > at.moment {
         return;
     }
-    let moment = moment - travel;
+    let moment = at.moment - travel;
     let node = net.shape().ends()[arc as usize].from;
     let spot = Spot { node, moment };
     let step = forth(Place::Arc { arc, moment });
-    meet(net, labels, queue, spot, step, k);
+    meet(net, labels, queue, Met { spot, step }, k);
 }
 
 // Meets the pairs at which the arcs begin by which people come to a pair.
@@ -77,8 +72,10 @@ fn expand_in(net: &Net, labels: &mut Labels, queue: &mut Queue<Met>, spot: Spot,
     ensures done { (i : ℕ) → i < in_count net.now.site spot.node → IsWayDone net.now labels.new k (way_in net.now.site (slice_index (arcs_to net.now.site.shape spot.node) i) spot.moment) }
 {
     let entering = net.shape().entering(spot.node);
+    let moment = spot.moment;
     for i in 0..entering.len() {
-        meet_in(net, labels, queue, entering[i], spot.moment, k);
+        let arc = entering[i];
+        meet_in(net, labels, queue, ArcAt { arc, moment }, k);
     }
 }
 
@@ -98,7 +95,7 @@ fn meet_before(net: &Net, labels: &mut Labels, queue: &mut Queue<Met>, spot: Spo
         moment -= 1;
         let spot = Spot { node, moment };
         let step = forth(Place::Hold { node, moment });
-        if !meet(net, labels, queue, spot, step, k) {
+        if !meet(net, labels, queue, Met { spot, step }, k) {
             return;
         }
     }
@@ -121,7 +118,7 @@ fn meet_after(net: &Net, labels: &mut Labels, queue: &mut Queue<Met>, spot: Spot
     let step = back(Place::Hold { node, moment });
     let moment = moment + 1;
     let spot = Spot { node, moment };
-    meet(net, labels, queue, spot, step, k);
+    meet(net, labels, queue, Met { spot, step }, k);
 }
 
 // Meets the pair to which an arc leads by which people leave a pair. A step by which somebody may be sent to that pair, if there is
@@ -130,17 +127,17 @@ fn meet_out(
     net: &Net,
     labels: &mut Labels,
     queue: &mut Queue<Met>,
-    arc: u32,
-    moment: u16,
+    at: ArcAt,
     k: u16,
 ) -> Option<PathStep>
-    requires arc { IsArcAt net.now.site arc moment }
-    requires stop { IsAmong k (spots queue.old.list) (tail_of net.now.site (Arc arc moment)) }
+    requires arc { IsArcAt net.now.site at.arc at.moment }
+    requires stop { IsAmong k (spots queue.old.list) (tail_of net.now.site (Arc at.arc at.moment)) }
     requires flooding { IsFlooding net.now labels.old k queue.old }
     ensures flooding { IsFlooding net.now labels.new k queue.new }
     ensures grown { IsGrown k labels.old labels.new queue.old queue.new }
-    ensures found { MatchOption result (IsDone net.now labels.new k (record { place = Arc arc moment; back = true })) (λ y. IsFound net.now k queue.new.list y) }
+    ensures found { MatchOption result (IsDone net.now labels.new k (record { place = Arc at.arc at.moment; back = true })) (λ y. IsFound net.now k queue.new.list y) }
 {
+    let ArcAt { arc, moment } = at;
     if net.moved(arc, moment) == 0 {
         return None;
     }
@@ -148,7 +145,7 @@ fn meet_out(
     match net.start(step) {
         End::Pair { node, moment } => {
             let spot = Spot { node, moment };
-            meet(net, labels, queue, spot, step, k);
+            meet(net, labels, queue, Met { spot, step }, k);
             None
         }
         End::Door(arrival) => (k < arrival).then_some(step),
@@ -177,7 +174,8 @@ fn expand_out(
     let leaving = net.shape().leaving(spot.node);
     let moment = spot.moment;
     for i in 0..leaving.len() {
-        if let Some(found) = meet_out(net, labels, queue, leaving[i], moment, k) {
+        let arc = leaving[i];
+        if let Some(found) = meet_out(net, labels, queue, ArcAt { arc, moment }, k) {
             return Some(found);
         }
     }
@@ -220,7 +218,7 @@ fn seed(net: &Net, labels: &mut Labels, queue: &mut Queue<Met>, arc: u32, k: u16
 {
     let node = net.shape().ends()[arc as usize].to;
     if net.is_exit(node) {
-        meet_in(net, labels, queue, arc, k, k);
+        meet_in(net, labels, queue, ArcAt { arc, moment: k }, k);
     }
 }
 
@@ -246,8 +244,7 @@ fn expand_all(net: &Net, labels: &mut Labels, queue: &mut Queue<Met>, k: u16) ->
 {
     let mut front = 0;
     while front < queue.len() {
-        let after = queue.len() - front - 1;
-        let spot = queue.from_back(after).spot;
+        let spot = queue.get(front).spot;
         if let Some(found) = expand(net, labels, queue, spot, k) {
             return Some(found);
         }

@@ -6,12 +6,13 @@ ghost use Rattle.residual_net.specs.Network.{IsNet, IsWithinLimits, residual_roo
 ghost use Rattle.residual_net.specs.Site.{IsOpenEnd, IsOpenPair};
 ghost use Rattle.terminal_augment.specs.Hints.{CarriesPeople, IsCheckedOver, IsMarkedOn, IsMarkedOver, IsMarksOf, IsStep};
 ghost use Rattle.terminal_augment.specs.Marking.{IsMarks};
+ghost use Rattle.terminal_augment.specs.Searches.{AreBuffers, KeepsBuffers};
 ghost use Rattle.terminal_augment.specs.Settled.{IsCountedOn};
 
+use crate::buffers::Buffers;
 use crate::marks::Marks;
 use crate::spot::Spot;
 use evac_law::Steps;
-use guided_search::PathFinder;
 use residual_net::{Cell, End, Leg, Net, PathStep, Transit};
 use std::sync::ledger::Ledger;
 
@@ -184,29 +185,28 @@ fn carried(net: &Net, marks: &mut Marks, legs: &[Leg], most: u32, k: u16) -> u32
 /// Sends people to a moment along paths that are hinted at, until a hint is wrong or there is none.
 pub fn send_hinted<L: Ledger>(
     net: &mut Net,
-    marks: &mut Marks,
-    finder: &mut PathFinder,
+    buffers: &mut Buffers,
     k: u16,
     steps: &mut Steps<L>,
 ) -> u32
     requires net { IsNet net.old }
     requires within { IsWithinLimits net.old }
     requires moment { k ≤ net.old.site.shape.horizon }
-    requires marks { IsMarksOf net.old.site marks.old }
-    ensures marks { IsMarkedOn marks.old marks.new }
+    requires buffers { AreBuffers net.old.site.shape.nodes net.old.site.shape.horizon buffers.old }
+    ensures buffers { KeepsBuffers buffers.old buffers.new }
     ensures counted { IsCountedOn net.old net.new k result steps.old steps.new }
 {
     let mut pushes = 0;
-    while finder.find(net) {
-        let most = finder.most();
-        let legs = finder.lay();
-        marks.clear();
-        let people = carried(net, marks, legs, most, k);
+    while buffers.finder.find(net) {
+        let most = buffers.finder.most();
+        let legs = buffers.finder.lay();
+        buffers.marks.clear();
+        let people = carried(net, &mut buffers.marks, legs, most, k);
         if people == 0 {
             return pushes;
         }
         net.push_legs(legs, people, steps);
-        finder.sent(net, people);
+        buffers.finder.sent(net, people);
         pushes += 1;
     }
     pushes

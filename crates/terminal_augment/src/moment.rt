@@ -4,38 +4,29 @@ ghost use Rattle.evac_law.specs.Building.{IsValid};
 ghost use Rattle.residual_net.specs.Network.{IsNet};
 ghost use Rattle.residual_net.specs.OfModel.{site_of};
 ghost use Rattle.terminal_augment.specs.Floods.{HaveSameLabels, IsFloodOver};
-ghost use Rattle.terminal_augment.specs.Searches.{AreBuffers};
+ghost use Rattle.terminal_augment.specs.Searches.{AreBuffers, KeepsBuffers};
 ghost use Rattle.terminal_augment.specs.Settled.{IsClosedBelow, IsCountedOn, IsLabelled, IsSearchOf, IsSettledBelow};
 
 use crate::buffers::Buffers;
 use crate::flood::flood;
 use crate::hint::send_hinted;
 use crate::path::send_found;
-use crate::queue::Queue;
-use crate::spot::Met;
 use evac_law::{Labels, Steps};
-use guided_search::PathFinder;
 use residual_net::Net;
 use std::alloc::{AllocError, Global};
 use std::marker::Model;
 use std::sync::ledger::Ledger;
 
 // Whether everybody is sent and nobody can arrive sooner, where that is worth a flood of its own.
-fn is_over(
-    net: &Net,
-    labels: &mut Labels,
-    queue: &mut Queue<Met>,
-    finder: &mut PathFinder,
-    k: u16,
-) -> bool
+fn is_over(net: &Net, labels: &mut Labels, buffers: &mut Buffers, k: u16) -> bool
     requires net { IsNet net.now }
     requires settled { IsSettledBelow net.now labels.old k }
-    requires room { net.now.site.shape.nodes * (net.now.site.shape.horizon + 1) ≤ queue.old.room }
+    requires buffers { AreBuffers net.now.site.shape.nodes net.now.site.shape.horizon buffers.old }
     ensures over { IsTrue result → IsFloodOver net.now labels.old labels.new k }
     ensures alike { IsFalse result → HaveSameLabels labels.old labels.new }
-    ensures room { queue.new.room ≡ queue.old.room }
+    ensures buffers { KeepsBuffers buffers.old buffers.new }
 {
-    finder.floods_first(net, k) && flood(net, labels, queue, k).is_none()
+    buffers.finder.floods_first(net, k) && flood(net, labels, &mut buffers.queue, k).is_none()
 }
 
 // Settles a moment with the scratch of a search: along hinted paths, and where a flood still comes to somebody, along its path, until it
@@ -44,7 +35,6 @@ fn settle_with<L: Ledger>(
     net: &mut Net,
     labels: &mut Labels,
     buffers: &mut Buffers,
-    finder: &mut PathFinder,
     k: u16,
     steps: &mut Steps<L>,
 ) -> u32
@@ -56,15 +46,15 @@ fn settle_with<L: Ledger>(
     ensures buffers { AreBuffers net.new.site.shape.nodes net.new.site.shape.horizon buffers.new }
 {
     let _ = net.shape();
-    if is_over(net, labels, &mut buffers.queue, finder, k) {
+    if is_over(net, labels, buffers, k) {
         return 0;
     }
-    finder.begin(net, labels, k);
-    let mut pushes = send_hinted(net, &mut buffers.marks, finder, k, steps);
+    buffers.finder.begin(net, labels, k);
+    let mut pushes = send_hinted(net, buffers, k, steps);
     while let Some(found) = flood(net, labels, &mut buffers.queue, k) {
-        send_found(net, &buffers.queue, &mut buffers.path, found, k, steps);
-        finder.miss(net);
-        pushes += 1 + send_hinted(net, &mut buffers.marks, finder, k, steps);
+        send_found(net, buffers, found, k, steps);
+        buffers.finder.miss(net);
+        pushes += 1 + send_hinted(net, buffers, k, steps);
     }
     pushes
 }
@@ -73,7 +63,6 @@ fn settle_with<L: Ledger>(
 #[derive(Drop)]
 pub struct Search {
     buffers: Buffers,
-    finder: PathFinder,
 }
 
 impl Model for Search {
@@ -93,23 +82,22 @@ impl Search {
         requires { IsValid model.now }
         ensures { IfOk result (IsSearchOf (site_of model.now)) }
     {
-        let buffers = Buffers::new(alloc, model.node_count(), model.horizon)?;
-        let finder = PathFinder::new(alloc, model)?;
-        Ok(Search { buffers, finder })
+        let buffers = Buffers::new(alloc, model)?;
+        Ok(Search { buffers })
     }
 
     /// Forgets what earlier moments told, as the flow or the limits of the net aren't what they were.
     pub fn renew(&mut self)
         ensures { self.new ≡ self.old }
     {
-        self.finder.renew();
+        self.buffers.finder.renew();
     }
 
     /// Recalls the flow that a net saved last: where an edit is undone, the net comes to it again.
     pub fn recall(&mut self, net: &Net)
         ensures { self.new ≡ self.old }
     {
-        self.finder.recall(net);
+        self.buffers.finder.recall(net);
     }
 }
 
@@ -129,12 +117,5 @@ pub fn settle<L: Ledger>(
     ensures closed { IsClosedBelow net.new labels.new (k + 1) }
     ensures search { search.new ≡ search.old }
 {
-    settle_with(
-        net,
-        labels,
-        &mut search.buffers,
-        &mut search.finder,
-        k,
-        steps,
-    )
+    settle_with(net, labels, &mut search.buffers, k, steps)
 }

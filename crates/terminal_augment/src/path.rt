@@ -4,8 +4,10 @@ ghost use Rattle.std.specs.List.{All};
 ghost use Rattle.residual_net.specs.Network.{IsWithinLimits, residual_room};
 ghost use Rattle.residual_net.specs.Site.{IsPlace, stop_of};
 ghost use Rattle.terminal_augment.specs.Chains.{AreMet, IsFound, is_at, steps_of, way_on};
+ghost use Rattle.terminal_augment.specs.Searches.{KeepsBuffers};
 ghost use Rattle.terminal_augment.specs.Settled.{IsCountedOn};
 
+use crate::buffers::Buffers;
 use crate::queue::Queue;
 use crate::spot::{Met, Spot};
 use evac_law::Steps;
@@ -53,19 +55,18 @@ fn lay(net: &Net, path: &mut Path, queue: &Queue<Met>, found: PathStep) -> u32
 /// Sends people by a step to one of the pairs that a flood met, and on from there to the moment.
 pub fn send_found<L: Ledger>(
     net: &mut Net,
-    queue: &Queue<Met>,
-    path: &mut Path,
+    buffers: &mut Buffers,
     found: PathStep,
     k: u16,
     steps: &mut Steps<L>,
 )
     requires within { IsWithinLimits net.old }
-    requires space { length queue.now.list < path.old.room }
-    requires met { AreMet net.old k queue.now.list }
-    requires found { IsFound net.old k queue.now.list found }
+    requires space { length buffers.old.queue.list < buffers.old.path.room }
+    requires met { AreMet net.old k buffers.old.queue.list }
+    requires found { IsFound net.old k buffers.old.queue.list found }
     ensures counted { IsCountedOn net.old net.new k 1 steps.old steps.new }
-    ensures room { path.new.room ≡ path.old.room }
+    ensures buffers { KeepsBuffers buffers.old buffers.new }
 {
-    let people = lay(net, path, queue, found);
-    net.push(path, people, steps);
+    let people = lay(net, &mut buffers.path, &buffers.queue, found);
+    net.push(&buffers.path, people, steps);
 }

@@ -1,5 +1,5 @@
 //! A queue in memory that is reserved once.
-ghost use Rattle.std.specs.Prelude.{◌≡◌, ◌<◌, [], ◌∷◌, IfOk, length, slice_index_or};
+ghost use Rattle.std.specs.Prelude.{◌≡◌, ◌-◌, ◌<◌, [], ◌∷◌, IfOk, length, slice_index_or};
 
 use std::alloc::{AllocError, Global};
 use std::marker::Model;
@@ -52,6 +52,14 @@ impl<T: Copy + Drop> Queue<T> {
         ensures { result ≡ length self.now.list }
     {
         self.items.len()
+    }
+
+    /// The thing before which so many others were added.
+    pub fn get(&self, number: usize) -> T
+        requires { number < length self.now.list }
+        ensures { result ≡ slice_index_or self.now.list (length self.now.list - number - 1) result }
+    {
+        self.items[number]
     }
 
     /// The thing after which so many others were added.

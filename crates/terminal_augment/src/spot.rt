@@ -9,6 +9,13 @@ pub struct Spot {
     pub moment: u16,
 }
 
+/// An arc at a moment.
+#[derive(Clone, Copy)]
+pub struct ArcAt {
+    pub arc: u32,
+    pub moment: u16,
+}
+
 /// A node at a moment that a flood met, and the step from there by which it did.
 #[derive(Clone, Copy)]
 pub struct Met {

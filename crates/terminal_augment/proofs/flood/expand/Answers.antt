@@ -10,64 +10,36 @@ none_weaker None P Q R f h = f h
 none_weaker (Some y) P Q R f h = h
 
 pub meet_before-requires-clause-met : goal.meet_before-requires-clause-met
-meet_before-requires-clause-met c =
-    has_later c.args.k c.args.labels.now c.expand_in.new.labels c.args.queue.now c.expand_in.new.queue c.args.spot.node c.args.spot.moment c.expand_in.ensures.grown c.requires.met
+meet_before-requires-clause-met c = has_later c.args.spot.node c.args.spot.moment c.expand_in.ensures.grown c.requires.met
 
 pub meet_after-requires-clause-met : goal.meet_after-requires-clause-met
 meet_after-requires-clause-met c =
-    let k = c.args.k in
-    let l = c.args.labels.now in
-    let b = c.expand_in.new.labels in
-    let d = c.meet_before.new.labels in
-    let both = grown_then k l b d c.args.queue.now c.expand_in.new.queue c.meet_before.new.queue c.expand_in.ensures.grown c.meet_before.ensures.grown in
-    has_later k l d c.args.queue.now c.meet_before.new.queue c.args.spot.node c.args.spot.moment both c.requires.met
+    let both = grown_then c.expand_in.ensures.grown c.meet_before.ensures.grown in
+    has_later c.args.spot.node c.args.spot.moment both c.requires.met
 
 pub expand_out-requires-clause-met : goal.expand_out-requires-clause-met
 expand_out-requires-clause-met c =
-    let k = c.args.k in
-    let l = c.args.labels.now in
-    let b = c.expand_in.new.labels in
-    let d = c.meet_before.new.labels in
-    let e = c.meet_after.new.labels in
-    let x = c.args.queue.now in
-    let both = grown_then k l b d x c.expand_in.new.queue c.meet_before.new.queue c.expand_in.ensures.grown c.meet_before.ensures.grown in
-    let three = grown_then k l d e x c.meet_before.new.queue c.meet_after.new.queue both c.meet_after.ensures.grown in
-    has_later k l e x c.meet_after.new.queue c.args.spot.node c.args.spot.moment three c.requires.met
+    let both = grown_then c.expand_in.ensures.grown c.meet_before.ensures.grown in
+    let three = grown_then both c.meet_after.ensures.grown in
+    has_later c.args.spot.node c.args.spot.moment three c.requires.met
 
 pub returns-clause-grown : goal.returns-clause-grown
 returns-clause-grown c =
-    let k = c.args.k in
-    let l = c.args.labels.now in
-    let b = c.expand_in.new.labels in
-    let d = c.meet_before.new.labels in
-    let e = c.meet_after.new.labels in
-    let z = c.expand_out.new.labels in
-    let x = c.args.queue.now in
-    let both = grown_then k l b d x c.expand_in.new.queue c.meet_before.new.queue c.expand_in.ensures.grown c.meet_before.ensures.grown in
-    let three = grown_then k l d e x c.meet_before.new.queue c.meet_after.new.queue both c.meet_after.ensures.grown in
-    grown_then k l e z x c.meet_after.new.queue c.expand_out.new.queue three c.expand_out.ensures.grown
+    let both = grown_then c.expand_in.ensures.grown c.meet_before.ensures.grown in
+    let three = grown_then both c.meet_after.ensures.grown in
+    grown_then three c.expand_out.ensures.grown
 
 pub returns-clause-found : goal.returns-clause-found
 returns-clause-found c =
     let w = c.args.net.now in
     let k = c.args.k in
-    let b = c.expand_in.new.labels in
-    let d = c.meet_before.new.labels in
-    let e = c.meet_after.new.labels in
     let z = c.expand_out.new.labels in
-    let ps = c.expand_in.new.queue in
-    let qs = c.meet_before.new.queue in
-    let rs = c.meet_after.new.queue in
-    let zs = c.expand_out.new.queue in
     let from_e = c.expand_out.ensures.grown in
-    let from_d = grown_then k d e z qs rs zs c.meet_after.ensures.grown from_e in
-    let from_b = grown_then k b d z ps qs zs c.meet_before.ensures.grown from_d in
+    let from_d = grown_then c.meet_after.ensures.grown from_e in
+    let from_b = grown_then c.meet_before.ensures.grown from_d in
     none_weaker c.expand_out.result _ _ _
     (λ leaving.
-    expanded_by w z k c.args.spot.node c.args.spot.moment c.requires.inside
-    (λ room. absurd (omega (arith, room, c.unsent.ensures, c.if-unsent-gt0.false)))
-    (λ i h. way_later w k b z ps zs _ from_b (c.expand_in.ensures.done i h))
-    (way_later w k d z qs zs _ from_d c.meet_before.ensures.done)
-    leaving
-    (done_later w k e z rs zs (record { place = Hold c.args.spot.node c.args.spot.moment; back = true }) from_e c.meet_after.ensures.done))
+    expanded_by w z k c.requires.inside (λ room. absurd (omega (arith, room, c.unsent.ensures, c.if-unsent-gt0.false)))
+    (λ i h. way_later w _ from_b (c.expand_in.ensures.done i h)) (way_later w _ from_d c.meet_before.ensures.done) leaving
+    (done_later w (record { place = Hold c.args.spot.node c.args.spot.moment; back = true }) from_e c.meet_after.ensures.done))
     c.expand_out.ensures.found

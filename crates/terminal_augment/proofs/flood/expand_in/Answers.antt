@@ -27,7 +27,7 @@ meet_in-requires-clause-stop c =
     let ps = spots c.loop-i.queue.list in
     let same = c.entering-entering.ensures ∙ ap (λ (x : Expansion). arcs_to x n) c.shape.ensures.shape in
     let here = lists.arc_into w.site.shape n c.loop-i.i 0 (omega (arith, c.loop-i-test.true, ap length same)) in
-    let met = has_later k c.args.labels.now c.loop-i.labels c.args.queue.now c.loop-i.queue n t c.loop-i.invariant.grown c.requires.met in
+    let met = has_later n t c.loop-i.invariant.grown c.requires.met in
     let at_node : IsAmong k ps (cond (exit_at w.site n) (Door t) (Pair n t)) = rw c.requires.inside.no_exit met in
     let a = get_or (arcs_to w.site.shape n) c.loop-i.i 0 in
     let there : IsAmong k ps (arc_end w.site a t) = subst (λ z. IsAmong k ps (cond (exit_at w.site z) (Door t) (Pair z t))) (sym here.1) at_node in
@@ -38,10 +38,7 @@ pub loop-i-preserved : goal.loop-i-preserved
 loop-i-preserved c =
     let w = c.args.net.now in
     let k = c.args.k in
-    let l = c.loop-i.labels in
     let m = c.meet_in.new.labels in
-    let x = c.loop-i.queue in
-    let y = c.meet_in.new.queue in
     let old = c.loop-i.invariant in
     let same = c.entering-entering.ensures ∙ ap (λ (v : Expansion). arcs_to v c.args.spot.node) c.shape.ensures.shape in
     let way : (i : ℕ) → Option PathStep = λ i. way_in w.site (get_or (arcs_to w.site.shape c.args.spot.node) i 0) c.args.spot.moment in
@@ -49,9 +46,9 @@ loop-i-preserved c =
     subst (λ (arcs : List ℕ). IsWayDone w m k (way_in w.site (get_or arcs c.loop-i.i 0) c.args.spot.moment)) same c.meet_in.ensures.done in
     record {
       flooding = c.meet_in.ensures.flooding;
-      grown = grown_then k c.args.labels.now l m c.args.queue.now x y old.grown c.meet_in.ensures.grown;
+      grown = grown_then old.grown c.meet_in.ensures.grown;
       done = λ j q. elim (cases_lt j c.loop-i.i) [
-        | inl before ↦ way_later w k l m x y (way j) c.meet_in.ensures.grown (old.done j before)
+        | inl before ↦ way_later w (way j) c.meet_in.ensures.grown (old.done j before)
         | inr after ↦ (let last : c.loop-i.i ≡ j = omega (arith, q, after) in subst (λ (i : ℕ). IsWayDone w m k (way i)) last mine)
       ];
     }

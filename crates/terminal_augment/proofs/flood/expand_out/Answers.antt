@@ -20,21 +20,17 @@ meet_out-requires-clause-stop c =
     let w = c.args.net.now in
     let same = c.leaving-leaving.ensures ∙ ap (λ (x : Expansion). arcs_from x c.args.spot.node) c.shape.ensures.shape in
     let here = lists.arc_out w.site.shape c.args.spot.node c.loop-i.i 0 (omega (arith, c.loop-i-test.true, ap length same)) in
-    let met = has_later c.args.k c.args.labels.now c.loop-i.labels c.args.queue.now c.loop-i.queue c.args.spot.node c.args.spot.moment c.loop-i.invariant.grown c.requires.met in
+    let met = has_later c.args.spot.node c.args.spot.moment c.loop-i.invariant.grown c.requires.met in
     subst (λ (arcs : List ℕ). has (spots c.loop-i.queue.list) (from_at w.site.shape (get_or arcs c.loop-i.i 0)) c.args.spot.moment ≡ true) (sym same)
     (subst (λ (n : ℕ). has (spots c.loop-i.queue.list) n c.args.spot.moment ≡ true) (sym here.1) met)
 
 pub returns-in-Some-clause-grown : goal.returns-in-Some-clause-grown
-returns-in-Some-clause-grown c =
-    grown_then c.args.k c.args.labels.now c.loop-i.labels c.meet_out.new.labels c.args.queue.now c.loop-i.queue c.meet_out.new.queue c.loop-i.invariant.grown c.meet_out.ensures.grown
+returns-in-Some-clause-grown c = grown_then c.loop-i.invariant.grown c.meet_out.ensures.grown
 
 pub loop-i-preserved : goal.loop-i-preserved
 loop-i-preserved c =
     let w = c.args.net.now in
-    let l = c.loop-i.labels in
     let m = c.meet_out.new.labels in
-    let x = c.loop-i.queue in
-    let y = c.meet_out.new.queue in
     let old = c.loop-i.invariant in
     let same = c.leaving-leaving.ensures ∙ ap (λ (v : Expansion). arcs_from v c.args.spot.node) c.shape.ensures.shape in
     let mine : IsDone w m c.args.k (record { place = Arc (get_or (arcs_from w.site.shape c.args.spot.node) c.loop-i.i 0) c.args.spot.moment; back = true }) =
@@ -42,9 +38,9 @@ loop-i-preserved c =
     c.in_default.ensures.found in
     record {
       flooding = c.meet_out.ensures.flooding;
-      grown = grown_then c.args.k c.args.labels.now l m c.args.queue.now x y old.grown c.meet_out.ensures.grown;
+      grown = grown_then old.grown c.meet_out.ensures.grown;
       done = λ j q. elim (cases_lt j c.loop-i.i) [
-        | inl before ↦ done_later w c.args.k l m x y (record { place = Arc (get_or (arcs_from w.site.shape c.args.spot.node) j 0) c.args.spot.moment; back = true }) c.meet_out.ensures.grown (old.done j before)
+        | inl before ↦ done_later w (record { place = Arc (get_or (arcs_from w.site.shape c.args.spot.node) j 0) c.args.spot.moment; back = true }) c.meet_out.ensures.grown (old.done j before)
         | inr after ↦
             let last : c.loop-i.i ≡ j = omega (arith, q, after) in
             subst (λ (i : ℕ). IsDone w m c.args.k (record { place = Arc (get_or (arcs_from w.site.shape c.args.spot.node) i 0) c.args.spot.moment; back = true })) last mine

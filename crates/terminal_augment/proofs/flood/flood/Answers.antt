@@ -5,34 +5,20 @@ use Rattle.terminal_augment.proofs.flood.flood.Goals as goal
 
 pub seed_all-requires : goal.seed_all-requires
 seed_all-requires c = record {
-  flooding = flooding_begins c.args.net.now c.args.labels.now c.args.k c.args.queue.now c.clear.new.self c.requires.net c.requires.settled c.nodes.ensures.table.full
+  flooding = flooding_begins c.args.queue.now c.clear.new.self c.requires.net c.requires.settled c.nodes.ensures.table.full
       c.requires.room c.clear.ensures;
 }
 
 pub returns-in-None-clause-flooded : goal.returns-in-None-clause-flooded
 returns-in-None-clause-flooded c =
     let w = c.args.net.now in
-    let k = c.args.k in
-    let l = c.args.labels.now in
-    let m = c.seed_all.new.labels in
-    let v = c.expand_all.new.labels in
-    let x = c.clear.new.self in
-    let y = c.seed_all.new.queue in
-    let z = c.expand_all.new.queue in
-    over_after w l v k x z c.requires.settled (grown_then k l m v x y z c.seed_all.ensures.grown c.expand_all.ensures.grown) c.expand_all.ensures.flooding
-    c.in-None.ensures.found (seeded_later w k (arc_count w.site) m v y z c.expand_all.ensures.grown c.seed_all.ensures.seeded)
+    over_after c.requires.settled (grown_then c.seed_all.ensures.grown c.expand_all.ensures.grown) c.expand_all.ensures.flooding
+    c.in-None.ensures.found (seeded_later w (arc_count w.site) c.expand_all.ensures.grown c.seed_all.ensures.seeded)
 
 pub returns-in-Some-clause-flooded : goal.returns-in-Some-clause-flooded
 returns-in-Some-clause-flooded c =
-    let k = c.args.k in
-    let l = c.args.labels.now in
-    let m = c.seed_all.new.labels in
-    let v = c.expand_all.new.labels in
-    let x = c.clear.new.self in
-    let y = c.seed_all.new.queue in
-    let z = c.expand_all.new.queue in
     record {
-      alike = alike_after k l v c.unset_from.new.self x z (grown_then k l m v x y z c.seed_all.ensures.grown c.expand_all.ensures.grown) c.requires.settled.unset
+      alike = alike_after c.unset_from.new.self (grown_then c.seed_all.ensures.grown c.expand_all.ensures.grown) c.requires.settled.unset
           c.expand_all.ensures.flooding.full c.unset_from.ensures.unset;
       met = c.expand_all.ensures.flooding.met;
       found = c.in-Some.ensures.found;

@@ -13,23 +13,19 @@ pub returns-then-not-meet-clause-done : goal.returns-then-not-meet-clause-done
 returns-then-not-meet-clause-done c =
     let w = c.args.net.now in
     let old = c.loop-moment.invariant in
-    before_later w c.args.k c.args.spot.node c.args.spot.moment c.loop-moment.moment c.loop-moment.labels c.meet.new.labels c.loop-moment.queue c.meet.new.queue
-    c.meet.ensures.grown c.loop-moment-test.true old.within old.done
+    before_later w c.args.spot.node c.args.spot.moment c.loop-moment.moment c.meet.ensures.grown c.loop-moment-test.true old.within old.done
     (subst (λ (y : PathStep). IsDone w c.meet.new.labels c.args.k y) c.forth-step.ensures c.meet.ensures.done)
 
 pub loop-moment-preserved : goal.loop-moment-preserved
 loop-moment-preserved c =
     let w = c.args.net.now in
     let old = c.loop-moment.invariant in
-    let l = c.loop-moment.labels in
     let m = c.meet.new.labels in
-    let x = c.loop-moment.queue in
-    let y = c.meet.new.queue in
     record {
       within = omega (arith, old.within);
       flooding = c.meet.ensures.flooding;
       met = c.if-not-meet.ensures.met refl;
-      grown = grown_then c.args.k c.args.labels.now l m c.args.queue.now x y old.grown c.meet.ensures.grown;
-      done = λ _. before_later w c.args.k c.args.spot.node c.args.spot.moment c.loop-moment.moment l m x y c.meet.ensures.grown c.loop-moment-test.true old.within old.done
+      grown = grown_then old.grown c.meet.ensures.grown;
+      done = λ _. before_later w c.args.spot.node c.args.spot.moment c.loop-moment.moment c.meet.ensures.grown c.loop-moment-test.true old.within old.done
           (subst (λ (z : PathStep). IsDone w m c.args.k z) c.forth-step.ensures c.meet.ensures.done);
     }

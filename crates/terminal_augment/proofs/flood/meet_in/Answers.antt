@@ -4,6 +4,6 @@ use Rattle.terminal_augment.proofs.flood.meet_in.Goals as goal
 
 pub meet-requires-clause-inside : goal.meet-requires-clause-inside
 meet-requires-clause-inside c =
-    let moment = c.args.moment - c.travel-travel.result in
-    let inside = arc_inside c.args.net.now.site c.args.arc moment c.shape.ensures.net.site c.requires.arc.arc (omega (arith, c.requires.arc.moment)) in
+    let moment = c.args.at.moment - c.travel-travel.result in
+    let inside = arc_inside c.args.at.arc moment c.shape.ensures.net.site c.requires.arc.arc (omega (arith, c.requires.arc.moment)) in
     rw (c.ends.ensures, c.shape.ensures.shape) inside

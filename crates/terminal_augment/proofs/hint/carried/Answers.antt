@@ -6,14 +6,12 @@ use Rattle.residual_net.specs.Legs.{steps_of_legs}
 use Rattle.residual_net.specs.Route.{IsOrigin}
 use Rattle.residual_net.specs.declared.end.End.TheVariants.{Pair}
 use Rattle.residual_net.specs.Site.{IsOpenEnd, IsOpenPair}
-use Rattle.terminal_augment.specs.declared.hint.Checked.{Checked}
 use Rattle.terminal_augment.specs.Hints.{IsStep}
 use Rattle.terminal_augment.proofs.HintLemmas.{IsOver, IsTail, all_carried, begins_before, blank, leg_over, legs_back, legs_whole, marked_on_then, tail_open}
 use Rattle.terminal_augment.proofs.hint.carried.Goals as goal
 
 pub begins-requires-clause-open : goal.begins-requires-clause-open
-begins-requires-clause-open c =
-    tail_open c.args.net.now c.args.k (IsOver c.turn_back-turns.result c.loop-left.marks c.loop-left.end) c.loop-left.end c.loop-left.people _ c.loop-left.invariant.tail
+begins-requires-clause-open c = tail_open c.loop-left.invariant.tail
 
 pub over_waits-requires-clause-inside : goal.over_waits-requires-clause-inside
 over_waits-requires-clause-inside c = subst (IsOpenEnd c.args.net.now.site) c.in-Pair.is c.in-Some.ensures.step.inside
@@ -30,7 +28,6 @@ loop-left-preserved c =
     let m = c.loop-left.marks in
     let v = c.is_new.new.marks in
     let turns = c.turn_back-turns.result in
-    let x : Checked = record { spot = record { node = c.in-Pair.node; moment = c.in-Pair.moment }; people = c.min-people.result } in
     let y = c.in-Some-over_waits.checked in
     let legs = c.args.legs.now in
     let old = c.loop-left.invariant in
@@ -41,10 +38,10 @@ loop-left-preserved c =
     let rest = steps_of_legs w.site (drop c.loop-left.left legs) in
     let step : IsStep w g.step (Pair c.in-Pair.node c.in-Pair.moment) c.loop-left.end = subst (λ e. IsStep w g.step e c.loop-left.end) c.in-Pair.is c.in-Some.ensures.step in
     let lt : at < length legs = omega (arith, some, old.fits) in
-    let one = leg_over turns w k m v c.loop-left.end g x y c.loop-left.people rest old.tail step back
+    let one = leg_over turns m v g old.tail step back
     (omega (arith, c.min-people.ensures, c.in-Some.ensures.room, old.tail.some, c.in-Some.ensures.step.room)) (omega (arith, c.min-people.ensures))
     (omega (arith, c.min-people.ensures, c.in-Some.ensures.room))
-    (λ h. begins_before w g.step c.in-Pair.node c.in-Pair.moment c.loop-left.end c.requires.net.site step (c.turn_back-turns.ensures h at blank lt))
+    (λ h. begins_before c.in-Pair.node c.in-Pair.moment c.requires.net.site step (c.turn_back-turns.ensures h at blank lt))
     (λ h. c.if-not-is_new.ensures.over refl h) in
     let path = steps_of_legs w.site (drop at legs) in
     let whole : IsTail w k (IsOver turns v (Pair y.spot.node y.spot.moment)) (Pair y.spot.node y.spot.moment) y.people path =
@@ -53,7 +50,7 @@ loop-left-preserved c =
     record {
       fits = omega (arith, old.fits);
       tail = subst (λ (n : ℕ). IsTail w k (IsOver turns v (Pair n y.spot.moment)) (Pair n y.spot.moment) y.people path) back.node whole;
-      marks = marked_on_then c.args.marks.now m v old.marks c.is_new.ensures.marks;
+      marks = marked_on_then old.marks c.is_new.ensures.marks;
     }
 
 pub returns-then-left-eq0-clause-path : goal.returns-then-left-eq0-clause-path
@@ -65,8 +62,7 @@ returns-then-left-eq0-clause-path c some =
     let origin : IsOrigin k c.in-Some.before.start = subst (IsOrigin k) (sym c.in-Source.is) tt in
     let whole = legs_whole w.site k c.args.legs.now c.loop-left.left blank c.loop-left-test.true old.fits c.if-left-eq0.true
     (subst (IsOrigin k) (sym step.start) origin) in
-    all_carried w k (IsOver c.turn_back-turns.result c.loop-left.marks c.loop-left.end) c.loop-left.end c.in-Some.before.start c.loop-left.people
-    c.min-people.result _ _ (steps_of_legs w.site c.args.legs.now) old.tail step origin (omega (arith, c.min-people.ensures))
+    all_carried c.min-people.result (steps_of_legs w.site c.args.legs.now) old.tail step origin (omega (arith, c.min-people.ensures))
     (omega (arith, c.min-people.ensures, c.in-Some.ensures.room)) whole
 
 pub returns-then-k-moment-clause-path : goal.returns-then-k-moment-clause-path
@@ -78,6 +74,5 @@ returns-then-k-moment-clause-path c some =
     let origin : IsOrigin k c.in-Some.before.start = subst (IsOrigin k) (sym c.in-Door.is) c.if-k-moment.true in
     let whole = legs_whole w.site k c.args.legs.now c.loop-left.left blank c.loop-left-test.true old.fits c.if-left-eq0-2.true
     (subst (IsOrigin k) (sym step.start) origin) in
-    all_carried w k (IsOver c.turn_back-turns.result c.loop-left.marks c.loop-left.end) c.loop-left.end c.in-Some.before.start c.loop-left.people
-    c.min-people.result _ _ (steps_of_legs w.site c.args.legs.now) old.tail step origin (omega (arith, c.min-people.ensures))
+    all_carried c.min-people.result (steps_of_legs w.site c.args.legs.now) old.tail step origin (omega (arith, c.min-people.ensures))
     (omega (arith, c.min-people.ensures, c.in-Some.ensures.room)) whole

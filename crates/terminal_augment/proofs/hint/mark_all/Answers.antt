@@ -10,16 +10,14 @@ loop-moment-init c = record {
 
 pub loop-moment-preserved : goal.loop-moment-preserved
 loop-moment-preserved c =
-    let m = c.args.marks.now in
-    let v = c.loop-moment.marks in
     let old = c.loop-moment.invariant in
     let t = c.loop-moment.moment in
     let same = c.mark.ensures.marked in
     record {
-      over = marked_more m v c.mark.new.self c.args.node c.args.from t (old.on.marks c.requires.marks)
+      over = marked_more c.mark.new.self (old.on.marks c.requires.marks)
           (record { node = omega (arith, c.requires.node, old.on.nodes); moment = omega (arith, c.requires.past, c.loop-moment-test.true, old.on.horizon) })
           old.over (sym c.is_marked.ensures ∙ c.if-is_marked.false) same;
-      on = marked_on m v c.mark.new.self c.args.node t old.on same c.mark.ensures.marks;
+      on = marked_on c.args.node t old.on same c.mark.ensures.marks;
     }
 
 pub returns-clause-over : goal.returns-clause-over

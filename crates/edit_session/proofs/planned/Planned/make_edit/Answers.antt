@@ -59,6 +59,5 @@ returns-in-Short-clause-scratch g c =
     let done = c.in-Short.ensures in
     let site = ap (λ (z : Network). z.site) done.mended.net in
     let d = c.repair.new.self in
-    scratch_with d.net.site d.scratch c.swap.new.y done.scratch
-    (subst (λ (l : LabelTable). IsLabelsOf d.net.site l) (sym (c.swap.ensures.y_after ∙ done.refused))
+    scratch_with done.scratch (subst (λ (l : LabelTable). IsLabelsOf d.net.site l) (sym (c.swap.ensures.y_after ∙ done.refused))
     (subst (λ (s : Site). IsLabelsOf s c.args.self.now.refused) (sym site) c.requires.refused))

@@ -1,16 +1,15 @@
 use Rattle.std.proofs.Common.{◌≡◌, ℕ, ◌+◌, ◌-◌, ◌≤◌, ap, ap₂, subst, sym, arith, ◌∙◌}
 use Rattle.evac_law.specs.Plans.{violation}
-use Rattle.residual_net.specs.Network.{Network, arrived_by, flow_at, flow_out, saved_of, with_saved}
+use Rattle.residual_net.specs.Network.{Network, arrived_by, flow_at, flow_out, saved_of}
 use Rattle.residual_net.specs.OfModel.{IsNetOf, last_move, plan_of}
 use Rattle.residual_net.specs.Site.{Site, IsPlace, is_source}
 use Rattle.residual_net.proofs.SentLemmas.{arrived_all_sent}
 use Rattle.residual_net.proofs.Kept.{same_saved}
 use Rattle.residual_net.proofs.LastArrival.{last_fits}
-use Rattle.terminal_augment.specs.Settled.{IsClosedBelow}
-use Rattle.lex_flow.specs.declared.outcome.Outcome.{Outcome}
-use Rattle.lex_flow.specs.declared.outcome.Outcome.TheVariants.{Cleared, Short}
-use Rattle.lex_flow.specs.Outcomes.{IsAnswer, IsBounded, IsCleared, last_settled, pushes_of}
+use Rattle.terminal_augment.specs.Settled.{IsClosedBelow, IsLabelsOf, IsSearchOf}
+use Rattle.lex_flow.specs.Outcomes.{IsCleared}
 use Rattle.lex_flow.specs.Settling.{IsRelabelled, arrivals_below}
+use Rattle.flow_repair.specs.Refit.{IsEditOfNet}
 use Rattle.flow_repair.specs.Opened.{IsLeastOpened}
 use Rattle.evac_law.specs.LabelTable.{LabelTable}
 use Rattle.terminal_augment.proofs.KeptLemmas.{net_of_kept}
@@ -22,10 +21,17 @@ use Rattle.edit_session.proofs.RepairLemmas.{IsBrought, least_saved, repair_of}
 use Rattle.edit_session.proofs.Thrifty.{spent, thrifty}
 use Rattle.edit_session.proofs.planned.Planned.repair.Goals as goal
 
+-- relabelled labels of a network are for another with the same nodes and moments
+relabelled_for : {s r : Site} {k l m : LabelTable} {from past : ℕ} → s ≡ r → l.nodes ≡ k.nodes → l.horizon ≡ k.horizon → IsRelabelled l m from past → IsLabelsOf s k
+    → IsLabelsOf r m
+relabelled_for {r} {m} site nodes horizon more labels = subst (λ (z : Site). IsLabelsOf z m) site (record {
+  nodes = more.nodes ∙ nodes ∙ labels.nodes;
+  horizon = more.horizon ∙ horizon ∙ labels.horizon;
+})
+
 pub reshape-taken-requires : goal.reshape-taken-requires
 reshape-taken-requires g c =
-    rw c.save.ensures (reshapable_saved c.args.self.now.model c.args.edit c.args.self.now.net c.args.self.now.labels c.args.self.now.scratch.path.room c.requires.repairable
-    c.requires.scratch.room)
+    rw c.save.ensures (reshapable_saved c.args.self.now.scratch.path.room c.requires.repairable c.requires.scratch.room)
 
 pub settle_all-requires : goal.settle_all-requires
 settle_all-requires g c =
@@ -36,16 +42,9 @@ settle_all-requires g c =
     let site : c.reshape-taken.new.net.site ≡ w.site = taken.net.site ∙ same in
     let plan : plan_of s ≡ plan_of w = ap plan_of c.save.ensures ∙ plan_saved w in
     let last : last_move s.site (plan_of s) ≡ last_move w.site (plan_of w) = ap₂ last_move same plan in
-    let labels = c.requires.repairable.standing.labels in
     record {
-      labels = record {
-        nodes = ap (λ z. z.nodes) c.copy_from.ensures ∙ labels.nodes ∙ ap (λ (z : Site). z.shape.nodes) (sym site);
-        horizon = ap (λ z. z.horizon) c.copy_from.ensures ∙ labels.horizon ∙ ap (λ (z : Site). z.shape.horizon) (sym site);
-      };
-      search = record {
-        nodes = ap (λ z. z.nodes) c.recall.ensures ∙ c.requires.scratch.search.nodes ∙ ap (λ (z : Site). z.shape.nodes) (sym site);
-        horizon = ap (λ z. z.horizon) c.recall.ensures ∙ c.requires.scratch.search.horizon ∙ ap (λ (z : Site). z.shape.horizon) (sym site);
-      };
+      labels = rw c.copy_from.ensures (subst (λ (z : Site). IsLabelsOf z c.args.self.now.labels) (sym site) c.requires.repairable.standing.labels);
+      search = rw c.recall.ensures (subst (λ (z : Site). IsSearchOf z c.args.self.now.scratch.search) (sym site) c.requires.scratch.search);
       from = omega (arith, taken.labels.least.most, last, last_fits w c.requires.repairable.standing.net, ap (λ (z : Site). z.shape.horizon) site);
       within = taken.net.within;
       closed = rw c.copy_from.ensures taken.labels.closed;
@@ -59,44 +58,35 @@ returns-in-Cleared-clause-mended g c =
     let v = c.reshape-taken.new.net in
     let u = c.settle_all.new.net in
     let l = c.settle_all.new.labels in
-    let moment = c.in-Cleared.moment in
-    let pushes = c.in-Cleared.pushes in
-    let done = c.settle_all.ensures in
+    let old = c.args.self.now.labels in
+    let least = c.reshape-taken.result.least_label in
     let taken = c.reshape-taken.ensures in
-    let valid = valid_now m c.args.edit s (rw c.save.ensures (edit_saved m c.args.edit w c.args.self.now.labels c.requires.repairable)) in
+    let done = c.in-Cleared.ensures in
+    let edited : IsEditOfNet m c.args.edit s = rw c.save.ensures (edit_saved c.requires.repairable) in
+    let valid = valid_now edited in
     let of_u = net_of_kept m v u done.net.limits taken.net.of in
-    let answer : IsAnswer m u l (Cleared moment pushes) = subst (λ (o : Outcome). IsAnswer m u l o) c.in-Cleared.is (done.answer m valid taken.net.of) in
-    let bounded : IsBounded v u (Cleared moment pushes) = subst (λ (o : Outcome). IsBounded v u o) c.in-Cleared.is (done.net.bounded) in
-    let closed : IsClosedBelow u l (moment + 1) =
-    subst (λ (o : Outcome). IsClosedBelow u l (last_settled u.site.shape.horizon o + 1)) c.in-Cleared.is done.labels.closed in
-    let idle : pushes ≡ 0 → u ≡ v = λ e. done.net.idle (ap pushes_of c.in-Cleared.is ∙ e) in
+    let answer = done.answer m valid taken.net.of in
     let same : s.site ≡ w.site = ap (λ (z : Network). z.site) c.save.ensures in
     let site : u.site ≡ w.site = done.net.limits.site ∙ taken.net.site ∙ same in
-    let last : moment ≡ last_arrival_of u = answer.last in
     record {
       site = site;
       saved = done.net.limits.saved ∙ taken.net.saved ∙ ap (λ (z : Network). z.saved) c.save.ensures;
       standing = record {
         valid = valid;
-        net = c.shape-in-Cleared.ensures.net;
+        net = done.net.net;
         of = of_u;
         within = done.net.within;
-        sent = arrived_all_sent m u valid c.shape-in-Cleared.ensures.net of_u done.net.within answer.arrived;
-        cleared = subst (λ (k : ℕ). IsCleared m u l k) last answer;
-        labels = record {
-          nodes = done.labels.labels.nodes ∙ ap (λ z. z.nodes) c.copy_from.ensures ∙ c.requires.repairable.standing.labels.nodes ∙ ap (λ (z : Site). z.shape.nodes) (sym site);
-          horizon = done.labels.labels.horizon
-              ∙ ap (λ z. z.horizon) c.copy_from.ensures
-              ∙ c.requires.repairable.standing.labels.horizon
-              ∙ ap (λ (z : Site). z.shape.horizon) (sym site);
-        };
-        closed = subst (λ (k : ℕ). IsClosedBelow u l (k + 1)) last closed;
+        sent = arrived_all_sent m u valid done.net.net of_u done.net.within answer.arrived;
+        cleared = subst (λ (k : ℕ). IsCleared m u l k) answer.last answer;
+        labels = relabelled_for (sym site) (ap (λ z. z.nodes) c.copy_from.ensures) (ap (λ z. z.horizon) c.copy_from.ensures) done.labels.labels
+            c.requires.repairable.standing.labels;
+        closed = subst (λ (k : ℕ). IsClosedBelow u l (k + 1)) answer.last done.labels.closed;
       };
       repaired = λ b standing.
-          let brought : IsBrought b m w v c.args.self.now.labels = record {
+          let brought : IsBrought b m w v old = record {
             standing = standing;
             valid = valid;
-            net = c.shape.ensures.net;
+            net = taken.net.net;
             of = taken.net.of;
             within = taken.net.within;
             site = taken.net.site ∙ same;
@@ -108,20 +98,18 @@ returns-in-Cleared-clause-mended g c =
                   flow_saved w p,
                 );
           } in
-          let opened = least_saved c.args.self.now.labels w v (last_arrival_of (with_saved w) + 1) c.reshape-taken.result.least_label
-          (subst (λ (z : Network). IsLeastOpened c.args.self.now.labels z v (last_arrival_of z + 1) c.reshape-taken.result.least_label) c.save.ensures taken.labels.least) in
-          let relabelled = subst (λ (z : LabelTable). IsRelabelled z l c.reshape-taken.result.least_label (last_settled u.site.shape.horizon (Cleared moment pushes) + 1))
-          c.copy_from.ensures (subst (λ (o : Outcome). IsRelabelled c.copy_from.new.self l c.reshape-taken.result.least_label (last_settled u.site.shape.horizon o + 1)) c.in-Cleared.is done.labels.labels) in
-          repair_of b m w v c.args.self.now.labels l c.reshape-taken.result.cancelled (last_arrival_of (with_saved w) + 1) c.reshape-taken.result.least_label _ brought
+          let opened = least_saved w (subst (λ (z : Network). IsLeastOpened old z v (last_arrival_of z + 1) least) c.save.ensures taken.labels.least) in
+          let relabelled = subst (λ (z : LabelTable). IsRelabelled z l least (c.in-Cleared.moment + 1)) c.copy_from.ensures done.labels.labels in
+          repair_of c.reshape-taken.result.cancelled brought
           (taken.taken.exact ∙ ap (λ (z : Network). flow_out z is_source) c.save.ensures ∙ sources_saved w) (ap (λ p. last_move w.site p + 1) (plan_saved w)) opened relabelled;
       thrifty = λ b valid_b of_b.
-          let of_s : IsNetOf b s = rw c.save.ensures (of_saved b w of_b) in
-          let work : Work = record { cancelled = c.reshape-taken.result.cancelled; pushes = pushes } in
-          thrifty b m w v u (last_arrival_of u) work valid_b valid c.requires.repairable.standing.net c.shape-in-Cleared.ensures.net of_b of_u (taken.net.site ∙ same)
+          let of_s : IsNetOf b s = rw c.save.ensures (of_saved of_b) in
+          let work : Work = record { cancelled = c.reshape-taken.result.cancelled; pushes = c.in-Cleared.pushes } in
+          thrifty b m w v u (last_arrival_of u) work valid_b valid c.requires.repairable.standing.net done.net.net of_b of_u (taken.net.site ∙ same)
           (subst (λ z. c.reshape-taken.result.cancelled ≤ violation b z m) (ap plan_of c.save.ensures ∙ plan_saved w) (taken.taken.few b valid_b of_s))
           (λ k. omega (arith, taken.taken.arrivals k, ap (λ (z : Network). arrived_by z k) c.save.ensures, arrived_saved w k))
           (λ e p i. taken.taken.idle e p (subst (λ (z : Site). IsPlace z p) (sym same) i) ∙ ap (λ (z : Network). flow_at z p) c.save.ensures ∙ flow_saved w p)
-          (subst (λ (k : ℕ). pushes + arrivals_below v (k + 1) ≤ arrivals_below u (k + 1)) last bounded) idle;
+          (subst (λ (k : ℕ). c.in-Cleared.pushes + arrivals_below v (k + 1) ≤ arrivals_below u (k + 1)) answer.last done.net.bounded) done.net.idle;
     }
 
 pub returns-in-Short-clause-mended : goal.returns-in-Short-clause-mended
@@ -129,29 +117,18 @@ returns-in-Short-clause-mended g c =
     let m = c.args.self.now.model in
     let w = c.args.self.now.net in
     let s = c.save.new.self in
-    let v = c.reshape-taken.new.net in
-    let u = c.settle_all.new.net in
-    let l = c.settle_all.new.labels in
-    let valid = valid_now m c.args.edit s (rw c.save.ensures (edit_saved m c.args.edit w c.args.self.now.labels c.requires.repairable)) in
-    let answer : IsAnswer m u l (Short c.in-Short.most c.in-Short.pushes) =
-    subst (λ (o : Outcome). IsAnswer m u l o) c.in-Short.is (c.settle_all.ensures.answer m valid c.reshape-taken.ensures.net.of) in
+    let taken = c.reshape-taken.ensures.net in
+    let done = c.in-Short.ensures in
+    let edited : IsEditOfNet m c.args.edit s = rw c.save.ensures (edit_saved c.requires.repairable) in
+    let answer = done.answer m (valid_now edited) taken.of in
     let same : s.site ≡ w.site = ap (λ (z : Network). z.site) c.save.ensures in
-    let of_w = sym (c.reshape-taken.ensures.net.site ∙ same) ∙ c.reshape-taken.ensures.net.of.site in
+    let of_w = sym (taken.site ∙ same) ∙ taken.of.site in
+    let labels = relabelled_for of_w (ap (λ z. z.nodes) c.copy_from.ensures) (ap (λ z. z.horizon) c.copy_from.ensures) done.labels.labels
+    c.requires.repairable.standing.labels in
     record {
-      net = c.restore.ensures
-          ∙ same_saved s u (c.settle_all.ensures.net.limits.site ∙ c.reshape-taken.ensures.net.site) (c.settle_all.ensures.net.limits.saved ∙ c.reshape-taken.ensures.net.saved)
-          ∙ ap saved_of c.save.ensures;
+      net = c.restore.ensures ∙ same_saved s c.settle_all.new.net (done.net.limits.site ∙ taken.site) (done.net.limits.saved ∙ taken.saved) ∙ ap saved_of c.save.ensures;
       shown = record {
-        table = record {
-          nodes = c.settle_all.ensures.labels.labels.nodes
-              ∙ ap (λ z. z.nodes) c.copy_from.ensures
-              ∙ c.requires.repairable.standing.labels.nodes
-              ∙ ap (λ (z : Site). z.shape.nodes) of_w;
-          horizon = c.settle_all.ensures.labels.labels.horizon
-              ∙ ap (λ z. z.horizon) c.copy_from.ensures
-              ∙ c.requires.repairable.standing.labels.horizon
-              ∙ ap (λ (z : Site). z.shape.horizon) of_w;
-        };
+        table = record { nodes = labels.nodes; horizon = labels.horizon };
         shortfall = answer.1;
         greatest = answer.2;
       };
@@ -164,26 +141,21 @@ returns-in-Short-clause-counted g c =
     let s = c.save.new.self in
     let v = c.reshape-taken.new.net in
     let u = c.settle_all.new.net in
-    let l = c.settle_all.new.labels in
     let most = c.in-Short.most in
     let pushes = c.in-Short.pushes in
     let taken = c.reshape-taken.ensures in
-    let done = c.settle_all.ensures in
-    let valid = valid_now m c.args.edit s (rw c.save.ensures (edit_saved m c.args.edit w c.args.self.now.labels c.requires.repairable)) in
-    let answer : IsAnswer m u l (Short most pushes) = subst (λ (o : Outcome). IsAnswer m u l o) c.in-Short.is (done.answer m valid taken.net.of) in
-    let bounded : IsBounded v u (Short most pushes) = subst (λ (o : Outcome). IsBounded v u o) c.in-Short.is (done.net.bounded) in
-    let count : pushes_of c.settle_all.result ≡ pushes = ap pushes_of c.in-Short.is in
-    let rise : c.args.steps.now ≤ c.settle_all.new.steps = omega (arith, taken.steps.counted, done.ticked) in
-    let fewer : c.settle_all.new.steps - c.args.steps.now ≤ c.reshape-taken.result.cancelled + pushes = omega (arith, taken.steps.ticked, done.ticked, count) in (
-      rise,
+    let done = c.in-Short.ensures in
+    let edited : IsEditOfNet m c.args.edit s = rw c.save.ensures (edit_saved c.requires.repairable) in
+    let answer = done.answer m (valid_now edited) taken.net.of in
+    let fewer : c.settle_all.new.steps - c.args.steps.now ≤ c.reshape-taken.result.cancelled + pushes = omega (arith, taken.steps.ticked, done.ticked) in (
+      omega (arith, taken.steps.counted, done.ticked),
       λ b valid_b of_b.
-          let of_s : IsNetOf b s = rw c.save.ensures (of_saved b w of_b) in
-          let same : u.site.shape.horizon ≡ b.horizon =
-          ap (λ (z : Site). z.shape.horizon) (done.net.limits.site ∙ taken.net.site ∙ of_s.site) in
+          let of_s : IsNetOf b s = rw c.save.ensures (of_saved of_b) in
+          let same : u.site.shape.horizon ≡ b.horizon = ap (λ (z : Site). z.shape.horizon) (done.net.limits.site ∙ taken.net.site ∙ of_s.site) in
           let other : m.horizon ≡ b.horizon = ap (λ (z : Site). z.shape.horizon) (sym taken.net.of.site ∙ taken.net.site ∙ of_s.site) in
           let all : arrived_by u b.horizon ≤ most = omega (arith, ap (arrived_by u) (sym other), answer.0) in
           let bound : pushes + arrivals_below v (b.horizon + 1) ≤ arrivals_below u (b.horizon + 1) =
-          subst (λ h. pushes + arrivals_below v (h + 1) ≤ arrivals_below u (h + 1)) same bounded in
+          subst (λ h. pushes + arrivals_below v (h + 1) ≤ arrivals_below u (h + 1)) same done.net.bounded in
           spent b m w v u c.reshape-taken.result.cancelled pushes most (c.settle_all.new.steps - c.args.steps.now) valid_b c.requires.repairable.standing.net of_b
           (subst (λ z. c.reshape-taken.result.cancelled ≤ violation b z m) (ap plan_of c.save.ensures ∙ plan_saved w) (taken.taken.few b valid_b of_s))
           (λ k. omega (arith, taken.taken.arrivals k, ap (λ (z : Network). arrived_by z k) c.save.ensures, arrived_saved w k))

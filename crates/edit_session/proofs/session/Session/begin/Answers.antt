@@ -37,7 +37,6 @@ invariant_of-result g c =
     let planned = c.in-Ok-new.planned in
     let fresh = c.in-Ok-new.ensures in
     let done = c.in-Cleared.ensures in
-    let u = c.settle_all.new.net in
     let l = c.settle_all.new.labels in
     let table : IsTableOf m l = record {
       nodes = done.labels.labels.nodes ∙ ap (λ (z : LabelTable). z.nodes) fresh.labels;
@@ -53,8 +52,7 @@ invariant_of-result g c =
       search = subst (λ (z : SearchSize). IsSearchOf (site_of m) z) (sym done.search) fresh.scratch.search;
       room = fresh.scratch.room;
     } in
-    rw fresh.model
-    (session_begun m planned.net u l planned.refused c.in-Ok.ring.items c.in-Ok.ring.capacity x c.in-Cleared.moment c.requires c.shape.ensures.net fresh.of
+    rw fresh.model (session_begun c.in-Ok.ring.items c.in-Ok.ring.capacity c.requires c.settle_all.ensures.net.net fresh.of
     done.net.limits done.net.within (done.answer m c.requires fresh.of) table done.labels.closed refused (ap (λ z. z.items) c.in-Ok.ensures)
     (ap (λ z. z.capacity) c.in-Ok.ensures) scratch)
 
@@ -75,7 +73,7 @@ returns-in-Cleared g c =
       pushes,
       done.ticked,
       rw fresh.model (
-        begun_by m planned.net u c.settle_all.new.labels c.in-Ok.ring.items work standing (ap (λ z. z.items) c.in-Ok.ensures) refl bounded,
+        begun_by planned.net c.in-Ok.ring.items work standing (ap (λ z. z.items) c.in-Ok.ensures) refl bounded,
         fresh.refused,
         refl,
       ),
@@ -102,7 +100,7 @@ returns-in-Short g c =
           nodes = done.labels.labels.nodes ∙ ap (λ (l : LabelTable). l.nodes) fresh.labels;
           horizon = done.labels.labels.horizon ∙ ap (λ (l : LabelTable). l.horizon) fresh.labels;
         },
-        not_cleared_by m c.settle_all.new.labels most c.requires answer.1 answer.2,
+        not_cleared_by c.settle_all.new.labels c.requires answer.1 answer.2,
         spent_opening m planned.net u pushes most answer.0 bound,
       ),
     )

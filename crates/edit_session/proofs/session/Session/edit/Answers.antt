@@ -4,32 +4,26 @@ use Rattle.evac_law.specs.Edits.{IsEditOf}
 use Rattle.edit_session.specs.declared.scratch.Scratch.{Scratch}
 use Rattle.edit_session.specs.Kept.{view_of}
 use Rattle.edit_session.specs.Sessions.{EditEnds, SessionView}
-use Rattle.edit_session.proofs.Going.{ends_edited, ends_refused, scratch_after, session_edited, session_refused, state_refused}
+use Rattle.edit_session.proofs.Going.{ends_edited, ends_refused, scratch_after, session_edited, session_refused, state_kept}
 use Rattle.edit_session.proofs.session.Session.edit.Goals as goal
 
 pub invariant_of-self : goal.invariant_of-self
 invariant_of-self g c =
-    let r = c.self.inside in
-    let s = r.planned in
     let d = c.make_edit.new.self in
     let made = c.in_err-made.ensures.made in
-    rw c.in_err-made.ensures.labels
-    (session_refused s.model d.model c.args.edit s.net d.net s.labels s.refused d.refused r.ring.items r.ring.capacity s.scratch d.scratch c.in_err-made.field-0.0 made.0
+    rw c.in_err-made.ensures.labels (session_refused d.model c.args.edit d.net c.in_err-made.field-0.0 made.0
     c.self.invariant made.2 c.in_err-made.ensures.refused c.in_err-made.ensures.scratch)
 
 pub invariant_of-self-2 : goal.invariant_of-self-2
 invariant_of-self-2 g c =
-    let r = c.self.inside in
-    let s = r.planned in
     let d = c.make_edit.new.self in
     let made = c.in_ok-made.made in
     let done = c.in_ok-made.ensures.made.2 in
     let in_range = subst (λ (z : SessionView). IsEditOf z.state.model c.args.edit) (sym c.self.view_is) c.requires in
     let y : Scratch = record { labels = c.swap.new.y; search = d.scratch.search; path = d.scratch.path } in
-    let scratch = scratch_after s.model d.model s.net d.net s.labels d.scratch.labels c.swap.new.y d.scratch made.work c.self.invariant.standing done.1
+    let scratch = scratch_after c.swap.new.y c.self.invariant.standing done.1
     (c.swap.ensures.y_after ∙ c.in_ok-made.ensures.labels) c.in_ok-made.ensures.scratch in
-    rw (c.push_front.ensures.items, c.swap.ensures.x_after, done.2)
-    (session_edited s.model d.model c.args.edit made.inverse s.net d.net s.labels d.scratch.labels s.refused r.ring.items r.ring.capacity s.scratch y made.work
+    rw (c.push_front.ensures.items, c.swap.ensures.x_after, done.2) (session_edited c.args.edit made.inverse
     c.self.invariant done.1 scratch in_range done.0)
 
 pub returns-in_err-made-clause-ends : goal.returns-in_err-made-clause-ends
@@ -48,16 +42,7 @@ returns-in_err-made-clause-ends g c =
     )
 
 pub returns-in_err-made-clause-unchanged : goal.returns-in_err-made-clause-unchanged
-returns-in_err-made-clause-unchanged g c =
-    let r = c.self.inside in
-    let s = r.planned in
-    let d = c.make_edit.new.self in
-    let made = c.in_err-made.ensures.made in
-    let why = c.in_err-made.field-0.0 in
-    let ends = ends_refused s.model d.model c.args.edit s.net d.net s.labels s.refused d.refused d.scratch.labels r.ring.items r.work why made.0 made.2 in
-    let same = state_refused (view_of s.model s.net s.labels s.refused r.ring.items r.work) (view_of d.model d.net s.labels d.refused r.ring.items r.work) c.args.edit why made.0 ends in
-    let p = err_from_is_err_and c.from_residual.result c.from_residual.ensures.1 in
-    let all = same ∙ ap (λ (z : SessionView). z.state) c.self.view_is in rw (p.1, c.in_err-made.ensures.labels) all
+returns-in_err-made-clause-unchanged g c = state_kept _ _ _ _ _ (returns-in_err-made-clause-ends g c).2
 
 pub returns-clause-ends : goal.returns-clause-ends
 returns-clause-ends g c =
@@ -70,8 +55,7 @@ returns-clause-ends g c =
     let k = d.scratch.labels in
     let ring = take r.ring.capacity (made.inverse ∷ r.ring.items) in
     let in_range = subst (λ (z : SessionView). IsEditOf z.state.model e) (sym c.self.view_is) c.requires in
-    let ends = ends_edited s.model d.model e made.inverse s.net d.net s.labels k s.refused r.ring.items r.ring.capacity s.scratch r.work made.work done.0
-    c.self.invariant done.2.1 in_range done.2.0 done.2.3 in
+    let ends = ends_edited e made.inverse r.work done.0 c.self.invariant done.2.1 in_range done.2.0 done.2.3 in
     let items : c.push_front.new.self.items ≡ ring = ap (λ z. z.items) c.push_front.ensures.items in (
       done.0,
       done.1,

@@ -3,10 +3,10 @@ use Rattle.evac_law.specs.declared.edit.Edit.{Edit}
 use Rattle.evac_law.specs.declared.model.Model.{Model}
 use Rattle.evac_law.specs.Edits.{edited, inverse_of}
 use Rattle.edit_session.specs.declared.scratch.Scratch.{Scratch}
-use Rattle.edit_session.specs.Kept.{IsSession, view_of}
+use Rattle.edit_session.specs.Kept.{view_of}
 use Rattle.edit_session.specs.Mended.{IsCarried, IsRefused, IsRepairable}
 use Rattle.edit_session.specs.Sessions.{SessionView, UndoEnds}
-use Rattle.edit_session.proofs.Going.{ends_undone, first_kept, made, never_barred, repairable, scratch_after, session_undone}
+use Rattle.edit_session.proofs.Going.{ends_undone, first_kept, made_kept, never_barred, repairable, scratch_after, session_kept, session_undone}
 use Rattle.edit_session.proofs.session.Session.undo.Goals as goal
 
 pub repair-requires-clause-repairable : goal.repair-requires-clause-repairable
@@ -14,12 +14,10 @@ repair-requires-clause-repairable g c =
     let r = c.self.inside in
     let s = r.planned in
     let e = c.in-Some.back in
-    let kept = first_kept r.ring.items e (sym c.pop_front.ensures.value ∙ c.in-Some.is) in
-    let all = subst (λ (z : List Edit). IsSession s.model s.net s.labels s.refused z r.ring.capacity s.scratch) kept c.self.invariant in
-    let model : c.apply.new.model ≡ edited s.model e =
-    made s.model (edited s.model e) c.apply.new.model e (inverse_of s.model e) c.apply.result all.back.1 c.apply.ensures.ok c.apply.ensures.fault in
+    let all = session_kept e (sym c.pop_front.ensures.value ∙ c.in-Some.is) c.self.invariant in
+    let model = made_kept c.apply.new.model c.apply.result all c.apply.ensures.ok c.apply.ensures.fault in
     subst (λ (z : Model). IsRepairable z e s.net s.labels) (sym model)
-    (repairable s.model (edited s.model e) e (inverse_of s.model e) s.net s.labels all.standing all.back.0 all.back.1)
+    (repairable (edited s.model e) e (inverse_of s.model e) all.standing all.back.0 all.back.1)
 
 pub invariant_of-self-in-Cleared : goal.invariant_of-self-in-Cleared
 invariant_of-self-in-Cleared g c =
@@ -29,16 +27,12 @@ invariant_of-self-in-Cleared g c =
     let d = c.repair.new.self in
     let after = c.in-Cleared.ensures in
     let rest = drop 1 r.ring.items in
-    let kept = first_kept r.ring.items e (sym c.pop_front.ensures.value ∙ c.in-Some.is) in
-    let all = subst (λ (z : List Edit). IsSession s.model s.net s.labels s.refused z r.ring.capacity s.scratch) kept c.self.invariant in
-    let model : c.apply.new.model ≡ edited s.model e =
-    made s.model (edited s.model e) c.apply.new.model e (inverse_of s.model e) c.apply.result all.back.1 c.apply.ensures.ok c.apply.ensures.fault in
+    let all = session_kept e (sym c.pop_front.ensures.value ∙ c.in-Some.is) c.self.invariant in
+    let model = made_kept c.apply.new.model c.apply.result all c.apply.ensures.ok c.apply.ensures.fault in
     let done = subst (λ (z : Model). IsCarried z s.net d.net s.labels d.scratch.labels c.in-Cleared.work) model after.mended in
     let y : Scratch = record { labels = c.swap.new.y; search = d.scratch.search; path = d.scratch.path } in
-    let scratch = scratch_after s.model (edited s.model e) s.net d.net s.labels d.scratch.labels c.swap.new.y d.scratch c.in-Cleared.work all.standing done
-    (c.swap.ensures.y_after ∙ after.labels) after.scratch in
-    rw (after.model ∙ model, c.pop_front.ensures.items, c.swap.ensures.x_after, after.refused)
-    (session_undone s.model e s.net d.net s.labels d.scratch.labels s.refused rest r.ring.capacity s.scratch y c.in-Cleared.work all done scratch)
+    let scratch = scratch_after c.swap.new.y all.standing done (c.swap.ensures.y_after ∙ after.labels) after.scratch in
+    rw (after.model ∙ model, c.pop_front.ensures.items, c.swap.ensures.x_after, after.refused) (session_undone e rest all done scratch)
 
 pub unreachable-requires : goal.unreachable-requires
 unreachable-requires g c =
@@ -47,10 +41,8 @@ unreachable-requires g c =
     let e = c.in-Some.back in
     let v = c.repair.new.self.net in
     let cut = c.repair.new.self.scratch.labels in
-    let kept = first_kept r.ring.items e (sym c.pop_front.ensures.value ∙ c.in-Some.is) in
-    let all = subst (λ (z : List Edit). IsSession s.model s.net s.labels s.refused z r.ring.capacity s.scratch) kept c.self.invariant in
-    let model : c.apply.new.model ≡ edited s.model e =
-    made s.model (edited s.model e) c.apply.new.model e (inverse_of s.model e) c.apply.result all.back.1 c.apply.ensures.ok c.apply.ensures.fault in
+    let all = session_kept e (sym c.pop_front.ensures.value ∙ c.in-Some.is) c.self.invariant in
+    let model = made_kept c.apply.new.model c.apply.result all c.apply.ensures.ok c.apply.ensures.fault in
     let short = subst (λ (z : Model). IsRefused z s.net v cut c.in-Short.most) model c.in-Short.ensures.mended in
     never_barred s.model e s.net v s.labels s.refused cut (drop 1 r.ring.items) r.ring.capacity c.in-Short.most s.scratch all short
 
@@ -64,14 +56,12 @@ returns-clause-ends g c =
     let work = c.in-Cleared.work in
     let steps = c.repair.new.steps - c.args.steps.now in
     let rest = drop 1 r.ring.items in
-    let kept = first_kept r.ring.items e (sym c.pop_front.ensures.value ∙ c.in-Some.is) in
-    let all = subst (λ (z : List Edit). IsSession s.model s.net s.labels s.refused z r.ring.capacity s.scratch) kept c.self.invariant in
-    let model : c.apply.new.model ≡ edited s.model e =
-    made s.model (edited s.model e) c.apply.new.model e (inverse_of s.model e) c.apply.result all.back.1 c.apply.ensures.ok c.apply.ensures.fault in
+    let all = session_kept e (sym c.pop_front.ensures.value ∙ c.in-Some.is) c.self.invariant in
+    let model = made_kept c.apply.new.model c.apply.result all c.apply.ensures.ok c.apply.ensures.fault in
     let items : c.pop_front.new.self.items ≡ rest = ap (λ z. z.items) c.pop_front.ensures.items in
     let done = subst (λ (z : Model). IsCarried z s.net v s.labels k work) model c.in-Cleared.ensures.mended in
-    let ends = ends_undone s.model e s.net v s.labels k s.refused rest r.ring.capacity s.scratch r.work work steps all done c.in-Cleared.ensures.counted.1 in
+    let ends = ends_undone e rest r.work steps all done c.in-Cleared.ensures.counted.1 in
     let from_ring = subst (λ (z : List Edit). UndoEnds (view_of s.model s.net s.labels s.refused z r.work) (Ok work)
-    (view_of (edited s.model e) v k s.refused rest work) steps) (sym kept) ends in
+    (view_of (edited s.model e) v k s.refused rest work) steps) (sym (first_kept r.ring.items e (sym c.pop_front.ensures.value ∙ c.in-Some.is))) ends in
     let from_view = subst (λ (z : SessionView). UndoEnds z (Ok work) (view_of (edited s.model e) v k s.refused rest work) steps) c.self.view_is from_ring in
     (steps, omega (arith, c.in-Cleared.ensures.counted.0), rw (c.in-Cleared.ensures.model ∙ model, items, c.swap.ensures.x_after, c.in-Cleared.ensures.refused) from_view)

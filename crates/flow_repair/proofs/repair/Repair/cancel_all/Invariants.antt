@@ -1,15 +1,15 @@
+use Rattle.std.proofs.Common.{◌≡◌, false}
 use Rattle.residual_net.specs.Site.{IsPlace}
-use Rattle.residual_net.specs.Network.{flow_at}
-use Rattle.flow_repair.specs.Refit.{IsStepPerPerson, IsThinned}
-use Rattle.flow_repair.specs.Repairing.{IsSameRepair}
+use Rattle.residual_net.specs.Network.{flow_at, limit_at}
+use Rattle.residual_net.specs.OfModel.{model_limit}
+use Rattle.flow_repair.specs.Repairing.{RepairsOn}
 use Rattle.flow_repair.proofs.repair.Repair.cancel_all.Given as goal
 
 abbrev pub invariant-loop-place : goal.invariant-loop-place
 invariant-loop-place g l = record {
-  same : IsSameRepair l.fn.self l.self;
-  thinned : IsThinned l.place l.fn.self.labels.now l.fn.self.net.now l.self.net.now l.fn.self.done l.self.done;
+  goes_on : RepairsOn (λ _. false) l.fn.self l.self;
   place : IsPlace l.self.net.now.site l.place;
-  steps : IsStepPerPerson l.fn.self.steps.now l.self.steps.now l.fn.self.done l.self.done;
+  limit : limit_at l.self.net.now l.place ≡ model_limit l.self.model.now l.place;
 }
 
 abbrev pub decreases-loop-place : goal.decreases-loop-place

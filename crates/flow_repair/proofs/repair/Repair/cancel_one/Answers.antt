@@ -1,4 +1,4 @@
-use Rattle.std.proofs.Common.{◌+◌, List, refl, subst, sym, arith}
+use Rattle.std.proofs.Common.{◌+◌, List, refl, subst, sym, arith, rules}
 use Rattle.residual_net.specs.declared.place.PathStep.{PathStep}
 use Rattle.residual_net.specs.Change.{IsCancelled}
 use Rattle.flow_repair.proofs.Cancelling.{here, open_path}
@@ -11,7 +11,7 @@ least_on-least_label-requires-clause-open g c =
     let v = c.cancel-people.new.self in
     let x = c.cancel-people.result in
     let made = subst (λ (z : List PathStep). IsCancelled w v c.args.place z x) (sym c.steps.ensures) c.cancel-people.ensures.cancelled in
-    open_path w v c.args.place c.steps.result.now x made c.shape.ensures.net
+    open_path w v c.args.place c.steps.result.now x made c.requires.cancellable.net
 
 pub returns : goal.returns
 returns g c =
@@ -21,12 +21,13 @@ returns g c =
     let made = subst (λ (z : List PathStep). IsCancelled w v c.args.place z x) (sym c.steps.ensures) c.cancel-people.ensures.cancelled in
     let least = c.least_on-least_label.ensures in
     record {
-      same = record { model = refl; labels = refl; room = c.cancel-people.ensures.room; same_net = refl; same_path = refl; same_steps = refl };
-      taken = record {
-        thinned = one_cancelled c.args.self.now.labels.now w v c.args.place c.steps.result.now x c.args.self.now.done
-            (record { cancelled = c.args.self.now.done.cancelled + x; least_label = c.least_on-least_label.result }) made refl least.first least.all least.one;
-        less = omega (arith, here w v c.args.place c.steps.result.now x made, made.some);
-        more = omega (arith, made.some);
+      goes_on = record {
+        same = search (rules, c.cancel-people.ensures.room);
+        refitted = one_cancelled c.args.self.now.labels.now c.args.self.now.done
+            (record { cancelled = c.args.self.now.done.cancelled + x; least_label = c.least_on-least_label.result }) made c.requires.place c.requires.limit refl
+            least.first least.all least.one;
+        net = c.cancel-people.ensures.net;
+        steps = record { counted = omega (arith, c.cancel-people.ensures.ticked); ticked = omega (arith, c.cancel-people.ensures.ticked, made.some) };
       };
-      ticked = c.cancel-people.ensures.ticked;
+      less = omega (arith, here w v c.args.place c.steps.result.now x made, made.some);
     }

@@ -1,4 +1,4 @@
-use Rattle.std.proofs.Common.{◌≡◌, ◌≤◌, ◌<◌, ℕ, true, ap, subst, refl, arith, ◌∙◌}
+use Rattle.std.proofs.Common.{◌≡◌, ◌≤◌, ◌<◌, ℕ, true, ap, cond, subst, refl, arith, rules, ◌∙◌}
 use Rattle.std.proofs.lemmas.Bool.{false_from_ne_true}
 use Rattle.evac_law.specs.Building.{IsValid}
 use Rattle.evac_law.specs.declared.model.Model.{Model}
@@ -10,30 +10,32 @@ use Rattle.residual_net.specs.Site.{IsPlace, Site, is_barred, is_source}
 use Rattle.residual_net.proofs.Begin.{barred_limit}
 use Rattle.flow_repair.specs.Opened.{head_number}
 use Rattle.residual_net.proofs.Kept.{out_same}
-use Rattle.flow_repair.proofs.Between.{within_raised, within_thinned}
-use Rattle.flow_repair.proofs.Refitting.{least_raised, lowered_refits, set_refitted, still_cancellable}
+use Rattle.residual_net.proofs.Places.{place-same}
+use Rattle.flow_repair.proofs.Between.{within_raised, within_relieved}
+use Rattle.flow_repair.proofs.Refitting.{least_raised, still_cancellable}
+use Rattle.flow_repair.proofs.Repairing.{goes_on_relieved, goes_on_set}
 use Rattle.flow_repair.proofs.repair.Repair.fit_place.Goals as goal
 
 -- a barred place of the net has the limit 0 in the model
-barred_none : (m : Model) (w : Network) (p : Place) → IsValid m → w.site ≡ site_of m → IsPlace w.site p → is_barred w.site p ≡ true → model_limit m p ≡ 0
-barred_none m w p valid site i b =
+barred_none : {m : Model} (w : Network) (p : Place) → IsValid m → w.site ≡ site_of m → IsPlace w.site p → is_barred w.site p ≡ true → model_limit m p ≡ 0
+barred_none {m} w p valid site i b =
     barred_limit m p valid (subst (λ (s : Site). IsPlace s p) site i) (subst (λ (s : Site). is_barred s p ≡ true) site b)
 
 pub set_limit-requires-clause-open : goal.set_limit-requires-clause-open
 set_limit-requires-clause-open g c = λ b.
     let h = c.requires.fittable in
-    c.limit_of-limit.ensures ∙ barred_none c.args.self.now.model.now c.args.self.now.net.now c.args.place h.valid h.between.of_model c.requires.place b
+    c.limit_of-limit.ensures ∙ barred_none c.args.self.now.net.now c.args.place h.valid h.between.of_model c.requires.place b
 
 pub head_number-number-requires-clause-open : goal.head_number-number-requires-clause-open
 head_number-number-requires-clause-open g c =
     let h = c.requires.fittable in
     let p = c.args.place in
-    ap (λ (s : Site). is_barred s p) c.set_limit.ensures.site
+    ap (λ (s : Site). is_barred s p) c.set_limit.ensures.set.site
     ∙ false_from_ne_true (is_barred c.args.self.now.net.now.site p)
     (λ b. omega (
       arith,
       c.limit_of-limit.ensures,
-      barred_none c.args.self.now.model.now c.args.self.now.net.now p h.valid h.between.of_model c.requires.place b,
+      barred_none c.args.self.now.net.now p h.valid h.between.of_model c.requires.place b,
       c.if-limit-old.true,
     ))
 
@@ -41,9 +43,14 @@ pub cancel_all-requires-clause-cancellable : goal.cancel_all-requires-clause-can
 cancel_all-requires-clause-cancellable g c =
     let w = c.args.self.now.net.now in
     let v = c.set_limit.new.self in
-    let set = c.set_limit.ensures in
-    still_cancellable w v c.args.self.now.labels.now c.args.self.now.path.now.room c.args.self.now.path.now.room c.args.self.now.done c.args.self.now.done set.site
-    (omega (arith, out_same w v set.site set.flows is_source)) refl c.requires.fittable.cancellable
+    let set = c.set_limit.ensures.set in
+    still_cancellable v c.args.self.now.path.now.room c.args.self.now.done set.site
+    (omega (arith, out_same w v set.site set.flows is_source)) refl c.set_limit.ensures.net c.requires.fittable.cancellable
+
+pub cancel_all-requires-clause-limit : goal.cancel_all-requires-clause-limit
+cancel_all-requires-clause-limit g c =
+    c.set_limit.ensures.set.limits c.args.place c.requires.place
+    ∙ ap (λ b. cond b c.limit_of-limit.result (limit_at c.args.self.now.net.now c.args.place)) (place-same c.args.place) ∙ c.limit_of-limit.ensures
 
 pub returns-then-limit-old : goal.returns-then-limit-old
 returns-then-limit-old g c =
@@ -51,43 +58,24 @@ returns-then-limit-old g c =
     let m = r.model.now in
     let l = r.labels.now in
     let w = r.net.now in
-    let v = c.set_limit.new.self in
     let p = c.args.place in
-    let set = subst (λ (x : ℕ). IsLimitSet w v p x) c.limit_of-limit.ensures c.set_limit.ensures in
+    let set = subst (λ (x : ℕ). IsLimitSet w c.set_limit.new.self p x) c.limit_of-limit.ensures c.set_limit.ensures.set in
     let rose : limit_at w p < model_limit m p = omega (arith, c.limit-old.ensures, c.limit_of-limit.ensures, c.if-limit-old.true) in
-    let more : limit_at w p ≤ c.limit_of-limit.result = omega (arith, c.limit-old.ensures, c.if-limit-old.true) in
     let number : c.head_number-number.result ≡ head_number l w.site p = c.head_number-number.ensures ∙ ap (λ (s : Site). head_number l s p) set.site in
     record {
-      same = record { model = refl; labels = refl; room = refl; same_net = refl; same_path = refl; same_steps = refl };
-      refitted = set_refitted m l w v p r.done (record { cancelled = r.done.cancelled; least_label = c.min-self.result }) set refl
-          (least_raised m l w v p r.done.least_label c.head_number-number.result c.min-self.result set c.requires.place rose number c.min-self.ensures);
-      within = within_raised w v p c.limit_of-limit.result c.requires.fittable.within c.set_limit.ensures more;
-      steps = record { counted = omega arith; ticked = omega arith };
+      goes_on = goes_on_set (search rules) set c.set_limit.ensures.net refl refl
+          (least_raised m l r.done.least_label c.head_number-number.result c.min-self.result set c.requires.place rose number c.min-self.ensures);
+      within = within_raised c.requires.fittable.within set (omega (arith, rose));
     }
 
 pub returns-else-limit-old : goal.returns-else-limit-old
 returns-else-limit-old g c =
     let r = c.args.self.now in
-    let m = r.model.now in
-    let l = r.labels.now in
-    let w = r.net.now in
-    let v = c.set_limit.new.self in
-    let s = c.cancel_all.new.self in
     let p = c.args.place in
     let done = c.cancel_all.ensures in
-    let set = subst (λ (x : ℕ). IsLimitSet w v p x) c.limit_of-limit.ensures c.set_limit.ensures in
-    let low : model_limit m p ≤ limit_at w p = omega (arith, c.limit-old.ensures, c.limit_of-limit.ensures, c.if-limit-old.false) in
+    let set = subst (λ (x : ℕ). IsLimitSet r.net.now c.set_limit.new.self p x) c.limit_of-limit.ensures c.set_limit.ensures.set in
+    let low : model_limit r.model.now p ≤ limit_at r.net.now p = omega (arith, c.limit-old.ensures, c.limit_of-limit.ensures, c.if-limit-old.false) in
     record {
-      same = record {
-        model = done.same.model;
-        labels = done.same.labels;
-        room = done.same.room;
-        same_net = done.same.same_net;
-        same_path = done.same.same_path;
-        same_steps = done.same.same_steps;
-      };
-      refitted = lowered_refits m l w v s.net.now p r.done s.done set c.requires.place low done.thinned;
-      within = within_thinned l w v s.net.now p c.limit_of-limit.result r.done s.done c.requires.fittable.within c.set_limit.ensures
-          done.thinned done.fits;
-      steps = done.steps;
+      goes_on = goes_on_relieved done.goes_on (search rules) set c.set_limit.ensures.net low refl refl;
+      within = within_relieved c.requires.fittable.within set done.goes_on.refitted done.fits;
     }
