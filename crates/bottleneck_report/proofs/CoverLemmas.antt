@@ -1,8 +1,9 @@
 -- Spans that begin by a period and reach past it.
-use Rattle.std.proofs.Common.{◌≡◌, ℕ, zero, suc, ◌+◌, ◌<◌, ◌≤◌, ◌⊎◌, inl, inr, Bool, true, false, cond, ◌&&◌, ◌||◌, eqb, leb, ltb, max, List, [], ◌∷◌, ◌++◌, length, get_or, refl, ap, ap₂, sym, ◌∙◌, arith, add-one, subst}
+use Rattle.std.proofs.Common.{◌≡◌, ℕ, zero, suc, ◌+◌, ◌<◌, ◌≤◌, ◌⊎◌, inl, inr, Bool, true, false, cond, ◌&&◌, ◌||◌, leb, ltb, max, List, [], ◌∷◌, ◌++◌, length, get_or, refl, ap, ap₂, sym, ◌∙◌, arith, add-one, subst}
 use Rattle.std.proofs.Math.ListN.{set}
 use Rattle.std.specs.List.{filter, list_any}
-use Rattle.std.proofs.lemmas.Bool.{cases_Bool, le-ltb, lt-leb}
+use Rattle.std.proofs.Math.Bool.{or_assoc}
+use Rattle.std.proofs.lemmas.Bool.{cases_eq, le-ltb, lt-leb, lt-ltb}
 use Rattle.std.proofs.lemmas.Bool.Decides.{nat_tests}
 use Rattle.std.proofs.lemmas.Grind.{common_steps}
 use Rattle.std.proofs.lemmas.List.{get_or-set_other, get_or-set_same}
@@ -11,10 +12,6 @@ use Rattle.evac_law.specs.Sums.{below}
 use Rattle.evac_law.proofs.SumLemmas.{below-suc}
 use Rattle.evac_law.proofs.PartLemmas.{any-below, or_false}
 use Rattle.bottleneck_report.specs.Covers.{covers}
-
-or_assoc : (a b c : Bool) → (a || (b || c)) ≡ ((a || b) || c)
-or_assoc true b c = refl
-or_assoc false b c = refl
 
 test_max : (a b c : ℕ) → ltb c (max a b) ≡ (ltb c a || ltb c b)
 test_max a b c = grind (arith, nat_tests)
@@ -33,33 +30,19 @@ any-same p q (suc n) h =
 pub any-short : (p : ℕ → Bool) (n d : ℕ) → ((i : ℕ) → n ≤ i → p i ≡ false) → list_any p (below (n + d)) ≡ list_any p (below n)
 any-short p n zero h = ap (λ i. list_any p (below i)) (omega arith)
 any-short p n (suc d) h =
-    ap (λ i. list_any p (below i)) (plus n d)
+    let more : n + suc d ≡ suc (n + d) = omega arith in
+    ap (λ i. list_any p (below i)) more
     ∙ any-below p (n + d)
     ∙ ap₂ (λ x y. x || y) (any-short p n d h) (h (n + d) (omega arith))
     ∙ or_false (list_any p (below n))
-  where
-    plus : (x y : ℕ) → x + suc y ≡ suc (x + y)
-    plus x y = omega arith
 
 -- ---- a span more
 
 -- one list reaches further at one place
 widen_step : (i n k to x : ℕ) (r s : Bool) → r ≡ (s || (ltb i n && ltb k to)) → (y : ℕ) → (i ≡ n → y ≡ max x to) → ((i ≡ n → ⊥) → y ≡ x)
     → (r || ltb k y) ≡ ((s || ltb k x) || (ltb i (suc n) && ltb k to))
-widen_step i n k to x r s e y here there = split (cases_Bool (eqb i n))
+widen_step i n k to x r s e y here there = split (cases_eq i n)
   where
-    same : eqb i n ≡ true → i ≡ n
-    same f = grind (arith, nat_tests)
-
-    apart : eqb i n ≡ false → i ≡ n → ⊥
-    apart f g = grind (arith, nat_tests)
-
-    not_before : i ≡ n → ltb i n ≡ false
-    not_before f = grind (arith, nat_tests)
-
-    before : i ≡ n → ltb i (suc n) ≡ true
-    before f = grind (arith, nat_tests)
-
     next : (i ≡ n → ⊥) → ltb i (suc n) ≡ ltb i n
     next f = grind (arith, nat_tests)
 
@@ -69,14 +52,12 @@ widen_step i n k to x r s e y here there = split (cases_Bool (eqb i n))
     swap false true false = refl
     swap false false c = sym (or_false c)
 
-    split : (eqb i n ≡ true) ⊎ (eqb i n ≡ false) → (r || ltb k y) ≡ ((s || ltb k x) || (ltb i (suc n) && ltb k to))
-    split (inl f) =
-        let g = same f in
-        let r_is : r ≡ s = e ∙ ap (λ b. s || (b && ltb k to)) (not_before g) ∙ or_false s in
-        ap₂ (λ a b. a || ltb k b) r_is (here g) ∙ ap (λ b. s || b) (test_max x to k) ∙ or_assoc s (ltb k x) (ltb k to)
-        ∙ ap (λ b. (s || ltb k x) || (b && ltb k to)) (sym (before g))
-    split (inr f) =
-        let g = apart f in
+    split : (i ≡ n) ⊎ (i ≡ n → ⊥) → (r || ltb k y) ≡ ((s || ltb k x) || (ltb i (suc n) && ltb k to))
+    split (inl g) =
+        let r_is : r ≡ s = e ∙ ap (λ b. s || (b && ltb k to)) (le-ltb i n (omega (arith, g))) ∙ or_false s in
+        ap₂ (λ a b. a || ltb k b) r_is (here g) ∙ ap (λ b. s || b) (test_max x to k) ∙ sym (or_assoc s (ltb k x) (ltb k to))
+        ∙ ap (λ b. (s || ltb k x) || (b && ltb k to)) (sym (lt-ltb i (suc n) (omega (arith, g))))
+    split (inr g) =
         ap₂ (λ a b. a || ltb k b) e (there g) ∙ swap s (ltb i n && ltb k to) (ltb k x) ∙ ap (λ b. (s || ltb k x) || (b && ltb k to)) (sym (next g))
 
 pub widened : (xs : List ℕ) (i to k n : ℕ) → i < length xs

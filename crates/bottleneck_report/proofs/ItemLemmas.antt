@@ -4,8 +4,9 @@ use Rattle.std.specs.List.{filter, flat_map, list_any}
 use Rattle.std.proofs.lemmas.List.{ext_get_or, get_or-map, length-map}
 use Rattle.std.proofs.lemmas.List.FromFn.{get_or-range_with_len, length-range_with_len}
 use Rattle.std.proofs.lemmas.List.Folds.{list_any-append}
-use Rattle.std.proofs.lemmas.Bool.{cases_Bool, le-ltb, lt-leb, lt-ltb}
-use Rattle.std.proofs.lemmas.Bool.Decides.{nat_tests}
+use Rattle.std.proofs.Math.Bool.{and-false, and-true}
+use Rattle.std.proofs.lemmas.Bool.{and_left, le-ltb, lt-leb, lt-ltb}
+use Rattle.std.proofs.lemmas.Bool.Decides.{eqb_tells, nat_tests}
 use Rattle.evac_law.specs.declared.cut.CutItem.{CutItem}
 use Rattle.evac_law.specs.declared.cut.CutItem.TheVariants.{Arc, Entry, Hold}
 use Rattle.evac_law.specs.declared.model.Model.{Model}
@@ -38,32 +39,15 @@ none_nested p h is js e =
 pick_test : (p : ℕ → Bool) (a n : ℕ) → list_any (λ i. p i && eqb i a) (below n) ≡ (ltb a n && p a)
 pick_test p a zero = sym (ap (λ b. b && p a) (le-ltb a 0 (omega arith)))
 pick_test p a (suc n) =
-    any-below (λ i. p i && eqb i a) n ∙ ap (λ b. b || (p n && eqb n a)) (pick_test p a n) ∙ split (cases_Bool (eqb n a))
+    any-below (λ i. p i && eqb i a) n ∙ ap (λ b. b || (p n && eqb n a)) (pick_test p a n) ∙ split (eqb_tells n a)
   where
-    same : eqb n a ≡ true → n ≡ a
-    same e = grind (arith, nat_tests)
-
-    not_yet : n ≡ a → ltb a n ≡ false
-    not_yet e = grind (arith, nat_tests)
-
-    now : n ≡ a → ltb a (suc n) ≡ true
-    now e = grind (arith, nat_tests)
-
-    still : eqb n a ≡ false → ltb a (suc n) ≡ ltb a n
+    still : (n ≡ a → ⊥) → ltb a (suc n) ≡ ltb a n
     still e = grind (arith, nat_tests)
 
-    and_true : (b : Bool) → (b && true) ≡ b
-    and_true true = refl
-    and_true false = refl
-
-    and_false : (b : Bool) → (b && false) ≡ false
-    and_false true = refl
-    and_false false = refl
-
-    split : ((eqb n a ≡ true) ⊎ (eqb n a ≡ false)) → ((ltb a n && p a) || (p n && eqb n a)) ≡ (ltb a (suc n) && p a)
-    split (inl e) =
-        ap₂ (λ x y. (x && p a) || (p n && y)) (not_yet (same e)) e ∙ and_true (p n) ∙ ap p (same e) ∙ sym (ap (λ b. b && p a) (now (same e)))
-    split (inr e) = ap (λ y. (ltb a n && p a) || (p n && y)) e ∙ ap (λ b. (ltb a n && p a) || b) (and_false (p n)) ∙ or_false (ltb a n && p a) ∙ sym (ap (λ b. b && p a) (still e))
+    split : ((eqb n a ≡ true) × (n ≡ a)) ⊎ ((eqb n a ≡ false) × (n ≡ a → ⊥)) → ((ltb a n && p a) || (p n && eqb n a)) ≡ (ltb a (suc n) && p a)
+    split (inl (e, f)) =
+        ap₂ (λ x y. (x && p a) || (p n && y)) (le-ltb a n (omega (arith, f))) e ∙ and-true (p n) ∙ ap p f ∙ sym (ap (λ b. b && p a) (lt-ltb a (suc n) (omega (arith, f))))
+    split (inr (e, f)) = ap (λ y. (ltb a n && p a) || (p n && y)) e ∙ ap (λ b. (ltb a n && p a) || b) (and-false (p n)) ∙ or_false (ltb a n && p a) ∙ sym (ap (λ b. b && p a) (still f))
 
 -- ---- arcs
 
@@ -183,15 +167,12 @@ hold_counted m l c n ends in_nodes in_time h =
     within : (i j : ℕ) (b : Bool) → i < j → (ltb i j && b) ≡ b
     within i j b e = grind (arith, nat_tests)
 
-    later : (i j : ℕ) (b : Bool) → j ≤ i → (ltb i j && b) ≡ false
-    later i j b e = grind (arith, nat_tests)
-
     shorter : (k : ℕ) → k ≤ m.horizon
         → list_any (is_held_out m l k n) (below m.horizon) ≡ list_any (λ t. label_cut m l k n t && not (label_cut m l k n (t + 1))) (below k)
     shorter k e =
         let parts : m.horizon ≡ k + (m.horizon - k) = omega (arith, e) in
         ap (λ i. list_any (is_held_out m l k n) (below i)) parts
-        ∙ any-short (is_held_out m l k n) k (m.horizon - k) (λ i b. later i k _ b)
+        ∙ any-short (is_held_out m l k n) k (m.horizon - k) (λ i b. and_left (ltb i k) _ (le-ltb i k b))
         ∙ any-same (is_held_out m l k n) (λ t. label_cut m l k n t && not (label_cut m l k n (t + 1))) k (λ t b. within t k _ b)
 
 -- ---- lists of numbers

@@ -1,5 +1,5 @@
 -- Over all cards each number at a node is met once, so the cards cover the plan.
-use Rattle.std.proofs.Common.{◌≡◌, ℕ, zero, suc, ◌+◌, ◌-◌, ◌<◌, ◌≤◌, ◌⊎◌, inl, inr, true, false, cond, ◌&&◌, eqb, leb, ltb, List, [], ◌∷◌, length, get_or, map, refl, ap, ap₂, sym, ◌∙◌, arith, subst}
+use Rattle.std.proofs.Common.{◌≡◌, ℕ, zero, suc, ◌+◌, ◌-◌, ◌<◌, ◌≤◌, ◌⊎◌, inl, inr, true, false, cond, ◌&&◌, eqb, leb, ltb, List, [], ◌∷◌, length, get_or, map, refl, ap, sym, ◌∙◌, arith, subst}
 use Rattle.std.specs.List.{All, sum_by}
 use Rattle.std.proofs.lemmas.Bool.{and_parts, and_from, both_ways, cases_lt, eqb-true, eq-eqb, le-leb, leb-true, ltb-true, lt-ltb}
 use Rattle.std.proofs.lemmas.List.Elements.{All-from_get_or, All-map}
@@ -10,7 +10,7 @@ use Rattle.evac_law.specs.Building.{entered_by, entry, head, is_exit_at, people,
 use Rattle.evac_law.specs.Plans.{came, moved}
 use Rattle.evac_law.specs.Sums.{below, places}
 use Rattle.evac_law.proofs.Entries.{entered_all}
-use Rattle.evac_law.proofs.SumLemmas.{All-below, sum_below-pick, sum_by-exchange, sum_by-nothing, sum_by-same_all, sum_places}
+use Rattle.evac_law.proofs.SumLemmas.{All-below, pair_same, same_pair, sum_below-pick, sum_by-exchange, sum_by-nothing, sum_by-same_all, sum_places}
 use Rattle.evac_law.proofs.ValidLemmas.{arc_is}
 use Rattle.route_decompose.specs.declared.route.RouteStep.{RouteStep}
 use Rattle.route_decompose.specs.Routes.{IsRoute, RouteView, begins, enters, routed, started}
@@ -21,7 +21,7 @@ use Rattle.cards.proofs.Entrants.{IsOneOf, entry_by, entry_in, entry_inside, one
 use Rattle.cards.proofs.Hits.{entered, first_hit, hits, hits_are, later_back, later_hits, later_none, unused, uses, uses_are}
 use Rattle.cards.proofs.Moments.{has_moment}
 use Rattle.cards.proofs.Numbers.{ComesBy, Enters, Leaves, apart, enters_then, has_come, leaves_at, one_entry}
-use Rattle.cards.proofs.Ones.{all_between, both, both_from, none_count, one_if, ones, same_count}
+use Rattle.cards.proofs.Ones.{all_between, none_count, one_if, ones, same_count}
 use Rattle.cards.proofs.Ways.{arc_of, enters_are, leads, moment_of, tail_few}
 
 sum_by-map : {X Y : Type 0} (f : Y → ℕ) (g : X → Y) (xs : List X) → sum_by f (map g xs) ≡ sum_by (λ x. f (g x)) xs
@@ -51,16 +51,12 @@ module _ (m : Model) (p : List Move) (cards : List CardView) (h : IsEvacuation m
   pub enters_as : (k : ℕ) → k < length cards → Enters m p arcs (card k).start (card k).entered (number k)
   enters_as k l =
       let c = is_card k l in
-      let low = c.not_before in
-      let high = c.one_of in
-      record { from = omega arith; until = omega (arith, low, high) }
+      record { from = omega arith; until = omega arith }
 
   start_inside : (k : ℕ) → k < length cards → is_exit_at m (card k).start ≡ false
   start_inside k l =
       let c = is_card k l in
-      let low = c.not_before in
-      let high = c.one_of in
-      entry_inside m (card k).start (card k).entered h.valid (omega (arith, low, high))
+      entry_inside m (card k).start (card k).entered h.valid (omega arith)
 
   -- ---- each number is met once
 
@@ -96,7 +92,7 @@ module _ (m : Model) (p : List Move) (cards : List CardView) (h : IsEvacuation m
       let same : later_hits m p arcs (head m a) i (card k).start (number k) (card k).steps ≡ later_hits m p arcs x i (card k).start (number k) (card k).steps =
       ap (λ y. later_hits m p arcs y i (card k).start (number k) (card k).steps) b.to in
       let none = none_count (eqb (card k).start x && eqb (number k) i)
-      (λ z. let y = both (card k).start x (number k) i z in
+      (λ z. let y = same_pair (card k).start x (number k) i z in
       apart m p arcs a (card k).start s (card k).entered i (b.to ∙ sym y.0) b.comes
       (subst (λ (w : ℕ). Enters m p arcs (card k).start (card k).entered w) y.1 (enters_as k l))) in
       omega (arith, hits_split x i k l, none, later, same)
@@ -113,28 +109,18 @@ module _ (m : Model) (p : List Move) (cards : List CardView) (h : IsEvacuation m
 
       there : (eqb (card k).start x && eqb (number k) i) ≡ true → eqb (dealt_before m x s + (i - entrants_before m p x s)) k ≡ true
       there z =
-          let y = both (card k).start x (number k) i z in
+          let y = same_pair (card k).start x (number k) i z in
           let mine : Enters m p arcs x (card k).entered i =
           subst (λ (w : ℕ). Enters m p arcs x (card k).entered w) y.1 (subst (λ (v : ℕ). Enters m p arcs v (card k).entered (number k)) y.0 (enters_as k l)) in
-          let moments : (card k).entered ≡ s = one_moment_of x (card k).entered s i mine enters in
-          let dealt : dealt_before m (card k).start (card k).entered ≡ dealt_before m x s = ap₂ (λ u v. dealt_before m u v) y.0 moments in
-          let first : entrants_before m p (card k).start (card k).entered ≡ entrants_before m p x s = ap₂ (λ u v. entrants_before m p u v) y.0 moments in
-          let low = (is_card k l).not_before in
-          eq-eqb (dealt_before m x s + (i - entrants_before m p x s)) k (omega (arith, y.1, dealt, first, low))
-        where
-          one_moment_of : (x t u i : ℕ) → Enters m p arcs x t i → Enters m p arcs x u i → t ≡ u
-          one_moment_of x t u i a b = one_entry m p arcs x t u i a b
+          let moments : (card k).entered ≡ s = one_entry m p arcs x (card k).entered s i mine enters in
+          eq-eqb (dealt_before m x s + (i - entrants_before m p x s)) k (grind (arith, y.0, y.1, moments, (is_card k l).not_before))
 
       here : eqb (dealt_before m x s + (i - entrants_before m p x s)) k ≡ true → (eqb (card k).start x && eqb (number k) i) ≡ true
       here z =
           let same = eqb-true (dealt_before m x s + (i - entrants_before m p x s)) k z in
-          let low = enters.from in
-          let high = enters.until in
           let one = one_entrant m (card k).start (card k).entered x s k (entrant k l)
-          (record { moment_in = in_time; not_before = omega (arith, same); one_of = omega (arith, same, low, high) }) in
-          let dealt : dealt_before m (card k).start (card k).entered ≡ dealt_before m x s = ap₂ (λ u v. dealt_before m u v) one.0 one.1 in
-          let first : entrants_before m p (card k).start (card k).entered ≡ entrants_before m p x s = ap₂ (λ u v. entrants_before m p u v) one.0 one.1 in
-          both_from (card k).start x (number k) i one.0 (omega (arith, same, dealt, first, low))
+          (record { moment_in = in_time; not_before = omega (arith, same); one_of = omega (arith, same) }) in
+          pair_same (card k).start x (number k) i one.0 (grind (arith, same, one.0, one.1, enters.from))
 
   all_are : length cards ≡ entered_by m m.horizon
   all_are = count ∙ sym (entered_all m h.valid)
@@ -150,22 +136,17 @@ module _ (m : Model) (p : List Move) (cards : List CardView) (h : IsEvacuation m
       let j = leavers_before m p a t + (i - comers_before m p a s) in
       let back = entered m p arcs a t s i b.arrives b.comes in
       let arc = arc_is m a h.valid b.comes.arc_in in
-      let travel = arc.travel_fits.0 in
-      let arrives = b.arrives in
       let less : j < came m p (tail m a) t =
-      let y = (leaves_at m p arcs a t j back.leaves).by_then in let z = tail_few m p h a t j back.leaves in omega (arith, y, z) in
+      omega (arith, (leaves_at m p arcs a t j back.leaves).by_then, tail_few m p h a t j back.leaves) in
       let there = has_moment (came m p (tail m a)) j t less in
-      let by = there.by in
       sum_by-same_all (hits_of x i) (hits_of (tail m a) j) (places cards) (All-below _ (length cards) (met_before x i s e b))
-      ∙ earlier (tail m a) j there.moment (omega (arith, by, arrives, travel)) arc.from_no_exit (omega (arith, by, arrives, in_time)) there.at
+      ∙ earlier (tail m a) j there.moment (omega arith) arc.from_no_exit (omega (arith, in_time)) there.at
 
   met_from_nowhere : (x i s : ℕ) → s ≤ m.horizon → Enters m p arcs x s i → all_hits x i ≡ 1
   met_from_nowhere x i s in_time n =
       let own = dealt_before m x s + (i - entrants_before m p x s) in
-      let low = n.from in
-      let high = n.until in
-      let some : 0 < entry m x s = omega (arith, low, high) in
-      let less : own < length cards = omega (arith, all_are, within_all m x s (entry_in m x s h.valid some) in_time, low, high) in
+      let some : 0 < entry m x s = omega arith in
+      let less : own < length cards = omega (arith, all_are, within_all m x s (entry_in m x s h.valid some) in_time) in
       sum_by-same_all (hits_of x i) (λ k. one_if (eqb own k)) (places cards) (All-below _ (length cards) (λ k b. met_first x s i k in_time n b))
       ∙ sum_below-pick (λ _. 1) (length cards) own
       ∙ ap one_if (lt-ltb own (length cards) less)
@@ -193,11 +174,9 @@ module _ (m : Model) (p : List Move) (cards : List CardView) (h : IsEvacuation m
       let a_in = arc_of m p h a t some in
       let i = leavers_before m p a t + o in
       let leaves : Leaves m p arcs a t i = record { arc_in = a_in; from = omega arith; until = omega (arith, l) } in
-      let less : i < came m p (tail m a) t = let x = (leaves_at m p arcs a t i leaves).by_then in let y = tail_few m p h a t i leaves in omega (arith, x, y) in
+      let less : i < came m p (tail m a) t = omega (arith, (leaves_at m p arcs a t i leaves).by_then, tail_few m p h a t i leaves) in
       let there = has_moment (came m p (tail m a)) i t less in
-      let by = there.by in
-      let late = moment_of m p h a t some in
-      met_once (there.moment + 1) (tail m a) i there.moment (omega arith) (arc_is m a h.valid a_in).from_no_exit (omega (arith, by, late)) there.at
+      met_once (there.moment + 1) (tail m a) i there.moment (omega arith) (arc_is m a h.valid a_in).from_no_exit (omega (arith, moment_of m p h a t some)) there.at
 
   all_use : (a t : ℕ) → (0 < moved p a t) ⊎ (moved p a t ≤ 0) → sum_by (uses_of a t) (places cards) ≡ moved p a t
   all_use a t (inl some) =
@@ -240,10 +219,7 @@ module _ (m : Model) (p : List Move) (cards : List CardView) (h : IsEvacuation m
       ∙ over_places (λ c. one_if (enters c.steps a t))
       ∙ sum_by-same_all (λ k. one_if (enters (card k).steps a t)) (uses_of a t) (places cards)
       (All-below _ (length cards) (λ k l. enters_are m p h a t (card k).start (card k).entered (card k).steps (route_of k l).leads_out))
-      ∙ all_use a t (some_or_none (moved p a t))
-    where
-      some_or_none : (w : ℕ) → (0 < w) ⊎ (w ≤ 0)
-      some_or_none w = cases_lt 0 w
+      ∙ all_use a t (cases_lt 0 (moved p a t))
 
   starts_at : (n t k : ℕ) → 0 < entry m n t → k < length cards
       → one_if (eqb (card k).start n && eqb (card k).entered t) ≡ one_if (leb (dealt_before m n t) k && ltb k (dealt_before m n t + entry m n t))
@@ -251,13 +227,10 @@ module _ (m : Model) (p : List Move) (cards : List CardView) (h : IsEvacuation m
     where
       there : (eqb (card k).start n && eqb (card k).entered t) ≡ true → (leb (dealt_before m n t) k && ltb k (dealt_before m n t + entry m n t)) ≡ true
       there z =
-          let y = both (card k).start n (card k).entered t z in
+          let y = same_pair (card k).start n (card k).entered t z in
           let c = is_card k l in
-          let low = c.not_before in
-          let high = c.one_of in
-          let dealt : dealt_before m (card k).start (card k).entered ≡ dealt_before m n t = ap₂ (λ u v. dealt_before m u v) y.0 y.1 in
-          let come : entry m (card k).start (card k).entered ≡ entry m n t = ap₂ (λ u v. entry m u v) y.0 y.1 in
-          and_from _ _ (le-leb (dealt_before m n t) k (omega (arith, low, dealt))) (lt-ltb k (dealt_before m n t + entry m n t) (omega (arith, high, dealt, come)))
+          and_from _ _ (le-leb (dealt_before m n t) k (grind (arith, y.0, y.1, c.not_before)))
+          (lt-ltb k (dealt_before m n t + entry m n t) (grind (arith, y.0, y.1, c.one_of)))
 
       here : (leb (dealt_before m n t) k && ltb k (dealt_before m n t + entry m n t)) ≡ true → (eqb (card k).start n && eqb (card k).entered t) ≡ true
       here z =
@@ -268,16 +241,13 @@ module _ (m : Model) (p : List Move) (cards : List CardView) (h : IsEvacuation m
             not_before = leb-true (dealt_before m n t) k y.0;
             one_of = ltb-true k (dealt_before m n t + entry m n t) y.1;
           }) in
-          both_from (card k).start n (card k).entered t one.0 one.1
+          pair_same (card k).start n (card k).entered t one.0 one.1
 
   never_starts : (n t k : ℕ) → entry m n t ≤ 0 → k < length cards → one_if (eqb (card k).start n && eqb (card k).entered t) ≡ 0
   never_starts n t k none l = none_count (eqb (card k).start n && eqb (card k).entered t) (λ z.
-      let y = both (card k).start n (card k).entered t z in
+      let y = same_pair (card k).start n (card k).entered t z in
       let c = is_card k l in
-      let low = c.not_before in
-      let high = c.one_of in
-      let come : entry m (card k).start (card k).entered ≡ entry m n t = ap₂ (λ u v. entry m u v) y.0 y.1 in
-      omega (arith, low, high, come, none))
+      grind (arith, y.0, y.1, none, c.not_before, c.one_of))
 
   all_start : (n t : ℕ) → (0 < entry m n t) ⊎ (entry m n t ≤ 0) → sum_by (λ k. one_if (eqb (card k).start n && eqb (card k).entered t)) (places cards) ≡ entry m n t
   all_start n t (inl some) =

@@ -6,18 +6,14 @@ use Rattle.evac_law.specs.declared.model.Model.{Model}
 use Rattle.evac_law.specs.Building.{IsValid, entered_by, entry, is_exit_at}
 use Rattle.evac_law.specs.Sums.{below, moments_to}
 use Rattle.evac_law.proofs.Entries.{exit_entry, none_late, none_past}
-use Rattle.evac_law.proofs.SumLemmas.{sum_below-more, sum_below-none, sum_below-suc}
+use Rattle.evac_law.proofs.SumLemmas.{sum_below-le, sum_below-more, sum_below-none, sum_below-suc}
 use Rattle.cards.specs.Numbers.{dealt_before}
-use Rattle.cards.proofs.Parts.{sum_below-grows}
 
 -- ---- where and when somebody comes in
 
 module _ (m : Model) (n t : ℕ) (valid : IsValid m) (some : 0 < entry m n t) where
   pub entry_in : n < length m.nodes
-  entry_in = elim (cases_lt n (length m.nodes)) [
-    | inl less ↦ less
-    | inr past ↦ absurd (omega (arith, some, none_past m n t valid past))
-  ]
+  entry_in = grind (arith, some, none_past m n t valid)
 
   pub entry_inside : is_exit_at m n ≡ false
   entry_inside = split (cases_Bool (is_exit_at m n))
@@ -27,10 +23,7 @@ module _ (m : Model) (n t : ℕ) (valid : IsValid m) (some : 0 < entry m n t) wh
       split (inr e) = e
 
   pub entry_by : t ≤ m.horizon
-  entry_by = elim (cases_lt m.horizon t) [
-    | inl late ↦ absurd (omega (arith, some, none_late m n t valid late))
-    | inr less ↦ less
-  ]
+  entry_by = grind (arith, some, none_late m n t valid)
 
 -- ---- in what order
 
@@ -61,25 +54,25 @@ module _ (m : Model) where
   in_node : (n t : ℕ) → t ≤ m.horizon → dealt_before m n t + entry m n t ≤ all_before (suc n)
   unfolding dealt_before
   in_node n t l =
-      omega (arith, sum_below-more (entry m n) t, sum_below-grows (entry m n) (t + 1) (m.horizon + 1) (omega arith), sum_below-suc all_of n)
+      omega (arith, sum_below-more (entry m n) t, sum_below-le (entry m n) (t + 1) (m.horizon + 1) (omega arith), sum_below-suc all_of n)
 
   -- who comes in at an earlier place and moment comes before
   pub earlier_node : (n k t u : ℕ) → n < k → t ≤ m.horizon → dealt_before m n t + entry m n t ≤ dealt_before m k u
   unfolding dealt_before
-  earlier_node n k t u l h = omega (arith, in_node n t h, sum_below-grows all_of (suc n) k (omega (arith, l)))
+  earlier_node n k t u l h = omega (arith, in_node n t h, sum_below-le all_of (suc n) k (omega (arith, l)))
 
   pub earlier_moment : (n t u : ℕ) → t < u → dealt_before m n t + entry m n t ≤ dealt_before m n u
   unfolding dealt_before
-  earlier_moment n t u l = omega (arith, sum_below-more (entry m n) t, sum_below-grows (entry m n) (t + 1) u (omega (arith, l)))
+  earlier_moment n t u l = omega (arith, sum_below-more (entry m n) t, sum_below-le (entry m n) (t + 1) u (omega (arith, l)))
 
   pub within_all : (n t : ℕ) → n < length m.nodes → t ≤ m.horizon → dealt_before m n t + entry m n t ≤ entered_by m m.horizon
   unfolding entered_by
-  within_all n t l h = omega (arith, in_node n t h, sum_below-grows all_of (suc n) (length m.nodes) (omega (arith, l)))
+  within_all n t l h = omega (arith, in_node n t h, sum_below-le all_of (suc n) (length m.nodes) (omega (arith, l)))
 
   -- as many have come in before a later node, or before any of its moments
   pub dealt-grows : (n k u : ℕ) → n ≤ k → dealt_before m n 0 ≤ dealt_before m k u
   unfolding dealt_before
-  dealt-grows n k u l = omega (arith, sum_below-none (entry m n), sum_below-grows all_of n k l)
+  dealt-grows n k u l = omega (arith, sum_below-none (entry m n), sum_below-le all_of n k l)
 
   -- one of those who come into a node at a moment
   pub record IsOneOf (n t k : ℕ) : Type 0 where
@@ -91,35 +84,22 @@ module _ (m : Model) where
   pub in_order : (n t i k u j : ℕ) → IsOneOf n t i → IsOneOf k u j → i ≤ j → (n < k) ⊎ ((n ≡ k) × (t ≤ u))
   in_order n t i k u j g h l = by_node (cases_order n k)
     where
-      same_node : n ≡ k → (t ≤ u) ⊎ (u < t) → (n < k) ⊎ ((n ≡ k) × (t ≤ u))
-      same_node e (inl b) = inr (e, b)
-      same_node e (inr b) = absurd (
-          let x = earlier_moment k u t b in
-          let low = g.not_before in
-          let high = h.one_of in
+      same_node : n ≡ k → (u < t) ⊎ (t ≤ u) → (n < k) ⊎ ((n ≡ k) × (t ≤ u))
+      same_node e (inr b) = inr (e, b)
+      same_node e (inl b) = absurd (
           let same : dealt_before m n t ≡ dealt_before m k t = ap (λ z. dealt_before m z t) e in
-          omega (arith, x, low, high, same, l)
+          omega (arith, earlier_moment k u t b, same, l)
           )
 
-      turn : (u < t) ⊎ (t ≤ u) → (t ≤ u) ⊎ (u < t)
-      turn (inl x) = inr x
-      turn (inr x) = inl x
-
       by_node : (n ≡ k) ⊎ ((n < k) ⊎ (k < n)) → (n < k) ⊎ ((n ≡ k) × (t ≤ u))
-      by_node (inl e) = same_node e (turn (cases_lt u t))
+      by_node (inl e) = same_node e (cases_lt u t)
       by_node (inr (inl b)) = inl b
       by_node (inr (inr b)) = absurd (
-          let x = earlier_node k n u t b h.moment_in in
-          let low = g.not_before in
-          let high = h.one_of in
-          omega (arith, x, low, high, l)
+          omega (arith, earlier_node k n u t b h.moment_in, l)
           )
 
   pub one_entrant : (n t k u i : ℕ) → IsOneOf n t i → IsOneOf k u i → (n ≡ k) × (t ≡ u)
-  one_entrant n t k u i g h = both (in_order n t i k u i g h (omega arith)) (in_order k u i n t i h g (omega arith))
-    where
-      both : (n < k) ⊎ ((n ≡ k) × (t ≤ u)) → (k < n) ⊎ ((k ≡ n) × (u ≤ t)) → (n ≡ k) × (t ≡ u)
-      both (inl a) (inl b) = absurd (omega (arith, a, b))
-      both (inl a) (inr b) = absurd (omega (arith, a, b.0))
-      both (inr a) (inl b) = absurd (omega (arith, a.0, b))
-      both (inr a) (inr b) = (a.0, omega (arith, a.1, b.1))
+  one_entrant n t k u i g h =
+      let a = in_order n t i k u i g h (omega arith) in
+      let b = in_order k u i n t i h g (omega arith) in
+      (grind (arith, a, b), grind (arith, a, b))

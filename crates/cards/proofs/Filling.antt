@@ -1,6 +1,6 @@
 -- A table that is filled moment by moment and row by row.
-use Rattle.std.proofs.Common.{◌≡◌, ℕ, ◌+◌, ◌<◌, ◌≤◌, ◌⊎◌, inl, inr, cond, ◌&&◌, eqb, refl, sym, ◌∙◌, arith, subst}
-use Rattle.std.proofs.lemmas.Bool.{cases_lt}
+use Rattle.std.proofs.Common.{◌≡◌, ℕ, ◌+◌, ◌<◌, ◌≤◌, cond, ◌&&◌, eqb, refl, ◌∙◌, arith}
+use borrow.Author.Count.{below_more}
 use Rattle.std.proofs.lemmas.Bool.Decides.{nat_tests}
 use Rattle.tables.specs.Tables.{IsPut}
 use Rattle.plan_layout.specs.Tables.{IsRowFilled, PeopleTable, people_at}
@@ -27,16 +27,11 @@ pub one_filled : (c d e : PeopleTable) (n t x : ℕ) (f : ℕ → ℕ) → IsFil
 one_filled c d e n t x f h put same = record {
   rows = put.rows ∙ h.rows;
   last = put.last ∙ h.last;
-  row = λ k l. split k l (cases_lt k t);
+  row = below_more (λ k. people_at e n k ≡ f k) t
+      (λ k b. put.items 0 n k ∙ elsewhere n n t k x (people_at d n k) (λ a c. omega (arith, c, b)) ∙ h.row k b)
+      (put.items 0 n t ∙ here n t x (people_at d n t) ∙ same);
   others = λ i k l. put.items 0 i k ∙ elsewhere n i t k x (people_at d i k) (λ a b. omega (arith, a, l)) ∙ h.others i k l;
 }
-  where
-    at : (k : ℕ) → k ≡ t → people_at e n k ≡ f k
-    at k a = subst (λ (z : ℕ). people_at e n z ≡ f z) (sym a) (put.items 0 n t ∙ here n t x (people_at d n t) ∙ same)
-
-    split : (k : ℕ) → k < t + 1 → (k < t) ⊎ (t ≤ k) → people_at e n k ≡ f k
-    split k l (inl b) = put.items 0 n k ∙ elsewhere n n t k x (people_at d n k) (λ a c. omega (arith, c, b)) ∙ h.row k b
-    split k l (inr b) = at k (omega (arith, l, b))
 
 pub all_filled : (c d : PeopleTable) (n t : ℕ) (f : ℕ → ℕ) → IsFilling c d n t f → c.last < t → IsRowFilled c d n f
 all_filled c d n t f h l = record { rows = h.rows; last = h.last; row = λ k b. h.row k (omega (arith, b, l)); others = h.others }
@@ -45,10 +40,5 @@ all_filled c d n t f h l = record { rows = h.rows; last = h.last; row = λ k b. 
 
 pub row_filled : (d e : PeopleTable) (i last : ℕ) (f : ℕ → ℕ → ℕ) → ((n t : ℕ) → n < i → t ≤ last → people_at d n t ≡ f n t)
     → IsRowFilled d e i (f i) → last ≤ d.last → (n t : ℕ) → n < i + 1 → t ≤ last → people_at e n t ≡ f n t
-row_filled d e i last f old row long n t l h = split (cases_lt n i)
-  where
-    split : (n < i) ⊎ (i ≤ n) → people_at e n t ≡ f n t
-    split (inl b) = row.others n t b ∙ old n t b h
-    split (inr b) =
-        let same : n ≡ i = omega (arith, l, b) in
-        subst (λ (z : ℕ). people_at e z t ≡ f z t) (sym same) (row.row t (omega (arith, h, long)))
+row_filled d e i last f old row long n t l h =
+    below_more (λ k. people_at e k t ≡ f k t) i (λ k b. row.others k t b ∙ old k t b h) (row.row t (omega (arith, h, long))) n l

@@ -4,7 +4,7 @@ use Rattle.std.proofs.lemmas.Int.{ints}
 use Rattle.evac_law.specs.declared.model.Model.{Model}
 use Rattle.evac_law.specs.declared.plan.Move.{Move}
 use Rattle.evac_law.specs.Building.{arrival, head, is_exit_at}
-use Rattle.evac_law.specs.Plans.{NobodyIsLeft, came, held, left, moved}
+use Rattle.evac_law.specs.Plans.{NobodyIsLeft, came, held, left}
 use Rattle.evac_law.proofs.Conserved.{all_out_leaves_nobody}
 use Rattle.evac_law.proofs.ValidLemmas.{arc_is, head_in}
 use Rattle.route_decompose.proofs.Arrivals.{arrives}
@@ -26,14 +26,11 @@ module _ (m : Model) (p : List Move) (h : IsEvacuation m p) where
   -- all who came to a node inside have left it by the horizon
   pub all_leave : (n : ℕ) → n < length m.nodes → is_exit_at m n ≡ false → came m p n m.horizon ≤ left m p n m.horizon
   unfolding held
-  all_leave n l e = let x = nobody.nobody_inside n l e in omega (arith, ints, x)
+  all_leave n l e = omega (arith, ints, nobody.nobody_inside n l e)
 
   pub in_left : (c : Comer) → IsComer m p c → is_exit_at m c.node ≡ false → c.number < left m p c.node m.horizon
   in_left c comer e =
-      let all = all_leave c.node comer.node_in e in
-      let by = comer.at.by_then in
-      let grows = grown (came m p c.node) c.moment m.horizon (came_grows m p c.node) comer.in_time in
-      omega (arith, all, by, grows)
+      omega (arith, all_leave c.node comer.node_in e, grown (came m p c.node) c.moment m.horizon (came_grows m p c.node) comer.in_time)
 
   -- nobody left before the one who comes
   pub none_left_before : (c : Comer) → IsComer m p c → is_exit_at m c.node ≡ false → count_before (left m p c.node) c.moment ≤ c.number
@@ -41,10 +38,8 @@ module _ (m : Model) (p : List Move) (h : IsEvacuation m p) where
     where
       at_suc : (t : ℕ) → suc t ≡ c.moment → left m p c.node t ≤ c.number
       at_suc t f =
-          let in_time = comer.in_time in
-          let few = few_leave m p h c.node t comer.node_in e (omega (arith, f, in_time)) in
           let low : count_before (came m p c.node) (suc t) ≤ c.number = subst (λ (z : ℕ). count_before (came m p c.node) z ≤ c.number) (sym f) comer.at.not_before in
-          omega (arith, few, low)
+          omega (arith, few_leave m p h c.node t comer.node_in e (omega (arith, f)), low)
 
       split : (t : ℕ) → t ≡ c.moment → count_before (left m p c.node) t ≤ c.number
       split zero f = omega arith
@@ -52,30 +47,25 @@ module _ (m : Model) (p : List Move) (h : IsEvacuation m p) where
 
   -- ---- arrivals
 
-  pub arrives_in_time : (a t : ℕ) → 0 < moved p a t → arrival m a t ≤ m.horizon
-  arrives_in_time = arrives m p nobody h.in_time
+  pub leaver_arrives : (c : Comer) (l : Leaver) → IsLeaver m p c l → arrival m l.step.arc l.step.moment ≤ m.horizon
+  leaver_arrives c l leaver = arrives m p nobody h.in_time l.step.arc l.step.moment (omega (arith, leaver.among))
 
   -- ---- from a node to the next
 
   leaves_as : (c : Comer) (l : Leaver) → IsLeaver m p c l → Leaves m p h.plan.feasible.arcs l.step.arc l.step.moment c.number
   leaves_as c l leaver =
-      let number = leaver.number in
-      let among = leaver.among in
-      record { arc_in = leaver.arc_in; from = omega (arith, number); until = omega (arith, number, among) }
+      record { arc_in = leaver.arc_in; from = omega arith; until = omega arith }
 
   pub comes_next : (c : Comer) (l : Leaver) (d : Comer) → IsLeaver m p c l → ComesOutAs m p l d → IsComer m p d
   comes_next c l d leaver next =
       let a = l.step.arc in
       let t = l.step.moment in
-      let among = leaver.among in
-      let number = leaver.number in
       let there = comes_then m p h.plan.feasible.arcs a (arrival m a t) (number_on m p a t c.number) (goes_on m p h.plan.feasible.arcs a t c.number (leaves_as c l leaver)) in
-      let same : number_on m p a t c.number ≡ d.number = let x = next.number in omega (arith, number, x) in
-      let arrives_then = arrives_in_time a t (omega (arith, among)) in
+      let same : number_on m p a t c.number ≡ d.number = omega arith in
       let moment = next.moment in
       record {
         node_in = subst (λ (n : ℕ). n < length m.nodes) (sym next.node) (head_in m a h.valid leaver.arc_in);
-        in_time = omega (arith, moment, arrives_then);
+        in_time = omega (arith, moment, leaver_arrives c l leaver);
         at =
             subst (λ (n : ℕ). IsCountedAt (came m p n) d.number d.moment) (sym next.node)
             (subst (λ (s : ℕ). IsCountedAt (came m p (head m a)) d.number s) (sym moment) (subst (λ (i : ℕ). IsCountedAt (came m p (head m a)) i (arrival m a t)) same there));
@@ -92,29 +82,22 @@ module _ (m : Model) (p : List Move) (h : IsEvacuation m p) where
 
   pub comes_later : (c : Comer) (l : Leaver) (d : Comer) → IsComer m p c → IsLeaver m p c l → ComesOutAs m p l d → c.moment < d.moment
   comes_later c l d comer leaver next =
-      let moment = next.moment in
-      let travel = (arc_is m l.step.arc h.valid leaver.arc_in).travel_fits.0 in
-      omega (arith, waits c l comer leaver, moment, travel)
+      omega (arith, waits c l comer leaver, (arc_is m l.step.arc h.valid leaver.arc_in).travel_fits.0)
 
   pub before_last : (c : Comer) (l : Leaver) → IsComer m p c → IsLeaver m p c l → c.moment < m.horizon
   before_last c l comer leaver =
-      let among = leaver.among in
-      let travel = (arc_is m l.step.arc h.valid leaver.arc_in).travel_fits.0 in
-      omega (arith, waits c l comer leaver, travel, arrives_in_time l.step.arc l.step.moment (omega (arith, among)))
+      omega (arith, waits c l comer leaver, (arc_is m l.step.arc h.valid leaver.arc_in).travel_fits.0, leaver_arrives c l leaver)
 
   -- the steps from the next node on, after the one that leads there
   pub follows_on : (c : Comer) (l : Leaver) (d : Comer) (steps : List RouteStep) → IsLeaver m p c l → ComesOutAs m p l d → FollowsNumbers m p d.node d.number steps
       → FollowsNumbers m p c.node c.number (l.step ∷ steps)
   follows_on c l d steps leaver next f =
-      let number = leaver.number in
-      let among = leaver.among in
-      let next_number = next.number in
       let a = l.step.arc in
       let t = l.step.moment in
-      let same : d.number ≡ number_on m p a t c.number = omega (arith, number, next_number) in (
+      let same : d.number ≡ number_on m p a t c.number = omega arith in (
         leaver.arc_in,
         leaver.from,
-        omega (arith, number),
-        omega (arith, number, among),
+        omega arith,
+        omega arith,
         subst (λ (n : ℕ). FollowsNumbers m p n (number_on m p a t c.number) steps) next.node (subst (λ (i : ℕ). FollowsNumbers m p d.node i steps) same f),
       )

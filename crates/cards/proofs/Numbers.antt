@@ -93,11 +93,9 @@ module _ (m : Model) (p : List Move) where
     leaves_at a t i h =
         let n = tail m a in
         let some = part_ends (from_node m n) (enters_at p t) a (length m.arcs) h.arc_in (picked_from a n refl) in
-        let low = h.from in
-        let high = h.until in
         record {
-          not_before = omega (arith, low);
-          by_then = omega (arith, left_is n t, leaving_is n t, some, high);
+          not_before = omega arith;
+          by_then = omega (arith, left_is n t, leaving_is n t, some);
         }
 
     pub one_leaver : (a b t u i : ℕ) → tail m a ≡ tail m b → Leaves a t i → Leaves b u i → (a ≡ b) × (t ≡ u)
@@ -109,13 +107,11 @@ module _ (m : Model) (p : List Move) where
         let L : ℕ → ℕ → ℕ = λ x s. count_before (left m p x) s + part (from_node m x) (enters_at p s) a in
         let first : L (tail m a) t ≡ L n u = ap (λ x. L x t) e ∙ ap (λ s. L n s) moments in
         let people : moved p a t ≡ moved p a u = ap (λ s. moved p a s) moments in
-        let low = g.from in
-        let high = g.until in
         let low' = h.from in
         let high' = h.until in
         let o = i - count_before (left m p n) u in (
           one_part (from_node m n) (enters_at p u) a b o (picked_from a n e) (picked_from b n refl)
-              (omega (arith, low, first)) (omega (arith, high, first, people, low)) (omega (arith, low')) (omega (arith, low', high')),
+              (omega (arith, first)) (omega (arith, first, people)) (omega (arith, low')) (omega (arith, low', high')),
           moments,
         )
 
@@ -138,24 +134,18 @@ module _ (m : Model) (p : List Move) where
     unfolding comers_before entrants_before
     before_entrants a t i h =
         let n = head m a in
-        let some = part_ends (to_node m n) (comes_at m p t) a (length m.arcs) h.arc_in (picked_to a n refl) in
-        let high = h.until in
-        omega (arith, coming_is n t, some, high)
+        omega (arith, coming_is n t, part_ends (to_node m n) (comes_at m p t) a (length m.arcs) h.arc_in (picked_to a n refl))
 
     pub comes_then : (a t i : ℕ) → Comes a t i → IsCountedAt (came m p (head m a)) i t
     unfolding comers_before entrants_before
     comes_then a t i h =
         let n = head m a in
-        let low = h.from in
-        let less = before_entrants a t i h in
-        record { not_before = omega (arith, low); by_then = omega (arith, came_is n t, less) }
+        record { not_before = omega arith; by_then = omega (arith, came_is n t, before_entrants a t i h) }
 
     pub enters_then : (n t i : ℕ) → Enters n t i → IsCountedAt (came m p n) i t
     unfolding entrants_before
     enters_then n t i h =
-        let low = h.from in
-        let high = h.until in
-        record { not_before = omega (arith, low); by_then = omega (arith, came_is n t, high) }
+        record { not_before = omega arith; by_then = omega (arith, came_is n t) }
 
     pub one_comer : (a b t u i : ℕ) → head m a ≡ head m b → Comes a t i → Comes b u i → (a ≡ b) × (t ≡ u)
     unfolding comers_before
@@ -166,13 +156,11 @@ module _ (m : Model) (p : List Move) where
         let C : ℕ → ℕ → ℕ = λ x s. count_before (came m p x) s + part (to_node m x) (comes_at m p s) a in
         let first : C (head m a) t ≡ C n u = ap (λ x. C x t) e ∙ ap (λ s. C n s) moments in
         let people : brought m p a t ≡ brought m p a u = ap (λ s. brought m p a s) moments in
-        let low = g.from in
-        let high = g.until in
         let low' = h.from in
         let high' = h.until in
         let o = i - count_before (came m p n) u in (
           one_part (to_node m n) (comes_at m p u) a b o (picked_to a n e) (picked_to b n refl)
-              (omega (arith, low, first)) (omega (arith, high, first, people, low)) (omega (arith, low')) (omega (arith, low', high')),
+              (omega (arith, first)) (omega (arith, first, people)) (omega (arith, low')) (omega (arith, low', high')),
           moments,
         )
 
@@ -184,10 +172,8 @@ module _ (m : Model) (p : List Move) where
     apart a n t u i e g h =
         let there : IsCountedAt (came m p n) i t = subst (λ (x : ℕ). IsCountedAt (came m p x) i t) e (comes_then a t i g) in
         let moments : t ≡ u = one_moment (came m p n) i t u (came_grows n) there (enters_then n u i h) in
-        let less = before_entrants a t i g in
         let same : entrants_before m p (head m a) t ≡ entrants_before m p n u = ap (λ x. entrants_before m p x t) e ∙ ap (λ s. entrants_before m p n s) moments in
-        let low = h.from in
-        omega (arith, less, same, low)
+        omega (arith, before_entrants a t i g, same)
 
     -- whoever comes to a node at a moment comes by an arc that was entered before, or from nowhere
     pub record ComesBy (n s i : ℕ) : Type 0 where
@@ -207,24 +193,20 @@ module _ (m : Model) (p : List Move) where
             let e : head m a ≡ n = eqb-true (head m a) n h.picked in
             let C : ℕ → ℕ = λ x. count_before (came m p x) s + part (to_node m x) (comes_at m p s) a in
             let first : C (head m a) ≡ C n = ap C e in
-            let low = at.not_before in
             let from = h.from in
             let until = h.until in
             let d = (arc_at m a).travel in
-            let late : d ≤ s = elim (cases_lt s d) [
-              | inl early ↦ absurd (omega (arith, brought_none a s early, from, until))
-              | inr done ↦ done
-            ] in
+            let late : d ≤ s = grind (arith, brought_none a s, from, until) in
             record {
               arc = a;
               moment = s - d;
               to = e;
               arrives = omega arith;
-              comes = record { arc_in = h.place_in; from = omega (arith, first, from, low); until = omega (arith, first, until, low) };
+              comes = record { arc_in = h.place_in; from = omega (arith, first, from); until = omega (arith, first, until) };
             }
 
         split : (i < entrants_before m p n s) ⊎ (entrants_before m p n s ≤ i) → ComesBy n s i ⊎ Enters n s i
         split (inl l) =
             inl (by_arc (has_part (to_node m n) (comes_at m p s) (length m.arcs) (i - count_before (came m p n) s)
-            (let low = at.not_before in omega (arith, l, low, coming_is n s))))
-        split (inr l) = inr (record { from = l; until = let high = at.by_then in omega (arith, came_is n s, high) })
+            (omega (arith, l, coming_is n s))))
+        split (inr l) = inr (record { from = l; until = omega (arith, came_is n s) })

@@ -1,7 +1,7 @@
 -- Sums of ones: how many of some numbers pass a test.
 use Rattle.std.proofs.Common.{◌≡◌, ℕ, zero, suc, ◌+◌, ◌<◌, ◌≤◌, Bool, true, cond, ◌&&◌, eqb, leb, ltb, ap, sym, ◌∙◌, arith}
 use Rattle.std.specs.List.{sum_by}
-use Rattle.std.proofs.lemmas.Bool.{and_from, and_parts, eq-eqb, eqb-true, lt-ltb}
+use Rattle.std.proofs.lemmas.Bool.{eq-eqb, eqb-true, lt-ltb}
 use Rattle.std.proofs.lemmas.Bool.Decides.{nat_tests}
 use Rattle.evac_law.specs.Sums.{below}
 use Rattle.evac_law.proofs.SumLemmas.{All-below, sum_below-none, sum_below-pick, sum_below-suc, sum_by-exchange, sum_by-same_all}
@@ -9,13 +9,6 @@ use Rattle.evac_law.proofs.SumLemmas.{All-below, sum_below-none, sum_below-pick,
 -- one, where a test holds
 abbrev pub one_if : Bool → ℕ
 one_if b = cond b 1 0
-
--- two pairs of numbers are the same exactly where both tests hold
-pub both : (a b x y : ℕ) → (eqb a b && eqb x y) ≡ true → (a ≡ b) × (x ≡ y)
-both a b x y h = let z = and_parts (eqb a b) (eqb x y) h in (eqb-true a b z.0, eqb-true x y z.1)
-
-pub both_from : (a b x y : ℕ) → a ≡ b → x ≡ y → (eqb a b && eqb x y) ≡ true
-both_from a b x y e f = and_from (eqb a b) (eqb x y) (eq-eqb a b e) (eq-eqb x y f)
 
 pub none_count : (b : Bool) → (b ≡ true → ⊥) → one_if b ≡ 0
 none_count b h = grind arith

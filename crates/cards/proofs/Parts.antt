@@ -1,36 +1,25 @@
 -- People of some arcs one after another: each number is in one arc's part.
 use Rattle.std.proofs.Common.{◌≡◌, ℕ, zero, suc, ◌+◌, ◌<◌, ◌≤◌, inl, inr, Bool, true, cond, ap, arith}
-use Rattle.std.specs.List.{sum_by}
-use Rattle.std.proofs.lemmas.Bool.{cases_Bool, cases_lt, cases_order}
-use Rattle.evac_law.specs.Sums.{below}
-use Rattle.evac_law.proofs.SumLemmas.{sum_below-none, sum_below-suc}
+use Rattle.std.proofs.lemmas.Bool.{cases_Bool, cases_lt}
+use Rattle.evac_law.proofs.SumLemmas.{sum_below-le, sum_below-none, sum_below-suc}
 use Rattle.cards.specs.Numbers.{part}
 
 pub part-suc : (q : ℕ → Bool) (w : ℕ → ℕ) (a : ℕ) → part q w (suc a) ≡ part q w a + cond (q a) (w a) 0
 part-suc q w a = sum_below-suc (λ b. cond (q b) (w b) 0) a
 
--- the sums grow
-pub sum_below-grows : (f : ℕ → ℕ) (a b : ℕ) → a ≤ b → sum_by f (below a) ≤ sum_by f (below b)
-sum_below-grows f a zero l = let same : a ≡ 0 = omega arith in rw same (omega arith)
-sum_below-grows f a (suc b) l = elim (cases_lt a (suc b)) [
-  | inl less ↦ omega (arith, sum_below-suc f b, sum_below-grows f a b (omega arith))
-  | inr last ↦ let same : a ≡ suc b = omega arith in rw same (omega arith)
-]
-
 -- a picked part ends before a later one begins
 pub part_ends : (q : ℕ → Bool) (w : ℕ → ℕ) (a b : ℕ) → a < b → q a ≡ true → part q w a + w a ≤ part q w b
 part_ends q w a b l e =
     let one : cond (q a) (w a) 0 ≡ w a = ap (λ z. cond z (w a) 0) e in
-    omega (arith, part-suc q w a, one, sum_below-grows (λ c. cond (q c) (w c) 0) (suc a) b (omega (arith, l)))
+    omega (arith, part-suc q w a, one, sum_below-le (λ c. cond (q c) (w c) 0) (suc a) b (omega (arith, l)))
 
 -- a number in two picked parts: they are one
 pub one_part : (q : ℕ → Bool) (w : ℕ → ℕ) (a b o : ℕ) → q a ≡ true → q b ≡ true → part q w a ≤ o → o < part q w a + w a
     → part q w b ≤ o → o < part q w b + w b → a ≡ b
-one_part q w a b o e f al ah bl bh = elim (cases_order a b) [
-  | inl same ↦ same
-  | inr (inl less) ↦ absurd (let x = part_ends q w a b less e in omega (arith, x, ah, bl))
-  | inr (inr more) ↦ absurd (let x = part_ends q w b a more f in omega (arith, x, bh, al))
-]
+one_part q w a b o e f al ah bl bh =
+    let less : a < b → part q w a + w a ≤ part q w b = λ l. part_ends q w a b l e in
+    let more : b < a → part q w b + w b ≤ part q w a = λ l. part_ends q w b a l f in
+    grind (arith, less, more, al, ah, bl, bh)
 
 -- the part in which a number is
 pub record HasPart (q : ℕ → Bool) (w : ℕ → ℕ) (n o : ℕ) : Type 0 where

@@ -1,7 +1,6 @@
 -- Two lists of moves with the same table: each is an evacuation where the other is. And the list of a table.
-use Rattle.std.proofs.Common.{◌≡◌, ℕ, ◌+◌, ◌<◌, ◌≤◌, ◌⊎◌, inl, inr, Bool, cond, ◌&&◌, eqb, leb, ltb, List, length, get_or, ap, ap₂, sym, ◌∙◌, arith, subst, pos, ℤ, ◌-ℤ◌, ◌≤ℤ◌}
+use Rattle.std.proofs.Common.{◌≡◌, ℕ, ◌+◌, ◌<◌, ◌≤◌, Bool, cond, ◌&&◌, eqb, leb, ltb, List, length, get_or, ap, ap₂, sym, ◌∙◌, arith, subst, pos, ℤ, ◌-ℤ◌, ◌≤ℤ◌}
 use Rattle.std.specs.List.{sum_by}
-use Rattle.std.proofs.lemmas.Bool.{cases_lt}
 use Rattle.std.proofs.lemmas.Bool.Decides.{nat_tests}
 use Rattle.std.proofs.lemmas.List.Elements.{All-weaker}
 use Rattle.evac_law.specs.declared.model.Model.{Model}
@@ -87,9 +86,13 @@ module _ (m : Model) (f : ℕ → ℕ → ℕ) where
 
   pub list_moves : (p : List Move) → AreInRange m p → ((a t : ℕ) → a < length m.arcs → t ≤ m.horizon → f a t ≡ moved p a t) → (a t : ℕ)
       → moved list_of a t ≡ moved p a t
-  list_moves p range same a t = split (cases_lt a (length m.arcs)) (cases_lt m.horizon t)
-    where
-      split : (a < length m.arcs) ⊎ (length m.arcs ≤ a) → (m.horizon < t) ⊎ (t ≤ m.horizon) → moved list_of a t ≡ moved p a t
-      split (inl l) (inr h) = moved-moves_of (length m.arcs) m.horizon f a t l h ∙ same a t l h
-      split (inl l) (inl h) = none_late m list_of list_in_range a t h ∙ sym (none_late m p range a t h)
-      split (inr l) h = none_past m list_of list_in_range a t l ∙ sym (none_past m p range a t l)
+  list_moves p range same a t =
+      grind (
+        arith,
+        moved-moves_of (length m.arcs) m.horizon f a t,
+        same a t,
+        none_late m list_of list_in_range a t,
+        none_late m p range a t,
+        none_past m list_of list_in_range a t,
+        none_past m p range a t,
+      )

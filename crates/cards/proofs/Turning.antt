@@ -1,6 +1,5 @@
 -- Turns: from one to the next, up to the one of a person.
 use Rattle.std.proofs.Common.{◌≡◌, ℕ, ◌+◌, ◌-◌, ◌*◌, ◌^◌, ◌<◌, ◌≤◌, ◌⊎◌, inl, inr, length, ap, ◌∙◌, arith}
-use Rattle.std.proofs.lemmas.Bool.{cases_lt}
 use Rattle.evac_law.specs.declared.model.Model.{Model}
 use Rattle.evac_law.specs.Building.{IsValid, entry, people}
 use Rattle.evac_law.specs.Limits.{node_limit, people_limit}
@@ -21,13 +20,7 @@ node_small m n valid l = omega (arith, l, valid.nodes_fit)
 
 -- while somebody's turn is to come, it is at a node of the model
 pub turn_in : (m : Model) (t : Turn) (person : ℕ) → IsValid m → IsTurn m t → t.before ≤ person → person < people m → t.node < length m.nodes
-turn_in m t person valid turn l h = elim (cases_lt t.node (length m.nodes)) [
-  | inl less ↦ less
-  | inr more ↦ absurd (
-      let before = turn.before in
-      omega (arith, before, l, h, dealt-grows m (length m.nodes) t.node t.moment more, dealt-all m, entered_all m valid)
-      )
-]
+turn_in m t person valid turn l h = grind (arith, l, h, turn.before, dealt-grows m (length m.nodes) t.node t.moment, dealt-all m, entered_all m valid)
 
 -- what is left to go through falls from a turn to the next
 pub falls : (nodes last n t k u : ℕ) → n < nodes → t ≤ last → u ≤ last → ((k ≡ n) × (u ≡ t + 1)) ⊎ ((k ≡ n + 1) × (t ≡ last) × (u ≡ 0))

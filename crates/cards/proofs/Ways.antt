@@ -1,7 +1,7 @@
 -- The steps that follow the numbers lead out, no person leaves a node before coming there, and each visit has its number.
-use Rattle.std.proofs.Common.{◌≡◌, ℕ, ◌+◌, ◌<◌, ◌≤◌, inl, inr, Bool, true, false, ◌&&◌, ◌||◌, eqb, List, [], ◌∷◌, length, refl, arith, subst}
+use Rattle.std.proofs.Common.{◌≡◌, ℕ, ◌+◌, ◌<◌, ◌≤◌, Bool, true, false, ◌&&◌, ◌||◌, eqb, List, [], ◌∷◌, length, refl, arith, subst}
 use Rattle.std.specs.List.{All}
-use Rattle.std.proofs.lemmas.Bool.{and_parts, cases_lt, eqb-true}
+use Rattle.std.proofs.lemmas.Bool.{and_parts, eqb-true}
 use Rattle.std.proofs.lemmas.Bool.Decides.{nat_tests}
 use Rattle.std.proofs.lemmas.List.Elements.{All-cons, All-nil}
 use Rattle.evac_law.specs.declared.model.Model.{Model}
@@ -28,16 +28,10 @@ module _ (m : Model) (p : List Move) (h : IsEvacuation m p) where
   in_range = record { arcs = h.plan.feasible.arcs; in_time = h.in_time }
 
   pub arc_of : (a t : ℕ) → 0 < moved p a t → a < length m.arcs
-  arc_of a t some = elim (cases_lt a (length m.arcs)) [
-    | inl less ↦ less
-    | inr past ↦ absurd (omega (arith, some, none_past m p in_range a t past))
-  ]
+  arc_of a t some = grind (arith, some, none_past m p in_range a t)
 
   pub moment_of : (a t : ℕ) → 0 < moved p a t → t ≤ m.horizon
-  moment_of a t some = elim (cases_lt m.horizon t) [
-    | inl late ↦ absurd (omega (arith, some, none_late m p in_range a t late))
-    | inr less ↦ less
-  ]
+  moment_of a t some = grind (arith, some, none_late m p in_range a t)
 
   -- by the horizon no more have left a node inside than came
   pub few_leave : (n t : ℕ) → n < length m.nodes → is_exit_at m n ≡ false → t ≤ m.horizon → left m p n t ≤ came m p n t
@@ -47,10 +41,8 @@ module _ (m : Model) (p : List Move) (h : IsEvacuation m p) where
 
   pub tail_few : (a t i : ℕ) → Leaves m p h.plan.feasible.arcs a t i → left m p (tail m a) t ≤ came m p (tail m a) t
   tail_few a t i leaves =
-      let low = leaves.from in
-      let high = leaves.until in
       few_leave (tail m a) t (tail_in m a h.valid leaves.arc_in) (arc_is m a h.valid leaves.arc_in).from_no_exit
-      (moment_of a t (omega (arith, low, high)))
+      (moment_of a t (omega arith))
 
   leaves_of : (n i : ℕ) (s : RouteStep) (steps : List RouteStep) → FollowsNumbers m p n i (s ∷ steps) → Leaves m p h.plan.feasible.arcs s.arc s.moment i
   leaves_of n i s steps f = record { arc_in = f.0; from = f.2; until = f.3 }
@@ -111,7 +103,5 @@ module _ (m : Model) (p : List Move) (h : IsEvacuation m p) where
   enters_are a t n u (s ∷ steps) f =
       by_first (eqb s.arc a && eqb s.moment t) (enters steps a t) (uses m p h.plan.feasible.arcs a t steps)
       (λ e. used_before a t (head m s.arc) (arrival m s.arc s.moment) steps f.3
-      (let same = eqb-true s.moment t (and_parts (eqb s.arc a) (eqb s.moment t) e).1 in
-      let travel = (arc_is m s.arc h.valid f.0).travel_fits.0 in
-      omega (arith, same, travel)))
+      (omega (arith, eqb-true s.moment t (and_parts (eqb s.arc a) (eqb s.moment t) e).1, (arc_is m s.arc h.valid f.0).travel_fits.0)))
       (enters_are a t (head m s.arc) (arrival m s.arc s.moment) steps f.3)

@@ -1,20 +1,23 @@
 -- The last moment that passes a test.
-use Rattle.std.proofs.Common.{◌≡◌, ℕ, zero, suc, ◌+◌, ◌<◌, ◌≤◌, ◌⊎◌, inl, inr, Bool, true, false, cond, ◌&&◌, ◌||◌, eqb, ltb, List, [], ◌∷◌, ◌++◌, length, get_or, map, refl, ap, ap₂, sym, ◌∙◌, arith, add-one, zero-add, Option, Some, None, pos, ◌+ℤ◌}
+use Rattle.std.proofs.Common.{◌≡◌, ℕ, zero, suc, ◌+◌, ◌<◌, inl, inr, Bool, true, false, cond, ◌&&◌, ◌||◌, eqb, ltb, List, [], ◌∷◌, ◌++◌, length, get_or, map, refl, ap, ap₂, sym, ◌∙◌, arith, add-one, zero-add, Option, Some, None, pos, ◌+ℤ◌}
 use Rattle.std.proofs.Math.ListN.{set}
 use Rattle.std.specs.List.{sum_by, list_any, All}
-use Rattle.std.proofs.lemmas.Bool.{cases_lt}
+use Rattle.std.proofs.Math.Bool.{or_assoc}
+use borrow.Author.Count.{below_more}
+use Rattle.std.proofs.lemmas.Bool.{cases_eq, eq-eqb}
+use Rattle.std.proofs.lemmas.Grind.{get_or-set_at}
 use Rattle.std.proofs.lemmas.Bool.Decides.{nat_tests}
 use Rattle.std.proofs.lemmas.List.{ext_get_or, get_or-map, get_or-set_other, get_or-set_same, length-map}
 use Rattle.std.proofs.lemmas.List.FromFn.{get_or-range_with_len, length-range_with_len}
-use Rattle.std.proofs.lemmas.List.Elements.{All-get_or}
 use Rattle.evac_law.specs.declared.model.Model.{Model}
 use Rattle.evac_law.specs.declared.plan.Move.{Move}
-use Rattle.evac_law.specs.Building.{IsArc, IsValid, arc_at, is_exit_at, no_arc, tail}
+use Rattle.evac_law.specs.Building.{IsValid, is_exit_at, tail}
 use Rattle.evac_law.specs.Plans.{IsFeasible, above, held, leaving, moved}
 use Rattle.evac_law.specs.Stands.{Fits, Stand}
 use Rattle.evac_law.specs.Sums.{below, places}
 use Rattle.evac_law.proofs.SumLemmas.{by_place, sum_below-suc}
 use Rattle.evac_law.proofs.PartLemmas.{any-below, or_false}
+use Rattle.evac_law.proofs.ValidLemmas.{arc_is}
 use Rattle.clearing_report.specs.Clearing.{is_occupied, last_inside, last_occupied, last_that, later, latest}
 use Rattle.clearing_report.proofs.TimeLemmas.{none_some, same_some}
 
@@ -101,6 +104,10 @@ latest_none last = refl
 abbrev pub moved_from : Model → List Move → ℕ → ℕ → ℕ → Bool
 moved_from m p i n t = list_any (λ a. eqb (tail m a) n && ltb 0 (moved p a t)) (below i)
 
+moved_from-more : (m : Model) (p : List Move) (i n t : ℕ) → moved_from m p (i + 1) n t ≡ (moved_from m p i n t || (eqb (tail m i) n && ltb 0 (moved p i t)))
+moved_from-more m p i n t =
+    ap (λ j. list_any (λ a. eqb (tail m a) n && ltb 0 (moved p a t)) (below j)) (add-one i) ∙ any-below (λ a. eqb (tail m a) n && ltb 0 (moved p a t)) i
+
 test_sum : (m : Model) (p : List Move) (n t i : ℕ) → ltb 0 (sum_by (λ a. cond (eqb (tail m a) n) (moved p a t) 0) (below i)) ≡ moved_from m p i n t
 test_sum m p n t zero = grind (arith, nat_tests)
 test_sum m p n t (suc i) =
@@ -145,8 +152,7 @@ moments_other m f i n d =
     ap (λ z. cond (is_exit_at m n) None z)
     (last_same (λ t. ltb 0 (f.contents n t) || moved_from m f.plan (i + 1) n t) (λ t. ltb 0 (f.contents n t) || moved_from m f.plan i n t) (m.horizon + 1)
     (λ t l. ap (λ b. ltb 0 (f.contents n t) || b)
-    (ap (λ j. list_any (λ a. eqb (tail m a) n && ltb 0 (moved f.plan a t)) (below j)) (add-one i)
-    ∙ any-below (λ a. eqb (tail m a) n && ltb 0 (moved f.plan a t)) i
+    (moved_from-more m f.plan i n t
     ∙ ap (λ b. moved_from m f.plan i n t || (b && ltb 0 (moved f.plan i t))) (other (tail m i) n (λ e. d (sym e)))
     ∙ or_false (moved_from m f.plan i n t))))
   where
@@ -164,18 +170,9 @@ moments_here m f i n e x =
     ∙ last_same (λ t. old t || arc t) new (m.horizon + 1)
     (λ t l. sym (
     ap (λ b. ltb 0 (f.contents n t) || b)
-    (ap (λ j. list_any (λ a. eqb (tail m a) n && ltb 0 (moved f.plan a t)) (below j)) (add-one i)
-    ∙ any-below (λ a. eqb (tail m a) n && ltb 0 (moved f.plan a t)) i
-    ∙ ap (λ b. moved_from m f.plan i n t || (b && ltb 0 (moved f.plan i t))) (equal (tail m i) n (sym e)))
-    ∙ or_assoc (ltb 0 (f.contents n t)) (moved_from m f.plan i n t) (arc t)))
+    (moved_from-more m f.plan i n t ∙ ap (λ b. moved_from m f.plan i n t || (b && ltb 0 (moved f.plan i t))) (eq-eqb (tail m i) n (sym e)))
+    ∙ sym (or_assoc (ltb 0 (f.contents n t)) (moved_from m f.plan i n t) (arc t))))
     ∙ sym (ap (λ b. cond b None (last_below new (m.horizon + 1))) x)
-  where
-    equal : (x y : ℕ) → x ≡ y → eqb x y ≡ true
-    equal x y f = grind (arith, nat_tests)
-
-    or_assoc : (a b c : Bool) → (a || (b || c)) ≡ ((a || b) || c)
-    or_assoc true b c = refl
-    or_assoc false b c = refl
 
 pub moments_last : (m : Model) (f : Stand) (n : ℕ) → Fits m f → IsFeasible m f.plan m.horizon → n < length m.nodes
     → moment_by m f (length m.arcs) n ≡ last_inside m f.plan n
@@ -202,38 +199,19 @@ pub moment_put : (m : Model) (f : Stand) (i : ℕ) (xs : List (Option ℕ)) → 
     → ((n : ℕ) → n < length m.nodes → get_or xs n None ≡ moment_by m f i n)
     → (n : ℕ) → n < length m.nodes
     → get_or (set xs (tail m i) (later (get_or xs (tail m i) None) (last_that (λ t. ltb 0 (moved f.plan i t)) m.horizon))) n None ≡ moment_by m f (i + 1) n
-moment_put m f i xs valid l size h n k = split (cases_lt n (tail m i)) (cases_lt (tail m i) n)
-  where
-    arc : IsArc m.nodes (arc_at m i)
-    arc = All-get_or (IsArc m.nodes) m.arcs i no_arc l valid.arcs
-
-    new : Option ℕ
-    new = later (get_or xs (tail m i) None) (last_that (λ t. ltb 0 (moved f.plan i t)) m.horizon)
-
-    elsewhere : (n ≡ tail m i → ⊥) → get_or (set xs (tail m i) (later (get_or xs (tail m i) None) (last_that (λ t. ltb 0 (moved f.plan i t)) m.horizon))) n None ≡ moment_by m f (i + 1) n
-    elsewhere d = get_or-set_other xs (tail m i) n _ None d ∙ h n k ∙ sym (moments_other m f i n d)
-
-    here : n ≡ tail m i → get_or (set xs (tail m i) (later (get_or xs (tail m i) None) (last_that (λ t. ltb 0 (moved f.plan i t)) m.horizon))) n None ≡ moment_by m f (i + 1) n
-    here e =
-        ap (λ z. get_or (set xs (tail m i) (later (get_or xs (tail m i) None) (last_that (λ t. ltb 0 (moved f.plan i t)) m.horizon))) z None) e
-        ∙ get_or-set_same xs (tail m i) _ None (omega (arith, size, arc.from_in))
-        ∙ ap (λ z. later z (last_that (λ t. ltb 0 (moved f.plan i t)) m.horizon)) (h (tail m i) arc.from_in)
-        ∙ moments_here m f i (tail m i) refl arc.from_no_exit
-        ∙ ap (moment_by m f (i + 1)) (sym e)
-
-    split : (n < tail m i) ⊎ (tail m i ≤ n) → (tail m i < n) ⊎ (n ≤ tail m i)
-        → get_or (set xs (tail m i) (later (get_or xs (tail m i) None) (last_that (λ t. ltb 0 (moved f.plan i t)) m.horizon))) n None ≡ moment_by m f (i + 1) n
-    split (inl a) b = elsewhere (λ e. omega (arith, a, e))
-    split (inr a) (inl b) = elsewhere (λ e. omega (arith, b, e))
-    split (inr a) (inr b) = here (omega (arith, a, b))
+moment_put m f i xs valid l size h n k = elim (cases_eq n (tail m i)) [
+  | inl same ↦
+      let arc = arc_is m i valid l in
+      get_or-set_at xs (tail m i) n _ None same (omega (arith, size, arc.from_in))
+      ∙ ap (λ z. later z (last_that (λ t. ltb 0 (moved f.plan i t)) m.horizon)) (h (tail m i) arc.from_in)
+      ∙ moments_here m f i (tail m i) refl arc.from_no_exit
+      ∙ ap (moment_by m f (i + 1)) (sym same)
+  | inr other ↦ get_or-set_other xs (tail m i) n _ None other ∙ h n k ∙ sym (moments_other m f i n other)
+]
 
 -- one more of a list
 pub put_next : (g : ℕ → Option ℕ) (xs : List (Option ℕ)) (i : ℕ) (y : Option ℕ) → i < length xs → y ≡ g i → ((n : ℕ) → n < i → get_or xs n None ≡ g n)
     → (n : ℕ) → n < i + 1 → get_or (set xs i y) n None ≡ g n
-put_next g xs i y l e h n k = split (cases_lt n i)
-  where
-    split : (n < i) ⊎ (i ≤ n) → get_or (set xs i y) n None ≡ g n
-    split (inl a) = get_or-set_other xs i n y None (λ f. omega (arith, a, f)) ∙ h n a
-    split (inr a) =
-        let same : n ≡ i = omega (arith, a, k) in
-        ap (λ z. get_or (set xs i y) z None) same ∙ get_or-set_same xs i y None l ∙ e ∙ ap g (sym same)
+put_next g xs i y l e h =
+    below_more (λ n. get_or (set xs i y) n None ≡ g n) i (λ n b. get_or-set_other xs i n y None (λ f. omega (arith, b, f)) ∙ h n b)
+    (get_or-set_same xs i y None l ∙ e)

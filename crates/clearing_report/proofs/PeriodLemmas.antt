@@ -7,7 +7,7 @@ use Rattle.evac_law.specs.declared.plan.Move.{Move}
 use Rattle.evac_law.specs.Building.{arc_at, arrival, head, is_exit_at}
 use Rattle.evac_law.specs.Plans.{moved, person_periods}
 use Rattle.evac_law.specs.Sums.{moments_to, places}
-use Rattle.evac_law.proofs.SumLemmas.{gather, sum2-same, sum_by-same, sum_by-times, times_cond}
+use Rattle.evac_law.proofs.SumLemmas.{gather, same_pair, sum2-same, sum_by-same, sum_by-times, times_cond}
 
 -- the person-periods of an arc at a moment
 abbrev pub part_at : Model → List Move → ℕ → ℕ → ℕ
@@ -23,14 +23,8 @@ module _ (m : Model) (p : List Move) where
   same_weight : (x y s t d e w : ℕ) → (x ≡ y → d ≡ e) → cond (eqb x y && eqb s t) (w * (s + d)) 0 ≡ cond (eqb x y && eqb s t) ((t + e) * w) 0
   same_weight x y s t d e w h = split (eqb x y && eqb s t) refl
     where
-      arcs : (eqb x y && eqb s t) ≡ true → x ≡ y
-      arcs f = grind (arith, nat_tests)
-
-      moments : (eqb x y && eqb s t) ≡ true → s ≡ t
-      moments f = grind (arith, nat_tests)
-
       split : (b : Bool) → (eqb x y && eqb s t) ≡ b → cond b (w * (s + d)) 0 ≡ cond b ((t + e) * w) 0
-      split true f = ap (λ z. w * z) (omega (arith, moments f, h (arcs f))) ∙ swap w (t + e)
+      split true f = let same = same_pair x y s t f in ap (λ z. w * z) (omega (arith, same.1, h same.0)) ∙ swap w (t + e)
       split false f = refl
 
   inner : (a t : ℕ) → sum_by (λ (v : Move). cond (eqb v.arc a && eqb v.moment t) (weight v) 0) p ≡ moved p a t * arrival m a t

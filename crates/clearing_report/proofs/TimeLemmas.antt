@@ -1,7 +1,8 @@
 -- Times of walks.
 use Rattle.std.proofs.Common.{◌≡◌, ℕ, ◌+◌, ◌*◌, ◌<◌, ◌≤◌, ◌⊎◌, inl, inr, Bool, true, false, cond, max, List, [], ◌∷◌, length, refl, ap, sym, subst, ◌∙◌, arith, Option, Some, None, MatchOption, IfSome}
 use Rattle.std.proofs.Math.ListN.{set}
-use Rattle.std.proofs.lemmas.Bool.{cases_lt, true≢false}
+use borrow.Author.Count.{below_more}
+use Rattle.std.proofs.lemmas.Bool.{cases_eq, cases_lt, true≢false}
 use Rattle.std.proofs.lemmas.List.{get_or-set_other, get_or-set_same, get_or_past, length-set}
 use Rattle.std.proofs.lemmas.List.Sums.{sum_by-cons, sum_by-set}
 use Rattle.evac_law.specs.declared.model.Model.{Model}
@@ -65,14 +66,6 @@ module _ (m : Model) (times : List (Option ℕ)) (valid : IsValid m) (are : AreT
     in_times : tail m a < length times
     in_times = omega (arith, (arc_is m a valid near.way.arc_in).from_in, are.size)
 
-    same_or_other : (n : ℕ) → (n ≡ tail m a) ⊎ (n ≡ tail m a → ⊥)
-    same_or_other n = split (cases_lt n (tail m a)) (cases_lt (tail m a) n)
-      where
-        split : (n < tail m a) ⊎ (tail m a ≤ n) → (tail m a < n) ⊎ (n ≤ tail m a) → (n ≡ tail m a) ⊎ (n ≡ tail m a → ⊥)
-        split (inl l) h = inr (λ e. omega (arith, l, e))
-        split (inr l) (inl h) = inr (λ e. omega (arith, h, e))
-        split (inr l) (inr h) = inl (omega (arith, l, h))
-
     here : (n e : ℕ) → n ≡ tail m a → time_at with_time n ≡ Some e → d ≡ e
     here n e f g = same_some d e (sym (get_or-set_same times (tail m a) (Some d) None in_times) ∙ ap (time_at with_time) (sym f) ∙ g)
 
@@ -86,7 +79,7 @@ module _ (m : Model) (times : List (Option ℕ)) (valid : IsValid m) (are : AreT
         omega (arith, f, one)
 
     walks_on : (n e : ℕ) → time_at with_time n ≡ Some e → (arcs : List ℕ) × Walk m n arcs × (walk_time m arcs ≡ e)
-    walks_on n e g = split (same_or_other n)
+    walks_on n e g = split (cases_eq n (tail m a))
       where
         split : (n ≡ tail m a) ⊎ (n ≡ tail m a → ⊥) → (arcs : List ℕ) × Walk m n arcs × (walk_time m arcs ≡ e)
         split (inl f) =
@@ -96,7 +89,7 @@ module _ (m : Model) (times : List (Option ℕ)) (valid : IsValid m) (are : AreT
         split (inr f) = are.walks n e (sym (there n f) ∙ g)
 
     least_on : (n e : ℕ) → time_at with_time n ≡ Some e → (arcs : List ℕ) → Walk m n arcs → e ≤ walk_time m arcs
-    least_on n e g arcs w = split (same_or_other n)
+    least_on n e g arcs w = split (cases_eq n (tail m a))
       where
         split : (n ≡ tail m a) ⊎ (n ≡ tail m a → ⊥) → e ≤ walk_time m arcs
         split (inl f) =
@@ -109,7 +102,7 @@ module _ (m : Model) (times : List (Option ℕ)) (valid : IsValid m) (are : AreT
 
     few_on : (n e : ℕ) → time_at with_time n ≡ Some e → e + travel_limit * unknowns with_time ≤ travel_limit * length m.nodes
     unfolding travel_limit
-    few_on n e g = split (same_or_other n)
+    few_on n e g = split (cases_eq n (tail m a))
       where
         split : (n ≡ tail m a) ⊎ (n ≡ tail m a → ⊥) → e + 600 * unknowns with_time ≤ 600 * length m.nodes
         split (inl f) =
@@ -189,47 +182,29 @@ IsBest m times i best =
     MatchOption best ((a d : ℕ) → a < i → IsWay m times a d → ⊥)
     (λ w. IsWay m times w.arc w.time × ((a d : ℕ) → a < i → IsWay m times a d → w.time ≤ d))
 
-one_more : (a i : ℕ) → a < i + 1 → (a < i) ⊎ (a ≡ i)
-one_more a i l = split (cases_lt a i)
-  where
-    split : (a < i) ⊎ (i ≤ a) → (a < i) ⊎ (a ≡ i)
-    split (inl h) = inl h
-    split (inr h) = inr (omega (arith, l, h))
-
 module _ (m : Model) (times : List (Option ℕ)) (i : ℕ) where
   pub best_keeps : (best : Option Way) → IsBest m times i best → ((d : ℕ) → IsWay m times i d → ⊥) → IsBest m times (i + 1) best
-  best_keeps None h none = λ a d l w. split a d w (one_more a i l)
-    where
-      split : (a d : ℕ) → IsWay m times a d → (a < i) ⊎ (a ≡ i) → ⊥
-      split a d w (inl l) = h a d l w
-      split a d w (inr e) = none d (subst (λ z. IsWay m times z d) e w)
-  best_keeps (Some b) h none = (h.0, λ a d l w. split a d w (one_more a i l))
-    where
-      split : (a d : ℕ) → IsWay m times a d → (a < i) ⊎ (a ≡ i) → b.time ≤ d
-      split a d w (inl l) = h.1 a d l w
-      split a d w (inr e) = absurd (none d (subst (λ z. IsWay m times z d) e w))
-
-  some_way : (b r : Way) → ◌≡◌ {A = Option Way} (Some b) (Some r) → b ≡ r
-  some_way b r e = cc
-
-  none_way : (r : Way) → ◌≡◌ {A = Option Way} None (Some r) → ⊥
-  none_way r e = cc
+  best_keeps None h none = λ a d l. below_more (λ k. IsWay m times k d → ⊥) i (λ k j. h k d j) (none d) a l
+  best_keeps (Some b) h none = (h.0, λ a d l. below_more (λ k. IsWay m times k d → b.time ≤ d) i (λ k j. h.1 k d j) (λ w. absurd (none d w)) a l)
 
   pub best_takes : (best : Option Way) (way r : Way) → IsBest m times i best → IsWay m times way.arc way.time → way.arc ≡ i → (r ≡ way) ⊎ (best ≡ Some r)
       → r.time ≤ way.time → IfSome best (λ b. r.time ≤ b.time) → IsBest m times (i + 1) (Some r)
-  best_takes best way r h is at one short less = (is_way best h one, λ a d l w. split best h less a d w (one_more a i l))
+  best_takes best way r h is at one short less = (
+    is_way best h one,
+    λ a d l. below_more (λ k. IsWay m times k d → r.time ≤ d) i (λ k j. before best h less k d j) (λ w. omega (arith, last d w, short)) a l,
+  )
     where
       is_way : (best : Option Way) → IsBest m times i best → (r ≡ way) ⊎ (best ≡ Some r) → IsWay m times r.arc r.time
       is_way best h (inl e) = subst (λ (x : Way). IsWay m times x.arc x.time) (sym e) is
-      is_way None h (inr e) = absurd (none_way r e)
-      is_way (Some b) h (inr e) = subst (λ (x : Way). IsWay m times x.arc x.time) (some_way b r e) h.0
+      is_way None h (inr e) = absurd cc
+      is_way (Some b) h (inr e) = let same : b ≡ r = cc in subst (λ (x : Way). IsWay m times x.arc x.time) same h.0
 
-      split : (best : Option Way) → IsBest m times i best → IfSome best (λ b. r.time ≤ b.time) → (a d : ℕ) → IsWay m times a d → (a < i) ⊎ (a ≡ i) → r.time ≤ d
-      split None h less a d w (inl l) = absurd (h a d l w)
-      split (Some b) h less a d w (inl l) = omega (arith, h.1 a d l w, less)
-      split best h less a d w (inr e) =
-          let same = way_unique m times way.arc way.time d is (subst (λ z. IsWay m times z d) (e ∙ sym at) w) in
-          omega (arith, same, short)
+      before : (best : Option Way) → IsBest m times i best → IfSome best (λ b. r.time ≤ b.time) → (a d : ℕ) → a < i → IsWay m times a d → r.time ≤ d
+      before None h less a d l w = absurd (h a d l w)
+      before (Some b) h less a d l w = omega (arith, h.1 a d l w, less)
+
+      last : (d : ℕ) → IsWay m times i d → way.time ≡ d
+      last d w = way_unique m times way.arc way.time d is (subst (λ z. IsWay m times z d) (sym at) w)
 
 pub best_all : (m : Model) (times : List (Option ℕ)) (i : ℕ) (best : Option Way) → length m.arcs ≤ i → IsBest m times i best
     → MatchOption best (AllFound m times) (λ w. IsNearest m times w.arc w.time)
@@ -239,19 +214,18 @@ best_all m times i (Some b) l h = record { way = h.0; nearest = λ a d w. h.1 a 
 -- ---- one node more
 
 pub farthest_passes : (m : Model) (times : List (Option ℕ)) (i far : ℕ) → IsFarthest m times i far → (IsStartNode m i → ⊥) → IsFarthest m times (i + 1) far
-farthest_passes m times i far h none = record { enough = λ n l s. split n s (one_more n i l); reached = h.reached }
-  where
-    split : (n : ℕ) → IsStartNode m n → (n < i) ⊎ (n ≡ i) → (d : ℕ) × (time_at times n ≡ Some d) × (d ≤ far)
-    split n s (inl l) = h.enough n l s
-    split n s (inr e) = absurd (none (subst (IsStartNode m) e s))
+farthest_passes m times i far h none = record {
+  enough = below_more (λ n. IsStartNode m n → (d : ℕ) × (time_at times n ≡ Some d) × (d ≤ far)) i h.enough (λ s. absurd (none s));
+  reached = h.reached;
+}
 
 pub farthest_takes : (m : Model) (times : List (Option ℕ)) (i far d : ℕ) → IsFarthest m times i far → IsStartNode m i → time_at times i ≡ Some d → IsFarthest m times (i + 1) (max far d)
-farthest_takes m times i far d h s f = record { enough = λ n l b. split n b (one_more n i l); reached = reach h.reached (cases_lt far d) }
+farthest_takes m times i far d h s f = record {
+  enough = below_more (λ n. IsStartNode m n → (e : ℕ) × (time_at times n ≡ Some e) × (e ≤ max far d)) i
+      (λ n l b. let known = h.enough n l b in (known.0, known.1, omega (arith, known.2))) (λ b. (d, f, omega arith));
+  reached = reach h.reached (cases_lt far d);
+}
   where
-    split : (n : ℕ) → IsStartNode m n → (n < i) ⊎ (n ≡ i) → (e : ℕ) × (time_at times n ≡ Some e) × (e ≤ max far d)
-    split n b (inl l) = let known = h.enough n l b in (known.0, known.1, omega (arith, known.2))
-    split n b (inr e) = (d, ap (time_at times) e ∙ f, omega arith)
-
     reach : (far ≡ 0) ⊎ ((n : ℕ) × IsStartNode m n × (time_at times n ≡ Some far)) → (far < d) ⊎ (d ≤ far)
         → (max far d ≡ 0) ⊎ ((n : ℕ) × IsStartNode m n × (time_at times n ≡ Some (max far d)))
     reach r (inl l) = let same : d ≡ max far d = omega (arith, l) in inr (i, s, f ∙ ap (λ z. Some z) same)

@@ -1,10 +1,8 @@
 -- Counts: some people more at a place, and what they say of who came and who left.
-use Rattle.std.proofs.Common.{◌≡◌, ℕ, zero, suc, ◌+◌, ◌<◌, ◌≤◌, ◌^◌, Bool, cond, ◌&&◌, eqb, leb, List, length, get_or, take, refl, ap, sym, ◌∙◌, arith}
+use Rattle.std.proofs.Common.{◌≡◌, ℕ, zero, suc, ◌+◌, ◌<◌, ◌≤◌, ◌^◌, cond, ◌&&◌, eqb, leb, List, length, get_or, take, refl, ap, sym, ◌∙◌, arith}
 use Rattle.std.specs.List.{sum_by}
-use Rattle.std.proofs.lemmas.Bool.Decides.{nat_tests}
 use Rattle.std.proofs.lemmas.Int.{ints}
-use Rattle.std.proofs.lemmas.List.Sums.{sum_by_more, sum_by_more_le_part}
-use Rattle.tables.specs.Tables.{IsPut}
+use Rattle.std.proofs.lemmas.List.Sums.{sum_by_more_le_part}
 use Rattle.evac_law.specs.declared.model.Model.{Model}
 use Rattle.evac_law.specs.declared.plan.Move.{Move}
 use Rattle.evac_law.specs.Building.{IsValid, arrival, entry, head, is_exit_at, tail}
@@ -13,15 +11,10 @@ use Rattle.evac_law.specs.Plans.{came, coming, held, leaving, left, out_by}
 use Rattle.evac_law.specs.Sums.{moments_to}
 use Rattle.evac_law.proofs.Curve.{arriving, out_is_sum}
 use Rattle.evac_law.proofs.Entries.{entries_le}
-use Rattle.evac_law.proofs.SumLemmas.{All-below, sum_by-le_all, sum_by-same_all, sum_moments-suc, sum_moments-zero}
+use Rattle.evac_law.proofs.SumLemmas.{All-below, cond_le, sum_by-le_all, sum_by-same_all, sum_moments-suc, sum_moments-zero}
 use Rattle.evac_law.proofs.WeakDuality.{came-suc, came-zero, left-suc, left-zero}
 use Rattle.plan_checker.specs.Counts.{Counts, IsCountedWell, all_moved, arriving_at, came_by, count, left_by}
 use Rattle.plan_checker.specs.Parts.{IsHeldWell}
-
--- ---- a place that grows
-
-pub counted : (c d : Counts) (n t x y : ℕ) → IsPut c d n t x → x ≡ count c n t + y → (i k : ℕ) → count d i k ≡ count c i k + cond (eqb n i && eqb t k) y 0
-counted c d n t x y put e i k = grind (arith, nat_tests, put.items 0 i k)
 
 -- ---- what counts say
 
@@ -59,9 +52,6 @@ counted_from_held m p c d n t e f w = (omega (arith, ints, w.0, w.1, e, f), omeg
 
 -- ---- bounds
 
-if_le : (b : Bool) (p : ℕ) → cond b p 0 ≤ p
-if_le b p = grind arith
-
 pub came_fits : (m : Model) (p : List Move) (n t : ℕ) → IsValid m → n < length m.nodes → all_moved p < 2 ^ 62 → came m p n t < 2 ^ 63
 unfolding came people_limit
 came_fits m p n t valid l few =
@@ -70,7 +60,7 @@ came_fits m p n t valid l few =
       entries_le m n t l,
       valid.people_fit,
       sum_by-le_all (λ (v : Move). cond (eqb (head m v.arc) n && leb (arrival m v.arc v.moment) t) v.people 0) (λ (v : Move). v.people) p
-          (λ i d h. let v = get_or p i d in if_le (eqb (head m v.arc) n && leb (arrival m v.arc v.moment) t) v.people),
+          (λ i d h. let v = get_or p i d in cond_le (eqb (head m v.arc) n && leb (arrival m v.arc v.moment) t) v.people),
     )
 
 pub left_fits : (m : Model) (p : List Move) (n t : ℕ) → all_moved p < 2 ^ 62 → left m p n t < 2 ^ 63
@@ -79,7 +69,7 @@ left_fits m p n t few =
     omega (
       arith,
       sum_by-le_all (λ (v : Move). cond (eqb (tail m v.arc) n && leb v.moment t) v.people 0) (λ (v : Move). v.people) p
-          (λ i d h. let v = get_or p i d in if_le (eqb (tail m v.arc) n && leb v.moment t) v.people),
+          (λ i d h. let v = get_or p i d in cond_le (eqb (tail m v.arc) n && leb v.moment t) v.people),
     )
 
 -- what is counted so far and the next move's people are within all
@@ -87,42 +77,18 @@ pub leaving_room : (m : Model) (p : List Move) (i n t : ℕ) (d : Move) → i < 
 unfolding leaving
 leaving_room m p i n t d l =
     sum_by_more_le_part (λ (v : Move). cond (eqb (tail m v.arc) n && eqb v.moment t) v.people 0) (λ (v : Move). v.people) p i d l
-    (λ v. if_le (eqb (tail m v.arc) n && eqb v.moment t) v.people)
+    (λ v. cond_le (eqb (tail m v.arc) n && eqb v.moment t) v.people)
 
 pub coming_room : (m : Model) (p : List Move) (i n t : ℕ) (d : Move) → i < length p → coming m (take i p) n t + (get_or p i d).people ≤ all_moved p
 unfolding coming
 coming_room m p i n t d l =
     sum_by_more_le_part (λ (v : Move). cond (eqb (head m v.arc) n && eqb (arrival m v.arc v.moment) t) v.people 0) (λ (v : Move). v.people) p i d l
-    (λ v. if_le (eqb (head m v.arc) n && eqb (arrival m v.arc v.moment) t) v.people)
+    (λ v. cond_le (eqb (head m v.arc) n && eqb (arrival m v.arc v.moment) t) v.people)
 
 pub arriving_room : (m : Model) (p : List Move) (i t : ℕ) (d : Move) → i < length p → arriving_at m (take i p) t + (get_or p i d).people ≤ all_moved p
 arriving_room m p i t d l =
     sum_by_more_le_part (λ (v : Move). cond (is_exit_at m (head m v.arc) && eqb (arrival m v.arc v.moment) t) v.people 0) (λ (v : Move). v.people) p i d l
-    (λ v. if_le (is_exit_at m (head m v.arc) && eqb (arrival m v.arc v.moment) t) v.people)
-
--- one move more
-pub leaving_more : (m : Model) (p : List Move) (i n t : ℕ) (d : Move) → i < length p
-    → leaving m (take (i + 1) p) n t
-    ≡ leaving m (take i p) n t + cond (eqb (tail m (get_or p i d).arc) n && eqb (get_or p i d).moment t) (get_or p i d).people 0
-unfolding leaving
-leaving_more m p i n t d l = sum_by_more (λ (v : Move). cond (eqb (tail m v.arc) n && eqb v.moment t) v.people 0) p i d l
-
-pub coming_more : (m : Model) (p : List Move) (i n t : ℕ) (d : Move) → i < length p
-    → coming m (take (i + 1) p) n t
-    ≡ coming m (take i p) n t
-    + cond (eqb (head m (get_or p i d).arc) n && eqb (arrival m (get_or p i d).arc (get_or p i d).moment) t) (get_or p i d).people 0
-unfolding coming
-coming_more m p i n t d l = sum_by_more (λ (v : Move). cond (eqb (head m v.arc) n && eqb (arrival m v.arc v.moment) t) v.people 0) p i d l
-
-pub arriving_more : (m : Model) (p : List Move) (i t : ℕ) (d : Move) → i < length p
-    → arriving_at m (take (i + 1) p) t
-    ≡ arriving_at m (take i p) t
-    + cond (is_exit_at m (head m (get_or p i d).arc) && eqb (arrival m (get_or p i d).arc (get_or p i d).moment) t) (get_or p i d).people 0
-arriving_more m p i t d l = sum_by_more (λ (v : Move). cond (is_exit_at m (head m v.arc) && eqb (arrival m v.arc v.moment) t) v.people 0) p i d l
-
--- a move past the last moment counts nowhere up to it
-pub past : (b : Bool) (s t h p : ℕ) → t ≤ h → h < s → cond (b && eqb s t) p 0 ≡ 0
-past b s t h p l k = grind (arith, nat_tests)
+    (λ v. cond_le (is_exit_at m (head m v.arc) && eqb (arrival m v.arc v.moment) t) v.people)
 
 -- ---- the curve
 
@@ -141,4 +107,4 @@ pub out_fits : (m : Model) (p : List Move) (k : ℕ) → out_by m p k ≤ all_mo
 unfolding out_by
 out_fits m p k =
     sum_by-le_all (λ (v : Move). cond (is_exit_at m (head m v.arc) && leb (arrival m v.arc v.moment) k) v.people 0) (λ (v : Move). v.people) p
-    (λ i d h. let v = get_or p i d in if_le (is_exit_at m (head m v.arc) && leb (arrival m v.arc v.moment) k) v.people)
+    (λ i d h. let v = get_or p i d in cond_le (is_exit_at m (head m v.arc) && leb (arrival m v.arc v.moment) k) v.people)

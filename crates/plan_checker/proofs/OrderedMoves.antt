@@ -11,6 +11,7 @@ use Rattle.evac_law.specs.Building.{IsValid, rate}
 use Rattle.evac_law.specs.Limits.{cell_limit}
 use Rattle.evac_law.specs.Plans.{moved}
 use Rattle.evac_law.specs.Stands.{Before, IsOrdered}
+use Rattle.evac_law.proofs.SumLemmas.{same_pair}
 use Rattle.certificate_text.specs.Block.{number_field_limit}
 use Rattle.plan_checker.specs.Counts.{AreCountable, all_moved}
 use Rattle.plan_checker.specs.Parts.{Earlier}
@@ -94,49 +95,24 @@ pub moved_cases : (p : List Move) (a t : ℕ) (d : Move) → AllPairs Before p �
 unfolding moved
 moved_cases p a t d o = split (find_place (is_at a t) p d)
   where
-    arc_of : (v : Move) → is_at a t v ≡ true → v.arc ≡ a
-    arc_of v e = grind (arith, nat_tests)
-
-    moment_of : (v : Move) → is_at a t v ≡ true → v.moment ≡ t
-    moment_of v e = grind (arith, nat_tests)
-
     split : Found (is_at a t) p d → MoveThere p a t d ⊎ (moved p a t ≡ 0)
     split (inl r) =
-        let arc = arc_of (get_or p r.0 d) r.2 in
-        let moment = moment_of (get_or p r.0 d) r.2 in
+        let same = same_pair (get_or p r.0 d).arc a (get_or p r.0 d).moment t r.2 in
         inl (record {
           place = r.0;
           in_list = r.1;
-          same_arc = arc;
-          same_moment = moment;
-          people = ap (λ z. moved p z t) (sym arc) ∙ ap (λ z. moved p (get_or p r.0 d).arc z) (sym moment) ∙ moved_at p r.0 d o r.1;
+          same_arc = same.0;
+          same_moment = same.1;
+          people = ap (λ z. moved p z t) (sym same.0) ∙ ap (λ z. moved p (get_or p r.0 d).arc z) (sym same.1) ∙ moved_at p r.0 d o r.1;
         })
     split (inr none) = inr (no_term (λ (w : Move). cond (is_at a t w) w.people 0) p d (λ j l. ap (λ b. cond b (get_or p j d).people 0) (none j l)))
 
 -- a move at an earlier moment and arc than another stands before it
 pub earlier_before : (p : List Move) (i j : ℕ) (d : Move) → AllPairs Before p → i < length p → j < length p
     → Earlier (get_or p j d).moment (get_or p j d).arc (get_or p i d).moment (get_or p i d).arc → j < i
-earlier_before p i j d o l h e = split (cases_lt j i)
-  where
-    crossed : (v w : Move) → Earlier v.moment v.arc w.moment w.arc → Before w v → ⊥
-    crossed v w (inl a) (inl b) = omega (arith, a, b)
-    crossed v w (inl a) (inr b) = omega (arith, a, b.0)
-    crossed v w (inr a) (inl b) = omega (arith, a.0, b)
-    crossed v w (inr a) (inr b) = omega (arith, a.1, b.1)
-
-    itself : (v : Move) → Earlier v.moment v.arc v.moment v.arc → ⊥
-    itself v (inl a) = omega (arith, a)
-    itself v (inr a) = omega (arith, a.1)
-
-    same_or_after : (i < j) ⊎ (j ≤ i) → i ≤ j → j < i
-    same_or_after (inl after) k = absurd (crossed (get_or p j d) (get_or p i d) e (o i j d after h))
-    same_or_after (inr least) k =
-        let same : j ≡ i = omega arith in
-        absurd (itself (get_or p i d) (subst (λ z. Earlier (get_or p z d).moment (get_or p z d).arc (get_or p i d).moment (get_or p i d).arc) same e))
-
-    split : (j < i) ⊎ (i ≤ j) → j < i
-    split (inl less) = less
-    split (inr more) = same_or_after (cases_lt i j) more
+earlier_before p i j d o l h e =
+    let same : i ≡ j → get_or p i d ≡ get_or p j d = ap (λ z. get_or p z d) in
+    grind (arith, l, h, e, o i j d, same)
 
 -- ---- how many moves there are
 
@@ -209,13 +185,9 @@ pub kept_before : (m : Model) (p : List Move) (i : ℕ) (d : Move) → AllPairs 
     → (b s : ℕ) → Earlier s b (get_or p i d).moment (get_or p i d).arc → moved p b s ≤ rate m b s
 kept_before m p i d o l h b s e = kept_at m p b s d o there
   where
-    not_after : (s b t a : ℕ) → Earlier s b t a → s ≤ t
-    not_after s b t a (inl k) = omega (arith, k)
-    not_after s b t a (inr k) = omega (arith, k.0)
-
     there : (j : ℕ) → j < length p → (get_or p j d).arc ≡ b → (get_or p j d).moment ≡ s → (get_or p j d).people ≤ rate m (get_or p j d).arc (get_or p j d).moment
     there j k f g =
         let v = get_or p i d in
         let by_moment = subst (λ z. Earlier z b v.moment v.arc) (sym g) e in
         let by_arc = subst (λ z. Earlier (get_or p j d).moment z v.moment v.arc) (sym f) by_moment in
-        h j (earlier_before p i j d o l k by_arc) (not_after (get_or p j d).moment (get_or p j d).arc v.moment v.arc by_arc)
+        h j (earlier_before p i j d o l k by_arc) (grind (arith, by_arc))

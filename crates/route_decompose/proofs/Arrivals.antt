@@ -2,25 +2,18 @@
 use Rattle.std.proofs.Common.{◌≡◌, ℕ, ◌+◌, ◌<◌, ◌≤◌, ◌⊎◌, inl, inr, true, false, cond, ◌&&◌, eqb, List, get_or, ap, arith}
 use Rattle.std.specs.List.{All, sum_by}
 use Rattle.std.proofs.lemmas.Bool.{cases_Bool, cases_lt}
-use Rattle.std.proofs.lemmas.Bool.Decides.{nat_tests}
 use Rattle.evac_law.specs.declared.model.Model.{Model}
 use Rattle.evac_law.specs.declared.plan.Move.{Move}
 use Rattle.evac_law.specs.Building.{arc_at, arrival}
 use Rattle.evac_law.specs.Plans.{NobodyIsLeft, moved}
-use Rattle.evac_law.proofs.SumLemmas.{sum_by-le_all, sum_by-nothing}
+use Rattle.evac_law.proofs.SumLemmas.{same_pair, sum_by-le_all, sum_by-nothing}
 
 -- a move past its arrival has nobody
 late_move : (b a s t k d r w : ℕ) → (b ≡ a → r ≡ s + d) → k < t + d → (0 < w → s ≤ k → r ≤ k) → s ≤ k → cond (eqb b a && eqb s t) w 0 ≤ 0
 late_move b a s t k d r w e late way early = split (cases_Bool (eqb b a && eqb s t)) (cases_lt 0 w)
   where
-    same_arc : (eqb b a && eqb s t) ≡ true → b ≡ a
-    same_arc x = grind (arith, nat_tests)
-
-    same_moment : (eqb b a && eqb s t) ≡ true → s ≡ t
-    same_moment x = grind (arith, nat_tests)
-
     split : ((eqb b a && eqb s t) ≡ true) ⊎ ((eqb b a && eqb s t) ≡ false) → (0 < w) ⊎ (w ≤ 0) → cond (eqb b a && eqb s t) w 0 ≤ 0
-    split (inl x) (inl some) = absurd (omega (arith, e (same_arc x), same_moment x, late, way some early))
+    split (inl x) (inl some) = let same = same_pair b a s t x in absurd (omega (arith, e same.0, same.1, late, way some early))
     split (inl x) (inr none) = rw x none
     split (inr x) some = rw x (omega arith)
 
@@ -34,7 +27,4 @@ module _ (m : Model) (p : List Move) (nobody : NobodyIsLeft m p m.horizon) (in_t
       (nobody.nobody_on_way i d b) (in_time i d b))
 
   pub arrives : (a t : ℕ) → 0 < moved p a t → arrival m a t ≤ m.horizon
-  arrives a t some = elim (cases_lt m.horizon (arrival m a t)) [
-    | inl late ↦ absurd (omega (arith, some, nobody_late a t late, sum_by-nothing p))
-    | inr done ↦ done
-  ]
+  arrives a t some = grind (arith, some, nobody_late a t, sum_by-nothing p)

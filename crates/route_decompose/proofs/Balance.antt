@@ -131,27 +131,13 @@ module _ (s v : Stock) (a t p : ℕ) (same : v.model ≡ s.model) (less : IsLess
       (λ n u l e h i. omega (arith, i, coming_less s v a t p same less here n u, going_less s v a t p same less here n u, before_same s v holds waiting n u, ap (λ (c : PeopleTable). people_at c n u) holds))
       b
 
-  -- and its head is an exit
-  pub exit_step : is_exit_at s.model (head s.model a) ≡ true → IsBalancedBut s 0 0 0 → IsBalancedBut v (tail s.model a) t p
-  exit_step exit b =
-      balanced_with s v same 0 0 0 (tail s.model a) t p
-      (λ n u l e h i. omega (
-        arith,
-        i,
-        cond_nothing (eqb 0 n && eqb 0 u),
-        not_here n u e,
-        coming_less s v a t p same less here n u,
-        going_less s v a t p same less here n u,
-        before_same s v holds waiting n u,
-        ap (λ (c : PeopleTable). people_at c n u) holds,
-      ))
-      b
-    where
-      apart : (x y z q : ℕ) → (x ≡ y → ⊥) → cond (eqb x y && eqb z q) p 0 ≡ 0
-      apart x y z q d = grind (arith, nat_tests)
-
-      not_here : (n u : ℕ) → is_exit_at s.model n ≡ false → cond (eqb (head s.model a) n && eqb (arrival s.model a t) u) p 0 ≡ 0
-      not_here n u e = apart (head s.model a) n (arrival s.model a t) u (λ f. true≢false (sym exit ∙ ap (is_exit_at s.model) f ∙ e))
+-- in an exit nobody has to go on
+pub exit_balanced : (s : Stock) (n t p : ℕ) → is_exit_at s.model n ≡ true → IsBalancedBut s 0 0 0 → IsBalancedBut s n t p
+exit_balanced s n t p exit b i u l e h =
+    omega (arith, b i u l e h, cond_nothing (eqb 0 i && eqb 0 u), not_here n i t u (λ f. true≢false (sym exit ∙ ap (is_exit_at s.model) f ∙ e)))
+  where
+    not_here : (x y z q : ℕ) → (x ≡ y → ⊥) → cond (eqb x y && eqb z q) p 0 ≡ 0
+    not_here x y z q d = grind (arith, nat_tests)
 
 -- some people are taken off a hold: they are gone from its node at its moment, and no more at the next
 pub hold_step : (s v : Stock) (n t p : ℕ) → v.model ≡ s.model → v.left ≡ s.left → v.waiting ≡ s.waiting → IsLess s.holds v.holds n t p

@@ -5,12 +5,13 @@ use Rattle.std.proofs.lemmas.Bool.{true≢false}
 use Rattle.std.proofs.lemmas.Bool.Decides.{nat_tests}
 use Rattle.evac_law.specs.declared.model.Model.{Model}
 use Rattle.evac_law.specs.Building.{IsArc, IsValid, arc_at, arrival, head, is_exit_at, no_arc, tail}
+use Rattle.evac_law.proofs.SumLemmas.{same_pair}
 use Rattle.route_decompose.specs.declared.route.RouteStep.{RouteStep}
 use Rattle.route_decompose.specs.Routes.{LeadsOut, enters}
 use Rattle.plan_layout.specs.Tables.{PeopleTable, people_at}
 use Rattle.route_decompose.specs.Places.{IsLess}
-use Rattle.route_decompose.specs.Stocks.{IsBalancedBut, IsClosing, IsLedOut, IsLessHeld, IsLessLeft, IsStock, Stock}
-use Rattle.route_decompose.proofs.Balance.{exit_step, hold_step, move_step}
+use Rattle.route_decompose.specs.Stocks.{IsBalancedBut, IsClosing, IsLedOut, IsLessHeld, IsLessLeft, IsOpen, IsStock, Stock}
+use Rattle.route_decompose.proofs.Balance.{exit_balanced, hold_step, move_step}
 
 -- ---- steps
 
@@ -107,9 +108,6 @@ first_or_rest true false p l m r d e f = omega (arith, e, f)
 first_or_rest false true p l m r d e f = omega (arith, e, f)
 first_or_rest false false p l m r d e f = omega (arith, e, f)
 
-at_moment : (a b t k : ℕ) → (eqb a b && eqb t k) ≡ true → t ≡ k
-at_moment a b t k e = grind (arith, nat_tests)
-
 module _ (s v w : Stock) (a t p : ℕ) (here : a < length s.model.arcs) (steps : List RouteStep) (kept : IsLessLeft v w a t p) where
   -- and are led out from where it leads
   pub led_by_move : IsStock s → IsLedOut s v (head s.model a) (arrival s.model a t) p steps → IsLedOut s w (tail s.model a) t p (step_of a t ∷ steps)
@@ -128,7 +126,7 @@ module _ (s v w : Stock) (a t p : ℕ) (here : a < length s.model.arcs) (steps :
         leads = (here, refl, omega arith, led.leads);
         left = λ b k.
             first_or_rest (eqb a b && eqb t k) (enters steps b k) p (people_at v.left b k) (people_at w.left b k) (people_at s.left b k)
-            (λ e. not_entered m (head m a) (arrival m a t) steps b k led.leads (omega (arith, at_moment a b t k e, time)))
+            (λ e. not_entered m (head m a) (arrival m a t) steps b k led.leads (omega (arith, (same_pair a b t k e).1, time)))
             (kept.less.cells b k) (led.left b k);
         holds = λ i k. let e = ap (λ (c : PeopleTable). people_at c i k) kept.holds in omega (arith, e, led.holds i k);
         earlier_holds = λ i k l. let e = ap (λ (c : PeopleTable). people_at c i k) kept.holds in e ∙ led.earlier_holds i k (omega (arith, l));
@@ -137,17 +135,16 @@ module _ (s v w : Stock) (a t p : ℕ) (here : a < length s.model.arcs) (steps :
         balanced = subst (λ z. IsBalancedBut w z t p) tails (move_step v w a t p kept.model kept.less there kept.holds kept.waiting from);
       }
 
--- an arc into an exit
-module _ (s w : Stock) (a t p : ℕ) (here : a < length s.model.arcs) (kept : IsLessLeft s w a t p) where
-  pub led_to_exit : IsStock s → IsBalancedBut s 0 0 0 → is_exit_at s.model (head s.model a) ≡ true → IsLedOut s w (tail s.model a) t p (step_of a t ∷ [])
-  led_to_exit stock balanced exit = record {
-    same_model = kept.model;
-    same_waiting = kept.waiting;
-    leads = (here, refl, omega arith, exit);
-    left = λ b k. first_or_rest (eqb a b && eqb t k) false p (people_at s.left b k) (people_at w.left b k) (people_at s.left b k) (λ e. refl) (kept.less.cells b k) (omega arith);
-    holds = λ i k. let e = ap (λ (c : PeopleTable). people_at c i k) kept.holds in omega (arith, e);
-    earlier_holds = λ i k l. ap (λ (c : PeopleTable). people_at c i k) kept.holds;
-    stock = stock_on s w kept.model kept.less.rows kept.less.last (ap (λ (c : PeopleTable). c.rows) kept.holds)
-        (ap (λ (c : PeopleTable). c.last) kept.holds) (ap (λ (c : PeopleTable). c.rows) kept.waiting) (ap (λ (c : PeopleTable). c.last) kept.waiting) stock;
-    balanced = exit_step s w a t p kept.model kept.less here kept.holds kept.waiting exit balanced;
-  }
+-- ---- people who are in an exit
+
+pub led_in_exit : (s : Stock) (n t p : ℕ) → IsOpen s → is_exit_at s.model n ≡ true → IsLedOut s s n t p []
+led_in_exit s n t p whole exit = record {
+  same_model = refl;
+  same_waiting = refl;
+  leads = exit;
+  left = λ a k. omega arith;
+  holds = λ i k. omega arith;
+  earlier_holds = λ i k l. refl;
+  stock = whole.stock;
+  balanced = exit_balanced s n t p exit whole.balanced;
+}

@@ -1,9 +1,9 @@
-pub mod TableLemmas
 pub mod PlaceLemmas
 pub mod Given
 pub mod Balance
 pub mod Leading
 pub mod Going
+pub mod Laying
 pub mod Staying
 pub mod StockLemmas
 pub mod UsedUp

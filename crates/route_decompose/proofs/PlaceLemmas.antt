@@ -1,6 +1,6 @@
 -- In how many places somebody is, once some people are taken off.
-use Rattle.std.proofs.Common.{◌≡◌, ℕ, ◌+◌, ◌<◌, ◌≤◌, Bool, true, false, cond, ◌&&◌, eqb, ltb, min, refl, ap, ap₂, ◌∙◌, arith, ◌⊎◌, inl, inr}
-use Rattle.std.proofs.lemmas.Bool.{cases_lt, lt-ltb}
+use Rattle.std.proofs.Common.{◌≡◌, ℕ, ◌+◌, ◌<◌, ◌≤◌, Bool, true, false, cond, ◌&&◌, eqb, ltb, min, refl, ap, ap₂, sym, ◌∙◌, arith, ◌⊎◌, inl, inr}
+use Rattle.std.proofs.lemmas.Bool.{cases_lt, eqb-true, lt-ltb}
 use Rattle.std.proofs.lemmas.Bool.Decides.{nat_tests}
 use Rattle.evac_law.proofs.SumLemmas.{gather_one, sum2, sum2-add, sum2-le}
 use Rattle.route_decompose.specs.Stocks.{Empties, IsLessHeld, IsLessLeft, Stock, used}
@@ -58,25 +58,21 @@ one-emptied c d n t p h row moment some-go all =
     omega (arith, ap₂ at h.rows h.last, places-are c.rows c.last (people_at d), places-are c.rows c.last (people_at c), sum2-add c.rows k f here, le, one, is)
   where
     at-place : (i j : ℕ) → eqb n i ≡ true → eqb t j ≡ true → people_at c i j ≡ p
-    at-place i j a b = ap₂ (λ x y. people_at c x y) (same i n a) (same j t b) ∙ all
-      where
-        same : (x y : ℕ) → eqb y x ≡ true → x ≡ y
-        same x y e = grind (arith, nat_tests)
+    at-place i j a b = ap₂ (λ x y. people_at c x y) (sym (eqb-true n i a)) (sym (eqb-true t j b)) ∙ all
 
 -- ---- what is left of a plan
 
-less-left : (v w : Stock) (a t p : ℕ) → IsLessLeft v w a t p → used w ≤ used v
+pub less-left : (v w : Stock) (a t p : ℕ) → IsLessLeft v w a t p → used w ≤ used v
 less-left v w a t p h = omega (arith, less-places v.left w.left a t p h.less, ap places_in h.holds, ap places_in h.waiting)
 
 pub less-held : (v w : Stock) (n t p : ℕ) → IsLessHeld v w n t p → used w ≤ used v
 less-held v w n t p h = omega (arith, less-places v.holds w.holds n t p h.less, ap places_in h.left, ap places_in h.waiting)
 
 pub least-is : (a b c : ℕ) → c ≡ min a b → (c ≡ a) ⊎ (c ≡ b)
-least-is a b c e = by (cases_lt a b)
-  where
-    by : (a < b) ⊎ (b ≤ a) → (c ≡ a) ⊎ (c ≡ b)
-    by (inl l) = inl (omega (arith, e, l))
-    by (inr l) = inr (omega (arith, e, l))
+least-is a b c e = elim (cases_lt a b) [
+  | inl l ↦ inl (omega arith)
+  | inr l ↦ inr (omega arith)
+]
 
 -- people are taken off where they stay at a moment: if they are all who stay there, somebody is left in fewer places
 pub emptied-hold : (v w : Stock) (n t p : ℕ) → IsLessHeld v w n t p → n < v.holds.rows → t ≤ v.holds.last → 1 ≤ p → people_at v.holds n t ≡ p
@@ -84,19 +80,11 @@ pub emptied-hold : (v w : Stock) (n t p : ℕ) → IsLessHeld v w n t p → n < 
 emptied-hold v w n t p less row moment go all =
     omega (arith, one-emptied v.holds w.holds n t p less.less row moment go all, ap places_in less.left, ap places_in less.waiting)
 
--- people went on from an arc over which `there` of them could go, and no more of them than `most` were to go
-pub empties-left : (s v w : Stock) (a t p there most least : ℕ) → Empties s v p least → (least ≡ most) ⊎ (least ≡ there) → IsLessLeft v w a t p
-    → a < v.left.rows → t ≤ v.left.last → 1 ≤ p → people_at v.left a t ≡ there → Empties s w p most
-empties-left s v w a t p there most least (inl fewer) is less row moment go here = inl (omega (arith, fewer, less-left v w a t p less))
-empties-left s v w a t p there most least (inr (all, few)) (inl e) less row moment go here = inr (omega (arith, all, e), omega (arith, few, less-left v w a t p less))
-empties-left s v w a t p there most least (inr (all, few)) (inr e) less row moment go here =
-    inl (omega (
-      arith,
-      few,
-      one-emptied v.left w.left a t p less.less row moment go (omega (arith, here, all, e)),
-      ap places_in less.holds,
-      ap places_in less.waiting,
-    ))
+-- or off an arc
+pub emptied-left : (v w : Stock) (a t p : ℕ) → IsLessLeft v w a t p → a < v.left.rows → t ≤ v.left.last → 1 ≤ p → people_at v.left a t ≡ p
+    → used w + 1 ≤ used v
+emptied-left v w a t p less row moment go all =
+    omega (arith, one-emptied v.left w.left a t p less.less row moment go all, ap places_in less.holds, ap places_in less.waiting)
 
 -- and from where they came in
 pub empties-waiting : (s v w : Stock) (n t p most : ℕ) → Empties s v p most → IsLess v.waiting w.waiting n t p → w.left ≡ v.left → w.holds ≡ v.holds

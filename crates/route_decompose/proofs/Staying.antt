@@ -1,10 +1,9 @@
 -- People who stay are taken off, the latest moment first.
 use Rattle.std.proofs.Common.{◌≡◌, ℕ, ◌+◌, ◌<◌, ◌≤◌, ◌⊎◌, inl, inr, min, ap, ◌∙◌, subst, sym, arith}
 use Rattle.std.proofs.lemmas.Bool.{cases_lt}
-use Rattle.route_decompose.specs.Stocks.{AllStay, Empties, IsLessHeld, LedEarlier, Stay, Stock, used}
+use Rattle.route_decompose.specs.Stocks.{AllStay, IsLessHeld, LedEarlier, Stay, Stock, used}
 use Rattle.plan_layout.specs.Tables.{people_at}
-use Rattle.route_decompose.proofs.Going.{on_by_hold}
-use Rattle.route_decompose.proofs.Leading.{other_cell}
+use Rattle.route_decompose.proofs.Leading.{led_by_hold, other_cell}
 use Rattle.route_decompose.proofs.PlaceLemmas.{emptied-hold, least-is, less-held}
 
 -- who stay at a moment t, the last of some, are taken off
@@ -16,7 +15,7 @@ module _ (u v w : Stock) (n from t p : ℕ) (less : IsLessHeld v w n t p) where
   stay-still h k from_in l = omega (arith, as_before k l, h k from_in (omega (arith, l)))
 
   pub led-earlier : (until : ℕ) → LedEarlier u v n (t + 1) until p → LedEarlier u w n t until p
-  led-earlier until h s r x on = on_by_hold s v w n t p r x (h s r x on) less
+  led-earlier until h s steps led = led_by_hold s v w n t p steps (h s steps led) less
 
   pub fewer-used : used v ≤ used u → used w ≤ used u
   fewer-used h = omega (arith, h, less-held v w n t p less)
@@ -37,13 +36,10 @@ module _ (u v w : Stock) (n from t p : ℕ) (less : IsLessHeld v w n t p) where
 -- some stay at a moment u too, up to which p may stay; the fewer of these two may stay one moment longer
 module _ (s : Stock) (n from u p held most least : ℕ) (here : people_at s.holds n u ≡ held) (is : least ≡ min p held) where
   pub stay-longer : Stay s n from u p → Stay s n from (u + 1) least
-  stay-longer h k from_in l = by (cases_lt k u)
-    where
-      by : (k < u) ⊎ (u ≤ k) → least ≤ people_at s.holds n k
-      by (inl earlier) = omega (arith, is, h k from_in earlier)
-      by (inr late) =
-          let now : k ≡ u = omega (arith, l, late) in
-          omega (arith, is, here, ap (people_at s.holds n) now)
+  stay-longer h k from_in l =
+      let last : k ≡ u → people_at s.holds n k ≡ people_at s.holds n u = ap (people_at s.holds n) in
+      let earlier : k < u → p ≤ people_at s.holds n k = h k from_in in
+      grind (arith, l, is, here, last, earlier)
 
   pub all-longer : from ≤ u → (p ≡ most) ⊎ AllStay s n from u p → (least ≡ most) ⊎ AllStay s n from (u + 1) least
   all-longer later h = by (least-is p held least is) h
@@ -52,25 +48,3 @@ module _ (s : Stock) (n from u p held most least : ℕ) (here : people_at s.hold
       by (inr e) h = inr (u, later, omega arith, here ∙ sym e)
       by (inl e) (inl all) = inl (e ∙ all)
       by (inl e) (inr (k, from_in, l, all)) = inr (k, from_in, omega (arith, l), all ∙ sym e)
-
--- nobody stays at the moment u any more
-pub later-than : (s : Stock) (n t u : ℕ) → t ≤ u → 0 < people_at s.holds n t → people_at s.holds n u ≡ 0 → t < u
-later-than s n t u l some none = by (cases_lt t u)
-  where
-    by : (t < u) ⊎ (u ≤ t) → t < u
-    by (inl later) = later
-    by (inr same) = let here : t ≡ u = omega (arith, l, same) in absurd (omega (arith, some, none, ap (people_at s.holds n) here))
-
--- ---- who stayed before being led out
-
-module _ (s v : Stock) (n t u p least : ℕ) (same : (k : ℕ) → k < u → people_at v.holds n k ≡ people_at s.holds n k) where
-  pub stay-led : p ≤ least → Stay s n t u least → Stay v n t u p
-  stay-led few h k from_in l = omega (arith, few, same k l, h k from_in l)
-
-  pub empties-stay : (w : Stock) (most : ℕ) → Empties s v p least → (least ≡ most) ⊎ AllStay s n t u least → used w ≤ used v
-      → (AllStay v n t u p → used w + 1 ≤ used v) → Empties s w p most
-  empties-stay w most (inl fewer) all less emptied = inl (omega (arith, fewer, less))
-  empties-stay w most (inr (went, few)) (inl e) less emptied = inr (went ∙ e, omega (arith, few, less))
-  empties-stay w most (inr (went, few)) (inr (k, from_in, l, all)) less emptied =
-      let here = emptied (k, from_in, l, same k l ∙ all ∙ sym went) in
-      inl (omega (arith, few, here))

@@ -1,6 +1,5 @@
 -- Where nobody comes from nowhere any more, nobody is left.
-use Rattle.std.proofs.Common.{◌≡◌, ℕ, zero, suc, ◌+◌, ◌-◌, ◌<◌, ◌≤◌, ◌⊎◌, inl, inr, false, cond, ◌&&◌, eqb, leb, length, arith}
-use Rattle.std.proofs.lemmas.Bool.{cases_lt}
+use Rattle.std.proofs.Common.{◌≡◌, ℕ, zero, suc, ◌+◌, ◌-◌, ◌<◌, ◌≤◌, false, cond, ◌&&◌, eqb, leb, length, arith}
 use Rattle.std.proofs.lemmas.Bool.Decides.{nat_tests}
 use Rattle.std.proofs.lemmas.List.Elements.{All-get_or}
 use Rattle.evac_law.specs.Building.{IsArc, arc_at, head, is_exit_at, no_arc, tail}
@@ -55,9 +54,6 @@ module _ (s : Stock) (whole : IsOpen s) (none : (n t : ℕ) → people_at s.wait
   up_to (suc k) t l h = here t h (λ u b. up_to k u (omega (arith, b, l)) (omega (arith, b, h)))
 
   pub nobody_left : (a t : ℕ) → people_at s.left a t ≡ 0
-  nobody_left a t = split (cases_lt a (length s.model.arcs)) (cases_lt s.model.horizon t)
-    where
-      split : (a < length s.model.arcs) ⊎ (length s.model.arcs ≤ a) → (s.model.horizon < t) ⊎ (t ≤ s.model.horizon) → people_at s.left a t ≡ 0
-      split (inr l) h = item_at-past_rows 0 s.left a t (omega (arith, l, whole.stock.left_rows))
-      split (inl l) (inl h) = item_at-past_last 0 s.left a t (omega (arith, h, whole.stock.left_last))
-      split (inl l) (inr h) = (up_to (t + 1) t (omega arith) h).arcs a l
+  nobody_left a t =
+      let inside : a < length s.model.arcs → t ≤ s.model.horizon → people_at s.left a t ≡ 0 = λ l h. (up_to (t + 1) t (omega arith) h).arcs a l in
+      grind (arith, item_at-past_rows 0 s.left a t, item_at-past_last 0 s.left a t, inside, whole.stock.left_rows, whole.stock.left_last)

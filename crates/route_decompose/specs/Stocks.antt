@@ -1,5 +1,5 @@
 -- What is left of a plan while it is handed out, and its balance.
-use Rattle.std.specs.Prelude.{◌≡◌, ℕ, zero, suc, ◌+◌, ◌-◌, ◌<◌, ◌≤◌, ◌&&◌, if◌then◌else◌, ◌==◌, nat_le, List, ◌++◌, length, IsFalse, ◌⊎◌}
+use Rattle.std.specs.Prelude.{◌≡◌, ℕ, zero, suc, ◌+◌, ◌-◌, ◌<◌, ◌≤◌, ◌&&◌, if◌then◌else◌, ◌==◌, nat_le, List, [], ◌∷◌, length, slice_index_or, IsFalse, IsTrue, ◌⊎◌}
 use Rattle.std.specs.List.{sum_by}
 use Rattle.evac_law.specs.declared.model.Model.{Model}
 use Rattle.evac_law.specs.Building.{IsValid, arc_at, arrival, entry, head, is_exit_at, tail}
@@ -130,12 +130,6 @@ pub record IsRoutes (s : Stock) (t : TrailView) : Type 0 where
   pub left : IsOpen s
   pub room : s.model.horizon ≤ t.room
 
--- people were led out, and their steps added to a trail
-pub record IsLedOn (s v : Stock) (n t p : ℕ) (r u : TrailView) : Type 0 where
-  pub more : List RouteStep
-  pub led : IsLedOut s v n t p more
-  pub trail : u ≡ record { steps = r.steps ++ more; room = r.room }
-
 -- ---- people who stay
 
 -- at least p people stay in a node from a moment until another
@@ -167,10 +161,45 @@ pub record MayStay (s : Stock) (n t u p : ℕ) : Type 0 where
 
 -- whoever is led out from u on, with the first stock left, is led out from t on, with the second left
 abbrev pub LedEarlier : Stock → Stock → ℕ → ℕ → ℕ → ℕ → Type 0
-LedEarlier v w n t u p = (s : Stock) (r x : TrailView) → IsLedOn s v n u p r x → IsLedOn s w n t p r x
+LedEarlier v w n t u p = (s : Stock) (steps : List RouteStep) → IsLedOut s v n u p steps → IsLedOut s w n t p steps
 
 -- people are taken off those who stay in a node from t until u
 pub record IsStayTaken (v w : Stock) (n t u p : ℕ) : Type 0 where
   pub led : LedEarlier v w n t u p
   pub fewer : used w ≤ used v
   pub emptied : AllStay v n t u p → used w + 1 ≤ used v
+
+-- ---- the way of people who are led out
+
+-- p people can go from a node at a moment along steps into an exit: so many stay before each step, and so many are left on its arc
+abbrev pub CanGo : Stock → ℕ → ℕ → ℕ → List RouteStep → Type 0
+CanGo s n t p [] = IsTrue (is_exit_at s.model n)
+CanGo s n t p (x ∷ steps) =
+    (x.arc < length s.model.arcs) × (tail s.model x.arc ≡ n) × (t ≤ x.moment) × (x.moment ≤ s.model.horizon) × Stay s n t x.moment p
+    × (p ≤ people_at s.left x.arc x.moment) × CanGo s (head s.model x.arc) (arrival s.model x.arc x.moment) p steps
+
+-- somewhere on this way just p people stay, or just p are left on an arc
+abbrev pub AllGo : Stock → ℕ → ℕ → ℕ → List RouteStep → Type 0
+AllGo s n t p [] = ⊥
+AllGo s n t p (x ∷ steps) =
+    AllStay s n t x.moment p ⊎ ((people_at s.left x.arc x.moment ≡ p) ⊎ AllGo s (head s.model x.arc) (arrival s.model x.arc x.moment) p steps)
+
+-- of some people in a node at a moment, p can go along steps into an exit; the others can't go with them
+pub record IsLaid (s : Stock) (n t some p : ℕ) (steps : List RouteStep) : Type 0 where
+  pub somebody : 1 ≤ p
+  pub few : p ≤ some
+  pub way : CanGo s n t p steps
+  pub all : (p ≡ some) ⊎ AllGo s n t p steps
+
+-- what stands past the end of some steps
+abbrev pub no_step : RouteStep
+no_step = record { moment = 0; arc = 0 }
+
+-- the node in which people are before the step with a number, and the moment at which they come there
+abbrev pub node_before : Model → ℕ → List RouteStep → ℕ → ℕ
+node_before m n steps zero = n
+node_before m n steps (suc i) = head m (slice_index_or steps i no_step).arc
+
+abbrev pub moment_before : Model → ℕ → List RouteStep → ℕ → ℕ
+moment_before m t steps zero = t
+moment_before m t steps (suc i) = let x = slice_index_or steps i no_step in arrival m x.arc x.moment

@@ -78,7 +78,6 @@ impl Routes {
             return false;
         };
         let most = self.store.start(node, moment);
-        self.trail.clear();
         let people = lead_out(&mut self.store, &mut self.trail, node, moment, most);
         self.store.take_start(node, moment, people);
         self.people = people;

@@ -4,24 +4,21 @@ use Rattle.evac_law.specs.declared.model.Model.{Model}
 use Rattle.evac_law.specs.Building.{arc_at, arrival, head}
 use Rattle.evac_law.proofs.ValidLemmas.{horizon_small}
 use Rattle.cards.specs.Numbers.{comers_before}
-use Rattle.cards.proofs.Following.{arrives_in_time, comes_next}
+use Rattle.cards.proofs.Following.{comes_next, leaver_arrives}
 use Rattle.cards.proofs.follow.comer_of.Goals as goal
 
 pub overflow_add-moment : goal.overflow_add-moment
 overflow_add-moment c =
     let p = c.args.counts.now.plan in
-    let s = c.args.leaver.step in
-    let travel = ap (λ (r : ArcRow). r.travel) c.arc-row.ensures ∙ ap (λ (m : Model). (arc_at m s.arc).travel) (c.model.ensures.same ∙ c.layout.ensures) in
-    let done = arrives_in_time p.model p.moves c.requires.counts.takes s.arc s.moment (omega (arith, c.requires.leaver.among)) in
-    omega (arith, travel, done, horizon_small p.model c.requires.counts.takes.valid)
+    let takes = c.requires.counts.takes in
+    let travel = ap (λ (r : ArcRow). r.travel) c.arc-row.ensures ∙ ap (λ (m : Model). (arc_at m c.args.leaver.step.arc).travel) (c.model.ensures.same ∙ c.layout.ensures) in
+    omega (arith, travel, leaver_arrives p.model p.moves takes c.args.comer c.args.leaver c.requires.leaver, horizon_small p.model takes.valid)
 
 pub comers_before-first-requires-clause-moment_in : goal.comers_before-first-requires-clause-moment_in
 comers_before-first-requires-clause-moment_in c =
     let p = c.args.counts.now.plan in
-    let s = c.args.leaver.step in
-    let travel = ap (λ (r : ArcRow). r.travel) c.arc-row.ensures ∙ ap (λ (m : Model). (arc_at m s.arc).travel) (c.model.ensures.same ∙ c.layout.ensures) in
-    let done = arrives_in_time p.model p.moves c.requires.counts.takes s.arc s.moment (omega (arith, c.requires.leaver.among)) in
-    omega (arith, travel, done)
+    let travel = ap (λ (r : ArcRow). r.travel) c.arc-row.ensures ∙ ap (λ (m : Model). (arc_at m c.args.leaver.step.arc).travel) (c.model.ensures.same ∙ c.layout.ensures) in
+    omega (arith, travel, leaver_arrives p.model p.moves c.requires.counts.takes c.args.comer c.args.leaver c.requires.leaver)
 
 pub returns-clause-comer : goal.returns-clause-comer
 returns-clause-comer c =

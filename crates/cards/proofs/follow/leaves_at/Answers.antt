@@ -1,5 +1,4 @@
-use Rattle.std.proofs.Common.{◌≡◌, ℕ, ◌<◌, ◌≤◌, ◌⊎◌, inl, inr, ap, arith, false}
-use Rattle.std.proofs.lemmas.Bool.{cases_lt}
+use Rattle.std.proofs.Common.{◌≡◌, ℕ, ◌<◌, ◌≤◌, ap, arith, false}
 use Rattle.evac_law.specs.Building.{is_exit_at}
 use Rattle.evac_law.specs.Plans.{left}
 use Rattle.evac_law.proofs.ValidLemmas.{horizon_small}
@@ -24,17 +23,13 @@ loop-comer-init c =
 leaves_later : (w : Counts) → AreTrueCounts w → (k : Comer) → IsComer w.plan.model w.plan.moves k → is_exit_at w.plan.model k.node ≡ false
     → (t x : ℕ) → t ≤ w.plan.model.horizon → x ≡ people_at w.left k.node t → x ≤ k.number
     → (left w.plan.model w.plan.moves k.node t ≤ k.number) × (t < w.plan.model.horizon)
-leaves_later w h k comer inside t x l e stays = (not_yet, split (cases_lt t w.plan.model.horizon))
+leaves_later w h k comer inside t x l e stays =
+    let last : t ≡ w.plan.model.horizon → left w.plan.model w.plan.moves k.node t ≡ left w.plan.model w.plan.moves k.node w.plan.model.horizon =
+    ap (left w.plan.model w.plan.moves k.node) in
+    (not_yet, grind (arith, l, last, not_yet, in_left w.plan.model w.plan.moves h.takes k comer inside))
   where
     not_yet : left w.plan.model w.plan.moves k.node t ≤ k.number
-    not_yet = let here = h.leaves k.node t comer.node_in l in omega (arith, here, e, stays)
-
-    split : (t < w.plan.model.horizon) ⊎ (w.plan.model.horizon ≤ t) → t < w.plan.model.horizon
-    split (inl less) = less
-    split (inr more) = absurd (
-        let same : t ≡ w.plan.model.horizon = omega arith in
-        omega (arith, not_yet, in_left w.plan.model w.plan.moves h.takes k comer inside, ap (left w.plan.model w.plan.moves k.node) same)
-        )
+    not_yet = omega (arith, h.leaves k.node t comer.node_in l, e, stays)
 
 pub loop-comer-preserved : goal.loop-comer-preserved
 loop-comer-preserved c =

@@ -9,9 +9,8 @@ unfolding entrants_before
 returns-clause-number c =
     let t = c.args.turn in
     let here = c.requires.turn in
-    let before = here.turn.before in
     let earlier = came_before_is c.args.counts.now c.requires.counts t.node t.moment here.node_in here.turn.moment_in in
-    record { node = refl; moment = refl; number = omega (arith, c.before-earlier.ensures.number, earlier, c.coming-along_arcs.ensures.coming, c.from.ensures, before) }
+    record { node = refl; moment = refl; number = omega (arith, c.before-earlier.ensures.number, earlier, c.coming-along_arcs.ensures.coming, c.from.ensures) }
 
 pub returns-clause-comer : goal.returns-clause-comer
 unfolding entrants_before
@@ -19,8 +18,6 @@ returns-clause-comer c =
     let p = c.args.counts.now.plan in
     let t = c.args.turn in
     let here = c.requires.turn in
-    let low = here.not_before in
-    let high = here.one_of in
     let earlier = came_before_is c.args.counts.now c.requires.counts t.node t.moment here.node_in here.turn.moment_in in
     record {
       node_in = here.node_in;
@@ -29,6 +26,6 @@ returns-clause-comer c =
           enters_then p.model p.moves c.requires.counts.takes.plan.feasible.arcs t.node t.moment _
           (record {
             from = omega (arith, c.before-earlier.ensures.number, earlier, c.coming-along_arcs.ensures.coming);
-            until = omega (arith, c.before-earlier.ensures.number, earlier, c.coming-along_arcs.ensures.coming, c.from.ensures, low, high);
+            until = omega (arith, c.before-earlier.ensures.number, earlier, c.coming-along_arcs.ensures.coming, c.from.ensures);
           });
     }

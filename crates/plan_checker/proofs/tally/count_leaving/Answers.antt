@@ -1,7 +1,7 @@
-use Rattle.std.proofs.Common.{◌+◌, ◌<◌, ◌&&◌, cond, eqb, get_or, ap, ◌∙◌, arith}
+use Rattle.std.proofs.Common.{◌<◌, get_or, ap, arith}
 use Rattle.evac_law.specs.declared.model.ArcRow.{ArcRow}
 use Rattle.evac_law.proofs.ValidLemmas.{tail_in}
-use Rattle.plan_checker.proofs.CountLemmas.{leaving_more, leaving_room}
+use Rattle.plan_checker.proofs.CountLemmas.{leaving_room}
 use Rattle.plan_checker.proofs.OrderedMoves.{no_move}
 use Rattle.plan_checker.proofs.tally.count_leaving.Goals as goal
 
@@ -23,22 +23,3 @@ add-requires-clause-room c inside =
       leaving_room c.args.model.now p i c.arc.result.now.from v.moment no_move c.loop-step-test.true,
       c.requires.countable.moves.few,
     )
-
-pub loop-step-preserved : goal.loop-step-preserved
-loop-step-preserved c =
-    let m = c.args.model.now in
-    let p = c.args.moves.now in
-    let i = c.loop-step.step-index in
-    let v = get_or p i no_move in
-    let before = c.loop-step.invariant in record {
-      nodes = c.add.ensures.nodes ∙ before.nodes;
-      last = c.add.ensures.last ∙ before.last;
-      counts = λ n t h k.
-          omega (
-            arith,
-            c.add.ensures.counts n t (omega (arith, h, before.nodes)) (omega (arith, k, before.last)),
-            before.counts n t h k,
-            leaving_more m p i n t no_move c.loop-step-test.true,
-            ap (λ (r : ArcRow). cond (eqb r.from n && eqb v.moment t) v.people 0) c.arc.ensures,
-          );
-    }
