@@ -15,16 +15,14 @@ use Rattle.block_reader.specs.DraftFacts.{IsDraft, IsRun}
 use Rattle.block_reader.specs.Drafts.{AreRunLabels, Draft, IsStated, behind_run, is_curve, is_full, is_lists, last_of, only_exits, run_label}
 use Rattle.block_reader.proofs.ExitLemmas.{exits-at}
 
-one-other : (r : Run) (n t x : ℕ) → (r.node ≡ n → ⊥) → cond (nat_eq r.node n && nat_le r.moment t) r.label x ≡ x
-one-other r n t x ne = ap (λ b. cond b r.label x) (and_left (nat_eq r.node n) (nat_le r.moment t) (ne_eqb r.node n ne))
-
 -- runs of other nodes leave a label
 pub fold-other : (rs : List Run) (n t x : ℕ) → All (λ (r : Run). r.node ≡ n → ⊥) rs
     → fold (λ (label : ℕ) (r : Run). cond (nat_eq r.node n && nat_le r.moment t) r.label label) x rs ≡ x
 fold-other [] n t x h = refl
 fold-other (r ∷ rs) n t x h =
-    let here = one-other r n t x (All-head (λ (s : Run). s.node ≡ n → ⊥) r rs h) in
-    ap (λ y. fold (λ (label : ℕ) (s : Run). cond (nat_eq s.node n && nat_le s.moment t) s.label label) y rs) here
+    let ne = All-head (λ (s : Run). s.node ≡ n → ⊥) r rs h in
+    let here = and_left (nat_eq r.node n) (nat_le r.moment t) (ne_eqb r.node n ne) in
+    ap (λ b. fold (λ (label : ℕ) (s : Run). cond (nat_eq s.node n && nat_le s.moment t) s.label label) (cond b r.label x) rs) here
     ∙ fold-other rs n t x (All-tail (λ (s : Run). s.node ≡ n → ⊥) r rs h)
 
 exit-apart : (m : Model) (c n : ℕ) (r : Run) → is_exit_at m n ≡ true → IsRun m c r → r.node ≡ n → ⊥
@@ -65,11 +63,11 @@ stated-fits m d b h full is =
     let size = eqb-true (length d.outs) (d.cleared + 1) q.1 in
     let outs = ap (λ (x : List ℕ). length x) is.outs in
     record {
-      in_horizon = omega (arith, h.in_horizon, is.cleared);
-      index_fits = omega (arith, h.index_fits, is.index);
-      people_fit = omega (arith, h.people_fit, is.people);
+      in_horizon = omega (arith, h.heads.in_horizon, is.cleared);
+      index_fits = omega (arith, h.heads.index_fits, is.index);
+      people_fit = omega (arith, h.heads.people_fit, is.people);
       outs_full = omega (arith, size, outs, is.cleared);
-      outs_fit = subst (λ (x : List ℕ). All (λ n. n ≤ number_field_limit) x) (sym is.outs) h.outs_fit;
+      outs_fit = subst (λ (x : List ℕ). All (λ n. n ≤ number_field_limit) x) (sym is.outs) h.outs.fit;
       labels = subst (λ c. AreLabelsOf m c b.labels) (sym is.cleared) (labels-of m d b.labels h full is.labels);
       ordered = subst (λ (x : List Move). IsOrdered (length m.arcs) m.horizon x) (sym is.moves) h.moves.ordered;
       moves_fit = subst (λ (x : List Move). All (λ v. v.people ≤ number_field_limit) x) (sym is.moves) h.moves.fit;

@@ -10,7 +10,7 @@ use Rattle.evac_law.specs.declared.code.Code.TheVariants.{BadBlock}
 use Rattle.evac_law.specs.declared.model.Model.{Model}
 use Rattle.evac_law.specs.Building.{IsValid}
 use Rattle.line_io.specs.Line.{Line, text_lines}
-use Rattle.line_io.specs.Reader.{lines_left, pending_lines}
+use Rattle.line_io.specs.Reader.{lines_left, pending_lines, taken_lines}
 use Rattle.line_io.specs.View.{Reader}
 use Rattle.line_io.specs.Hearing.{Listens}
 use Rattle.line_io.specs.Passes.{Follows, IsLeft, Passes}
@@ -212,34 +212,37 @@ reading-by : (m : Model) (first : ℕ) (c : Reader) (x y : Option (List Line)) (
 reading-by m first c None y texts result f h = tt
 reading-by m first c (Some xs) None texts result f h = absurd f
 reading-by m first c (Some xs) (Some ys) texts (Ok block) f h = subst (λ (x : List Line). ReadsAs m first x (Stated block c.number ys)) (sym f) (h.2 ys)
-reading-by m first c (Some xs) (Some ys) texts (Err (faults.Bad line)) f h = reading-fault m first c (faults.Bad line) xs ys texts f h
-reading-by m first c (Some xs) (Some ys) texts (Err (faults.LineTooLong line)) f h = reading-fault m first c (faults.LineTooLong line) xs ys texts f h
-reading-by m first c (Some xs) (Some ys) texts (Err (faults.InputTooLong line)) f h = reading-fault m first c (faults.InputTooLong line) xs ys texts f h
 reading-by m first c (Some xs) (Some ys) texts (Err faults.ReadFault) f h = tt
 reading-by m first c (Some xs) (Some ys) texts (Err faults.Memory) f h = tt
+reading-by m first c (Some xs) (Some ys) texts (Err fault) f h = reading-fault m first c fault xs ys texts f h
 
 pub reads-block : (m : Model) (a c : Reader) (l n : Option (List ℕ)) (result : Result Block BlockFault) → ReadsBlockBy m result a c l n
     → ReadsBlock m result a.number c.number (lines_left a l) (lines_left c n)
 reads-block m a c l n result r = reading-by m a.number c (lines_left a l) (lines_left c n) r.texts result r.passes.follows r.answer
 
 -- a fault has one code and one line
-one-fault : (f g : BlockFault) (code : Code) (line : ℕ) (k : Code) (at : ℕ) → f ≡ g → IsFault f code line → IsFault g k at → Refused code line ≡ Refused k at
-one-fault (faults.Bad x) (faults.Bad y) code line k at e f g = let same : x ≡ y = cc in cc
-one-fault (faults.LineTooLong x) (faults.LineTooLong y) code line k at e f g = let same : x ≡ y = cc in cc
-one-fault (faults.InputTooLong x) (faults.InputTooLong y) code line k at e f g = let same : x ≡ y = cc in cc
-one-fault faults.ReadFault g code line k at e h i = absurd h
-one-fault faults.Memory g code line k at e h i = absurd h
-one-fault f g code line k at e h i = cc
+one-fault : (f : BlockFault) (code : Code) (line : ℕ) (k : Code) (at : ℕ) → IsFault f code line → IsFault f k at → Refused code line ≡ Refused k at
+one-fault faults.ReadFault code line k at h i = absurd h
+one-fault faults.Memory code line k at h i = absurd h
+one-fault f code line k at h i = cc
+
+lines-err : (m : Model) (f : BlockFault) (a c : Reader) (l n : Option (List ℕ)) (texts : List (List ℕ)) (p : Passes a c l n texts)
+    → (f ≡ faults.ReadFault → ReadsAs m a.number (text_lines texts) (Refused BadBlock (c.number + 1)))
+    → ((code : Code) (line : ℕ) → IsFault f code line → ReadsAs m a.number (taken_lines a p.taken) (Refused code line)) → ReadsBlockLines m (Err f) a c l n
+lines-err m f a c l n texts p undecided refused = record {
+  texts = texts;
+  passes = p;
+  undecided = λ e. undecided (let same : f ≡ faults.ReadFault = cc in same);
+  refused = λ g code line e is. refused code line (subst (λ (x : BlockFault). IsFault x code line) (let same : g ≡ f = cc in same) is);
+  stated = tt;
+}
 
 lines-fault : (m : Model) (f : BlockFault) (a c : Reader) (l n : Option (List ℕ)) (texts : List (List ℕ)) → Passes a c l n texts → (f ≡ faults.ReadFault → ⊥)
     → RefusesBlock m a.number f c (lines_left a l) (lines_left c n) texts → ReadsBlockLines m (Err f) a c l n
-lines-fault m f a c l n texts p other h = record {
-  texts = texts;
-  passes = p;
-  undecided = λ e. absurd (other cc);
-  refused = λ g k at e is. let same : f ≡ g = cc in subst (λ (x : List Line). ReadsAs m a.number x (Refused k at)) (sym (passes-taken a c l n texts p)) (subst (ReadsAs m a.number _) (one-fault f g h.code h.line k at same h.fault_is is) h.pending);
-  stated = tt;
-}
+lines-fault m f a c l n texts p other h =
+    lines-err m f a c l n texts p (λ e. absurd (other e)) (λ code line is.
+    subst (λ (x : List Line). ReadsAs m a.number x (Refused code line)) (sym (passes-taken a c l n texts p))
+    (subst (ReadsAs m a.number _) (one-fault f h.code h.line code line h.fault_is is) h.pending))
 
 lines-by : (m : Model) (a c : Reader) (l n : Option (List ℕ)) (texts : List (List ℕ)) (p : Passes a c l n texts) (result : Result Block BlockFault)
     → AnswersBlock m a.number result c (lines_left a l) (lines_left c n) texts → ReadsBlockLines m result a c l n
@@ -250,23 +253,9 @@ lines-by m a c l n texts p (Ok block) h = record {
   refused = λ g code line e is. cc;
   stated = subst (λ (x : List Line). ReadsAs m a.number x (Stated block c.number [])) (append-nil (text_lines texts)) (h.2 []);
 }
-lines-by m a c l n texts p (Err (faults.Bad line)) h = lines-fault m (faults.Bad line) a c l n texts p (λ e. cc) h
-lines-by m a c l n texts p (Err (faults.LineTooLong line)) h = lines-fault m (faults.LineTooLong line) a c l n texts p (λ e. cc) h
-lines-by m a c l n texts p (Err (faults.InputTooLong line)) h = lines-fault m (faults.InputTooLong line) a c l n texts p (λ e. cc) h
-lines-by m a c l n texts p (Err faults.ReadFault) h = record {
-  texts = texts;
-  passes = p;
-  undecided = λ e. h;
-  refused = λ g code line e is. absurd (subst (λ (f : BlockFault). IsFault f code line) (let same : g ≡ faults.ReadFault = cc in same) is);
-  stated = tt;
-}
-lines-by m a c l n texts p (Err faults.Memory) h = record {
-  texts = texts;
-  passes = p;
-  undecided = λ e. cc;
-  refused = λ g code line e is. absurd (subst (λ (f : BlockFault). IsFault f code line) (let same : g ≡ faults.Memory = cc in same) is);
-  stated = tt;
-}
+lines-by m a c l n texts p (Err faults.ReadFault) h = lines-err m faults.ReadFault a c l n texts p (λ _. h) (λ code line is. absurd is)
+lines-by m a c l n texts p (Err faults.Memory) h = lines-err m faults.Memory a c l n texts p (λ e. cc) (λ code line is. absurd is)
+lines-by m a c l n texts p (Err f) h = lines-fault m f a c l n texts p (λ e. cc) h
 
 pub reads-lines : (m : Model) (a c : Reader) (l n : Option (List ℕ)) (result : Result Block BlockFault) → ReadsBlockBy m result a c l n → ReadsBlockLines m result a c l n
 reads-lines m a c l n result r = lines-by m a c l n r.texts r.passes result r.answer

@@ -30,10 +30,10 @@ use Rattle.block_reader.proofs.Walks.{walk, walk-below, walk-next, walk-none, wa
 
 -- ---- the curve
 
-abbrev with_outs : Draft → List ℕ → Draft
+abbrev pub with_outs : Draft → List ℕ → Draft
 with_outs d outs = record d { outs = outs }
 
-out-taken : (m : Model) (d : Draft) (xs : List ℕ) (y : ℕ) → is_lists d.stage ≡ true → length xs ≤ d.cleared → with_entry m (with_outs d xs) (entries.Out (length xs) y) ≡ Some (with_outs d (xs ++ (y ∷ [])))
+pub out-taken : (m : Model) (d : Draft) (xs : List ℕ) (y : ℕ) → is_lists d.stage ≡ true → length xs ≤ d.cleared → with_entry m (with_outs d xs) (entries.Out (length xs) y) ≡ Some (with_outs d (xs ++ (y ∷ [])))
 unfolding with_entry
 out-taken m d xs y lists l =
     ap (λ b. cond b (Some (with_outs d (xs ++ (y ∷ [])))) None)

@@ -17,7 +17,7 @@ use Rattle.certificate_text.specs.BlockEntries.{entries_of, label_entries, entry
 use Rattle.block_reader.specs.DraftFacts.{IsDraft, IsRun, all_runs, node_runs}
 use Rattle.block_reader.proofs.DraftEntries.{IsEntry, draft_entries, head_entries, run_entry}
 use Rattle.block_reader.specs.Drafts.{Draft, IsStated, behind_run, is_cleared, is_curve, is_empty, is_full, is_index, is_lists, is_people, last_of, no_draft, only_exits, run_label, with_entry}
-use Rattle.block_reader.proofs.BlockWalks.{IsCurve, label-taken}
+use Rattle.block_reader.proofs.BlockWalks.{IsCurve, label-taken, out-taken}
 use Rattle.block_reader.proofs.DraftLemmas.{IsPart, entry-next, none-draft}
 use Rattle.block_reader.proofs.LastLemmas.{last-in, last-push}
 use Rattle.certificate_text.proofs.ListParts.{below-stop}
@@ -97,12 +97,6 @@ can-curve m d es false valid at curve not_full =
           (omega (arith, ne)) (record { behind = omega arith; exits = no-exits m n n (omega arith) })
     ]
 
-out-zero : (m : Model) (d : Draft) → is_lists d.stage ≡ true → length d.outs ≤ d.cleared → with_entry m d (entries.Out (length d.outs) 0) ≡ Some (record d { outs = d.outs ++ (0 ∷ []) })
-unfolding with_entry
-out-zero m d lists l =
-    ap (λ b. cond b (Some (record d { outs = d.outs ++ (0 ∷ []) })) None)
-    (and_from (is_lists d.stage) _ lists (and_from (nat_eq (length d.outs) (length d.outs)) (nat_le (length d.outs) d.cleared) (eq-eqb (length d.outs) (length d.outs) refl) (le-leb (length d.outs) d.cleared l)))
-
 -- so many periods are left
 can-outs : (m : Model) (k : ℕ) (d : Draft) (es : List Entry) → IsValid m → IsAt m d es → is_lists d.stage ≡ true → length d.outs + k ≡ d.cleared + 1 → CanEnd m es
 can-outs m zero d es valid at lists l =
@@ -110,11 +104,11 @@ can-outs m zero d es valid at lists l =
 can-outs m (suc k) d es valid at lists l =
     let size = length-append d.outs (0 ∷ []) in
     let new : Draft = record d { outs = d.outs ++ (0 ∷ []) } in
-    can-next m d es (entries.Out (length d.outs) 0) new at (record { is_said = refl; no_end = refl }) (omega arith) (out-zero m d lists (omega (arith, l)))
+    can-next m d es (entries.Out (length d.outs) 0) new at (record { is_said = refl; no_end = refl }) (omega arith) (out-taken m d d.outs 0 lists (omega (arith, l)))
     (λ next. can-outs m k new (es ++ (entries.Out (length d.outs) 0 ∷ [])) valid next lists (omega (arith, size, l)))
 
 can-lists : (m : Model) (d : Draft) (es : List Entry) → IsValid m → IsAt m d es → is_lists d.stage ≡ true → CanEnd m es
-can-lists m d es valid at lists = can-outs m (d.cleared + 1 - length d.outs) d es valid at lists (let l = at.draft.outs_few in omega (arith, l))
+can-lists m d es valid at lists = can-outs m (d.cleared + 1 - length d.outs) d es valid at lists (let l = at.draft.outs.few in omega (arith, l))
 
 can-cleared : (m : Model) (d : Draft) (es : List Entry) → IsValid m → IsAt m d es → is_cleared d.stage ≡ true → CanEnd m es
 unfolding with_entry
@@ -147,10 +141,8 @@ can-end m d es valid at = can-by m d es d.stage refl valid at
 -- ---- a full draft says all of its block
 
 at-lists : (s : Stage) (index people cleared : ℕ) → is_lists s ≡ true → head_entries s index people cleared ≡ entries.Index index ∷ entries.People people ∷ entries.Cleared cleared ∷ []
-at-lists stages.Index index people cleared h = cc
-at-lists stages.People index people cleared h = cc
-at-lists stages.Cleared index people cleared h = cc
 at-lists stages.Lists index people cleared h = refl
+at-lists _ index people cleared h = cc
 
 none-before : (m : Model) (rs : List Run) → All (IsRun m 0) rs → rs ≡ []
 none-before m [] all = refl

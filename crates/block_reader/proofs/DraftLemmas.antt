@@ -7,7 +7,7 @@ use Rattle.std.specs.Option.{option_and_then}
 use Rattle.std.proofs.lemmas.Bool.{and_left, and_parts, and_right, cases_eq, cases_lt, eqb-true, leb-true, ltb-true, not-true, or_cases, ne_eqb}
 use Rattle.std.proofs.lemmas.List.{length-map, map-append}
 use Rattle.std.proofs.lemmas.List.Elements.{All-nil, All-push}
-use Rattle.std.proofs.lemmas.List.Quantifiers.{position-Some}
+use Rattle.std.proofs.lemmas.List.Quantifiers.{all_pairs_push, position-Some}
 use Rattle.evac_law.specs.declared.model.Model.{Model}
 use Rattle.evac_law.specs.declared.name.NodeName.{NodeName}
 use Rattle.evac_law.specs.declared.plan.Move.{Move}
@@ -23,12 +23,12 @@ use Rattle.block_reader.specs.declared.stage.Stage.TheVariants as stages
 use Rattle.certificate_text.specs.Block.{number_field_limit}
 use Rattle.certificate_text.specs.BlockEntries.{entry_of_move, out_entries}
 use Rattle.certificate_text.specs.BlockReadings.{says_something}
-use Rattle.block_reader.specs.DraftFacts.{AreMoves, AreRuns, IsDraft, IsRun}
+use Rattle.block_reader.specs.DraftFacts.{AreHeads, AreMoves, AreRuns, IsDraft, IsRun}
 use Rattle.block_reader.proofs.DraftEntries.{IsEntry, draft_entries, head_entries, run_entry}
 use Rattle.block_reader.specs.Drafts.{Draft, arc_of, behind_run, follows_move, follows_run, is_cleared, is_curve, is_empty, is_full, is_index, is_lists, is_move, is_people, is_run, last_of, arc_between, no_draft, node_of, only_exits, run_label, with_cleared, with_entry, with_index, with_move, with_out, with_people, with_run}
 use Rattle.certificate_text.specs.Entries.{is_end}
 use Rattle.block_reader.proofs.ExitLemmas.{exits-at}
-use Rattle.block_reader.proofs.LastLemmas.{before-all, last-none, last-push, push-sorted}
+use Rattle.block_reader.proofs.LastLemmas.{before-all, last-none, last-push}
 use Rattle.certificate_text.proofs.ListParts.{enumerate-push}
 use Rattle.block_reader.proofs.OptionLemmas.{chosen, follows}
 use Rattle.certificate_text.proofs.OrderedMoves.{before-trans}
@@ -47,42 +47,42 @@ no-moves m = record {
   fit = All-nil (λ (v : Move). v.people ≤ number_field_limit);
 }
 
-pub none-draft : (m : Model) → IsDraft m no_draft
-none-draft m = record {
-  in_horizon = omega arith;
-  index_fits = omega arith;
-  people_fit = omega arith;
-  outs_fit = All-nil (λ n. n ≤ number_field_limit);
-  outs_few = omega arith;
-  no_outs = λ e. refl;
-  runs = no-runs m 0;
-  no_runs = λ e. refl;
-  moves = no-moves m;
-  no_moves = λ e. refl;
-}
-
 uncurved : (m : Model) (d : Draft) → is_curve d ≡ false → is_full m d ≡ false
 uncurved m d e = and_left (is_curve d) (nat_eq d.cleared 0 || only_exits m (behind_run (last_of d.runs)) (length m.nodes)) e
 
 -- a draft before its lists has none
-record IsBare (d : Draft) : Type 0 where
-  outs : d.outs ≡ []
-  runs : d.runs ≡ []
-  moves : d.moves ≡ []
+record IsBare (outs : List ℕ) (runs : List Run) (moves : List Move) : Type 0 where
+  no_outs : outs ≡ []
+  no_runs : runs ≡ []
+  no_moves : moves ≡ []
 
-is-bare : (m : Model) (d : Draft) → IsDraft m d → is_lists d.stage ≡ false → IsBare d
+is-bare : (m : Model) (d : Draft) → IsDraft m d → is_lists d.stage ≡ false → IsBare d.outs d.runs d.moves
 is-bare m d h e =
     let flat : is_curve d ≡ false = and_left (is_lists d.stage) (nat_eq (length d.outs) (d.cleared + 1)) e in
-    record { outs = h.no_outs e; runs = h.no_runs flat; moves = h.no_moves (uncurved m d flat) }
+    record { no_outs = h.no_outs e; no_runs = h.no_runs flat; no_moves = h.no_moves (uncurved m d flat) }
+
+bare-draft : (m : Model) (d : Draft) → AreHeads m d.index d.people d.cleared → IsBare d.outs d.runs d.moves → IsDraft m d
+bare-draft m d heads bare = record {
+  heads = heads;
+  outs = rw bare.no_outs (record { fit = All-nil (λ n. n ≤ number_field_limit); few = omega arith });
+  no_outs = λ _. bare.no_outs;
+  runs = subst (AreRuns m d.cleared) (sym bare.no_runs) (no-runs m d.cleared);
+  no_runs = λ _. bare.no_runs;
+  moves = subst (AreMoves m) (sym bare.no_moves) (no-moves m);
+  no_moves = λ _. bare.no_moves;
+}
+
+pub none-draft : (m : Model) → IsDraft m no_draft
+none-draft m = bare-draft m no_draft (record { in_horizon = omega arith; index_fits = omega arith; people_fit = omega arith }) (record { no_outs = refl; no_runs = refl; no_moves = refl })
 
 says : Model → List Entry → List ℕ → List Run → List Move → List Entry
 says m hs outs runs moves = hs ++ out_entries outs ++ map (run_entry m) runs ++ map (entry_of_move m) moves
 
-bare-says : (m : Model) (d : Draft) → IsBare d → draft_entries m d ≡ head_entries d.stage d.index d.people d.cleared
+bare-says : (m : Model) (d : Draft) → IsBare d.outs d.runs d.moves → draft_entries m d ≡ head_entries d.stage d.index d.people d.cleared
 unfolding says
 bare-says m d h =
     let hs = head_entries d.stage d.index d.people d.cleared in
-    ap (λ o. says m hs o d.runs d.moves) h.outs ∙ ap (λ r. says m hs [] r d.moves) h.runs ∙ ap (λ v. says m hs [] [] v) h.moves
+    ap (λ o. says m hs o d.runs d.moves) h.no_outs ∙ ap (λ r. says m hs [] r d.moves) h.no_runs ∙ ap (λ v. says m hs [] [] v) h.no_moves
     ∙ append-nil ((hs ++ []) ++ []) ∙ append-nil (hs ++ []) ∙ append-nil hs
 
 -- the next draft, which says one entry more
@@ -97,93 +97,48 @@ next-is m d e a b q h = subst (IsNext m d e) q h
 
 at-index : (s : Stage) (i p c : ℕ) → is_index s ≡ true → (is_lists s ≡ false) × (head_entries s i p c ≡ [])
 at-index stages.Index i p c h = (refl, refl)
-at-index stages.People i p c h = cc
-at-index stages.Cleared i p c h = cc
-at-index stages.Lists i p c h = cc
+at-index _ i p c h = cc
 
 at-people : (s : Stage) (i p c : ℕ) → is_people s ≡ true → (is_lists s ≡ false) × (head_entries s i p c ≡ entries.Index i ∷ [])
-at-people stages.Index i p c h = cc
 at-people stages.People i p c h = (refl, refl)
-at-people stages.Cleared i p c h = cc
-at-people stages.Lists i p c h = cc
+at-people _ i p c h = cc
 
 at-cleared : (s : Stage) (i p c : ℕ) → is_cleared s ≡ true → (is_lists s ≡ false) × (head_entries s i p c ≡ entries.Index i ∷ entries.People p ∷ [])
-at-cleared stages.Index i p c h = cc
-at-cleared stages.People i p c h = cc
 at-cleared stages.Cleared i p c h = (refl, refl)
-at-cleared stages.Lists i p c h = cc
+at-cleared _ i p c h = cc
 
 -- the next draft of one that has no list says the next of the first lines
-head-next : (m : Model) (d next : Draft) (e : Entry) (hs : List Entry) → IsBare d → head_entries d.stage d.index d.people d.cleared ≡ hs → IsBare next
-    → head_entries next.stage next.index next.people next.cleared ≡ hs ++ (e ∷ []) → draft_entries m next ≡ draft_entries m d ++ (e ∷ [])
-head-next m d next e hs bare is bare_next is_next = bare-says m next bare_next ∙ is_next ∙ ap (λ x. x ++ (e ∷ [])) (sym (bare-says m d bare ∙ is))
+head-next : (m : Model) (d : Draft) (s : Stage) (i p c : ℕ) (e : Entry) (new : Draft) → IsDraft m d → is_lists d.stage ≡ false → AreHeads m i p c
+    → head_entries s i p c ≡ head_entries d.stage d.index d.people d.cleared ++ (e ∷ []) → record d { stage = s; index = i; people = p; cleared = c } ≡ new → IsNext m d e new
+head-next m d s i p c e new h flat heads says is =
+    let bare = is-bare m d h flat in
+    let next : Draft = record d { stage = s; index = i; people = p; cleared = c } in
+    next-is m d e next new is (record {
+      draft = bare-draft m next heads bare;
+      entries = bare-says m next bare ∙ says ∙ ap (λ x. x ++ (e ∷ [])) (sym (bare-says m d bare));
+    })
 
 index-next : (m : Model) (d : Draft) (i : ℕ) (new : Draft) → i ≤ number_field_limit → IsDraft m d → with_index d i ≡ Some new → IsNext m d (entries.Index i) new
 index-next m d i new l h e =
-    let next : Draft = record d { stage = stages.People; index = i } in
-    let c = chosen (is_index d.stage) next new e in
+    let c = chosen (is_index d.stage) (record d { stage = stages.People; index = i }) new e in
     let at = at-index d.stage d.index d.people d.cleared c.test in
-    let bare = is-bare m d h at.0 in
-    next-is m d (entries.Index i) next new c.value (record {
-      draft = record {
-        in_horizon = h.in_horizon;
-        index_fits = l;
-        people_fit = h.people_fit;
-        outs_fit = h.outs_fit;
-        outs_few = h.outs_few;
-        no_outs = λ _. bare.outs;
-        runs = h.runs;
-        no_runs = λ _. bare.runs;
-        moves = h.moves;
-        no_moves = λ _. bare.moves;
-      };
-      entries = head-next m d next (entries.Index i) [] bare at.1 (record { outs = bare.outs; runs = bare.runs; moves = bare.moves }) refl;
-    })
+    head-next m d stages.People i d.people d.cleared (entries.Index i) new h at.0
+    (record { in_horizon = h.heads.in_horizon; index_fits = l; people_fit = h.heads.people_fit }) (ap (λ x. x ++ (entries.Index i ∷ [])) (sym at.1)) c.value
 
 people-next : (m : Model) (d : Draft) (p : ℕ) (new : Draft) → p ≤ number_field_limit → IsDraft m d → with_people d p ≡ Some new → IsNext m d (entries.People p) new
 people-next m d p new l h e =
-    let next : Draft = record d { stage = stages.Cleared; people = p } in
-    let c = chosen (is_people d.stage) next new e in
+    let c = chosen (is_people d.stage) (record d { stage = stages.Cleared; people = p }) new e in
     let at = at-people d.stage d.index d.people d.cleared c.test in
-    let bare = is-bare m d h at.0 in
-    next-is m d (entries.People p) next new c.value (record {
-      draft = record {
-        in_horizon = h.in_horizon;
-        index_fits = h.index_fits;
-        people_fit = l;
-        outs_fit = h.outs_fit;
-        outs_few = h.outs_few;
-        no_outs = λ _. bare.outs;
-        runs = h.runs;
-        no_runs = λ _. bare.runs;
-        moves = h.moves;
-        no_moves = λ _. bare.moves;
-      };
-      entries = head-next m d next (entries.People p) (entries.Index d.index ∷ []) bare at.1 (record { outs = bare.outs; runs = bare.runs; moves = bare.moves }) refl;
-    })
+    head-next m d stages.Cleared d.index p d.cleared (entries.People p) new h at.0
+    (record { in_horizon = h.heads.in_horizon; index_fits = h.heads.index_fits; people_fit = l }) (ap (λ x. x ++ (entries.People p ∷ [])) (sym at.1)) c.value
 
 cleared-next : (m : Model) (d : Draft) (c : ℕ) (new : Draft) → IsDraft m d → with_cleared m d c ≡ Some new → IsNext m d (entries.Cleared c) new
 cleared-next m d c new h e =
-    let next : Draft = record d { stage = stages.Lists; cleared = c } in
-    let k = chosen (is_cleared d.stage && nat_le c m.horizon) next new e in
+    let k = chosen (is_cleared d.stage && nat_le c m.horizon) (record d { stage = stages.Lists; cleared = c }) new e in
     let p = and_parts (is_cleared d.stage) (nat_le c m.horizon) k.test in
     let at = at-cleared d.stage d.index d.people d.cleared p.0 in
-    let bare = is-bare m d h at.0 in
-    next-is m d (entries.Cleared c) next new k.value (record {
-      draft = record {
-        in_horizon = leb-true c m.horizon p.1;
-        index_fits = h.index_fits;
-        people_fit = h.people_fit;
-        outs_fit = h.outs_fit;
-        outs_few = (let size = ap (λ (x : List ℕ). length x) bare.outs in omega (arith, size));
-        no_outs = λ _. bare.outs;
-        runs = subst (AreRuns m c) (sym bare.runs) (no-runs m c);
-        no_runs = λ _. bare.runs;
-        moves = h.moves;
-        no_moves = λ _. bare.moves;
-      };
-      entries = head-next m d next (entries.Cleared c) (entries.Index d.index ∷ entries.People d.people ∷ []) bare at.1 (record { outs = bare.outs; runs = bare.runs; moves = bare.moves }) refl;
-    })
+    head-next m d stages.Lists d.index d.people c (entries.Cleared c) new h at.0
+    (record { in_horizon = leb-true c m.horizon p.1; index_fits = h.heads.index_fits; people_fit = h.heads.people_fit }) (ap (λ x. x ++ (entries.Cleared c ∷ [])) (sym at.1)) k.value
 
 -- ---- the curve
 
@@ -215,11 +170,8 @@ out-next m d k n new l h e =
     let hs = head_entries d.stage d.index d.people d.cleared in
     next-is m d (entries.Out k n) next new c.value (record {
       draft = record {
-        in_horizon = h.in_horizon;
-        index_fits = h.index_fits;
-        people_fit = h.people_fit;
-        outs_fit = All-push (λ x. x ≤ number_field_limit) d.outs n h.outs_fit l;
-        outs_few = (let b = leb-true k d.cleared q.1 in let size = length-append d.outs (n ∷ []) in omega (arith, b, place, size));
+        heads = h.heads;
+        outs = record { fit = All-push (λ x. x ≤ number_field_limit) d.outs n h.outs.fit l; few = omega (arith, leb-true k d.cleared q.1, place, length-append d.outs (n ∷ [])) };
         no_outs = λ no. (let z : true ≡ false = sym p.0 ∙ no in cc);
         runs = h.runs;
         no_runs = λ _. runs;
@@ -314,11 +266,8 @@ run-next m d name t v new h e =
     let hs = head_entries d.stage d.index d.people d.cleared ++ out_entries d.outs in
     next-is m d (entries.Label name t v) (next n) new k.value (record {
       draft = record {
-        in_horizon = h.in_horizon;
-        index_fits = h.index_fits;
-        people_fit = h.people_fit;
-        outs_fit = h.outs_fit;
-        outs_few = h.outs_few;
+        heads = h.heads;
+        outs = h.outs;
         no_outs = h.no_outs;
         runs = push-runs m d.cleared d.runs r run p4.1 h.runs;
         no_runs = λ no. (let z : true ≡ false = sym p0.0 ∙ no in cc);
@@ -359,7 +308,7 @@ push-moves : (m : Model) (moves : List Move) (x : Move) → x.arc < length m.arc
     → follows_move (last_of moves) x.moment x.arc ≡ true → AreMoves m moves → AreMoves m (moves ++ (x ∷ []))
 push-moves m moves x arc_in moment_in some few f h = record {
   ordered = record {
-    sorted = push-sorted Before moves x h.ordered.sorted (all-before moves x (last_of moves) refl f h.ordered.sorted);
+    sorted = all_pairs_push Before moves x h.ordered.sorted (all-before moves x (last_of moves) refl f h.ordered.sorted);
     in_range = All-push (λ (v : Move). (v.arc < length m.arcs) × (v.moment ≤ m.horizon)) moves x h.ordered.in_range (arc_in, moment_in);
     somebody = All-push (λ (v : Move). 0 < v.people) moves x h.ordered.somebody some;
   };
@@ -386,11 +335,8 @@ move-push m d start finish i j t a n new l h is_start is_finish is_arc e =
     let hs = (head_entries d.stage d.index d.people d.cleared ++ out_entries d.outs) ++ map (run_entry m) d.runs in
     next-is m d (entries.Move t start finish n) next new k.value (record {
       draft = record {
-        in_horizon = h.in_horizon;
-        index_fits = h.index_fits;
-        people_fit = h.people_fit;
-        outs_fit = h.outs_fit;
-        outs_few = h.outs_few;
+        heads = h.heads;
+        outs = h.outs;
         no_outs = h.no_outs;
         runs = h.runs;
         no_runs = h.no_runs;
@@ -430,22 +376,10 @@ entry-next m d entries.End new s l h e = let z = s.no_end in cc
 pub blank-stays : (m : Model) (d : Draft) (e : Entry) → says_something (Some e) ≡ false → with_entry m d e ≡ Some d
 unfolding with_entry
 blank-stays m d entries.Blank h = refl
-blank-stays m d (entries.Index i) h = cc
-blank-stays m d (entries.People p) h = cc
-blank-stays m d (entries.Cleared c) h = cc
-blank-stays m d (entries.Out k n) h = cc
-blank-stays m d (entries.Label name t v) h = cc
-blank-stays m d (entries.Move t start finish n) h = cc
-blank-stays m d entries.End h = cc
+blank-stays m d _ h = cc
 
 -- the end leaves one that is full
 pub end-full : (m : Model) (d : Draft) (e : Entry) (new : Draft) → is_end e ≡ true → with_entry m d e ≡ Some new → (e ≡ entries.End) × (is_full m d ≡ true) × (new ≡ d)
 unfolding with_entry
-end-full m d entries.Blank new h e = cc
-end-full m d (entries.Index i) new h e = cc
-end-full m d (entries.People p) new h e = cc
-end-full m d (entries.Cleared c) new h e = cc
-end-full m d (entries.Out k n) new h e = cc
-end-full m d (entries.Label name t v) new h e = cc
-end-full m d (entries.Move t start finish n) new h e = cc
 end-full m d entries.End new h e = let c = chosen (is_full m d) d new e in (refl, c.test, sym c.value)
+end-full m d _ new h e = cc

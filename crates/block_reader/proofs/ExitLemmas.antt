@@ -1,7 +1,7 @@
 -- Which places are those of exits.
-use Rattle.std.proofs.Common.{◌≡◌, ℕ, ◌+◌, ◌<◌, ◌≤◌, Bool, true, false, ◌||◌, nat_lt, length, refl, ap, ◌∙◌, arith}
+use Rattle.std.proofs.Common.{◌≡◌, ℕ, ◌+◌, ◌<◌, ◌≤◌, Bool, true, false, ◌||◌, nat_lt, length, refl, ap, ◌∙◌, inl, inr, arith}
 use Rattle.std.specs.List.{list_all}
-use Rattle.std.proofs.lemmas.Bool.{le-ltb, ltb-false}
+use Rattle.std.proofs.lemmas.Bool.{cases_Bool, le-ltb, ltb-false}
 use Rattle.std.proofs.lemmas.List.Folds.{list_all_at}
 use Rattle.std.proofs.lemmas.List.FromFn.{get_or-range_with_len, length-range_with_len}
 use Rattle.std.proofs.lemmas.List.Sums.{list_all-from_AllPass}
@@ -34,9 +34,5 @@ pub exits-not : (m : Model) (a b i : ℕ) → a ≤ i → i < b → is_exit_at m
 unfolding only_exits
 exits-not m a b i l g e = not-below (λ n. nat_lt n a || is_exit_at m n) b i g (neither m a i l e)
 
-by-exit : (m : Model) (a b i : ℕ) (t : Bool) → is_exit_at m i ≡ t → only_exits m a b ≡ true → a ≤ i → i < b → is_exit_at m i ≡ true
-by-exit m a b i true e h l g = e
-by-exit m a b i false e h l g = let f = exits-not m a b i l g e in cc
-
 pub exits-at : (m : Model) (a b i : ℕ) → only_exits m a b ≡ true → a ≤ i → i < b → is_exit_at m i ≡ true
-exits-at m a b i h l g = by-exit m a b i (is_exit_at m i) refl h l g
+exits-at m a b i h l g = elim (cases_Bool (is_exit_at m i)) [ inl e ↦ e | inr e ↦ let f = exits-not m a b i l g e in cc ]

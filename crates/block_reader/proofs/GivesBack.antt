@@ -31,11 +31,9 @@ back-by index m p l c valid back first last at lines behind is (Ok block) (Some 
     let same : Stated back.block at behind ≡ Stated block last left = one-reading m first lines (Stated back.block at behind) (Stated block last left) valid is h in
     let block_is : back.block ≡ block = cc in
     (subst (IsAnswerBlock index m p l c) block_is back.answer, (let e : left ≡ behind = cc in ap (λ x. Some x) e))
-back-by index m p l c valid back first last at lines behind is (Err (faults.Bad line)) (Some left) h = stated-not m first lines back.block at behind _ line valid is h
-back-by index m p l c valid back first last at lines behind is (Err (faults.LineTooLong line)) (Some left) h = stated-not m first lines back.block at behind _ line valid is h
-back-by index m p l c valid back first last at lines behind is (Err (faults.InputTooLong line)) (Some left) h = stated-not m first lines back.block at behind _ line valid is h
 back-by index m p l c valid back first last at lines behind is (Err faults.ReadFault) (Some left) h = tt
 back-by index m p l c valid back first last at lines behind is (Err faults.Memory) (Some left) h = tt
+back-by index m p l c valid back first last at lines behind is (Err _) (Some left) h = stated-not m first lines back.block at behind _ _ valid is h
 
 pub gives-back : (m : Model) (result : Result Block BlockFault) (first last : ℕ) (before after : Option (List Line)) → IsValid m → ReadsBlock m result first last before after
     → GivesBack m result before after

@@ -82,7 +82,7 @@ with-end (e ∷ es) = refl
 pub heard-begins : (m : Model) (d : Draft) (texts : List (List ℕ)) → IsValid m → HasHeard m d texts → Begins m texts
 heard-begins m d texts valid h =
     let c = can-end m d h.es valid h.at in
-    let stated = is-stated m c.last c.at.draft.in_horizon in
+    let stated = is-stated m c.last c.at.draft.heads.in_horizon in
     let b = stated_block m c.last in
     let whole : entries_of m b ≡ h.es ++ (first_of c.left ∷ rest_of c.left) =
     full-says m c.last (h.es ++ c.left) b c.at c.full stated ∙ append_assoc h.es c.left (entries.End ∷ []) ∙ ap (λ x. h.es ++ x) (with-end c.left) in

@@ -29,14 +29,11 @@ set-full l n t v f = record { full = length-set l.list (label_place l n t) v ∙
 
 -- ---- one moment more
 
-below-not : (t m : ℕ) → m ≤ t → (t ≡ m → ⊥) → m + 1 ≤ t
-below-not t m g ne = omega (arith, ne)
-
 lt-more : (t m : ℕ) → (t ≡ m → ⊥) → nat_lt t (m + 1) ≡ nat_lt t m
 lt-more t m ne =
     elim (cases_lt t m) [
       | inl l ↦ lt-ltb t (m + 1) (omega arith) ∙ sym (lt-ltb t m l)
-      | inr g ↦ le-ltb t (m + 1) (below-not t m g ne) ∙ sym (le-ltb t m g)
+      | inr g ↦ le-ltb t (m + 1) (omega (arith, ne)) ∙ sym (le-ltb t m g)
     ]
 
 -- whether a cell is one of a run's, up to a stop

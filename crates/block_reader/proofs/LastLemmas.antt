@@ -3,7 +3,6 @@ use Rattle.std.proofs.Common.{◌≡◌, ◌+◌, ◌-◌, ◌<◌, List, [], �
 use Rattle.std.specs.List.{All, AllPairs, slice_get}
 use Rattle.std.proofs.lemmas.Bool.{cases_lt}
 use Rattle.std.proofs.lemmas.List.{get_or_push, take_all, take_more}
-use Rattle.std.proofs.lemmas.List.Quantifiers.{all_pairs_push}
 use Rattle.std.proofs.lemmas.Option.{get_or_from_slice_get, slice_get-get_or, slice_get_cases, slice_get_within}
 use Rattle.block_reader.specs.Drafts.{last_of}
 
@@ -28,10 +27,6 @@ before-all {X} R trans xs q x pairs e h = λ k d l.
       | inl b ↦ trans (get_or xs k d) q x (subst (λ (y : X). R (get_or xs k d) y) is (pairs k p d b within)) h
       | inr b ↦ let same : k ≡ p = omega arith in subst (λ (y : X). R y x) (sym (ap (λ i. get_or xs i d) same ∙ is)) h
     ]
-
--- one more after the last
-pub push-sorted : {X : Type 0} (R : X → X → Type 0) (xs : List X) (x : X) → AllPairs R xs → All (λ v. R v x) xs → AllPairs R (xs ++ (x ∷ []))
-push-sorted R xs x pairs all = all_pairs_push R xs x pairs all
 
 -- a list without a last one has nothing
 pub last-none : {X : Type 0} (P : X → Type 0) (xs : List X) → last_of xs ≡ None → All P xs

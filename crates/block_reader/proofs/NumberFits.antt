@@ -7,9 +7,6 @@ use Rattle.std.proofs.lemmas.Nat.{mul-le}
 use Rattle.model_text.specs.Numbers.{digits_from, field_number}
 use Rattle.certificate_text.specs.Block.{number_field_limit}
 
-some-is : (a b : ℕ) → Some a ≡ Some b → a ≡ b
-some-is a b e = cc
-
 digit-small : (b : ℕ) → is_ascii_digit b ≡ true → b - 48 ≤ 9
 digit-small b e = let p = and_parts (nat_le 48 b) (nat_le b 57) e in let q = leb-true b 57 p.1 in omega (arith, q)
 
@@ -28,7 +25,7 @@ digit-below b bs v n false d h e = cc
 
 digits-below : (xs : List ℕ) (v n : ℕ) → digits_from v xs ≡ Some n → n < (v + 1) * 10 ^ length xs
 unfolding digits_from
-digits-below [] v n e = let f = some-is v n e in omega (arith, f)
+digits-below [] v n e = let f : v ≡ n = cc in omega (arith, f)
 digits-below (b ∷ bs) v n e = digit-below b bs v n (is_ascii_digit b) refl (digits-below bs (v * 10 + (b - 48)) n) e
 
 number-by : (field : List ℕ) (n : ℕ) (s t : Bool) → nat_lt 9 (length field) ≡ t → cond (s || t) None (digits_from 0 field) ≡ Some n → n ≤ number_field_limit

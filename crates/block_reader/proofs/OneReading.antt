@@ -27,8 +27,8 @@ use Rattle.block_reader.proofs.Walks.{walk}
 
 -- ---- blocks by their entries
 
-pub one-block : (m : Model) (b other : Block) → IsValid m → IsBlockOf m b → HasAllLabels b → IsBlockOf m other → HasAllLabels other → entries_of m b ≡ entries_of m other → b ≡ other
-one-block m b other valid of all of_other all_other e =
+pub one_block : (m : Model) (b other : Block) → IsValid m → IsBlockOf m b → HasAllLabels b → IsBlockOf m other → HasAllLabels other → entries_of m b ≡ entries_of m other → b ≡ other
+one_block m b other valid of all of_other all_other e =
     let same : block_draft m b ≡ block_draft m other = some-same (block_draft m b) (block_draft m other) (sym (block-walk m b valid of) ∙ ap (walk m no_draft) e ∙ block-walk m other valid of_other) in
     states_one m (block_draft m b) b other (block-stated m b of all) (subst (λ (d : Draft). IsStated m d other) (sym same) (block-stated m other of_other all_other))
 
@@ -140,7 +140,7 @@ one-end m xs lines number (Stated b last rest) (Stated c at behind) valid h g =
     let same : rest ≡ behind = cc in
     let says = h.1.2 in
     let also = subst (λ (t : List ℕ). Says m (xs ++ (t ∷ [])) c []) (sym text) g.1.2 in
-    let block = one-block m b c valid says.is_block says.all_labels also.is_block also.all_labels (as_said-same (entries_of m b) (entries_of m c) (says.entries ∙ sym also.entries)) in
+    let block = one_block m b c valid says.is_block says.all_labels also.is_block also.all_labels (as_said-same (entries_of m b) (entries_of m c) (says.entries ∙ sym also.entries)) in
     ap₂ (λ x k. Stated x k rest) block (h.0 ∙ sym g.0) ∙ ap (Stated c at) same
 one-end m xs lines number (Stated b last rest) (Refused code line) valid h g = absurd (stated-or m xs lines number b last rest code h g.1)
 one-end m xs lines number (Refused code line) (Stated b last rest) valid h g = absurd (stated-or m xs lines number b last rest code g h.1)

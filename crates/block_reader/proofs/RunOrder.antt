@@ -35,29 +35,22 @@ pub follows-how : (m : Model) (o : Option Run) (n t v : ℕ) → follows_run m o
 follows-how m None n t v h =
     let p = and_parts (nat_eq t 0) (only_exits m 0 n) h in inl (record { moment = eqb-true t 0 p.0; behind = omega arith; exits = p.1 })
 follows-how m (Some r) n t v h = elim (cases_eq n r.node) [
-  | inl q ↦ let p = and_parts (nat_lt r.moment t) (not (nat_eq v r.label)) (sym (choice (nat_eq n r.node) true (eq-eqb n r.node q)) ∙ h) in
+  | inl q ↦ let p = and_parts (nat_lt r.moment t) (not (nat_eq v r.label)) (rw (eq-eqb n r.node q) at h) in
       inr (record { last = r; is = refl; node = sym q; moment = ltb-true r.moment t p.0; differs = eqb-false v r.label (not-true (nat_eq v r.label) p.1) })
-  | inr ne ↦ let p = and_parts (nat_lt r.node n) (nat_eq t 0 && only_exits m (r.node + 1) n) (sym (choice (nat_eq n r.node) false (ne_eqb n r.node ne)) ∙ h) in
+  | inr ne ↦ let p = and_parts (nat_lt r.node n) (nat_eq t 0 && only_exits m (r.node + 1) n) (rw (ne_eqb n r.node ne) at h) in
       let q = and_parts (nat_eq t 0) (only_exits m (r.node + 1) n) p.1 in
       inl (record { moment = eqb-true t 0 q.0; behind = (let l = ltb-true r.node n p.0 in omega (arith, l)); exits = q.1 })
 ]
-  where
-    choice : (b c : Bool) → b ≡ c
-        → cond b (nat_lt r.moment t && not (nat_eq v r.label)) (nat_lt r.node n && (nat_eq t 0 && only_exits m (r.node + 1) n))
-        ≡ cond c (nat_lt r.moment t && not (nat_eq v r.label)) (nat_lt r.node n && (nat_eq t 0 && only_exits m (r.node + 1) n))
-    choice b c e = ap (λ x. cond x (nat_lt r.moment t && not (nat_eq v r.label)) (nat_lt r.node n && (nat_eq t 0 && only_exits m (r.node + 1) n))) e
 
 pub first-follows : (m : Model) (o : Option Run) (n v : ℕ) → behind_run o ≤ n → only_exits m (behind_run o) n ≡ true → follows_run m o n 0 v ≡ true
 first-follows m None n v l h = h
 first-follows m (Some r) n v l h =
     let less : r.node < n = omega (arith, l) in
-    ap (λ w. cond w (nat_lt r.moment 0 && not (nat_eq v r.label)) (nat_lt r.node n && (nat_eq 0 0 && only_exits m (r.node + 1) n))) (ne_eqb n r.node (λ e. omega (arith, e, less)))
-    ∙ and_from (nat_lt r.node n) (nat_eq 0 0 && only_exits m (r.node + 1) n) (lt-ltb r.node n less) h
+    rw (ne_eqb n r.node (λ e. omega (arith, e, less))) (and_from (nat_lt r.node n) (nat_eq 0 0 && only_exits m (r.node + 1) n) (lt-ltb r.node n less) h)
 
 further-follows : (m : Model) (r : Run) (n t v : ℕ) → r.node ≡ n → r.moment < t → not (nat_eq v r.label) ≡ true → follows_run m (Some r) n t v ≡ true
 further-follows m r n t v e l h =
-    ap (λ x. cond x (nat_lt r.moment t && not (nat_eq v r.label)) (nat_lt r.node n && (nat_eq t 0 && only_exits m (r.node + 1) n))) (eq-eqb n r.node (sym e))
-    ∙ and_from (nat_lt r.moment t) (not (nat_eq v r.label)) (lt-ltb r.moment t l) h
+    rw (eq-eqb n r.node (sym e)) (and_from (nat_lt r.moment t) (not (nat_eq v r.label)) (lt-ltb r.moment t l) h)
 
 -- ---- the last of a block's runs
 

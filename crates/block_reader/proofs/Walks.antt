@@ -43,9 +43,6 @@ walk-next m a b c e es h g = walk-cons m a e es ∙ ap (option_and_then (λ x. w
 pub walk-one : (m : Model) (a b : Draft) (e : Entry) → with_entry m a e ≡ Some b → walk m a (e ∷ []) ≡ Some b
 walk-one m a b e h = walk-next m a b b e [] h (walk-none m b)
 
-pub walk-to : (m : Model) (a b c : Draft) (es : List Entry) → b ≡ c → walk m a es ≡ Some b → walk m a es ≡ Some c
-walk-to m a b c es e h = h ∙ ap (λ x. Some x) e
-
 -- entries for each number below n
 pub walk-below : (m : Model) (s : ℕ → Draft) (f : ℕ → List Entry) (n : ℕ) → ((i : ℕ) → i < n → walk m (s i) (f i) ≡ Some (s (suc i))) → walk m (s 0) (flat_map f (below n)) ≡ Some (s n)
 walk-below m s f zero h = walk-none m (s 0)

@@ -47,13 +47,21 @@ pub record AreMoves (m : Model) (moves : List Move) : Type 0 where
   pub ordered : IsOrdered (length m.arcs) m.horizon moves
   pub fit : All (λ v. v.people ≤ number_field_limit) moves
 
+-- the numbers of the first lines are in range
+pub record AreHeads (m : Model) (index people cleared : ℕ) : Type 0 where
+  pub in_horizon : cleared ≤ m.horizon
+  pub index_fits : index ≤ number_field_limit
+  pub people_fit : people ≤ number_field_limit
+
+-- the people out by each period fit a line, and there are no more of them than periods up to the moment c
+pub record AreOuts (c : ℕ) (outs : List ℕ) : Type 0 where
+  pub fit : All (λ n. n ≤ number_field_limit) outs
+  pub few : length outs ≤ c + 1
+
 -- the numbers are in range, each list stands only where those before it are whole, and runs and moves are lawful
 pub record IsDraft (m : Model) (d : Draft) : Type 0 where
-  pub in_horizon : d.cleared ≤ m.horizon
-  pub index_fits : d.index ≤ number_field_limit
-  pub people_fit : d.people ≤ number_field_limit
-  pub outs_fit : All (λ n. n ≤ number_field_limit) d.outs
-  pub outs_few : length d.outs ≤ d.cleared + 1
+  pub heads : AreHeads m d.index d.people d.cleared
+  pub outs : AreOuts d.cleared d.outs
   pub no_outs : is_lists d.stage ≡ false → d.outs ≡ []
   pub runs : AreRuns m d.cleared d.runs
   pub no_runs : is_curve d ≡ false → d.runs ≡ []

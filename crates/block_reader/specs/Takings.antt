@@ -23,10 +23,10 @@ use Rattle.block_reader.specs.Drafts.{Draft, IsStated, with_entry}
 use Rattle.certificate_text.specs.Entries.{entry_of, is_end}
 
 -- a block took one line more, or it is refused
-abbrev pub Takes : Result (Unit {0}) TakeFault → Option Draft → Draft → Type 0
-Takes (Ok done) next new = next ≡ Some new
-Takes (Err Bad) next new = next ≡ None
-Takes (Err Memory) next new = ⊤
+abbrev pub TakesLine : Result (Unit {0}) TakeFault → Option Draft → Draft → Type 0
+TakesLine (Ok done) next new = next ≡ Some new
+TakesLine (Err Bad) next new = next ≡ None
+TakesLine (Err Memory) next new = ⊤
 
 -- a block heard a line: what it says may stand there, as the end or not, or it is refused
 abbrev pub HearsDraft : Model → List ℕ → Result Heard TakeFault → Draft → Draft → Type 0
@@ -38,7 +38,7 @@ HearsDraft m text (Err Memory) old new = ⊤
 -- ---- a reader that hears lines
 
 -- it can hear a line
-pub record IsReady (r : BlockReader) : Type 0 where
+pub record CanHear (r : BlockReader) : Type 0 where
   pub valid : IsValid r.model.now
   pub names : NamesFit r.names.now r.model.now
   pub draft : IsDraft r.model.now r.builder

@@ -6,7 +6,7 @@ ghost use Rattle.evac_law.specs.Limits.{node_limit};
 ghost use Rattle.building_table.specs.Names.{NamesFit};
 ghost use Rattle.block_reader.specs.DraftFacts.{IsDraft};
 ghost use Rattle.block_reader.specs.Drafts.{behind_run, follows_move, follows_run, is_curve, is_full, is_move, is_run, last_of, arc_between, no_draft, node_of, only_exits, with_cleared, with_end, with_entry, with_index, with_move, with_out, with_people, with_run};
-ghost use Rattle.block_reader.specs.Takings.{Takes};
+ghost use Rattle.block_reader.specs.Takings.{TakesLine};
 
 use crate::fault::TakeFault;
 use crate::run::Run;
@@ -127,7 +127,7 @@ impl BlockBuilder {
     }
 
     fn take_index(&mut self, index: u32) -> Result<(), TakeFault>
-        ensures { Takes result (with_index self.old index) self.new }
+        ensures { TakesLine result (with_index self.old index) self.new }
     {
         if !self.stage.is_index() {
             return Err(TakeFault::Bad);
@@ -138,7 +138,7 @@ impl BlockBuilder {
     }
 
     fn take_people(&mut self, people: u32) -> Result<(), TakeFault>
-        ensures { Takes result (with_people self.old people) self.new }
+        ensures { TakesLine result (with_people self.old people) self.new }
     {
         if !self.stage.is_people() {
             return Err(TakeFault::Bad);
@@ -149,7 +149,7 @@ impl BlockBuilder {
     }
 
     fn take_cleared(&mut self, model: &Model, moment: u32) -> Result<(), TakeFault>
-        ensures { Takes result (with_cleared model.now self.old moment) self.new }
+        ensures { TakesLine result (with_cleared model.now self.old moment) self.new }
     {
         if !self.stage.is_cleared() || moment > u32::from(model.horizon) {
             return Err(TakeFault::Bad);
@@ -160,7 +160,7 @@ impl BlockBuilder {
     }
 
     fn take_out(&mut self, period: u32, people: u32) -> Result<(), TakeFault>
-        ensures { Takes result (with_out self.old period people) self.new }
+        ensures { TakesLine result (with_out self.old period people) self.new }
     {
         if !self.stage.is_lists()
             || period as usize != self.outs.len()
@@ -210,7 +210,7 @@ impl BlockBuilder {
         label: u32,
     ) -> Result<(), TakeFault>
         requires { node < length model.now.nodes }
-        ensures { Takes result (with_run model.now self.old node moment label) self.new }
+        ensures { TakesLine result (with_run model.now self.old node moment label) self.new }
     {
         if !self.is_run(model, node, moment, label) {
             return Err(TakeFault::Bad);
@@ -258,7 +258,7 @@ impl BlockBuilder {
     ) -> Result<(), TakeFault>
         requires valid { IsValid model.now }
         requires draft { IsDraft model.now self.old }
-        ensures { Takes result (with_move model.now self.old moment arc people) self.new }
+        ensures { TakesLine result (with_move model.now self.old moment arc people) self.new }
     {
         if !self.is_move(model, moment, arc, people) {
             return Err(TakeFault::Bad);
@@ -278,7 +278,7 @@ impl BlockBuilder {
     fn take_end(&self, model: &Model) -> Result<(), TakeFault>
         requires valid { IsValid model.now }
         requires draft { IsDraft model.now self.now }
-        ensures { Takes result (with_end model.now self.now) self.now }
+        ensures { TakesLine result (with_end model.now self.now) self.now }
     {
         if self.is_full(model) {
             Ok(())
@@ -298,7 +298,7 @@ impl BlockBuilder {
         requires valid { IsValid model.now }
         requires names { NamesFit names.now model.now }
         requires draft { IsDraft model.now self.old }
-        ensures { Takes result (with_entry model.now self.old entry) self.new }
+        ensures { TakesLine result (with_entry model.now self.old entry) self.new }
     {
         match entry {
             Entry::Blank => Ok(()),

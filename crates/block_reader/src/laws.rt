@@ -2,6 +2,7 @@
 ghost use Rattle.block_reader.specs.ReaderLaws.{EntriesTellBlock, ReadsOneWay};
 
 /// What a block says tells which it is: no two blocks of a model that have all their labels have the same entries.
+#[tactic(auto, using(crate::proofs::OneReading::one_block))]
 pub fn entries_tell_the_block()
     ensures { EntriesTellBlock }
 {}

@@ -53,13 +53,13 @@ struct BlockReader<'a> {
 }
 
 impl<'a> Listener for BlockReader<'a> {
-    ghost use Rattle.block_reader.specs.Takings.{HearsBlock, IsReady};
+    ghost use Rattle.block_reader.specs.Takings.{HearsBlock, CanHear};
 
     type Fault = TakeFault;
 
     ghost kept = { λ _. tt };
 
-    ghost ready = { λ r. IsReady r };
+    ghost ready = { λ r. CanHear r };
 
     ghost hears = { λ r line text result new. HearsBlock r line text result new };
 

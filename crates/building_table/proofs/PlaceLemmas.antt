@@ -1,5 +1,5 @@
 -- Places that a search finds.
-use Rattle.std.proofs.Common.{◌≡◌, ℕ, ◌<◌, Bool, true, false, cond, nat_lt, List, length, Option, Some, None, MatchOption, is_some, refl, sym, ap}
+use Rattle.std.proofs.Common.{◌≡◌, ℕ, ◌<◌, Bool, true, false, cond, nat_lt, List, length, Option, Some, None, MatchOption, refl, ap}
 use Rattle.std.specs.List.{list_any, position, position_or_len}
 use Rattle.std.proofs.lemmas.Bool.{ltb-true, lt-ltb}
 use Rattle.std.proofs.lemmas.List.Folds.{list_any_at}
@@ -29,9 +29,3 @@ pub place-found : {X : Type 0} (p : X → Bool) (xs : List X) (d : X) (place : O
     → MatchOption place (list_any p xs ≡ false) (λ i. (list_any p xs ≡ true) × (i ≡ position_or_len p xs))
 place-found p xs d (Some i) h = position-some p xs d i h
 place-found p xs d None h = none-by p xs (list_any p xs) refl h
-
--- it finds a place where some element passes
-pub is-found : {X : Type 0} (p : X → Bool) (xs : List X) (d : X) (place : Option ℕ)
-    → place ≡ position p xs → is_some place ≡ list_any p xs
-is-found p xs d (Some i) h = let s = position-some p xs d i h in sym s.0
-is-found p xs d None h = sym (none-by p xs (list_any p xs) refl h)

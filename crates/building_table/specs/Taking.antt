@@ -110,7 +110,7 @@ adding_entrant b name moment people =
     record b { entrants = with_entrant b.entrants (entrant_of (place_of_node b.nodes name) moment people) }
 
 -- `Ok` comes where no check holds, and the builder then holds what it should; a fault is that of the first check that holds, and changes nothing
-pub record Takes (result : Result (Unit {0}) BuildFault) (checks : List (Bool × Code)) (old new after : Built) : Type 0 where
+pub record TakesPart (result : Result (Unit {0}) BuildFault) (checks : List (Bool × Code)) (old new after : Built) : Type 0 where
   pub right : OnOk result (first_code checks ≡ None)
   pub made : OnOk result (new ≡ after)
   pub fault : IfErr result (λ f. first_code checks ≡ build_code f)

@@ -6,7 +6,7 @@ ghost use Rattle.evac_law.specs.Limits.{arc_limit, cell_limit, floor_limit, node
 ghost use Rattle.evac_law.specs.Names.{is_exit};
 ghost use Rattle.evac_law.specs.Windows.{overlaps};
 ghost use Rattle.building_table.specs.Built.{Built, IsBuilding, build_code, built_of, end_code};
-ghost use Rattle.building_table.specs.Taking.{Takes, end_checks, holds_node, arc_checks, close_checks, entrant_checks, exit_checks, floor_checks, holds_floor, horizon_checks, people_held, period_checks, room_checks, title_checks, window_checks, adding_arc, adding_entrant, adding_node, adding_window, with_floor};
+ghost use Rattle.building_table.specs.Taking.{TakesPart, end_checks, holds_node, arc_checks, close_checks, entrant_checks, exit_checks, floor_checks, holds_floor, horizon_checks, people_held, period_checks, room_checks, title_checks, window_checks, adding_arc, adding_entrant, adding_node, adding_window, with_floor};
 ghost use Rattle.model_text.specs.Grammar.{SaidPart};
 ghost use Rattle.model_text.specs.Reads.{said_part};
 ghost use Rattle.model_text.specs.Taken.{AreTaken, closing, description_of, end_fault, entrant_of, first_code, is_coming, joins, place_of_arc, place_of_node, same_name, part_fault, arc_windows, with_entrant};
@@ -95,7 +95,7 @@ impl Builder {
     }
 
     fn take_title(&mut self, alloc: Global, text: &[u8]) -> Result<(), BuildFault>
-        ensures { Takes result (title_checks self.old) self.old self.new (record self.old { title = Some text.now }) }
+        ensures { TakesPart result (title_checks self.old) self.old self.new (record self.old { title = Some text.now }) }
     {
         if self.title.is_some() {
             return Err(BuildFault::RepeatedSetting);
@@ -108,7 +108,7 @@ impl Builder {
     }
 
     fn take_period(&mut self, seconds: u16) -> Result<(), BuildFault>
-        ensures { Takes result (period_checks self.old) self.old self.new (record self.old { seconds = Some seconds }) }
+        ensures { TakesPart result (period_checks self.old) self.old self.new (record self.old { seconds = Some seconds }) }
     {
         if self.seconds.is_some() {
             return Err(BuildFault::RepeatedSetting);
@@ -118,7 +118,7 @@ impl Builder {
     }
 
     fn take_horizon(&mut self, moments: u16) -> Result<(), BuildFault>
-        ensures { Takes result (horizon_checks self.old) self.old self.new (record self.old { horizon = Some moments }) }
+        ensures { TakesPart result (horizon_checks self.old) self.old self.new (record self.old { horizon = Some moments }) }
     {
         if self.horizon.is_some() {
             return Err(BuildFault::RepeatedSetting);
@@ -239,7 +239,7 @@ impl Builder {
     }
 
     fn take_floor(&mut self, alloc: Global, floor: u16, text: &[u8]) -> Result<(), BuildFault>
-        ensures { Takes result (floor_checks self.old floor) self.old self.new (with_floor self.old floor text.now) }
+        ensures { TakesPart result (floor_checks self.old floor) self.old self.new (with_floor self.old floor text.now) }
     {
         if self.has_floor(floor) {
             return Err(BuildFault::RepeatedSetting);
@@ -276,7 +276,7 @@ impl Builder {
     }
 
     fn take_room(&mut self, name: NodeName, capacity: u32, start: u32) -> Result<(), BuildFault>
-        ensures { Takes result (room_checks self.old name capacity start) self.old self.new (adding_node self.old name capacity start) }
+        ensures { TakesPart result (room_checks self.old name capacity start) self.old self.new (adding_node self.old name capacity start) }
     {
         if !self.has_floor(name.floor) {
             return Err(BuildFault::UnknownFloor);
@@ -294,7 +294,7 @@ impl Builder {
     }
 
     fn take_exit(&mut self, name: NodeName) -> Result<(), BuildFault>
-        ensures { Takes result (exit_checks self.old name) self.old self.new (adding_node self.old name 0 0) }
+        ensures { TakesPart result (exit_checks self.old name) self.old self.new (adding_node self.old name 0 0) }
     {
         if !self.has_floor(name.floor) {
             return Err(BuildFault::UnknownFloor);
@@ -334,7 +334,7 @@ impl Builder {
         travel: u16,
         rate: u32,
     ) -> Result<(), BuildFault>
-        ensures { Takes result (arc_checks self.old start finish) self.old self.new (adding_arc self.old start finish travel rate) }
+        ensures { TakesPart result (arc_checks self.old start finish) self.old self.new (adding_arc self.old start finish travel rate) }
     {
         let Some(from) = self.node_place(start) else {
             return Err(BuildFault::UnknownNode);
@@ -370,7 +370,7 @@ impl Builder {
     #[tactic(auto, unfolding(evac_law::specs::Limits::window_limit))]
     fn close(&mut self, arc: u32, window: Window) -> Result<(), BuildFault>
         requires { arc < length self.old.arcs }
-        ensures { Takes result (close_checks (arc_windows self.old.arcs arc) window) self.old self.new (record self.old { arcs = closing self.old.arcs arc window }) }
+        ensures { TakesPart result (close_checks (arc_windows self.old.arcs arc) window) self.old self.new (record self.old { arcs = closing self.old.arcs arc window }) }
     {
         let row = &self.arcs[arc as usize];
         if row.overlaps(window) {
@@ -390,7 +390,7 @@ impl Builder {
         first: u16,
         until: u16,
     ) -> Result<(), BuildFault>
-        ensures { Takes result (window_checks self.old start finish first until) self.old self.new (adding_window self.old start finish first until) }
+        ensures { TakesPart result (window_checks self.old start finish first until) self.old self.new (adding_window self.old start finish first until) }
     {
         let Some(from) = self.node_place(start) else {
             return Err(BuildFault::UnknownNode);
@@ -424,7 +424,7 @@ impl Builder {
     }
 
     fn take_entrant(&mut self, name: NodeName, moment: u16, people: u32) -> Result<(), BuildFault>
-        ensures { Takes result (entrant_checks self.old name moment people) self.old self.new (adding_entrant self.old name moment people) }
+        ensures { TakesPart result (entrant_checks self.old name moment people) self.old self.new (adding_entrant self.old name moment people) }
     {
         let Some(node) = self.node_place(name) else {
             return Err(BuildFault::UnknownNode);

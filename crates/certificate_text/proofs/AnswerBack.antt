@@ -31,7 +31,7 @@ use Rattle.certificate_text.specs.BlockEntries.{entries_of, label_entries, label
 use Rattle.certificate_text.specs.BlockLaws.{IsAnswerBlock, ReadsBack, block_limit}
 use Rattle.certificate_text.specs.BlockReadings.{ReadsAs, Stated, as_said, said_by}
 use Rattle.certificate_text.specs.BlockText.{answer_line, answer_text, begins_run, cleared_line, end_line, label_line, label_lines, label_part, moment_moves, move_line, move_lines, move_part, name_of_node, node_labels, out_line, people_line, shown_label}
-use Rattle.certificate_text.proofs.BlockSize.{answer-size, rate-most}
+use Rattle.certificate_text.proofs.BlockSize.{answer_size, rate-most}
 use Rattle.certificate_text.proofs.CertifiedBack.{shown-certified}
 use Rattle.certificate_text.proofs.EntryTexts.{IsWritable, body, entries-written, entry_text, texts-lines, texts-say}
 use Rattle.certificate_text.proofs.LineTexts.{ended, lines-back}
@@ -276,4 +276,4 @@ sized-back index m p l c few valid cert ordered size =
 
 pub reads_back : (index : ℕ) (m : Model) (p : List Move) (l : LabelTable) (c : ℕ) → index ≤ number_field_limit → IsValid m → IsCertified m p l c → IsOrdered (length m.arcs) m.horizon p
     → ReadsBack index m p l c
-reads_back index m p l c few valid cert ordered = sized-back index m p l c few valid cert ordered (answer-size index m p l c few valid cert)
+reads_back index m p l c few valid cert ordered = sized-back index m p l c few valid cert ordered (answer_size index m p l c few valid cert)

@@ -18,6 +18,7 @@ use Rattle.evac_law.specs.Windows.{is_closed_at}
 use Rattle.evac_law.proofs.NameLemmas.{name_short}
 use Rattle.evac_law.proofs.Optimal.{certified_is_feasible, out_le_people}
 use Rattle.evac_law.proofs.PartLemmas.{flat_map-none, flat_map-suc}
+use Rattle.evac_law.proofs.SumLemmas.{else_le}
 use Rattle.evac_law.proofs.ValidLemmas.{arc_is, head_in, name_is, tail_in}
 use Rattle.line_io.specs.Text.{fields, line_text}
 use Rattle.line_io.proofs.TextLemmas.{fields-cons}
@@ -25,14 +26,10 @@ use Rattle.certificate_text.specs.Block.{number_field_limit}
 use Rattle.certificate_text.specs.BlockLaws.{block_limit}
 use Rattle.certificate_text.specs.BlockText.{answer_line, answer_text, begins_run, cleared_line, end_line, label_line, label_lines, label_part, moment_moves, move_line, move_lines, move_part, node_labels, out_line, out_lines, people_line, shown_label}
 
-rate-by : (b : Bool) (r : ℕ) → cond b 0 r ≤ r
-rate-by true r = omega arith
-rate-by false r = omega arith
-
 pub rate-most : (m : Model) (a t : ℕ) → IsValid m → a < length m.arcs → rate m a t ≤ rate_limit
 rate-most m a t valid h =
     let fits = (arc_is m a valid h).rate_fits in
-    let low = rate-by (((arc_at m a).shut || (node_at m (head m a)).shut) || is_closed_at (arc_at m a).windows.items t) (arc_at m a).rate in
+    let low = else_le (((arc_at m a).shut || (node_at m (head m a)).shut) || is_closed_at (arc_at m a).windows.items t) (arc_at m a).rate in
     omega (arith, fits, low)
 
 -- ---- lines
@@ -106,16 +103,13 @@ move-size t start finish n h a b g =
 
 -- ---- many lines
 
-times-more : (b n : ℕ) → b * suc n ≡ b * n + b
-times-more b n = omega arith
-
 all-size : (f : ℕ → List ℕ) (b n : ℕ) → ((i : ℕ) → i < n → length (f i) ≤ b) → length (flat_map f (below n)) ≤ b * n
 all-size f b zero h = let e = ap (λ (x : List ℕ). length x) (flat_map-none f) in omega (arith, e)
 all-size f b (suc n) h =
     let e = ap (λ (x : List ℕ). length x) (flat_map-suc f n) ∙ length-append (flat_map f (below n)) (f n) in
     let old = all-size f b n (λ i l. h i (omega arith)) in
     let new = h n (omega arith) in
-    let more = times-more b n in
+    let more : b * suc n ≡ b * n + b = omega arith in
     omega (arith, e, old, new, more)
 
 either-size : (w : Bool) (x : List ℕ) (b : ℕ) → length x ≤ b → length (cond w x []) ≤ b
@@ -166,18 +160,11 @@ unfolding cell_limit horizon_limit block_limit
 sum-size cells c total h k s = omega (arith, h, k, s)
 
 six-size : (a b d e f g h : List ℕ) → length (a ++ b ++ d ++ e ++ f ++ g ++ h) ≡ length a + length b + length d + length e + length f + length g + length h
-six-size a b d e f g h =
-    let s1 = length-append (a ++ b ++ d ++ e ++ f ++ g) h in
-    let s2 = length-append (a ++ b ++ d ++ e ++ f) g in
-    let s3 = length-append (a ++ b ++ d ++ e) f in
-    let s4 = length-append (a ++ b ++ d) e in
-    let s5 = length-append (a ++ b) d in
-    let s6 = length-append a b in
-    omega (arith, s1, s2, s3, s4, s5, s6)
+six-size a b d e f g h = omega (arith, length-append {A = ℕ})
 
-pub answer-size : (index : ℕ) (m : Model) (p : List Move) (l : LabelTable) (c : ℕ) → index ≤ number_field_limit → IsValid m → IsCertified m p l c → length (answer_text index m p l c) ≤ block_limit
+pub answer_size : (index : ℕ) (m : Model) (p : List Move) (l : LabelTable) (c : ℕ) → index ≤ number_field_limit → IsValid m → IsCertified m p l c → length (answer_text index m p l c) ≤ block_limit
 unfolding answer_text
-answer-size index m p l c few valid cert =
+answer_size index m p l c few valid cert =
     let parts = six-size (answer_line index) (people_line (people m)) (cleared_line c) (out_lines m p c) (label_lines m l c) (move_lines m p) end_line in
     let a = index-size index few in
     let b = people-size (people m) valid.people_fit in

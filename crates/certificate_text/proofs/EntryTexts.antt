@@ -6,7 +6,6 @@ use Rattle.std.specs.List.{All, enumerate_from, flat_map}
 use Rattle.std.specs.Option.{option_and_then}
 use Rattle.std.proofs.lemmas.List.Elements.{All-append, All-cons, All-head, All-map, All-nil, All-tail}
 use Rattle.evac_law.specs.declared.model.Model.{Model}
-use Rattle.evac_law.specs.declared.name.NodeName.{NodeName}
 use Rattle.evac_law.specs.Building.{IsValid, is_exit_at, node_at}
 use Rattle.evac_law.specs.LabelTable.{label_at}
 use Rattle.evac_law.specs.Names.{IsName, name_text}
@@ -45,43 +44,6 @@ entry-back f fs h hs = ap entry_of_fields (fields-back f fs h hs)
 number-entry : (make : ℕ → Entry) (n : ℕ) → n < 10 ^ 9 → option_and_then (λ k. Some (make k)) (field_number (decimal n)) ≡ Some (make n)
 number-entry make n few = ap (λ o. option_and_then (λ k. Some (make k)) o) (field_number-decimal n few)
 
-index-back : (n : ℕ) → n < 10 ^ 9 → entry_of (fields (codes "answer" ∷ decimal n ∷ [])) ≡ Some (Index n)
-index-back n few =
-    entry-back (codes "answer") (decimal n ∷ []) (word-field (codes "answer") (omega arith) (omega arith) refl) (decimal-field n few, tt) ∙ number-entry Index n few
-
-people-back : (n : ℕ) → n < 10 ^ 9 → entry_of (fields (codes "people" ∷ decimal n ∷ [])) ≡ Some (People n)
-people-back n few =
-    entry-back (codes "people") (decimal n ∷ []) (word-field (codes "people") (omega arith) (omega arith) refl) (decimal-field n few, tt) ∙ number-entry People n few
-
-cleared-back : (n : ℕ) → n < 10 ^ 9 → entry_of (fields (codes "cleared" ∷ decimal n ∷ [])) ≡ Some (Cleared n)
-cleared-back n few =
-    entry-back (codes "cleared") (decimal n ∷ []) (word-field (codes "cleared") (omega arith) (omega arith) refl) (decimal-field n few, tt) ∙ number-entry Cleared n few
-
-out-back : (k n : ℕ) → k < 10 ^ 9 → n < 10 ^ 9 → entry_of (fields (codes "out" ∷ decimal k ∷ decimal n ∷ [])) ≡ Some (Out k n)
-out-back k n a b =
-    entry-back (codes "out") (decimal k ∷ decimal n ∷ []) (word-field (codes "out") (omega arith) (omega arith) refl) (decimal-field k a, (decimal-field n b, tt))
-    ∙ ap₂ (λ x y. option_and_then (λ i. option_and_then (λ j. Some (Out i j)) y) x) (field_number-decimal k a) (field_number-decimal n b)
-
-label-back : (name : NodeName) (t v : ℕ) → IsName name → t < 10 ^ 9 → v < 10 ^ 9
-    → entry_of (fields (codes "label" ∷ name_text name ∷ decimal t ∷ decimal v ∷ [])) ≡ Some (Label name t v)
-label-back name t v is a b =
-    entry-back (codes "label") (name_text name ∷ decimal t ∷ decimal v ∷ []) (word-field (codes "label") (omega arith) (omega arith) refl)
-    (name-field name is, (decimal-field t a, (decimal-field v b, tt)))
-    ∙ ap (λ o. option_and_then (λ n. option_and_then (λ i. option_and_then (λ j. Some (Label n i j)) (field_number (decimal v))) (field_number (decimal t))) o) (text-reads name is)
-    ∙ ap₂ (λ x y. option_and_then (λ i. option_and_then (λ j. Some (Label name i j)) y) x) (field_number-decimal t a) (field_number-decimal v b)
-
-move-back : (t : ℕ) (start finish : NodeName) (n : ℕ) → t < 10 ^ 9 → IsName start → IsName finish → n < 10 ^ 9
-    → entry_of (fields (codes "move" ∷ decimal t ∷ name_text start ∷ name_text finish ∷ decimal n ∷ [])) ≡ Some (Move t start finish n)
-move-back t start finish n a from to b =
-    entry-back (codes "move") (decimal t ∷ name_text start ∷ name_text finish ∷ decimal n ∷ []) (word-field (codes "move") (omega arith) (omega arith) refl)
-    (decimal-field t a, (name-field start from, (name-field finish to, (decimal-field n b, tt))))
-    ∙ ap₂ (λ x y. option_and_then (λ i. option_and_then (λ f. option_and_then (λ g. option_and_then (λ j. Some (Move i f g j)) (field_number (decimal n))) (name_of (name_text finish))) y) x)
-    (field_number-decimal t a) (text-reads start from)
-    ∙ ap₂ (λ x y. option_and_then (λ g. option_and_then (λ j. Some (Move t start g j)) y) x) (text-reads finish to) (field_number-decimal n b)
-
-end-back : entry_of (fields (codes "end" ∷ [])) ≡ Some End
-end-back = entry-back (codes "end") [] (word-field (codes "end") (omega arith) (omega arith) refl) tt
-
 -- ---- the line of an entry
 
 -- its first field, and those after it
@@ -119,41 +81,44 @@ IsWritable (Label name t v) = IsName name × (t < 10 ^ 9) × (v < 10 ^ 9)
 IsWritable (Move t start finish n) = (t < 10 ^ 9) × IsName start × IsName finish × (n < 10 ^ 9)
 IsWritable End = Unit {0}
 
+-- its word and what follows it are fields of a line, ten at most
+fields-of : (e : Entry) → IsWritable e → IsField (word_of e) × AreFields (more_of e) × (length (more_of e) ≤ 9)
+fields-of Blank h = absurd h
+fields-of (Index n) h = (word-field (codes "answer") (omega arith) (omega arith) refl, (decimal-field n h, tt), omega arith)
+fields-of (People n) h = (word-field (codes "people") (omega arith) (omega arith) refl, (decimal-field n h, tt), omega arith)
+fields-of (Cleared c) h = (word-field (codes "cleared") (omega arith) (omega arith) refl, (decimal-field c h, tt), omega arith)
+fields-of (Out k n) h = (word-field (codes "out") (omega arith) (omega arith) refl, (decimal-field k h.0, (decimal-field n h.1, tt)), omega arith)
+fields-of (Label name t v) h =
+    (word-field (codes "label") (omega arith) (omega arith) refl, (name-field name h.0, (decimal-field t h.1, (decimal-field v h.2, tt))), omega arith)
+fields-of (Move t start finish n) h =
+    (word-field (codes "move") (omega arith) (omega arith) refl, (decimal-field t h.0, (name-field start h.1, (name-field finish h.2, (decimal-field n h.3, tt)))), omega arith)
+fields-of End h = (word-field (codes "end") (omega arith) (omega arith) refl, tt, omega arith)
+
 text-line : (e : Entry) → IsWritable e → IsLine (entry_text e)
-text-line Blank h = absurd h
-text-line (Index n) h = fields-line (codes "answer") (decimal n ∷ []) (word-field (codes "answer") (omega arith) (omega arith) refl) (decimal-field n h, tt) (omega arith)
-text-line (People n) h = fields-line (codes "people") (decimal n ∷ []) (word-field (codes "people") (omega arith) (omega arith) refl) (decimal-field n h, tt) (omega arith)
-text-line (Cleared c) h = fields-line (codes "cleared") (decimal c ∷ []) (word-field (codes "cleared") (omega arith) (omega arith) refl) (decimal-field c h, tt) (omega arith)
-text-line (Out k n) h =
-    fields-line (codes "out") (decimal k ∷ decimal n ∷ []) (word-field (codes "out") (omega arith) (omega arith) refl) (decimal-field k h.0, (decimal-field n h.1, tt)) (omega arith)
-text-line (Label name t v) h =
-    fields-line (codes "label") (name_text name ∷ decimal t ∷ decimal v ∷ []) (word-field (codes "label") (omega arith) (omega arith) refl)
-    (name-field name h.0, (decimal-field t h.1, (decimal-field v h.2, tt))) (omega arith)
-text-line (Move t start finish n) h =
-    fields-line (codes "move") (decimal t ∷ name_text start ∷ name_text finish ∷ decimal n ∷ []) (word-field (codes "move") (omega arith) (omega arith) refl)
-    (decimal-field t h.0, (name-field start h.1, (name-field finish h.2, (decimal-field n h.3, tt)))) (omega arith)
-text-line End h = fields-line (codes "end") [] (word-field (codes "end") (omega arith) (omega arith) refl) tt (omega arith)
+text-line e h = let f = fields-of e h in fields-line (word_of e) (more_of e) f.0 f.1 f.2
+
+by-word : (e : Entry) → IsWritable e → entry_by_word (word_of e) (more_of e) ≡ Some e
+by-word Blank h = absurd h
+by-word (Index n) h = number-entry Index n h
+by-word (People n) h = number-entry People n h
+by-word (Cleared c) h = number-entry Cleared c h
+by-word (Out k n) h = ap₂ (λ x y. option_and_then (λ i. option_and_then (λ j. Some (Out i j)) y) x) (field_number-decimal k h.0) (field_number-decimal n h.1)
+by-word (Label name t v) h =
+    ap (λ o. option_and_then (λ n. option_and_then (λ i. option_and_then (λ j. Some (Label n i j)) (field_number (decimal v))) (field_number (decimal t))) o) (text-reads name h.0)
+    ∙ ap₂ (λ x y. option_and_then (λ i. option_and_then (λ j. Some (Label name i j)) y) x) (field_number-decimal t h.1) (field_number-decimal v h.2)
+by-word (Move t start finish n) h =
+    ap₂ (λ x y. option_and_then (λ i. option_and_then (λ f. option_and_then (λ g. option_and_then (λ j. Some (Move i f g j)) (field_number (decimal n))) (name_of (name_text finish))) y) x)
+    (field_number-decimal t h.0) (text-reads start h.1)
+    ∙ ap₂ (λ x y. option_and_then (λ g. option_and_then (λ j. Some (Move t start g j)) y) x) (text-reads finish h.2) (field_number-decimal n h.3)
+by-word End h = refl
 
 -- the text of an entry says that entry
 pub text-says : (e : Entry) → IsWritable e → entry_of (entry_text e) ≡ Some e
-text-says Blank h = absurd h
-text-says (Index n) h = index-back n h
-text-says (People n) h = people-back n h
-text-says (Cleared c) h = cleared-back c h
-text-says (Out k n) h = out-back k n h.0 h.1
-text-says (Label name t v) h = label-back name t v h.0 h.1 h.2
-text-says (Move t start finish n) h = move-back t start finish n h.0 h.1 h.2 h.3
-text-says End h = end-back
+text-says e h = let f = fields-of e h in entry-back (word_of e) (more_of e) f.0 f.1 ∙ by-word e h
 
 is-said : (e : Entry) → IsWritable e → says_something (Some e) ≡ true
 is-said Blank h = absurd h
-is-said (Index n) h = refl
-is-said (People n) h = refl
-is-said (Cleared c) h = refl
-is-said (Out k n) h = refl
-is-said (Label name t v) h = refl
-is-said (Move t start finish n) h = refl
-is-said End h = refl
+is-said _ h = refl
 
 pub texts-lines : (es : List Entry) → All IsWritable es → AreLines (map entry_text es)
 texts-lines [] h = tt

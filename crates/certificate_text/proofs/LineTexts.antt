@@ -12,6 +12,7 @@ use Rattle.line_io.specs.Line.{content, input_limit, is_lf, line_limit, line_of,
 use Rattle.line_io.specs.Line as lines
 use Rattle.line_io.specs.Text.{fields}
 use Rattle.line_io.proofs.Pieces.{line-good, without_last-drops, without_last-keeps, without_last-nil}
+use Rattle.line_io.proofs.PassLemmas.{lines_after-nil}
 use Rattle.line_io.proofs.TextLemmas.{fields-cons}
 use Rattle.evac_law.specs.Names.{IsName, kind_text, name_text}
 use Rattle.evac_law.specs.declared.name.Kind.{Kind}
@@ -109,10 +110,7 @@ decimal-field n few =
 
 kind-seen : (k : Kind) → list_all is_seen (kind_text k) ≡ true
 kind-seen Work = refl
-kind-seen Hall = refl
-kind-seen Stair = refl
-kind-seen Lobby = refl
-kind-seen Exit = refl
+kind-seen _ = refl
 
 both-seen : (xs ys : List ℕ) → list_all is_seen xs ≡ true → list_all is_seen ys ≡ true → list_all is_seen (xs ++ ys) ≡ true
 both-seen xs ys h g = list_all-append is_seen xs ys ∙ and_from (list_all is_seen xs) (list_all is_seen ys) h g
@@ -193,17 +191,13 @@ pub lines-more : (before : ℕ) (p : List ℕ) (ps : List (List ℕ)) → lines_
 unfolding lines_after
 lines-more before p ps = refl
 
-pub lines-none : (before : ℕ) → lines_after before (pieces []) ≡ []
-unfolding lines_after pieces
-lines-none before = refl
-
 abbrev pub AreLines : List (List ℕ) → Type 0
 AreLines [] = Unit {0}
 AreLines (x ∷ xs) = IsLine x × AreLines xs
 
 -- the lines of texts with their ends are these texts
 pub lines-back : (before : ℕ) (xs : List (List ℕ)) → AreLines xs → before + length (flat_map ended xs) ≤ input_limit → lines_after before (pieces (flat_map ended xs)) ≡ text_lines xs
-lines-back before [] h l = lines-none before
+lines-back before [] h l = lines_after-nil before
 lines-back before (x ∷ xs) h l =
     let rest : List ℕ = flat_map ended xs in
     let size = length-append (ended x) rest in

@@ -1,5 +1,5 @@
 -- The short block of a model is that of each other with the same names and so many people.
-use Rattle.std.proofs.Common.{◌≡◌, ℕ, ◌++◌, List, [], length, get_or, if◌then◌else◌, refl, sym, ap, ◌∙◌, ap₂}
+use Rattle.std.proofs.Common.{◌≡◌, ℕ, ◌++◌, List, [], length, get_or, if◌then◌else◌, sym, ap, ◌∙◌, ap₂}
 use Rattle.std.specs.Prelude.{◌-◌, not, ◌&&◌, nat_le, nat_lt}
 use Rattle.std.specs.List.{flat_map}
 use Rattle.std.proofs.Math.ListN.{get_or-map}
@@ -49,7 +49,3 @@ unfolding short_text shortfall_text
 short-same line m other all l most same few =
     ap₂ (λ (p : ℕ) (x : List ℕ). refusal_line NotCleared line ++ people_line p ++ most_line most ++ x ++ end_line) (sym few)
     (lines-same m other l m.horizon same ∙ ap (λ (k : ℕ). in_lines other (label_cut other l k)) (sym same.horizon))
-
--- a model itself has its names
-pub own-names : (m : Model) → HasSameNames m m
-own-names m = record { names = refl; horizon = refl }

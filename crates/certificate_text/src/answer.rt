@@ -9,7 +9,7 @@ ghost use Rattle.evac_law.specs.Sums.{below};
 ghost use Rattle.line_io.specs.Causes.{HasCause};
 ghost use Rattle.line_io.specs.Writer.{PutsText, Writes};
 ghost use Rattle.certificate_text.specs.ExitArcs.{arcs_out, leads_out};
-ghost use Rattle.certificate_text.specs.NameTexts.{name_texts, run_line};
+ghost use Rattle.certificate_text.specs.NameTexts.{name_texts, run_line, entering_line};
 ghost use Rattle.certificate_text.specs.Block.{number_field_limit};
 ghost use Rattle.certificate_text.specs.BlockLaws.{ReadsBack};
 ghost use Rattle.certificate_text.specs.BlockText.{answer_text, begins_run, label_lines, move_lines, move_part, moment_moves, node_labels, out_lines, shown_label};
@@ -18,7 +18,7 @@ use crate::lines::{put_cleared, put_end, put_index, put_label, put_move, put_out
 use crate::names::{NameText, name_texts};
 use arrayvec::ArrayVec;
 use evac_law::limits::ARC_LIMIT;
-use evac_law::{Labels, Model, Standing};
+use evac_law::{Labels, Model, Move, Standing};
 use line_io::{Out, Sink, WriteFault, Writer};
 
 // The arcs into exits.
@@ -110,26 +110,7 @@ fn begins_run(labels: &Labels, cleared: u16, node: u32, moment: u16) -> bool
             != shown_label(labels, cleared, node, moment - 1)
 }
 
-// The line of a run at its first moment.
-fn put_run<K: Sink>(
-    writer: &mut Writer<'_, K>,
-    name: &NameText,
-    labels: &Labels,
-    cleared: u16,
-    node: u32,
-    moment: u16,
-)
-    requires node_in { node < labels.now.nodes }
-    requires moment_in { moment ≤ labels.now.horizon }
-    ensures { Writes K.held K.faults writer.old (run_line name.now labels.now cleared node moment) writer.new }
-{
-    if begins_run(labels, cleared, node, moment) {
-        let label = shown_label(labels, cleared, node, moment);
-        put_label(writer, name, moment, label);
-    }
-}
-
-// The runs of a node.
+// The runs of a node, each by a line at its first moment.
 fn put_runs<K: Sink>(
     writer: &mut Writer<'_, K>,
     name: &NameText,
@@ -142,7 +123,10 @@ fn put_runs<K: Sink>(
     ensures { Writes K.held K.faults writer.old (flat_map (run_line name.now labels.now cleared node) (below cleared)) writer.new }
 {
     for moment in 0..cleared {
-        put_run(writer, name, labels, cleared, node, moment);
+        if begins_run(labels, cleared, node, moment) {
+            let label = shown_label(labels, cleared, node, moment);
+            put_label(writer, name, moment, label);
+        }
     }
 }
 
@@ -150,65 +134,47 @@ fn put_runs<K: Sink>(
 fn put_node<K: Sink>(
     writer: &mut Writer<'_, K>,
     model: &Model,
-    names: &[NameText],
     labels: &Labels,
     cleared: u16,
     node: u32,
 )
-    requires names { names.now ≡ name_texts model.now }
+    requires valid { IsValid model.now }
     requires table { IsTableOf model.now labels.now }
     requires cleared_in { cleared ≤ model.now.horizon }
     requires node_in { node < length model.now.nodes }
     ensures { Writes K.held K.faults writer.old (node_labels model.now labels.now cleared node) writer.new }
 {
-    if !model.node(node).name.kind.is_exit() {
-        let name = &names[node as usize];
-        put_runs(writer, name, labels, cleared, node);
+    let name = model.node(node).name;
+    if !name.kind.is_exit() {
+        put_runs(writer, &NameText::new(name), labels, cleared, node);
     }
 }
 
-fn put_labels<K: Sink>(
-    writer: &mut Writer<'_, K>,
-    model: &Model,
-    names: &[NameText],
-    labels: &Labels,
-    cleared: u16,
-)
+fn put_labels<K: Sink>(writer: &mut Writer<'_, K>, model: &Model, labels: &Labels, cleared: u16)
     requires valid { IsValid model.now }
-    requires names { names.now ≡ name_texts model.now }
     requires table { IsTableOf model.now labels.now }
     requires cleared_in { cleared ≤ model.now.horizon }
     ensures { Writes K.held K.faults writer.old (label_lines model.now labels.now cleared) writer.new }
 {
     for node in 0..model.node_count() {
-        put_node(writer, model, names, labels, cleared, node);
+        put_node(writer, model, labels, cleared, node);
     }
 }
 
-// The people who enter an arc at a moment, where there are any.
-fn put_entering<K: Sink, F: Standing>(
-    writer: &mut Writer<'_, K>,
-    model: &Model,
-    names: &[NameText],
-    standing: &F,
-    moment: u16,
-    arc: u32,
-)
+// The line of a move, where anybody moves.
+fn put_step<K: Sink>(writer: &mut Writer<'_, K>, model: &Model, names: &[NameText], step: Move)
     requires valid { IsValid model.now }
     requires names { names.now ≡ name_texts model.now }
-    requires fits { Fits model.now (F.stand standing.now) }
-    requires moment_in { moment ≤ model.now.horizon }
-    requires arc_in { arc < length model.now.arcs }
-    ensures { Writes K.held K.faults writer.old (move_part model.now (F.stand standing.now).plan moment arc) writer.new }
+    requires arc_in { step.arc < length model.now.arcs }
+    ensures { Writes K.held K.faults writer.old (entering_line model.now step) writer.new }
 {
-    let people = standing.moved(arc, moment);
-    if people == 0 {
+    if step.people == 0 {
         return;
     }
-    let row = model.arc(arc);
+    let row = model.arc(step.arc);
     let from = &names[row.from as usize];
     let to = &names[row.to as usize];
-    put_move(writer, moment, from, to, people);
+    put_move(writer, step.moment, from, to, step.people);
 }
 
 // The moves of a moment.
@@ -226,7 +192,13 @@ fn put_moment<K: Sink, F: Standing>(
     ensures { Writes K.held K.faults writer.old (moment_moves model.now (F.stand standing.now).plan moment) writer.new }
 {
     for arc in 0..model.arc_count() {
-        put_entering(writer, model, names, standing, moment, arc);
+        let people = standing.moved(arc, moment);
+        let step = Move {
+            moment,
+            arc,
+            people,
+        };
+        put_step(writer, model, names, step);
     }
 }
 
@@ -284,7 +256,7 @@ pub fn put_answer<K: Sink, F: Standing>(
     put_people(writer, people);
     put_cleared(writer, cleared);
     put_outs(writer, model, standing, cleared);
-    put_labels(writer, model, &names, labels, cleared);
+    put_labels(writer, model, labels, cleared);
     put_named_moves(writer, model, &names, standing);
     put_end(writer);
 }

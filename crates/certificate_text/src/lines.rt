@@ -18,6 +18,7 @@ pub fn put_name(line: &mut TextLine, name: NodeName)
     line.field(NameText::new(name).bytes());
 }
 
+#[tactic(auto, unfolding(crate::specs::BlockText::answer_line))]
 pub(crate) fn put_index<K: Sink>(writer: &mut Writer<'_, K>, index: u32)
     ensures { Writes K.held K.faults writer.old (answer_line index) writer.new }
 {
@@ -26,6 +27,7 @@ pub(crate) fn put_index<K: Sink>(writer: &mut Writer<'_, K>, index: u32)
     writer.put(line);
 }
 
+#[tactic(auto, unfolding(crate::specs::BlockText::people_line))]
 pub(crate) fn put_people<K: Sink>(writer: &mut Writer<'_, K>, people: u32)
     ensures { Writes K.held K.faults writer.old (people_line people) writer.new }
 {
@@ -34,6 +36,7 @@ pub(crate) fn put_people<K: Sink>(writer: &mut Writer<'_, K>, people: u32)
     writer.put(line);
 }
 
+#[tactic(auto, unfolding(crate::specs::BlockText::cleared_line))]
 pub(crate) fn put_cleared<K: Sink>(writer: &mut Writer<'_, K>, moment: u16)
     ensures { Writes K.held K.faults writer.old (cleared_line moment) writer.new }
 {
@@ -42,6 +45,7 @@ pub(crate) fn put_cleared<K: Sink>(writer: &mut Writer<'_, K>, moment: u16)
     writer.put(line);
 }
 
+#[tactic(auto, unfolding(crate::specs::BlockText::out_line))]
 pub(crate) fn put_out<K: Sink>(writer: &mut Writer<'_, K>, period: u16, people: u64)
     ensures { Writes K.held K.faults writer.old (out_line period people) writer.new }
 {
@@ -51,6 +55,7 @@ pub(crate) fn put_out<K: Sink>(writer: &mut Writer<'_, K>, period: u16, people: 
     writer.put(line);
 }
 
+#[tactic(auto, unfolding(crate::specs::BlockText::label_line))]
 pub(crate) fn put_label<K: Sink>(
     writer: &mut Writer<'_, K>,
     name: &NameText,
@@ -66,6 +71,7 @@ pub(crate) fn put_label<K: Sink>(
     writer.put(line);
 }
 
+#[tactic(auto, unfolding(crate::specs::BlockText::move_line))]
 pub(crate) fn put_move<K: Sink>(
     writer: &mut Writer<'_, K>,
     moment: u16,
@@ -83,6 +89,7 @@ pub(crate) fn put_move<K: Sink>(
     writer.put(line);
 }
 
+#[tactic(auto, unfolding(crate::specs::BlockText::most_line))]
 pub(crate) fn put_most<K: Sink>(writer: &mut Writer<'_, K>, most: u32)
     ensures { Writes K.held K.faults writer.old (most_line most) writer.new }
 {
@@ -91,6 +98,7 @@ pub(crate) fn put_most<K: Sink>(writer: &mut Writer<'_, K>, most: u32)
     writer.put(line);
 }
 
+#[tactic(auto, unfolding(crate::specs::BlockText::in_line))]
 pub(crate) fn put_in<K: Sink>(writer: &mut Writer<'_, K>, name: NodeName, first: u16, last: u16)
     requires { IsName name }
     ensures { Writes K.held K.faults writer.old (in_line (name_text name) first last) writer.new }
@@ -103,6 +111,7 @@ pub(crate) fn put_in<K: Sink>(writer: &mut Writer<'_, K>, name: NodeName, first:
 }
 
 /// Puts the last line of a block.
+#[tactic(auto, unfolding(crate::specs::BlockText::end_line))]
 pub fn put_end<K: Sink>(writer: &mut Writer<'_, K>)
     ensures { Writes K.held K.faults writer.old end_line writer.new }
 {
@@ -110,6 +119,7 @@ pub fn put_end<K: Sink>(writer: &mut Writer<'_, K>)
 }
 
 /// Puts a refusal by its code, at a line of the input.
+#[tactic(auto, unfolding(crate::specs::BlockText::refusal_line))]
 pub fn put_refusal<K: Sink>(writer: &mut Writer<'_, K>, code: Code, line: u32)
     ensures { Writes K.held K.faults writer.old (refusal_line code line) writer.new }
 {

@@ -50,28 +50,7 @@ fn run_end(model: &Model, labels: &Labels, k: u16, node: u32, moment: u16) -> u1
     last
 }
 
-// The line of a run at its first moment.
-fn put_run<K: Sink>(
-    writer: &mut Writer<'_, K>,
-    model: &Model,
-    labels: &Labels,
-    k: u16,
-    node: u32,
-    moment: u16,
-)
-    requires valid { IsValid model.now }
-    requires table { IsTableOf model.now labels.now }
-    requires node_in { node < length model.now.nodes }
-    requires moment_in { moment ≤ model.now.horizon }
-    ensures { Writes K.held K.faults writer.old (in_part model.now (label_cut model.now labels.now k) node moment) writer.new }
-{
-    if opens_run(model, labels, k, node, moment) {
-        let last = run_end(model, labels, k, node, moment);
-        put_in(writer, model.node(node).name, moment, last);
-    }
-}
-
-// The runs of a node.
+// The runs of a node, each by a line at its first moment.
 #[tactic(auto, unfolding(evac_law::specs::Limits::horizon_limit))]
 fn put_runs<K: Sink>(writer: &mut Writer<'_, K>, model: &Model, labels: &Labels, k: u16, node: u32)
     requires valid { IsValid model.now }
@@ -80,7 +59,10 @@ fn put_runs<K: Sink>(writer: &mut Writer<'_, K>, model: &Model, labels: &Labels,
     ensures { Writes K.held K.faults writer.old (flat_map (in_part model.now (label_cut model.now labels.now k) node) (moments_to model.now.horizon)) writer.new }
 {
     for moment in 0..model.horizon + 1 {
-        put_run(writer, model, labels, k, node, moment);
+        if opens_run(model, labels, k, node, moment) {
+            let last = run_end(model, labels, k, node, moment);
+            put_in(writer, model.node(node).name, moment, last);
+        }
     }
 }
 

@@ -1,22 +1,22 @@
 -- Listening, line by line.
-use Rattle.std.proofs.Common.{◌≡◌, ℕ, ◌+◌, true, false, List, [], ◌∷◌, ◌++◌, length, Result, Ok, Err, Some, None, refl, sym, ap, subst, ◌∙◌, arith, append-nil, append_assoc}
+use Rattle.std.proofs.Common.{◌≡◌, ℕ, ◌+◌, false, List, [], ◌∷◌, ◌++◌, length, Result, Ok, Err, Some, None, inl, inr, refl, sym, ap, subst, ◌∙◌, arith, append-nil, append_assoc}
 use Rattle.std.specs.declared.option.Option.{Option}
 use Rattle.std.proofs.lemmas.List.{length-append}
 use Rattle.evac_law.specs.declared.code.Code.TheVariants as codes
-use Rattle.line_io.specs.Causes.{Count, Rose}
-use Rattle.line_io.specs.Hearing.{Hearing, HearsAll, IsCaused, Rests, Listens}
+use Rattle.line_io.specs.Causes.{Count, Rose, unlimited}
+use Rattle.line_io.specs.Hearing.{EndsBy, Hearing, HearsAll, IsCaused, Rests, Listens}
 use Rattle.line_io.specs.Line.{Line, text_lines}
 use Rattle.line_io.specs.Passes.{Follows, IsLeft, Passes}
 use Rattle.line_io.specs.Reader.{Answers, IsLast, is_settled, lines_left}
 use Rattle.line_io.specs.View.{Reader}
 use Rattle.line_io.specs.declared.hearing.Heard.{Heard}
-use Rattle.line_io.specs.declared.hearing.Heard.TheVariants.{More, Last}
+use Rattle.line_io.specs.declared.hearing.Heard.TheVariants.{More}
 use Rattle.line_io.specs.declared.hearing.Ending.{Ending}
 use Rattle.line_io.specs.declared.hearing.Ending.TheVariants.{Finished, Failed, InputEnded, Fault}
 use Rattle.line_io.specs.declared.lines.LineFault.{LineFault}
 use Rattle.line_io.specs.declared.lines.LineFault.TheVariants.{ReadFault, LineTooLong, InputTooLong}
 use Rattle.line_io.proofs.LineLemmas.{text_lines-push}
-use Rattle.line_io.proofs.PassLemmas.{passes-none, passes-then, left-long, left-far, pending-long, pending-far}
+use Rattle.line_io.proofs.PassLemmas.{passes-none, passes-then, left-by, pending-fault}
 
 -- the same answer, by equal words
 pub hears-so : {S F : Type 0} (hears : Hearing S F) (s s' : S) (k k' : ℕ) (t t' : List ℕ) (r r' : Result Heard F) → k ≡ k' → t ≡ t' → r ≡ r' → hears s k t r s' → hears s k' t' r' s'
@@ -79,92 +79,48 @@ left-from texts (Some a) None z rest f h = absurd f
 left-from texts (Some a) (Some b) None rest f h = tt
 left-from texts (Some a) (Some b) (Some c) rest f h = h
 
--- the listener heard all
-pub listens-closed : {S F : Type 0} (hears : Hearing S F) (from at to : S) (a b c : Reader) (l m n : Option (List ℕ)) → Went hears from at a b l m → Passes b c m n (c.text ∷ [])
-    → hears at c.number c.text (Ok Last) to → Listens {F = F} hears Finished from to a c l n
-listens-closed hears from at to a b c l m n w p h = record {
+-- it listened up to its end
+listens-by : {S F : Type 0} (hears : Hearing S F) (ending : Ending F) (from at to : S) (a b c : Reader) (l m n : Option (List ℕ)) (w : Went hears from at a b l m) (last : List (List ℕ)) (rest : List Line)
+    → Passes b c m n last → EndsBy hears ending at (a.number + length w.texts) last rest to → IsLeft (lines_left a l) (lines_left c n) rest → Rests ending c
+    → Listens hears ending from to a c l n
+listens-by hears ending from at to a b c l m n w last rest p ends left rests = record {
   texts = w.texts;
-  last = c.text ∷ [];
-  rest = left-lines (lines_left c n);
+  last = last;
+  rest = rest;
   at = at;
   goes = w.goes;
-  ends = (c.text, refl, subst (λ (k : ℕ). hears at k c.text (Ok Last) to) (next-number a b c l m n w.texts c.text w.passes p) h);
-  passes = passes-then a b c l m n w.texts (c.text ∷ []) w.passes p;
-  is_left = left-so (lines_left a l) (lines_left c n);
-  rests = tt;
+  ends = ends;
+  passes = passes-then a b c l m n w.texts last w.passes p;
+  is_left = left;
+  rests = rests;
 }
 
--- the listener failed
-pub listens-failed : {S F : Type 0} (hears : Hearing S F) (from at to : S) (fault : F) (a b c : Reader) (l m n : Option (List ℕ)) → Went hears from at a b l m → Passes b c m n (c.text ∷ [])
-    → hears at c.number c.text (Err fault) to → Listens hears (Failed fault) from to a c l n
-listens-failed hears from at to fault a b c l m n w p h = record {
-  texts = w.texts;
-  last = c.text ∷ [];
-  rest = left-lines (lines_left c n);
-  at = at;
-  goes = w.goes;
-  ends = (c.text, refl, subst (λ (k : ℕ). hears at k c.text (Err fault) to) (next-number a b c l m n w.texts c.text w.passes p) h);
-  passes = passes-then a b c l m n w.texts (c.text ∷ []) w.passes p;
-  is_left = left-so (lines_left a l) (lines_left c n);
-  rests = tt;
-}
+-- a line ended it
+pub listens-line : {S F : Type 0} (hears : Hearing S F) (ending : Ending F) (result : Result Heard F) (from at to : S) (a b c : Reader) (l m n : Option (List ℕ)) → Went hears from at a b l m
+    → Passes b c m n (c.text ∷ []) → hears at c.number c.text result to
+    → ((before : ℕ) (rest : List Line) → hears at (before + 1) c.text result to → EndsBy hears ending at before (c.text ∷ []) rest to) → Rests ending c
+    → Listens hears ending from to a c l n
+listens-line hears ending result from at to a b c l m n w p h ends rests =
+    let is = subst (λ (k : ℕ). hears at k c.text result to) (next-number a b c l m n w.texts c.text w.passes p) h in
+    listens-by hears ending from at to a b c l m n w (c.text ∷ []) (left-lines (lines_left c n)) p (ends _ _ is) (left-so (lines_left a l) (lines_left c n)) rests
 
--- there is no further line
-pub listens-ended : {S F : Type 0} (hears : Hearing S F) (from at : S) (a b c : Reader) (l m n : Option (List ℕ)) → Went hears from at a b l m → Passes b c m n []
-    → IsLeft (lines_left b m) (lines_left c n) [] → (c.ended ≡ true) × (c.pending ≡ []) → Listens {F = F} hears InputEnded from at a c l n
-listens-ended hears from at a b c l m n w p none over = record {
-  texts = w.texts;
-  last = [];
-  rest = [];
-  at = at;
-  goes = w.goes;
-  ends = (refl, refl, refl);
-  passes = passes-then a b c l m n w.texts [] w.passes p;
-  is_left = left-from w.texts (lines_left a l) (lines_left b m) (lines_left c n) [] w.passes.follows none;
-  rests = over;
-}
+-- it ended where there was no line
+pub listens-none : {S F : Type 0} (hears : Hearing S F) (ending : Ending F) (from at : S) (a b c : Reader) (l m n : Option (List ℕ)) (rest : List Line) (w : Went hears from at a b l m) → Passes b c m n []
+    → IsLeft (lines_left b m) (lines_left c n) rest → EndsBy hears ending at (a.number + length w.texts) [] rest at → Rests ending c → Listens hears ending from at a c l n
+listens-none hears ending from at a b c l m n rest w p left ends rests =
+    listens-by hears ending from at at a b c l m n w [] rest p ends (left-from w.texts (lines_left a l) (lines_left b m) (lines_left c n) rest w.passes.follows left) rests
 
--- the source failed
-pub listens-read : {S F : Type 0} (hears : Hearing S F) (from at : S) (a b c : Reader) (l m n : Option (List ℕ)) → Went hears from at a b l m → Passes b c m n []
-    → is_settled c ≡ false → Listens {F = F} hears (Fault ReadFault) from at a c l n
-listens-read hears from at a b c l m n w p open_line = record {
-  texts = w.texts;
-  last = [];
-  rest = left-lines (lines_left c n);
-  at = at;
-  goes = w.goes;
-  ends = (refl, refl);
-  passes = passes-then a b c l m n w.texts [] w.passes p;
-  is_left = left-so (lines_left a l) (lines_left c n);
-  rests = open_line;
-}
-
--- the next line has a fault
+-- the source failed, or the next line has a fault
 pub listens-fault : {S F : Type 0} (hears : Hearing S F) (from at : S) (fault : LineFault) (a b c : Reader) (l m n : Option (List ℕ)) → Went hears from at a b l m → Passes b c m n []
     → Answers (Err fault) c.text (lines_left b m) (lines_left c n) → IsLast (Err fault) c → (fault ≡ ReadFault → is_settled c ≡ false) → Listens {F = F} hears (Fault fault) from at a c l n
-listens-fault hears from at ReadFault a b c l m n w p answers stays open_line = listens-read hears from at a b c l m n w p (open_line refl)
-listens-fault hears from at LineTooLong a b c l m n w p answers stays open_line = record {
-  texts = w.texts;
-  last = [];
-  rest = Err codes.LineTooLong ∷ [];
-  at = at;
-  goes = w.goes;
-  ends = (refl, refl, refl);
-  passes = passes-then a b c l m n w.texts [] w.passes p;
-  is_left = left-from w.texts (lines_left a l) (lines_left b m) (lines_left c n) (Err codes.LineTooLong ∷ []) w.passes.follows (left-long c.text (lines_left b m) (lines_left c n) answers);
-  rests = pending-long c stays;
-}
-listens-fault hears from at InputTooLong a b c l m n w p answers stays open_line = record {
-  texts = w.texts;
-  last = [];
-  rest = Err codes.InputTooLong ∷ [];
-  at = at;
-  goes = w.goes;
-  ends = (refl, refl, refl);
-  passes = passes-then a b c l m n w.texts [] w.passes p;
-  is_left = left-from w.texts (lines_left a l) (lines_left b m) (lines_left c n) (Err codes.InputTooLong ∷ []) w.passes.follows (left-far c.text (lines_left b m) (lines_left c n) answers);
-  rests = pending-far c stays;
-}
+listens-fault hears from at ReadFault a b c l m n w p answers stays open_line =
+    listens-none hears (Fault ReadFault) from at a b c l m n (left-lines (lines_left c n)) w p (left-so (lines_left b m) (lines_left c n)) (refl, refl) (open_line refl)
+listens-fault hears from at LineTooLong a b c l m n w p answers stays open_line =
+    listens-none hears (Fault LineTooLong) from at a b c l m n (Err codes.LineTooLong ∷ []) w p
+    (left-by (Err LineTooLong) c.text _ (λ x y h. h.1 ∙ h.0) _ _ answers) (refl, refl, refl) (pending-fault LineTooLong c stays)
+listens-fault hears from at InputTooLong a b c l m n w p answers stays open_line =
+    listens-none hears (Fault InputTooLong) from at a b c l m n (Err codes.InputTooLong ∷ []) w p
+    (left-by (Err InputTooLong) c.text _ (λ x y h. h.1 ∙ h.0) _ _ answers) (refl, refl, refl) (pending-fault InputTooLong c stays)
 
 -- ---- what lines mean
 
@@ -193,6 +149,10 @@ caused-same InputEnded before now other h = h
 caused-same (Fault LineTooLong) before now other h = h
 caused-same (Fault InputTooLong) before now other h = h
 caused-same (Fault ReadFault) before now other h = absurd (other refl)
+
+-- a count without a last value that stayed 0 didn't rise
+pub never-rose : Rose (unlimited 0) (unlimited 0) → ⊥
+never-rose rose = elim rose.greater as (λ _. ⊥) [ inl less ↦ omega (arith, less) | inr some ↦ cc ]
 
 pub rests-open : {F : Type 0} (ending : Ending F) (r : Reader) → ending ≡ Fault ReadFault → Rests ending r → is_settled r ≡ false
 rests-open {F} ending r is h = let P : Ending F → Type 0 = λ e. Rests e r in subst P is h

@@ -3,12 +3,10 @@ use Rattle.std.proofs.Common.{◌≡◌, ℕ, suc, ◌+◌, ◌<◌, true, false
 use Rattle.std.proofs.lemmas.Bool.{or_parts, leb-false}
 use Rattle.std.proofs.lemmas.List.Sums.{sum_by-cons}
 use Rattle.std.specs.List.{list_any}
-use Rattle.evac_law.specs.declared.code.Code.{Code}
 use Rattle.evac_law.specs.declared.code.Code.TheVariants as codes
-use Rattle.line_io.specs.Line.{Line, is_lf, pieces, onto_first, IsPiece, line_of, then_lines, lines_after, lines_of, text_lines, whole_part, onto_whole, IsWhole, line_limit}
-use Rattle.line_io.specs.Reader.{IsGiven, is_settled, answer_at, settled_answer, fault_of}
+use Rattle.line_io.specs.Line.{Line, is_lf, pieces, onto_first, line_of, then_lines, lines_after, text_lines, whole_part, onto_whole, IsWhole, line_limit}
+use Rattle.line_io.specs.Reader.{is_settled}
 use Rattle.line_io.specs.View.{Reader}
-use Rattle.line_io.specs.declared.lines.LineFault.TheVariants.{ReadFault}
 
 -- ---- whole bytes
 
@@ -138,35 +136,4 @@ pub text_lines-push : (texts : List (List ℕ)) (text : List ℕ) → text_lines
 text_lines-push [] text = refl
 text_lines-push (t ∷ ts) text = ap (λ l. Ok t ∷ l) (text_lines-push ts text)
 
--- one more line after whole bytes
-pub lines_of-push : (gone piece : List ℕ) (texts : List (List ℕ)) (text : List ℕ) → IsWhole gone → lines_of gone ≡ text_lines texts
-    → IsPiece piece → line_of (length gone + length piece) piece ≡ Ok text → lines_of (gone ++ piece) ≡ text_lines (texts ++ text ∷ [])
-unfolding lines_after
-lines_of-push gone piece texts text whole lines single good =
-    let start : 0 + length gone ≡ length gone = omega arith in
-    lines_after-whole 0 gone piece texts whole lines
-    ∙ ap (λ n. text_lines texts ++ lines_after n (pieces piece)) start
-    ∙ ap (λ ps. text_lines texts ++ lines_after (length gone) ps) single
-    ∙ ap (λ l. text_lines texts ++ then_lines l []) good
-    ∙ sym (text_lines-push texts text)
-
--- the line given last, after those given before it
-pub lines_of-given : (gone piece : List ℕ) (texts : List (List ℕ)) (after : Reader) → IsWhole gone → lines_of gone ≡ text_lines texts
-    → IsGiven after piece → after.given ≡ length gone + length piece → lines_of (gone ++ piece) ≡ text_lines (texts ++ after.text ∷ [])
-lines_of-given gone piece texts after whole lines given count =
-    lines_of-push gone piece texts after.text whole lines given.single (ap (λ n. line_of n piece) (sym count) ∙ given.right)
-
 -- ---- answers
-
-not_read : (code : Code) → fault_of code ≡ ReadFault → ⊥
-not_read codes.LineTooLong h = cc
-not_read code h = cc
-
-read-at : (lines : List Line) → answer_at lines ≡ Err ReadFault → ⊥
-read-at [] h = cc
-read-at (Ok text ∷ lines) h = cc
-read-at (Err code ∷ lines) h = let e : fault_of code ≡ ReadFault = cc in not_read code e
-
--- a settled reader answers no read fault
-pub settled_answer-read : (r : Reader) → settled_answer r ≡ Err ReadFault → ⊥
-settled_answer-read r h = read-at _ h

@@ -1,33 +1,24 @@
 -- A reader that goes on line by line.
 use Rattle.std.proofs.Common.{◌≡◌, ℕ, ◌+◌, Bool, true, false, cond, List, [], ◌∷◌, ◌++◌, length, Result, Ok, Err, Some, None, refl, sym, ap, ap₂, ◌∙◌, arith, append-nil, append_assoc, inl, inr, ◌⊎◌}
 use Rattle.std.specs.declared.option.Option.{Option}
-use Rattle.std.specs.Io.KnownBytes.{Consumes}
+use Rattle.std.proofs.KnownBytes.{Consumes-nil, Consumes-trans}
 use Rattle.std.proofs.lemmas.List.{length-append}
 use Rattle.std.specs.Prelude.{nat_lt, ◌≤◌}
 use Rattle.evac_law.specs.declared.code.Code.{Code}
 use Rattle.evac_law.specs.declared.code.Code.TheVariants as codes
 use Rattle.line_io.specs.declared.limits.TheConstants.{BUFFER_SIZE}
-use Rattle.line_io.specs.Line.{Line, IsWhole, content, input_limit, line_limit, lines_after, pieces, text_lines, line_of, then_lines, onto_first, is_lf}
-use Rattle.line_io.specs.Reader.{HasRoom, lines_left, Answers, GivesAway, IsGiven, StaysAt, fault_of, is_settled, pending_lines, settled_answer, answer_at, taken_lines}
-use Rattle.line_io.specs.View.{Reader}
+use Rattle.line_io.specs.Line.{Line, IsWhole, content, input_limit, line_limit, lines_after, pieces, text_lines, line_of, then_lines}
 use Rattle.line_io.specs.declared.lines.Found.{Found}
+use Rattle.line_io.specs.Reader.{Gives, HasRoom, lines_left, Answers, GivesAway, IsGiven, StaysAt, is_settled, pending_lines, settled_answer, answer_at, taken_lines}
+use Rattle.line_io.specs.View.{Reader}
 use Rattle.line_io.specs.declared.lines.Found.TheVariants.{Text, End}
 use Rattle.line_io.specs.declared.lines.LineFault.{LineFault}
 use Rattle.line_io.specs.declared.lines.LineFault.TheVariants.{ReadFault, LineTooLong, InputTooLong}
 use Rattle.line_io.proofs.LineLemmas.{IsWhole-nil, IsWhole-append, lines_after-whole}
+use Rattle.line_io.proofs.Pieces.{pieces-first}
 use Rattle.line_io.specs.Passes.{Follows, IsLeft, Passes}
 
 -- ---- bytes and lines
-
-consumes-none : (left : Option (List ℕ)) → Consumes left left []
-consumes-none None = tt
-consumes-none (Some xs) = refl
-
-consumes-then : (a b c : Option (List ℕ)) (x y : List ℕ) → Consumes a b x → Consumes b c y → Consumes a c (x ++ y)
-consumes-then None b c x y h k = tt
-consumes-then (Some xs) None c x y h k = absurd h
-consumes-then (Some xs) (Some ys) None x y h k = absurd k
-consumes-then (Some xs) (Some ys) (Some zs) x y h k = h ∙ ap (λ l. x ++ l) k ∙ sym (append_assoc x y zs)
 
 pub text_lines-append : (xs ys : List (List ℕ)) → text_lines (xs ++ ys) ≡ text_lines xs ++ text_lines ys
 text_lines-append [] ys = refl
@@ -44,9 +35,10 @@ follows-then xs ys (Some l) (Some m) None h k = absurd k
 follows-then xs ys (Some l) (Some m) (Some n) h k =
     h ∙ ap (λ z. text_lines xs ++ z) k ∙ sym (append_assoc (text_lines xs) (text_lines ys) n) ∙ ap (λ z. z ++ n) (sym (text_lines-append xs ys))
 
-no-lines : (before : ℕ) → lines_after before (pieces []) ≡ []
+-- no bytes have no lines
+pub lines_after-nil : (before : ℕ) → lines_after before (pieces []) ≡ []
 unfolding lines_after pieces
-no-lines before = refl
+lines_after-nil before = refl
 
 tied-then : (a x b y c g h : List ℕ) → a ++ x ≡ g ++ b → b ++ y ≡ h ++ c → a ++ (x ++ y) ≡ (g ++ h) ++ c
 tied-then a x b y c g h first second =
@@ -59,10 +51,10 @@ pub passes-none : (r : Reader) (left : Option (List ℕ)) → Passes r r left le
 passes-none r left = record {
   taken = [];
   gone = [];
-  consumed = consumes-none left;
+  consumed = Consumes-nil left;
   tied = append-nil r.pending;
   counted = omega arith;
-  said = no-lines r.given;
+  said = lines_after-nil r.given;
   number = omega arith;
   whole = inl IsWhole-nil;
   closed = λ ended empty. (refl, refl, ended, empty);
@@ -70,7 +62,7 @@ passes-none r left = record {
   room = λ h. h;
 }
 
-IsClosed : Reader → Type 0
+abbrev pub IsClosed : Reader → Type 0
 IsClosed r = (r.ended ≡ true) × (r.pending ≡ [])
 
 -- the lines of both parts: where the first isn't whole, the second is empty
@@ -85,13 +77,12 @@ said-then n m g h xs ys first count second (inr none) =
     ap (λ l. lines_after n (pieces (g ++ l))) none.0 ∙ ap (λ l. lines_after n (pieces l)) (append-nil g) ∙ first
     ∙ ap text_lines (sym (append-nil xs)) ∙ ap (λ l. text_lines (xs ++ l)) (sym none.1)
 
-whole-then : (g h : List ℕ) (b c : Reader) → IsWhole g ⊎ ((b.ended ≡ true) × (b.pending ≡ [])) → IsWhole h ⊎ ((c.ended ≡ true) × (c.pending ≡ []))
-    → ((b.ended ≡ true) → (b.pending ≡ []) → (c.ended ≡ true) × (c.pending ≡ [])) → IsWhole (g ++ h) ⊎ ((c.ended ≡ true) × (c.pending ≡ []))
+whole-then : (g h : List ℕ) (b c : Reader) → IsWhole g ⊎ IsClosed b → IsWhole h ⊎ IsClosed c → (b.ended ≡ true → b.pending ≡ [] → IsClosed c) → IsWhole (g ++ h) ⊎ IsClosed c
 whole-then g h b c (inl w) (inl v) closed = inl (IsWhole-append g h w v)
 whole-then g h b c (inl w) (inr e) closed = inr e
 whole-then g h b c (inr e) k closed = inr (closed e.0 e.1)
 
-part-of : (g h : List ℕ) (ys : List (List ℕ)) (b : Reader) → IsWhole g ⊎ ((b.ended ≡ true) × (b.pending ≡ []))
+part-of : (g h : List ℕ) (ys : List (List ℕ)) (b : Reader) → IsWhole g ⊎ IsClosed b
     → ((b.ended ≡ true) → (b.pending ≡ []) → (h ≡ []) × (ys ≡ [])) → IsWhole g ⊎ ((h ≡ []) × (ys ≡ []))
 part-of g h ys b (inl w) closed = inl w
 part-of g h ys b (inr e) closed = inr (closed e.0 e.1)
@@ -101,7 +92,7 @@ pub passes-then : (a b c : Reader) (l m n : Option (List ℕ)) (xs ys : List (Li
 passes-then a b c l m n xs ys p q = record {
   taken = p.taken ++ q.taken;
   gone = p.gone ++ q.gone;
-  consumed = consumes-then l m n p.taken q.taken p.consumed q.consumed;
+  consumed = Consumes-trans l m n p.taken q.taken p.consumed q.consumed;
   tied = tied-then a.pending p.taken b.pending q.taken c.pending p.gone q.gone p.tied q.tied;
   counted = let e = p.counted in let f = q.counted in let g = length-append p.gone q.gone in omega arith;
   said = said-then a.given b.given p.gone q.gone xs ys p.said p.counted q.said (part-of p.gone q.gone ys b p.whole (λ e f. let k = q.closed e f in (k.0, k.1)));
@@ -123,20 +114,25 @@ closed-answer r ended empty = ap (λ p. answer_at (lines_after r.given (pieces p
 closed-settled : (r : Reader) → r.ended ≡ true → is_settled r ≡ true
 closed-settled r ended = rw ended refl
 
--- what a call tells of a reader that is settled
-pub IsSettledSo : Reader → Result Found LineFault → Type 0
-IsSettledSo b result = is_settled b ≡ true → result ≡ settled_answer b
+-- what an answer says of the lines left before it and after it
+pub follows-by : (result : Result Found LineFault) (t : List ℕ) (texts : List (List ℕ)) → ((x y : List Line) → Gives result t x y → x ≡ text_lines texts ++ y)
+    → (before after : Option (List Line)) → Answers result t before after → Follows texts before after
+follows-by result t texts gives None after h = tt
+follows-by result t texts gives (Some x) None h = absurd h
+follows-by result t texts gives (Some x) (Some y) h = gives x y h
 
-follows-one : (t : List ℕ) (before after : Option (List Line)) → Answers (Ok Text) t before after → Follows (t ∷ []) before after
-follows-one t None after h = tt
-follows-one t (Some x) None h = absurd h
-follows-one t (Some x) (Some y) h = h
+pub left-by : (result : Result Found LineFault) (t : List ℕ) (rest : List Line) → ((x y : List Line) → Gives result t x y → y ≡ rest)
+    → (before after : Option (List Line)) → Answers result t before after → IsLeft before after rest
+left-by result t rest gives None after h = tt
+left-by result t rest gives (Some x) None h = tt
+left-by result t rest gives (Some x) (Some y) h = gives x y h
 
 -- a line was found
-pub passes-text : (b c : Reader) (m n : Option (List ℕ)) → GivesAway (Ok Text) b c m n → Answers (Ok Text) c.text (lines_left b m) (lines_left c n) → c.number ≡ b.number + 1
-    → (is_settled b ≡ true → Ok Text ≡ settled_answer b) → HasRoom c → Passes b c m n (c.text ∷ [])
+pub passes-text : (result : Result Found LineFault) (b c : Reader) (m n : Option (List ℕ)) → result ≡ Ok Text → GivesAway result b c m n → Answers result c.text (lines_left b m) (lines_left c n)
+    → c.number ≡ b.number + 1 → (is_settled b ≡ true → result ≡ settled_answer b) → HasRoom c → Passes b c m n (c.text ∷ [])
 unfolding lines_after
-passes-text b c m n away answers number settled room =
+passes-text result b c m n is gives answers number settled room =
+    let away = rw is at gives in
     let given : IsGiven c away.gone = away.line in
     record {
       taken = away.taken;
@@ -148,8 +144,8 @@ passes-text b c m n away answers number settled room =
           ∙ ap (λ l. then_lines l []) (ap (λ k. line_of k away.gone) (sym away.counted) ∙ given.right);
       number = number;
       whole = given.finished;
-      closed = λ e f. let found : Ok Text ≡ Ok End = settled (closed-settled b e) ∙ closed-answer b e f in cc;
-      follows = follows-one c.text (lines_left b m) (lines_left c n) answers;
+      closed = λ e f. let found : Ok Text ≡ Ok End = sym is ∙ settled (closed-settled b e) ∙ closed-answer b e f in cc;
+      follows = follows-by (Ok Text) c.text (c.text ∷ []) (λ x y h. h) (lines_left b m) (lines_left c n) (rw is at answers);
       room = λ _. room;
     }
 
@@ -161,78 +157,48 @@ cons-answer : (n : ℕ) (p : List ℕ) (ps : List (List ℕ)) → answer_at (lin
 unfolding lines_after
 cons-answer n p ps h = then-answer (line_of (n + length p) p) (lines_after (n + length p) ps) h
 
-first-answer : (n b : ℕ) (ps : List (List ℕ)) → answer_at (lines_after n (onto_first b ps)) ≡ Ok End → ⊥
-first-answer n b [] h = cons-answer n (b ∷ []) [] h
-first-answer n b (p ∷ ps) h = cons-answer n (b ∷ p) ps h
-
-byte-answer : (n b : ℕ) (ps : List (List ℕ)) (t : Bool) → answer_at (lines_after n (cond t ((b ∷ []) ∷ ps) (onto_first b ps))) ≡ Ok End → ⊥
-byte-answer n b ps true h = cons-answer n (b ∷ []) ps h
-byte-answer n b ps false h = first-answer n b ps h
-
 -- where the pending bytes have no line, there are none
 none-pending : (n : ℕ) (bs : List ℕ) → answer_at (lines_after n (pieces bs)) ≡ Ok End → bs ≡ []
-unfolding pieces
 none-pending n [] h = refl
-none-pending n (b ∷ bs) h = absurd (byte-answer n b (pieces bs) (is_lf b) h)
+none-pending n (b ∷ bs) h = let e = pieces-first (b ∷ bs) (omega arith) in absurd (cons-answer n _ _ (rw e at h))
 
-follows-end : (t : List ℕ) (before after : Option (List Line)) → Answers (Ok End) t before after → Follows [] before after
-follows-end t None after h = tt
-follows-end t (Some x) None h = absurd h
-follows-end t (Some x) (Some y) h = sym h.1
+-- no line was found: no byte went away
+passes-nothing : (result : Result Found LineFault) (b c : Reader) (m n : Option (List ℕ)) (away : GivesAway result b c m n) → away.gone ≡ [] → c.number ≡ b.number
+    → (b.ended ≡ true → b.pending ≡ [] → IsClosed c) → Follows [] (lines_left b m) (lines_left c n) → HasRoom c → Passes b c m n []
+passes-nothing result b c m n away none number closed follows room = record {
+  taken = away.taken;
+  gone = [];
+  consumed = away.consumed;
+  tied = away.tied ∙ ap (λ g. g ++ c.pending) none;
+  counted = away.counted ∙ ap (λ g. b.given + length g) none;
+  said = lines_after-nil b.given;
+  number = omega arith;
+  whole = inl IsWhole-nil;
+  closed = λ e f. (refl, refl, (closed e f).0, (closed e f).1);
+  follows = follows;
+  room = λ _. room;
+}
 
--- the end was found
 pub passes-end : (b c : Reader) (m n : Option (List ℕ)) → GivesAway (Ok End) b c m n → Answers (Ok End) c.text (lines_left b m) (lines_left c n) → c.number ≡ b.number
-    → c.ended ≡ true → StaysAt (Ok End) c → HasRoom c → Passes b c m n []
-passes-end b c m n away answers number ended stays room =
-    let none : away.gone ≡ [] = away.line in
-    let empty : c.pending ≡ [] = none-pending c.given c.pending stays.same in
-    record {
-      taken = away.taken;
-      gone = [];
-      consumed = away.consumed;
-      tied = away.tied ∙ ap (λ g. g ++ c.pending) none;
-      counted = away.counted ∙ ap (λ g. b.given + length g) none;
-      said = no-lines b.given;
-      number = let e = number in omega arith;
-      whole = inr (ended, empty);
-      closed = λ e f. (refl, refl, ended, empty);
-      follows = follows-end c.text (lines_left b m) (lines_left c n) answers;
-      room = λ _. room;
-    }
+    → IsClosed c → HasRoom c → Passes b c m n []
+passes-end b c m n away answers number closed room =
+    passes-nothing (Ok End) b c m n away away.line number (λ _ _. closed) (follows-by (Ok End) c.text [] (λ x y h. sym h.1) (lines_left b m) (lines_left c n) answers) room
 
-follows-fault : (f : LineFault) (t : List ℕ) (before after : Option (List Line)) → Answers (Err f) t before after → Follows [] before after
-follows-fault f t None after h = tt
-follows-fault f t (Some x) None h = absurd h
-follows-fault ReadFault t (Some x) (Some y) h = sym h
-follows-fault LineTooLong t (Some x) (Some y) h = sym h.1
-follows-fault InputTooLong t (Some x) (Some y) h = sym h.1
+gives-fault : (f : LineFault) (t : List ℕ) (before after : List Line) → Gives (Err f) t before after → before ≡ after
+gives-fault ReadFault t before after h = sym h
+gives-fault LineTooLong t before after h = sym h.1
+gives-fault InputTooLong t before after h = sym h.1
 
-gone-fault : (f : LineFault) (b c : Reader) (m n : Option (List ℕ)) (away : GivesAway (Err f) b c m n) → away.gone ≡ []
-gone-fault f b c m n away = away.line
-
--- no line was found
 pub passes-fault : (f : LineFault) (b c : Reader) (m n : Option (List ℕ)) → GivesAway (Err f) b c m n → Answers (Err f) c.text (lines_left b m) (lines_left c n) → c.number ≡ b.number
     → (is_settled b ≡ true → Err f ≡ settled_answer b) → HasRoom c → Passes b c m n []
 passes-fault f b c m n away answers number settled room =
-    let none : away.gone ≡ [] = gone-fault f b c m n away in
-    record {
-      taken = away.taken;
-      gone = [];
-      consumed = away.consumed;
-      tied = away.tied ∙ ap (λ g. g ++ c.pending) none;
-      counted = away.counted ∙ ap (λ g. b.given + length g) none;
-      said = no-lines b.given;
-      number = let e = number in omega arith;
-      whole = inl IsWhole-nil;
-      closed = λ e g. let found : Err f ≡ Ok End = settled (closed-settled b e) ∙ closed-answer b e g in cc;
-      follows = follows-fault f c.text (lines_left b m) (lines_left c n) answers;
-      room = λ _. room;
-    }
+    passes-nothing (Err f) b c m n away away.line number (λ e g. let found : Err f ≡ Ok End = settled (closed-settled b e) ∙ closed-answer b e g in cc)
+    (follows-by (Err f) c.text [] (gives-fault f c.text) (lines_left b m) (lines_left c n) answers) room
 
 -- ---- lines of the bytes that were taken
 
 pub none-pending-lines : (r : Reader) → r.pending ≡ [] → pending_lines r ≡ []
-none-pending-lines r empty = ap (λ z. lines_after r.given (pieces z)) empty ∙ no-lines r.given
+none-pending-lines r empty = ap (λ z. lines_after r.given (pieces z)) empty ∙ lines_after-nil r.given
 
 -- they are the lines that went by, and those of the bytes that are pending
 pub passes-taken : (a c : Reader) (l n : Option (List ℕ)) (xs : List (List ℕ)) (p : Passes a c l n xs) → taken_lines a p.taken ≡ text_lines xs ++ pending_lines c
@@ -248,48 +214,26 @@ passes-few a c l n xs p room =
     let there = p.room room in
     omega (arith, ap length p.tied, length-append a.pending p.taken, length-append p.gone c.pending, p.counted, there.pending, there.given)
 
-test-code : (long far : Bool) (text : List ℕ) (code : Code) → cond long (Err codes.LineTooLong) (cond far (Err codes.InputTooLong) (Ok text)) ≡ Err code → (code ≡ codes.LineTooLong) ⊎ (code ≡ codes.InputTooLong)
-test-code true far text code h = inl cc
-test-code false true text code h = inr cc
-test-code false false text code h = absurd cc
+-- the code of a fault
+abbrev pub code_of : LineFault → Code
+code_of InputTooLong = codes.InputTooLong
+code_of _ = codes.LineTooLong
 
-then-fault : (fault : LineFault) (l : Line) (ls : List Line) → answer_at (then_lines l ls) ≡ Err fault → (code : Code) × (l ≡ Err code) × (then_lines l ls ≡ Err code ∷ []) × (fault_of code ≡ fault)
-then-fault fault (Ok t) ls h = absurd cc
-then-fault fault (Err code) ls h = (code, refl, refl, cc)
+fault-last : (fault : LineFault) (long far : Bool) (text : List ℕ) (ls : List Line) → answer_at (then_lines (cond long (Err codes.LineTooLong) (cond far (Err codes.InputTooLong) (Ok text))) ls) ≡ Err fault
+    → then_lines (cond long (Err codes.LineTooLong) (cond far (Err codes.InputTooLong) (Ok text))) ls ≡ Err (code_of fault) ∷ []
+fault-last fault true far text ls h = let e : LineTooLong ≡ fault = cc in ap (λ f. Err (code_of f) ∷ []) e
+fault-last fault false true text ls h = let e : InputTooLong ≡ fault = cc in ap (λ f. Err (code_of f) ∷ []) e
+fault-last fault false false text ls h = absurd cc
 
--- a fault has one code, and is the last line
-fault-lines : (fault : LineFault) (n : ℕ) (ps : List (List ℕ)) → answer_at (lines_after n ps) ≡ Err fault → (code : Code) × (lines_after n ps ≡ Err code ∷ []) × (fault_of code ≡ fault) × ((code ≡ codes.LineTooLong) ⊎ (code ≡ codes.InputTooLong))
+-- a reader that stays at a fault has its line pending
+pub pending-fault : (fault : LineFault) (r : Reader) → StaysAt (Err fault) r → pending_lines r ≡ Err (code_of fault) ∷ []
 unfolding lines_after
-fault-lines fault n [] h = absurd cc
-fault-lines fault n (p ∷ ps) h =
-    let f = then-fault fault (line_of (n + length p) p) (lines_after (n + length p) ps) h in
-    (f.0, f.2, f.3, test-code (nat_lt line_limit (length (content p))) (nat_lt input_limit (n + length p)) (content p) f.0 f.1)
-
-pub pending-long : (r : Reader) → StaysAt (Err LineTooLong) r → pending_lines r ≡ Err codes.LineTooLong ∷ []
-pending-long r stays =
-    let f = fault-lines LineTooLong r.given (pieces r.pending) stays.same in
-    elim f.3 [ inl two ↦ f.1 ∙ ap (λ k. Err k ∷ []) two | inr three ↦ (let no : InputTooLong ≡ LineTooLong = ap fault_of (sym three) ∙ f.2 in absurd cc) ]
-
-pub pending-far : (r : Reader) → StaysAt (Err InputTooLong) r → pending_lines r ≡ Err codes.InputTooLong ∷ []
-pending-far r stays =
-    let f = fault-lines InputTooLong r.given (pieces r.pending) stays.same in
-    elim f.3 [ inl two ↦ (let no : LineTooLong ≡ InputTooLong = ap fault_of (sym two) ∙ f.2 in absurd cc) | inr three ↦ f.1 ∙ ap (λ k. Err k ∷ []) three ]
-
--- what is left where the end or a fault of a line was found
-pub left-end : (t : List ℕ) (before after : Option (List Line)) → Answers (Ok End) t before after → IsLeft before after []
-left-end t None after h = tt
-left-end t (Some x) None h = tt
-left-end t (Some x) (Some y) h = h.1 ∙ h.0
-
-pub left-long : (t : List ℕ) (before after : Option (List Line)) → Answers (Err LineTooLong) t before after → IsLeft before after (Err codes.LineTooLong ∷ [])
-left-long t None after h = tt
-left-long t (Some x) None h = tt
-left-long t (Some x) (Some y) h = h.1 ∙ h.0
-
-pub left-far : (t : List ℕ) (before after : Option (List Line)) → Answers (Err InputTooLong) t before after → IsLeft before after (Err codes.InputTooLong ∷ [])
-left-far t None after h = tt
-left-far t (Some x) None h = tt
-left-far t (Some x) (Some y) h = h.1 ∙ h.0
+pending-fault fault r stays = by (pieces r.pending) stays.same
+  where
+    by : (ps : List (List ℕ)) → answer_at (lines_after r.given ps) ≡ Err fault → lines_after r.given ps ≡ Err (code_of fault) ∷ []
+    by [] h = absurd cc
+    by (p ∷ ps) h =
+        fault-last fault (nat_lt line_limit (length (content p))) (nat_lt input_limit (r.given + length p)) (content p) (lines_after (r.given + length p) ps) h
 
 -- a reader that answers the end has nothing pending
 pub end-empty : (r : Reader) → StaysAt (Ok End) r → r.pending ≡ []

@@ -1,10 +1,10 @@
 -- What texts put one after the other.
-use Rattle.std.proofs.Common.{◌≡◌, ℕ, ◌+◌, ◌<◌, List, [], ◌∷◌, ◌++◌, length, take, drop, get_or, Result, Ok, Err, OnOk, OnErr, IsErr, refl, sym, ap, ◌∙◌, subst, append_assoc, append-nil, take-append-drop}
+use Rattle.std.proofs.Common.{◌≡◌, ℕ, ◌+◌, ◌<◌, List, [], ◌∷◌, ◌++◌, length, take, get_or, Result, Ok, Err, IsErr, refl, sym, ap, ◌∙◌, subst, append_assoc, append-nil}
 use Rattle.std.specs.declared.option.Option.{Option}
 use Rattle.std.specs.List.{flat_map}
 use Rattle.std.proofs.KnownBytes.{Appends-trans, Appends-nil}
 use Rattle.std.proofs.lemmas.Bool.{false≢true}
-use Rattle.std.proofs.lemmas.List.{take_more, at_drop_more}
+use Rattle.std.proofs.lemmas.List.{take_more}
 use Rattle.std.proofs.lemmas.Grind.{flat_map-append}
 use Rattle.line_io.specs.Text.{fields, line_text}
 use Rattle.line_io.specs.Writer.{Puts, PutsFront, PutsText}
@@ -31,9 +31,6 @@ puts-is {a} {p} {t} {u} {b} {q} e h = subst (λ (l : List ℕ). Puts a p l b q) 
 pub front-none : {a : Option (List ℕ)} {p : List ℕ} {b : Option (List ℕ)} {q : List ℕ} (t : List ℕ) → Puts a p [] b q → PutsFront a p t b q
 front-none t h = record { front = []; rest = t; parts = refl; put = h }
 
-pub front-whole : {a : Option (List ℕ)} {p t : List ℕ} {b : Option (List ℕ)} {q : List ℕ} (u : List ℕ) → Puts a p t b q → PutsFront a p (t ++ u) b q
-front-whole {a} {p} {t} u h = record { front = t; rest = u; parts = refl; put = h }
-
 pub front-more : {a : Option (List ℕ)} {p t : List ℕ} {b : Option (List ℕ)} {q : List ℕ} (u : List ℕ) → PutsFront a p t b q → PutsFront a p (t ++ u) b q
 front-more u h = record { front = h.front; rest = h.rest ++ u; parts = ap (λ l. l ++ u) h.parts ∙ append_assoc h.front h.rest u; put = h.put }
 
@@ -51,12 +48,6 @@ front-is {a} {p} {t} {u} {b} {q} e h = subst (λ (l : List ℕ). PutsFront a p l
 
 -- ---- answers of writers
 
--- one put: its text, or nothing of it
-pub text-put : {T E : Type 0} (r : Result T E) {a : Option (List ℕ)} {p t : List ℕ} {b : Option (List ℕ)} {q : List ℕ}
-    → OnOk r (Puts a p t b q) → OnErr r (Puts a p [] b q) → PutsText a p t b q r
-text-put (Ok x) done none = record { ok = done; err = tt }
-text-put (Err x) {t} done none = record { ok = tt; err = front-none t none }
-
 -- the same text, spelled otherwise
 pub text-is : {T E : Type 0} {a : Option (List ℕ)} {p t u : List ℕ} {b : Option (List ℕ)} {q : List ℕ} {r : Result T E}
     → t ≡ u → PutsText a p t b q r → PutsText a p u b q r
@@ -66,12 +57,6 @@ text-is {a} {p} {t} {u} {b} {q} {r} e h = subst (λ (l : List ℕ). PutsText a p
 pub text-line : {T E : Type 0} {a : Option (List ℕ)} {p line : List ℕ} {b : Option (List ℕ)} {q : List ℕ} {r : Result T E} (fs : List (List ℕ))
     → line ≡ fields fs → PutsText a p (line ++ (10 ∷ [])) b q r → PutsText a p (line_text fs) b q r
 text-line fs e h = text-is (ap (λ l. l ++ (10 ∷ [])) e) h
-
--- the last writer of several, after the texts of those before it
-pub text-last : {T E : Type 0} (r : Result T E) {a : Option (List ℕ)} {p t : List ℕ} {b : Option (List ℕ)} {q u : List ℕ} {c : Option (List ℕ)} {s : List ℕ}
-    → Puts a p t b q → PutsText b q u c s r → PutsText a p (t ++ u) c s r
-text-last (Ok x) before h = record { ok = puts-then before h.ok; err = tt }
-text-last (Err x) before h = record { ok = tt; err = front-then before h.err }
 
 -- where all succeeded
 pub text-done : {T E : Type 0} (x : T) {a : Option (List ℕ)} {p t : List ℕ} {b : Option (List ℕ)} {q : List ℕ} → Puts a p t b q → PutsText {E = E} a p t b q (Ok x)
@@ -90,26 +75,6 @@ pub flat_map-more : {X : Type 0} (f : X → List ℕ) (xs : List X) (i : ℕ) (n
 flat_map-more f xs i none h =
     let x = get_or xs i none in
     ap (λ l. flat_map f (take i xs) ++ l) (sym (append-nil (f x))) ∙ sym (flat_map-append f (take i xs) (x ∷ [])) ∙ ap (flat_map f) (sym (take_more xs i none h))
-
--- those so far, this one and those after it
-flat_map-parts : {X : Type 0} (f : X → List ℕ) (xs : List X) (i : ℕ) (none : X) → i < length xs
-    → (flat_map f (take i xs) ++ f (get_or xs i none)) ++ flat_map f (drop (i + 1) xs) ≡ flat_map f xs
-flat_map-parts f xs i none h =
-    append_assoc (flat_map f (take i xs)) (f (get_or xs i none)) (flat_map f (drop (i + 1) xs))
-    ∙ ap (λ l. flat_map f (take i xs) ++ l) (sym (at_drop_more (flat_map f) xs i none h))
-    ∙ sym (flat_map-append f (take i xs) (drop i xs)) ∙ ap (flat_map f) (take-append-drop i xs)
-
--- the text of one more element
-pub puts-each : {X : Type 0} (f : X → List ℕ) (xs : List X) (i : ℕ) (none : X)
-    {a : Option (List ℕ)} {p : List ℕ} {b : Option (List ℕ)} {q : List ℕ} {c : Option (List ℕ)} {r : List ℕ}
-    → i < length xs → Puts a p (flat_map f (take i xs)) b q → Puts b q (f (get_or xs i none)) c r → Puts a p (flat_map f (take (i + 1) xs)) c r
-puts-each f xs i none h before this = puts-is (flat_map-more f xs i none h) (puts-then before this)
-
--- where the text of one element failed
-pub front-each : {X : Type 0} (f : X → List ℕ) (xs : List X) (i : ℕ) (none : X)
-    {a : Option (List ℕ)} {p : List ℕ} {b : Option (List ℕ)} {q : List ℕ} {c : Option (List ℕ)} {r : List ℕ}
-    → i < length xs → Puts a p (flat_map f (take i xs)) b q → PutsFront b q (f (get_or xs i none)) c r → PutsFront a p (flat_map f xs) c r
-front-each f xs i none h before this = front-is (flat_map-parts f xs i none h) (front-more (flat_map f (drop (i + 1) xs)) (front-then before this))
 
 -- ---- fields
 

@@ -11,7 +11,7 @@ first_size [] = 0
 first_size (b ∷ bs) = if is_lf b then 1 else suc (first_size bs)
 
 -- bytes were taken from the source, and put after the pending ones
-pub record Takes (before after : Reader) (left left' : Option (List ℕ)) : Type 0 where
+pub record Refills (before after : Reader) (left left' : Option (List ℕ)) : Type 0 where
   pub taken : List ℕ
   pub consumed : Consumes left left' taken
   pub behind : after.pending ≡ before.pending ++ taken

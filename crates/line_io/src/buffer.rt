@@ -25,21 +25,25 @@ pub(crate) fn write_at(buffer: &mut [u8], at: usize, bytes: &[u8])
     buffer[at..end].copy_from_slice(bytes);
 }
 
-// Takes bytes of a source after those in front of a place.
-pub(crate) fn take_behind<S: Source>(
+// Moves a part to the front, and takes bytes of a source after it.
+pub(crate) fn refill<S: Source>(
     source: &mut S,
     buffer: &mut [u8],
-    at: usize,
+    start: usize,
+    end: usize,
 ) -> Result<usize, Failed>
-    requires { at + LEAST_OFFER ≤ length buffer.old }
-    ensures front { take at buffer.new ≡ take at buffer.old }
-    ensures bound { IfOk result (λ n. at + n ≤ length buffer.new) }
-    ensures bytes { ReadConsumes (S.left source.old) (S.left source.new) result (drop at buffer.new) }
+    requires order { start ≤ end }
+    requires within { end ≤ length buffer.old }
+    requires room { end - start + LEAST_OFFER ≤ length buffer.old }
+    ensures front { take (end - start) buffer.new ≡ take (end - start) (drop start buffer.old) }
+    ensures bound { IfOk result (λ n. end - start + n ≤ length buffer.new) }
+    ensures bytes { ReadConsumes (S.left source.old) (S.left source.new) result (drop (end - start) buffer.new) }
     ensures end { IfOk result (λ n. n ≡ 0 → IsAtEnd (S.left source.new)) }
     ensures offered { (room : ℕ) × (LEAST_OFFER ≤ room) × S.takes source.old room result source.new }
     ensures cause { HasCause (S.faults source.old) (S.faults source.new) result }
 {
-    source.take(&mut buffer[at..])
+    shift(buffer, start, end);
+    source.take(&mut buffer[end - start..])
 }
 
 // Sends bytes until the sink fails, and answers how many it took.

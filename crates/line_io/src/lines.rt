@@ -6,10 +6,10 @@ ghost use Rattle.line_io.specs.Calls.{Asks};
 ghost use Rattle.line_io.specs.Causes.{HasCause, Rose};
 ghost use Rattle.line_io.specs.Line.{content, is_lf, without_last, pieces, lines_after, line_limit, input_limit};
 ghost use Rattle.line_io.specs.Reader.{Answers, Drained, Gives, GivesAway, HasRoom, IsGiven, IsLast, ahead, is_settled, lines_left, settled_answer, settles};
-ghost use Rattle.line_io.specs.Scan.{Takes, first_size};
+ghost use Rattle.line_io.specs.Scan.{Refills, first_size};
 ghost use Rattle.line_io.specs.View.{Reader};
 
-use crate::buffer::{shift, take_behind, write_at};
+use crate::buffer::{refill, write_at};
 use crate::limits::{BUFFER_SIZE, INPUT_LIMIT, LINE_LIMIT};
 use crate::outside::{Failed, Source};
 use std::alloc::{AllocError, Global};
@@ -161,7 +161,7 @@ impl Lines {
     fn refill<S: Source>(&mut self, source: &mut S) -> Result<(), Failed>
         requires { is_settled self.old ≡ false }
         ensures bytes { Keeps (ahead self.old (S.left source.old)) (ahead self.new (S.left source.new)) }
-        ensures taken { Takes self.old self.new (S.left source.old) (S.left source.new) }
+        ensures taken { Refills self.old self.new (S.left source.old) (S.left source.new) }
         ensures rest { (self.new.given ≡ self.old.given) × (self.new.number ≡ self.old.number) × (self.new.text ≡ self.old.text) }
         ensures failed { OnErr result (self.new ≡ self.old) }
         ensures drained { Drained self.old (S.left source.old) → Drained self.new (S.left source.new) }
@@ -170,15 +170,14 @@ impl Lines {
         ensures asks { Asks S.takes self.old source.old self.new source.new }
         ensures cause { HasCause (S.faults source.old) (S.faults source.new) result }
     {
-        let end = self.end - self.start;
-        shift(self.buffer.as_mut_slice(), self.start, self.end);
+        let (start, end) = (self.start, self.end);
         self.start = 0;
-        self.end = end;
-        let count = take_behind(source, self.buffer.as_mut_slice(), end)?;
+        self.end = end - start;
+        let count = refill(source, self.buffer.as_mut_slice(), start, end)?;
         if count == 0 {
             self.ended = true;
         }
-        self.end = end + count;
+        self.end += count;
         Ok(())
     }
 

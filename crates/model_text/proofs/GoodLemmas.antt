@@ -73,30 +73,20 @@ good-none F P value [] count h = h
 good-none F P value (a ∷ more) count h = count
 
 good-one : (F : TextFault → Type 0) (fields : List (List ℕ)) → F FieldCount → Good F Any-value (one_field fields)
-good-one F [] count = count
 good-one F (a ∷ []) count = tt
-good-one F (a ∷ b ∷ more) count = count
+good-one F _ count = count
 
 good-two : (F : TextFault → Type 0) (fields : List (List ℕ)) → F FieldCount → Good F Any-value (two_fields fields)
-good-two F [] count = count
-good-two F (a ∷ []) count = count
 good-two F (a ∷ b ∷ []) count = tt
-good-two F (a ∷ b ∷ c ∷ more) count = count
+good-two F _ count = count
 
 good-three : (F : TextFault → Type 0) (fields : List (List ℕ)) → F FieldCount → Good F Any-value (three_fields fields)
-good-three F [] count = count
-good-three F (a ∷ []) count = count
-good-three F (a ∷ b ∷ []) count = count
 good-three F (a ∷ b ∷ c ∷ []) count = tt
-good-three F (a ∷ b ∷ c ∷ d ∷ more) count = count
+good-three F _ count = count
 
 good-four : (F : TextFault → Type 0) (fields : List (List ℕ)) → F FieldCount → Good F Any-value (four_fields fields)
-good-four F [] count = count
-good-four F (a ∷ []) count = count
-good-four F (a ∷ b ∷ []) count = count
-good-four F (a ∷ b ∷ c ∷ []) count = count
 good-four F (a ∷ b ∷ c ∷ d ∷ []) count = tt
-good-four F (a ∷ b ∷ c ∷ d ∷ e ∷ more) count = count
+good-four F _ count = count
 
 -- ---- statements
 

@@ -1,5 +1,5 @@
 -- Lists in order into which one more element is put.
-use Rattle.std.proofs.Common.{◌≡◌, ℕ, ◌+◌, Bool, true, false, cond, List, [], ◌∷◌, length, refl, arith}
+use Rattle.std.proofs.Common.{◌≡◌, ℕ, ◌+◌, Bool, true, false, cond, List, [], ◌∷◌, arith}
 use Rattle.std.specs.List.{All, AllPairs, list_any, sum_by}
 use Rattle.std.proofs.lemmas.Bool.{cond_both, or_parts}
 use Rattle.std.proofs.lemmas.List.Elements.{All-cons, All-head, All-nil, All-tail, All-weaker}
@@ -18,13 +18,6 @@ all-put P before [] y all new = All-cons P y [] new all
 all-put P before (x ∷ xs) y all new =
     cond_both (before y x) (y ∷ x ∷ xs) (x ∷ put-in before xs y) (All P) (λ _. All-cons P y (x ∷ xs) new all)
     (λ _. All-cons P x (put-in before xs y) (All-head P x xs all) (all-put P before xs y (All-tail P x xs all) new))
-
-pub length-put : {X : Type 0} (before : X → X → Bool) (xs : List X) (y : X) → length (put-in before xs y) ≡ length xs + 1
-length-put before [] y = refl
-length-put {X} before (x ∷ xs) y =
-    let more = length-put before xs y in
-    let P : List X → Type 0 = λ l. length l ≡ length (x ∷ xs) + 1 in
-    cond_both (before y x) (y ∷ x ∷ xs) (x ∷ put-in before xs y) P (λ _. omega arith) (λ _. omega arith)
 
 pub sum-put : {X : Type 0} (f : X → ℕ) (before : X → X → Bool) (xs : List X) (y : X) → sum_by f (put-in before xs y) ≡ sum_by f xs + f y
 sum-put f before [] y = omega (arith, sum_by-cons f y [])

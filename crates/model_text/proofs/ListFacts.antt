@@ -1,8 +1,8 @@
 -- Lists that grow at their end, and tests of names.
-use Rattle.std.proofs.Common.{◌≡◌, ℕ, ◌+◌, ◌<◌, Bool, true, false, cond, not, ◌||◌, ◌==◌, nat_lt, List, [], ◌∷◌, ◌++◌, length, map, get_or, refl, ap, ◌∙◌, arith, ◌⊎◌, inl, inr, eq-eqb}
+use Rattle.std.proofs.Common.{◌≡◌, ℕ, ◌+◌, ◌<◌, Bool, true, false, cond, not, ◌||◌, ◌==◌, List, [], ◌∷◌, ◌++◌, length, map, get_or, refl, ap, ◌∙◌, arith, ◌⊎◌, inl, inr, eq-eqb}
 use Rattle.std.specs.List.{list_any, position_or_len}
 use Rattle.std.proofs.Math.Seq.{get_or-append_seam}
-use Rattle.std.proofs.lemmas.Bool.{and_parts, eqb-true, ltb-true, ltb-false}
+use Rattle.std.proofs.lemmas.Bool.{and_parts, cases_lt, eqb-true}
 use Rattle.std.proofs.lemmas.List.{get_or_append_left, length-append}
 use Rattle.std.proofs.lemmas.List.Folds.{list_any_at}
 use Rattle.evac_law.specs.declared.name.Kind.{Kind}
@@ -26,10 +26,7 @@ same-kind-is a b h = cc
 
 same-kind-self : (a : Kind) → same_kind a a ≡ true
 same-kind-self Work = refl
-same-kind-self Hall = refl
-same-kind-self Stair = refl
-same-kind-self Lobby = refl
-same-kind-self Exit = refl
+same-kind-self _ = refl
 
 abbrev make-name : Kind → ℕ → ℕ → NodeName
 make-name k n f = record { kind = k; number = n; floor = f }
@@ -85,14 +82,9 @@ push-by P xs x d i j pairs new before (inr h) =
     let f : get_or (xs ++ (x ∷ [])) j d ≡ x = ap (λ k. get_or (xs ++ (x ∷ [])) k d) h ∙ get_or-append_seam xs x [] d in
     rw (e, f) (new (omega arith))
 
-split-by : (j n : ℕ) (t : Bool) → nat_lt j n ≡ t → j < n + 1 → (j < n) ⊎ (j ≡ n)
-split-by j n true e h = inl (ltb-true j n e)
-split-by j n false e h = let above = ltb-false j n e in inr (omega arith)
-
-split-last : (j n : ℕ) → j < n + 1 → (j < n) ⊎ (j ≡ n)
-split-last j n h = split-by j n (nat_lt j n) refl h
-
 pub push-pairs : {X : Type 0} (P : X → X → Type 0) (xs : List X) (x d : X)
     → ((i j : ℕ) → i < j → j < length xs → P (get_or xs i d) (get_or xs j d)) → ((i : ℕ) → i < length xs → P (get_or xs i d) x)
     → (i j : ℕ) → i < j → j < length (xs ++ (x ∷ [])) → P (get_or (xs ++ (x ∷ [])) i d) (get_or (xs ++ (x ∷ [])) j d)
-push-pairs P xs x d pairs new i j before within = push-by P xs x d i j (pairs i j) (new i) before (split-last j (length xs) (let e = length-push xs x in omega arith))
+push-pairs P xs x d pairs new i j before within =
+    let size = length-push xs x in
+    push-by P xs x d i j (pairs i j) (new i) before (elim (cases_lt j (length xs)) as (λ _. (j < length xs) ⊎ (j ≡ length xs)) [ inl h ↦ inl h | inr h ↦ inr (omega arith) ])

@@ -53,10 +53,7 @@ kind-is letters k h =
 -- the text of a kind reads as the kind
 pub kind-reads : (k : Kind) → kind_of (kind_text k) ≡ Some k
 kind-reads Work = refl
-kind-reads Hall = refl
-kind-reads Stair = refl
-kind-reads Lobby = refl
-kind-reads Exit = refl
+kind-reads _ = refl
 
 -- ---- numbers
 
@@ -173,10 +170,7 @@ after-dot ds more h = ap (λ n. drop (n + 1) (ds ++ (46 ∷ more))) (dot-place d
 
 kind-letters : (k : Kind) (more : List ℕ) → (take 2 (kind_text k ++ more) ≡ kind_text k) × (drop 2 (kind_text k ++ more) ≡ more)
 kind-letters Work more = (refl, refl)
-kind-letters Hall more = (refl, refl)
-kind-letters Stair more = (refl, refl)
-kind-letters Lobby more = (refl, refl)
-kind-letters Exit more = (refl, refl)
+kind-letters _ more = (refl, refl)
 
 number-fits : (n : ℕ) → n ≤ number_limit → (n < 10 ^ 9) × (n < 2 ^ 64)
 unfolding number_limit

@@ -1,5 +1,5 @@
 -- Parts one after the other: none has a fault, and what they have described then.
-use Rattle.std.proofs.Common.{◌≡◌, ℕ, ◌<◌, Bool, true, false, ◌&&◌, ◌||◌, cond, List, [], ◌∷◌, ◌++◌, length, get_or, None, Some, refl, ap, subst, ◌∙◌, arith, length-append}
+use Rattle.std.proofs.Common.{◌≡◌, ℕ, ◌<◌, Bool, true, false, ◌&&◌, ◌||◌, cond, List, [], ◌∷◌, ◌++◌, length, get_or, map, None, Some, refl, sym, ap, subst, ◌∙◌, arith, append_assoc, append-nil, length-append}
 use Rattle.std.specs.declared.option.Option.{Option}
 use Rattle.std.specs.List.{All, AllPairs, list_any}
 use Rattle.std.proofs.Math.Seq.{get_or-append_seam}
@@ -71,6 +71,15 @@ pub adds-append : (taken xs ys : List SaidPart) (now after : Gathered) → AddsA
 adds-append taken xs ys now after adds then =
     let more = then adds.is in
     record { fine = fine-append taken xs ys adds.fine more.fine; is = ap gathered (pushed-append taken xs ys) ∙ more.is }
+
+-- the elements of a list, each after those before it
+pub adds-each : {X : Type 0} (say : X → SaidPart) (at : List X → Gathered) (whole done xs : List X) (taken : List SaidPart) → done ++ xs ≡ whole → gathered taken ≡ at done
+    → ((ys : List X) (x : X) (zs : List X) (before : List SaidPart) → whole ≡ ys ++ (x ∷ zs) → gathered before ≡ at ys → Adds before (say x) (at (ys ++ (x ∷ []))))
+    → AddsAll taken (map say xs) (at whole)
+adds-each say at whole done [] taken all is one = adds-none taken _ (is ∙ ap at (sym (append-nil done) ∙ all))
+adds-each say at whole done (x ∷ xs) taken all is one =
+    let this = one done x xs taken (sym all) is in
+    adds-more taken (say x) (map say xs) _ _ this (adds-each say at whole (done ++ (x ∷ [])) xs (say x ∷ taken) (append_assoc done (x ∷ []) xs ∙ all) this.is one)
 
 -- ---- checks of which none holds
 

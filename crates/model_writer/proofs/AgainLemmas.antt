@@ -15,7 +15,7 @@ use Rattle.model_writer.specs.ModelText.{ended, model_text, parts_said, said_lin
 use Rattle.model_writer.proofs.EndedLemmas.{lines-ended}
 use Rattle.model_writer.proofs.LinesWithin.{lines-within}
 use Rattle.model_writer.proofs.PlainGo.{said-again}
-use Rattle.model_writer.proofs.ReadBack.{parts-back}
+use Rattle.model_writer.proofs.ReadBack.{parts_back}
 use Rattle.model_writer.proofs.SizeLemmas.{contents, text-fits}
 
 -- lines with their ends that keep the limits are read back
@@ -36,7 +36,7 @@ plain-again d plain =
     record {
       lines_fit = All-weaker (λ s. IsContent (said_line s)) (λ s. length (said_line s) ≤ line_limit) (λ s is. is.0) (said_of d) each;
       fits = fits;
-      again = ap model_of (lines-back (said_of d) each fits) ∙ parts-back (parts_said d) said.fine said.may_end
+      again = ap model_of (lines-back (said_of d) each fits) ∙ parts_back (parts_said d) said.fine said.may_end
           ∙ ap (λ e. Described e (length (parts_said d) + 2) []) said.same ∙ ap (λ n. Described d n []) count;
     }
 

@@ -1,9 +1,8 @@
 -- Arcs one after the other.
-use Rattle.std.proofs.Common.{◌≡◌, ◌≢◌, ℕ, ◌<◌, ◌≤◌, true, false, not, ◌==◌, nat_le, List, [], ◌∷◌, ◌++◌, length, map, sym, ap, subst, ◌∙◌, arith, append_assoc, append-nil, length-append}
+use Rattle.std.proofs.Common.{◌≡◌, ◌≢◌, ℕ, ◌<◌, ◌≤◌, true, false, not, ◌==◌, nat_le, List, [], ◌∷◌, ◌++◌, length, map, sym, ap, subst, ◌∙◌, arith, length-append, refl}
 use Rattle.std.specs.List.{All, AllPairs, list_any}
 use Rattle.std.proofs.lemmas.Bool.{and_parts, eqb-true, false_from_ne_true, lt-leb}
 use Rattle.std.proofs.lemmas.List.{length-map, map-append}
-use Rattle.std.proofs.lemmas.List.Elements.{All-head, All-tail}
 use Rattle.evac_law.specs.Building.{IsArc, arc_row, no_node}
 use Rattle.evac_law.specs.Limits.{arc_limit}
 use Rattle.evac_law.specs.Names.{IsName}
@@ -15,7 +14,7 @@ use Rattle.model_text.specs.Grammar.{SaidPart, Arc, IsSaidPart}
 use Rattle.model_text.specs.Taken.{joins, place_of_node, same_name, part_checks, part_fault}
 use Rattle.model_text.proofs.ListFacts.{any-map}
 use Rattle.model_writer.specs.ModelText.{arc_said, name_at}
-use Rattle.model_writer.proofs.Adding.{Adds, AddsAll, Gathered, adds-is, adds-more, adds-none, gathered, no-code, none-before}
+use Rattle.model_writer.proofs.Adding.{Adds, AddsAll, Gathered, adds-each, all-one, gathered, no-code, none-before}
 use Rattle.model_writer.proofs.NodesGo.{NamesDiffer, apart-name, known-at, place-at}
 
 -- ---- the ends of an arc
@@ -95,17 +94,10 @@ arc-adds m g done a as' taken named is valid differ few =
 
 -- ---- arcs
 
--- arcs whose ends differ from those so far and from one another, before their windows
-pub arcs-go : (m : Model) (g : Gathered) (as' done : List ArcRow) (taken : List SaidPart) → AreNamed m.nodes → gathered taken ≡ record g { nodes = m.nodes; arcs = map bare done }
-    → All (IsPlainArc m.nodes) as' → AllPairs EndsDiffer (done ++ as') → length (done ++ as') ≤ arc_limit
-    → AddsAll taken (map (arc_said m) as') (record g { nodes = m.nodes; arcs = map bare (done ++ as') })
-arcs-go m g [] done taken named is plain differ few = adds-none taken _ (is ∙ ap (λ l. record g { nodes = m.nodes; arcs = map bare l }) (sym (append-nil done)))
-arcs-go m g (a ∷ as') done taken named is plain differ few =
-    let joined : (done ++ (a ∷ [])) ++ as' ≡ done ++ (a ∷ as') = append_assoc done (a ∷ []) as' in
-    let first = All-head (IsPlainArc m.nodes) a as' plain in
-    let this = arc-adds m g done a as' taken named is first.valid differ few in
-    let P : List ArcRow → Type 0 = λ l. length l ≤ arc_limit in
-    adds-more taken (arc_said m a) (map (arc_said m) as') _ _ this
-    (adds-is (arc_said m a ∷ taken) (map (arc_said m) as') _ _ (ap (λ l. record g { nodes = m.nodes; arcs = map bare l }) joined)
-    (arcs-go m g as' (done ++ (a ∷ [])) (arc_said m a ∷ taken) named this.is (All-tail (IsPlainArc m.nodes) a as' plain)
-    (subst (AllPairs EndsDiffer) (sym joined) differ) (subst P (sym joined) few)))
+-- arcs whose ends differ from one another, before their windows
+pub arcs-go : (m : Model) (g : Gathered) (as' : List ArcRow) (taken : List SaidPart) → AreNamed m.nodes → gathered taken ≡ record g { nodes = m.nodes; arcs = [] }
+    → All (IsPlainArc m.nodes) as' → AllPairs EndsDiffer as' → length as' ≤ arc_limit → AddsAll taken (map (arc_said m) as') (record g { nodes = m.nodes; arcs = map bare as' })
+arcs-go m g as' taken named is plain differ few =
+    let P : List ArcRow → Type 0 = λ l. All (IsPlainArc m.nodes) l × AllPairs EndsDiffer l × (length l ≤ arc_limit) in
+    adds-each (arc_said m) (λ l. record g { nodes = m.nodes; arcs = map bare l }) as' [] as' taken refl is (λ done a rest before split at.
+    let k = subst P split (plain, differ, few) in arc-adds m g done a rest before named at (all-one (IsPlainArc m.nodes) done a rest k.0).valid k.1 k.2)

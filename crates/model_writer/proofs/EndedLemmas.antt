@@ -5,9 +5,10 @@ use Rattle.std.proofs.lemmas.Bool.{or_parts}
 use Rattle.std.proofs.lemmas.List.Elements.{All-head, All-tail}
 use Rattle.std.specs.Cmp.Lexicographic.{pointwise}
 use Rattle.line_io.specs.Line.{content, input_limit, is_lf, line_limit, line_of, lines_after, pieces, text_lines, then_lines, without_last}
+use Rattle.line_io.proofs.PassLemmas.{lines_after-nil}
 use Rattle.line_io.proofs.Pieces.{line-good}
 use Rattle.building_table.proofs.EqLemmas.{test-swap}
-use Rattle.certificate_text.proofs.LineTexts.{lines-more, lines-none, pieces-line}
+use Rattle.certificate_text.proofs.LineTexts.{lines-more, pieces-line}
 use Rattle.model_writer.specs.Laws.{IsContent}
 use Rattle.model_writer.specs.ModelText.{ended, line_end}
 
@@ -73,7 +74,7 @@ pieces-ended x rest h = pieces-by x rest (ends 13 x) h
 -- the lines of contents with their ends are these contents
 pub lines-ended : (before : ℕ) (xs : List (List ℕ)) → All IsContent xs → before + length (flat_map ended xs) ≤ input_limit
     → lines_after before (pieces (flat_map ended xs)) ≡ text_lines xs
-lines-ended before [] h l = lines-none before
+lines-ended before [] h l = lines_after-nil before
 lines-ended before (x ∷ xs) h l =
     let rest : List ℕ = flat_map ended xs in
     let this : IsContent x = All-head IsContent x xs h in

@@ -1,5 +1,5 @@
 -- Entrants one after the other.
-use Rattle.std.proofs.Common.{◌≡◌, ℕ, ◌+◌, ◌≤◌, false, cond, not, ◌&&◌, ◌==◌, nat_lt, List, [], ◌∷◌, ◌++◌, map, refl, sym, ap, subst, ◌∙◌, arith, append_assoc, append-nil, inl, inr}
+use Rattle.std.proofs.Common.{◌≡◌, ℕ, ◌+◌, ◌≤◌, false, cond, not, ◌&&◌, ◌==◌, nat_lt, List, [], ◌∷◌, ◌++◌, map, refl, ap, subst, ◌∙◌, arith, inl, inr}
 use Rattle.std.specs.List.{All, AllPairs, list_any, sum_by}
 use Rattle.std.proofs.lemmas.Bool.{and_parts, eqb-true, false_from_ne_true, le-ltb, ne_eqb}
 use Rattle.std.proofs.lemmas.List.Elements.{All-head, All-tail, All-weaker}
@@ -13,7 +13,7 @@ use Rattle.evac_law.specs.declared.model.NodeRow.{NodeRow}
 use Rattle.model_text.specs.Grammar.{SaidPart, Entrant, IsSaidPart}
 use Rattle.model_text.specs.Taken.{comes_before, entrant_of, is_coming, place_of_node, same_name, part_checks, part_fault, with_entrant}
 use Rattle.model_writer.specs.ModelText.{entrant_said, name_at}
-use Rattle.model_writer.proofs.Adding.{Adds, AddsAll, Gathered, adds-is, adds-more, adds-none, before-one, gathered, neither, no-code, none-before, second-fails}
+use Rattle.model_writer.proofs.Adding.{Adds, AddsAll, Gathered, adds-each, all-one, before-one, gathered, neither, no-code, none-before, second-fails}
 use Rattle.model_writer.proofs.ArcsGo.{AreNamed, known-name}
 
 -- ---- the order
@@ -92,18 +92,11 @@ entrant-adds m g horizon done e es taken named is valid early sorted people =
 
 -- ---- entrants
 
--- entrants in order after those so far
-pub entrants-go : (m : Model) (g : Gathered) (horizon : ℕ) (es done : List Coming) (taken : List SaidPart) → AreNamed m.nodes
-    → gathered taken ≡ record g { nodes = m.nodes; entrants = done } → All (IsEntrant m.nodes horizon) es → horizon ≤ horizon_limit → AllPairs ComesBefore (done ++ es)
-    → sum_by (λ n. n.start) m.nodes + sum_by (λ f. f.people) (done ++ es) ≤ people_limit
-    → AddsAll taken (map (entrant_said m) es) (record g { nodes = m.nodes; entrants = done ++ es })
-entrants-go m g horizon [] done taken named is valid early sorted people =
-    adds-none taken _ (is ∙ ap (λ l. record g { nodes = m.nodes; entrants = l }) (sym (append-nil done)))
-entrants-go m g horizon (e ∷ es) done taken named is valid early sorted people =
-    let joined : (done ++ (e ∷ [])) ++ es ≡ done ++ (e ∷ es) = append_assoc done (e ∷ []) es in
-    let this = entrant-adds m g horizon done e es taken named is (All-head (IsEntrant m.nodes horizon) e es valid) early sorted people in
-    let P : List Coming → Type 0 = λ l. sum_by (λ n. n.start) m.nodes + sum_by (λ f. f.people) l ≤ people_limit in
-    adds-more taken (entrant_said m e) (map (entrant_said m) es) _ _ this
-    (adds-is (entrant_said m e ∷ taken) (map (entrant_said m) es) _ _ (ap (λ l. record g { nodes = m.nodes; entrants = l }) joined)
-    (entrants-go m g horizon es (done ++ (e ∷ [])) (entrant_said m e ∷ taken) named this.is (All-tail (IsEntrant m.nodes horizon) e es valid) early
-    (subst (AllPairs ComesBefore) (sym joined) sorted) (subst P (sym joined) people)))
+-- entrants in order
+pub entrants-go : (m : Model) (g : Gathered) (horizon : ℕ) (es : List Coming) (taken : List SaidPart) → AreNamed m.nodes → gathered taken ≡ record g { nodes = m.nodes; entrants = [] }
+    → All (IsEntrant m.nodes horizon) es → horizon ≤ horizon_limit → AllPairs ComesBefore es → sum_by (λ n. n.start) m.nodes + sum_by (λ f. f.people) es ≤ people_limit
+    → AddsAll taken (map (entrant_said m) es) (record g { nodes = m.nodes; entrants = es })
+entrants-go m g horizon es taken named is valid early sorted people =
+    let P : List Coming → Type 0 = λ l. All (IsEntrant m.nodes horizon) l × AllPairs ComesBefore l × (sum_by (λ n. n.start) m.nodes + sum_by (λ f. f.people) l ≤ people_limit) in
+    adds-each (entrant_said m) (λ l. record g { nodes = m.nodes; entrants = l }) es [] es taken refl is (λ done e rest before split at.
+    let k = subst P split (valid, sorted, people) in entrant-adds m g horizon done e rest before named at (all-one (IsEntrant m.nodes horizon) done e rest k.0) early k.1 k.2)

@@ -1,15 +1,14 @@
 -- Floors one after the other.
-use Rattle.std.proofs.Common.{◌≡◌, ◌≢◌, ℕ, ◌<◌, ◌≤◌, false, ◌==◌, nat_le, List, [], ◌∷◌, ◌++◌, length, map, sym, ap, subst, ◌∙◌, arith, append_assoc, append-nil, length-append}
+use Rattle.std.proofs.Common.{◌≡◌, ◌≢◌, ℕ, ◌<◌, ◌≤◌, false, ◌==◌, nat_le, List, [], ◌∷◌, ◌++◌, length, map, ap, subst, ◌∙◌, arith, length-append, refl}
 use Rattle.std.specs.List.{All, AllPairs, list_any}
 use Rattle.std.proofs.lemmas.Bool.{lt-leb, ne_eqb}
-use Rattle.std.proofs.lemmas.List.Elements.{All-head, All-tail}
 use Rattle.evac_law.specs.Limits.{floor_limit, floor_number_limit}
 use Rattle.model_text.specs.Grammar.{SaidPart, IsSaidPart, Floor}
 use Rattle.model_text.specs.Taken.{part_checks, part_fault}
 use Rattle.model_text.proofs.ListFacts.{any-map}
 use Rattle.model_writer.specs.Laws.{IsText}
 use Rattle.model_writer.specs.ModelText.{floor_said}
-use Rattle.model_writer.proofs.Adding.{Adds, AddsAll, Gathered, adds-is, adds-more, adds-none, gathered, no-code, none-before}
+use Rattle.model_writer.proofs.Adding.{Adds, AddsAll, Gathered, adds-each, all-one, gathered, no-code, none-before}
 
 -- what a floor's line may say
 pub record IsFloor (f : ℕ × List ℕ) : Type 0 where
@@ -40,14 +39,10 @@ floor-adds g done f fs taken is ok differ few =
       is = ap (λ (x : Gathered). record x { floors = x.floors ++ (f ∷ []) }) is;
     }
 
--- floors that differ from those so far and from one another
-pub floors-go : (g : Gathered) (fs done : List (ℕ × List ℕ)) (taken : List SaidPart) → gathered taken ≡ record g { floors = done } → All IsFloor fs → AllPairs FloorsDiffer (done ++ fs)
-    → length (done ++ fs) ≤ floor_limit → AddsAll taken (map floor_said fs) (record g { floors = done ++ fs })
-floors-go g [] done taken is ok differ few = adds-none taken _ (is ∙ ap (λ l. record g { floors = l }) (sym (append-nil done)))
-floors-go g (f ∷ fs) done taken is ok differ few =
-    let joined : (done ++ (f ∷ [])) ++ fs ≡ done ++ (f ∷ fs) = append_assoc done (f ∷ []) fs in
-    let this = floor-adds g done f fs taken is (All-head IsFloor f fs ok) differ few in
-    let P : List (ℕ × List ℕ) → Type 0 = λ l. length l ≤ floor_limit in
-    adds-more taken (floor_said f) (map floor_said fs) _ _ this
-    (adds-is (floor_said f ∷ taken) (map floor_said fs) _ _ (ap (λ l. record g { floors = l }) joined)
-    (floors-go g fs (done ++ (f ∷ [])) (floor_said f ∷ taken) this.is (All-tail IsFloor f fs ok) (subst (AllPairs FloorsDiffer) (sym joined) differ) (subst P (sym joined) few)))
+-- floors that differ from one another
+pub floors-go : (g : Gathered) (fs : List (ℕ × List ℕ)) (taken : List SaidPart) → gathered taken ≡ record g { floors = [] } → All IsFloor fs → AllPairs FloorsDiffer fs → length fs ≤ floor_limit
+    → AddsAll taken (map floor_said fs) (record g { floors = fs })
+floors-go g fs taken is ok differ few =
+    let P : List (ℕ × List ℕ) → Type 0 = λ l. All IsFloor l × AllPairs FloorsDiffer l × (length l ≤ floor_limit) in
+    adds-each floor_said (λ l. record g { floors = l }) fs [] fs taken refl is (λ done f rest before split at.
+    let k = subst P split (ok, differ, few) in floor-adds g done f rest before at (all-one IsFloor done f rest k.0) k.1 k.2)

@@ -1,8 +1,7 @@
 -- Nodes one after the other.
-use Rattle.std.proofs.Common.{◌≡◌, ◌≢◌, ℕ, ◌+◌, ◌<◌, ◌≤◌, Bool, true, false, not, ◌||◌, ◌==◌, cond, nat_le, nat_lt, List, [], ◌∷◌, ◌++◌, length, map, get_or, refl, sym, ap, subst, ◌∙◌, arith, append_assoc, append-nil, length-append}
+use Rattle.std.proofs.Common.{◌≡◌, ◌≢◌, ℕ, ◌+◌, ◌<◌, ◌≤◌, Bool, true, false, not, ◌||◌, ◌==◌, cond, nat_le, nat_lt, List, [], ◌∷◌, ◌++◌, length, map, get_or, refl, sym, ap, subst, ◌∙◌, arith, length-append}
 use Rattle.std.specs.List.{All, AllPairs, list_any, sum_by}
 use Rattle.std.proofs.lemmas.Bool.{false_from_ne_true, le-ltb, lt-leb}
-use Rattle.std.proofs.lemmas.List.Elements.{All-head, All-tail}
 use Rattle.std.proofs.lemmas.List.Folds.{list_any_at}
 use Rattle.std.proofs.lemmas.List.Sums.{position_or_len_is, sum_by-append, sum_by-cons}
 use Rattle.evac_law.specs.Building.{IsNode, no_node, node_row}
@@ -15,7 +14,7 @@ use Rattle.model_text.specs.Grammar.{SaidPart, Exit, IsSaidPart, Node}
 use Rattle.model_text.specs.Taken.{place_of_node, same_name, part_checks, part_fault}
 use Rattle.model_text.proofs.ListFacts.{any-map, same-name-is, same-name-self}
 use Rattle.model_writer.specs.ModelText.{node_said}
-use Rattle.model_writer.proofs.Adding.{Adds, AddsAll, Gathered, adds-is, adds-more, adds-none, gathered, neither, no-code, none-before}
+use Rattle.model_writer.proofs.Adding.{Adds, AddsAll, Gathered, adds-each, all-one, gathered, neither, no-code, none-before}
 
 abbrev pub NamesDiffer : NodeRow → NodeRow → Type 0
 NamesDiffer a b = a.name ≢ b.name
@@ -111,18 +110,11 @@ node-adds g done n ns taken false room is plain differ few people =
 
 -- ---- nodes
 
--- nodes whose names differ from those so far and from one another
-pub nodes-go : (g : Gathered) (ns done : List NodeRow) (taken : List SaidPart) → gathered taken ≡ record g { nodes = done } → All (IsPlainNode g.floors) ns → AllPairs NamesDiffer (done ++ ns)
-    → length (done ++ ns) ≤ node_limit → sum_by (λ x. x.start) (done ++ ns) + sum_by (λ e. e.people) g.entrants ≤ people_limit
-    → AddsAll taken (map node_said ns) (record g { nodes = done ++ ns })
-nodes-go g [] done taken is plain differ few people = adds-none taken _ (is ∙ ap (λ l. record g { nodes = l }) (sym (append-nil done)))
-nodes-go g (n ∷ ns) done taken is plain differ few people =
-    let joined : (done ++ (n ∷ [])) ++ ns ≡ done ++ (n ∷ ns) = append_assoc done (n ∷ []) ns in
-    let this : Adds taken (node_said n) (record g { nodes = done ++ (n ∷ []) }) =
-    node-adds g done n ns taken (is_exit n.name.kind) refl is (All-head (IsPlainNode g.floors) n ns plain) differ few people in
-    let P : List NodeRow → Type 0 = λ l. length l ≤ node_limit in
-    let Q : List NodeRow → Type 0 = λ l. sum_by (λ x. x.start) l + sum_by (λ e. e.people) g.entrants ≤ people_limit in
-    adds-more taken (node_said n) (map node_said ns) _ _ this
-    (adds-is (node_said n ∷ taken) (map node_said ns) _ _ (ap (λ l. record g { nodes = l }) joined)
-    (nodes-go g ns (done ++ (n ∷ [])) (node_said n ∷ taken) this.is (All-tail (IsPlainNode g.floors) n ns plain)
-    (subst (AllPairs NamesDiffer) (sym joined) differ) (subst P (sym joined) few) (subst Q (sym joined) people)))
+-- nodes whose names differ from one another
+pub nodes-go : (g : Gathered) (ns : List NodeRow) (taken : List SaidPart) → gathered taken ≡ record g { nodes = [] } → All (IsPlainNode g.floors) ns → AllPairs NamesDiffer ns
+    → length ns ≤ node_limit → sum_by (λ x. x.start) ns + sum_by (λ e. e.people) g.entrants ≤ people_limit → AddsAll taken (map node_said ns) (record g { nodes = ns })
+nodes-go g ns taken is plain differ few people =
+    let P : List NodeRow → Type 0 = λ l. All (IsPlainNode g.floors) l × AllPairs NamesDiffer l × (length l ≤ node_limit) × (sum_by (λ x. x.start) l + sum_by (λ e. e.people) g.entrants ≤ people_limit) in
+    adds-each node_said (λ l. record g { nodes = l }) ns [] ns taken refl is (λ done n rest before split at.
+    let k = subst P split (plain, differ, few, people) in
+    node-adds g done n rest before (is_exit n.name.kind) refl at (all-one (IsPlainNode g.floors) done n rest k.0) k.1 k.2 k.3)

@@ -73,7 +73,7 @@ entrants-add : (limit : ℕ) (d : Description) → IsPlain limit d → (taken : 
 unfolding people
 entrants-add limit d plain taken is =
     let valid = plain.valid in
-    entrants-go d.model (record (settled d) { floors = d.floors; arcs = d.model.arcs }) d.model.horizon d.model.entrants [] taken (named limit d plain) is
+    entrants-go d.model (record (settled d) { floors = d.floors; arcs = d.model.arcs }) d.model.horizon d.model.entrants taken (named limit d plain) is
     valid.entrants valid.horizon valid.entrants_sorted valid.people_fit
 
 arcs-add : (limit : ℕ) (d : Description) → IsPlain limit d → (taken : List SaidPart) → gathered taken ≡ record (settled d) { floors = d.floors; nodes = d.model.nodes }
@@ -83,7 +83,7 @@ arcs-add limit d plain taken is =
     let g : Gathered = record (settled d) { floors = d.floors } in
     let each : All (IsPlainArc m.nodes) m.arcs = λ k a within. record { valid = plain.valid.arcs k a within; unshut = plain.arcs_open k a within } in
     let differ = all-pairs EndsDiffer m.arcs no_arc plain.valid.ends_differ in
-    adds-append taken (map (arc_said m) m.arcs) _ _ _ (arcs-go m g m.arcs [] taken (named limit d plain) is each differ plain.valid.arcs_fit)
+    adds-append taken (map (arc_said m) m.arcs) _ _ _ (arcs-go m g m.arcs taken (named limit d plain) is each differ plain.valid.arcs_fit)
     (λ before. adds-append _ (flat_map (windows_said m) m.arcs) _ _ _ (windows-go m g m.arcs [] _ (named limit d plain) before each differ)
     (λ then. entrants-add limit d plain _ then))
 
@@ -96,7 +96,7 @@ nodes-add limit d plain taken is =
     let each : All (IsPlainNode d.floors) m.nodes = λ k n within. record { valid = plain.valid.nodes k n within; unshut = plain.nodes_open k n within; listed = plain.floors_listed k n within } in
     let people-fit = plain.valid.people_fit in
     adds-append taken (map node_said m.nodes) _ _ _
-    (nodes-go (record (settled d) { floors = d.floors }) m.nodes [] taken is each (all-pairs NamesDiffer m.nodes no_node plain.valid.names_differ) plain.valid.nodes_fit (omega arith))
+    (nodes-go (record (settled d) { floors = d.floors }) m.nodes taken is each (all-pairs NamesDiffer m.nodes no_node plain.valid.names_differ) plain.valid.nodes_fit (omega arith))
     (λ then. arcs-add limit d plain _ then)
 
 floors-add : (limit : ℕ) (d : Description) → IsPlain limit d → (taken : List SaidPart) → gathered taken ≡ settled d
@@ -104,7 +104,7 @@ floors-add : (limit : ℕ) (d : Description) → IsPlain limit d → (taken : Li
     ++ (map (arc_said d.model) d.model.arcs ++ (flat_map (windows_said d.model) d.model.arcs ++ map (entrant_said d.model) d.model.entrants)))) (whole d)
 floors-add limit d plain taken is =
     let each : All IsFloor d.floors = λ k f within. let text = plain.floor_texts k f within in record { number = plain.floors_fit k f within; some = text.some; text = text.whole } in
-    adds-append taken (map floor_said d.floors) _ _ _ (floors-go (settled d) d.floors [] taken is each plain.floors_differ plain.few_floors)
+    adds-append taken (map floor_said d.floors) _ _ _ (floors-go (settled d) d.floors taken is each plain.floors_differ plain.few_floors)
     (λ then. nodes-add limit d plain _ then)
 
 -- the parts that say a plain building describe it

@@ -11,7 +11,7 @@ use Rattle.line_io.specs.Line.{text_lines}
 use Rattle.model_text.specs.Taken.{description_of, end_fault, part_fault}
 use Rattle.model_writer.specs.Laws.{AreFine, pushed}
 use Rattle.model_writer.specs.ModelText.{part_line, said_line}
-use Rattle.model_writer.proofs.SaidBack.{part-back, said-back}
+use Rattle.model_writer.proofs.SaidBack.{part-back, statement_back}
 
 -- ---- the first word of a line that says a part
 
@@ -66,7 +66,7 @@ reading-parts (p ∷ ps) taken before rest fine =
 end-ends : (taken : List SaidPart) → end_fault taken ≡ None → step_at (behind taken) (Ok (said_line End)) ≡ Ended (description_of taken)
 unfolding fields_of later_statement statement_of
 end-ends taken none =
-    ap (later_said 2 taken) (said-back End tt) ∙ ap (λ o. step_unless o (Ended (description_of taken))) none
+    ap (later_said 2 taken) (statement_back End tt) ∙ ap (λ o. step_unless o (Ended (description_of taken))) none
 
 reading-end : (taken : List SaidPart) (before : ℕ) → end_fault taken ≡ None → reading_at (behind taken) before (Ok (said_line End) ∷ []) ≡ Described (description_of taken) (before + 1) []
 unfolding reading_at
@@ -82,11 +82,11 @@ opening-parts : (ps : List SaidPart) → AreFine [] ps → end_fault (pushed [] 
 unfolding reading_at
 opening-parts ps fine none =
     let rest : List Line = part_lines ps ++ (Ok (said_line End) ∷ []) in
-    ap (λ r. after_step (first_said r) 1 rest (λ next. reading_at next 1 rest)) (said-back (Header 2) (omega arith))
+    ap (λ r. after_step (first_said r) 1 rest (λ next. reading_at next 1 rest)) (statement_back (Header 2) (omega arith))
     ∙ reading-parts ps [] 1 (Ok (said_line End) ∷ []) fine
     ∙ reading-end (pushed [] ps) (1 + length ps) none
     ∙ ap (λ n. Described (description_of (pushed [] ps)) n []) (let e : 1 + length ps + 1 ≡ length ps + 2 = omega arith in e)
 
-pub parts-back : (ps : List SaidPart) → AreFine [] ps → end_fault (pushed [] ps) ≡ None
+pub parts_back : (ps : List SaidPart) → AreFine [] ps → end_fault (pushed [] ps) ≡ None
     → model_of (text_lines (map said_line (Header 2 ∷ (map Part ps ++ (End ∷ []))))) ≡ Described (description_of (pushed [] ps)) (length ps + 2) []
-parts-back ps fine none = ap (λ l. opening_of 0 (Ok (said_line (Header 2)) ∷ l)) (lines-of ps End) ∙ opening-parts ps fine none
+parts_back ps fine none = ap (λ l. opening_of 0 (Ok (said_line (Header 2)) ∷ l)) (lines-of ps End) ∙ opening-parts ps fine none

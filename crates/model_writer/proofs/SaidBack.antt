@@ -1,10 +1,10 @@
 -- The line of a statement says it.
-use Rattle.std.proofs.Common.{◌≡◌, ℕ, ◌+◌, ◌<◌, ◌≤◌, ◌^◌, Bool, true, false, cond, ◌||◌, nat_lt, List, [], ◌∷◌, ◌++◌, length, Result, Ok, Err, refl, sym, ap, ◌∙◌, arith}
+use Rattle.std.proofs.Common.{◌≡◌, ℕ, ◌+◌, ◌<◌, ◌≤◌, ◌^◌, true, cond, ◌||◌, nat_lt, List, [], ◌∷◌, ◌++◌, length, Result, Ok, Err, refl, sym, ap, ◌∙◌, arith}
 use Rattle.std.specs.Prelude.{codes, decimal}
 use Rattle.std.specs.List.{list_all}
 use Rattle.std.proofs.lemmas.Bool.{and_parts, le-ltb}
 use Rattle.evac_law.specs.Limits.{capacity_limit, floor_number_limit, horizon_limit, people_limit, rate_limit, seconds_limit, travel_limit}
-use Rattle.evac_law.specs.Names.{IsName, is_exit, name_text}
+use Rattle.evac_law.specs.Names.{IsName, name_text}
 use Rattle.evac_law.specs.declared.name.NodeName.{NodeName}
 use Rattle.line_io.specs.Text.{fields}
 use Rattle.certificate_text.proofs.EntryTexts.{field_number-decimal}
@@ -33,6 +33,10 @@ range-back : (low high n : ℕ) → low ≤ n → n ≤ high → high < 10 ^ 9 �
 range-back low high n above below few =
     ap (λ r. r >>= within low high) (number-back n (omega arith))
     ∙ (let e : within low high n ≡ Ok n = rw (le-ltb n low above, le-ltb high n below) refl in e)
+
+-- a field that is read, and what is made of it
+then-ok : {A B : Type 0} (r : Result A TextFault) (f : A → Result B TextFault) (x : A) (y : Result B TextFault) → r ≡ Ok x → f x ≡ y → r >>= f ≡ y
+then-ok r f x y e h = ap (λ z. z >>= f) e ∙ h
 
 -- ---- a line of fields
 
@@ -113,75 +117,6 @@ header-back v few =
     let s = spells-header v few in
     s.says ∙ ap header s.behind ∙ ap (λ r. r >>= λ n. Ok (Header n)) (number-back v (omega arith))
 
-period-back : (n : ℕ) → 1 ≤ n → n ≤ seconds_limit → statement_of (fields (codes "period" ∷ decimal n ∷ [])) ≡ Ok (Part (Period n))
-unfolding seconds_limit
-period-back n above below =
-    let s = spells-part (Period n) (above, below) in
-    s.says ∙ ap as_statement (ap period s.behind ∙ ap (λ r. r >>= λ k. Ok (Period k)) (range-back 1 seconds_limit n above below (omega arith)))
-
-horizon-back : (n : ℕ) → n ≤ horizon_limit → statement_of (fields (codes "horizon" ∷ decimal n ∷ [])) ≡ Ok (Part (Horizon n))
-unfolding horizon_limit
-horizon-back n below =
-    let s = spells-part (Horizon n) below in
-    s.says ∙ ap as_statement (ap horizon s.behind ∙ ap (λ r. r >>= λ k. Ok (Horizon k)) (range-back 0 horizon_limit n (omega arith) below (omega arith)))
-
-node-by : (name : NodeName) (t : Bool) (more : List (List ℕ)) (p : SaidPart) → is_exit name.kind ≡ t → cond t (exit_fields name more) (node_fields name more) ≡ Ok p
-    → cond (is_exit name.kind) (exit_fields name more) (node_fields name more) ≡ Ok p
-node-by name t more p is h = ap (λ x. cond x (exit_fields name more) (node_fields name more)) is ∙ h
-
-room-back : (name : NodeName) (capacity start : ℕ) → IsName name → is_exit name.kind ≡ false → capacity ≤ capacity_limit → start ≤ capacity_limit
-    → statement_of (fields (codes "node" ∷ name_text name ∷ decimal capacity ∷ decimal start ∷ [])) ≡ Ok (Part (Node name capacity start))
-unfolding capacity_limit
-room-back name capacity start is room a b =
-    let more : List (List ℕ) = decimal capacity ∷ decimal start ∷ [] in
-    let s = spells-part (Node name capacity start) (is, room, a, b) in
-    s.says ∙ ap as_statement (ap node s.behind
-    ∙ ap (λ r. r >>= λ n. cond (is_exit n.kind) (exit_fields n more) (node_fields n more)) (name-back name is)
-    ∙ node-by name false more (Node name capacity start) room
-    (ap (λ r. r >>= λ c. ranged 0 capacity_limit (decimal start) >>= λ k. Ok (Node name c k)) (range-back 0 capacity_limit capacity (omega arith) a (omega arith))
-    ∙ ap (λ r. r >>= λ k. Ok (Node name capacity k)) (range-back 0 capacity_limit start (omega arith) b (omega arith))))
-
-exit-back : (name : NodeName) → IsName name → is_exit name.kind ≡ true → statement_of (fields (codes "node" ∷ name_text name ∷ [])) ≡ Ok (Part (Exit name))
-exit-back name is out =
-    let s = spells-part (Exit name) (is, out) in
-    s.says ∙ ap as_statement (ap node s.behind ∙ ap (λ r. r >>= λ n. cond (is_exit n.kind) (exit_fields n []) (node_fields n [])) (name-back name is)
-    ∙ node-by name true [] (Exit name) out refl)
-
-arc-back : (a b : NodeName) (t r : ℕ) → IsName a → IsName b → 1 ≤ t → t ≤ travel_limit → r ≤ rate_limit
-    → statement_of (fields (codes "arc" ∷ name_text a ∷ name_text b ∷ decimal t ∷ decimal r ∷ [])) ≡ Ok (Part (Arc a b t r))
-unfolding travel_limit rate_limit
-arc-back a b t r from to some few rate =
-    let s = spells-part (Arc a b t r) (from, to, some, few, rate) in
-    s.says ∙ ap as_statement (ap arc s.behind
-    ∙ ap (λ x. x >>= λ m. name_field (name_text b) >>= λ n. ranged 1 travel_limit (decimal t) >>= λ k. ranged 0 rate_limit (decimal r) >>= λ q. Ok (Arc m n k q)) (name-back a from)
-    ∙ ap (λ x. x >>= λ n. ranged 1 travel_limit (decimal t) >>= λ k. ranged 0 rate_limit (decimal r) >>= λ q. Ok (Arc a n k q)) (name-back b to)
-    ∙ ap (λ x. x >>= λ k. ranged 0 rate_limit (decimal r) >>= λ q. Ok (Arc a b k q)) (range-back 1 travel_limit t some few (omega arith))
-    ∙ ap (λ x. x >>= λ q. Ok (Arc a b t q)) (range-back 0 rate_limit r (omega arith) rate (omega arith)))
-
-window-back : (a b : NodeName) (p q : ℕ) → IsName a → IsName b → p ≤ horizon_limit → 1 ≤ q → q ≤ horizon_limit + 1
-    → statement_of (fields (codes "window" ∷ name_text a ∷ name_text b ∷ decimal p ∷ decimal q ∷ [])) ≡ Ok (Part (Window a b p q))
-unfolding horizon_limit
-window-back a b p q from to first some few =
-    let s = spells-part (Window a b p q) (from, to, first, some, few) in
-    s.says ∙ ap as_statement (ap window s.behind
-    ∙ ap (λ x. x >>= λ m. name_field (name_text b) >>= λ n. ranged 0 horizon_limit (decimal p) >>= λ k. ranged 1 (horizon_limit + 1) (decimal q) >>= λ j. Ok (Window m n k j)) (name-back a from)
-    ∙ ap (λ x. x >>= λ n. ranged 0 horizon_limit (decimal p) >>= λ k. ranged 1 (horizon_limit + 1) (decimal q) >>= λ j. Ok (Window a n k j)) (name-back b to)
-    ∙ ap (λ x. x >>= λ k. ranged 1 (horizon_limit + 1) (decimal q) >>= λ j. Ok (Window a b k j)) (range-back 0 horizon_limit p (omega arith) first (omega arith))
-    ∙ ap (λ x. x >>= λ j. Ok (Window a b p j)) (range-back 1 (horizon_limit + 1) q some few (omega arith)))
-
-entrant-back : (a : NodeName) (t n : ℕ) → IsName a → 1 ≤ t → t ≤ horizon_limit → 1 ≤ n → n ≤ people_limit
-    → statement_of (fields (codes "entrant" ∷ name_text a ∷ decimal t ∷ decimal n ∷ [])) ≡ Ok (Part (Entrant a t n))
-unfolding horizon_limit people_limit
-entrant-back a t n is some few one most =
-    let s = spells-part (Entrant a t n) (is, some, few, one, most) in
-    s.says ∙ ap as_statement (ap entrant s.behind
-    ∙ ap (λ x. x >>= λ m. ranged 1 horizon_limit (decimal t) >>= λ k. ranged 1 people_limit (decimal n) >>= λ p. Ok (Entrant m k p)) (name-back a is)
-    ∙ ap (λ x. x >>= λ k. ranged 1 people_limit (decimal n) >>= λ p. Ok (Entrant a k p)) (range-back 1 horizon_limit t some few (omega arith))
-    ∙ ap (λ x. x >>= λ p. Ok (Entrant a t p)) (range-back 1 people_limit n one most (omega arith)))
-
-end-back : statement_of (fields (codes "end" ∷ [])) ≡ Ok End
-end-back = spells-end.says ∙ ap end spells-end.behind
-
 -- ---- a line with a text
 
 text-back : (t : List ℕ) → 0 < length t → text_field t ≡ Ok t
@@ -227,18 +162,39 @@ floor-back n t few some is =
 -- ---- all of them
 
 pub part-back : (p : SaidPart) → IsSpelledPart p → statement_of (part_line p) ≡ Ok (Part p)
+unfolding seconds_limit horizon_limit capacity_limit travel_limit rate_limit people_limit
 part-back (Title text) is = title-back text is.0 is.1
-part-back (Period seconds) is = period-back seconds is.0 is.1
-part-back (Horizon moments) is = horizon-back moments is
 part-back (Floor floor text) is = floor-back floor text is.0.0 is.0.1 is.1
-part-back (Node name capacity start) is = room-back name capacity start is.0 is.1 is.2 is.3
-part-back (Exit name) is = exit-back name is.0 is.1
-part-back (Arc start finish travel rate) is = arc-back start finish travel rate is.0 is.1 is.2 is.3 is.4
-part-back (Window start finish first until) is = window-back start finish first until is.0 is.1 is.2 is.3 is.4
-part-back (Entrant name moment people) is = entrant-back name moment people is.0 is.1 is.2 is.3 is.4
+part-back (Period n) is =
+    let s = spells-part (Period n) is in
+    s.says ∙ ap as_statement (ap period s.behind ∙ then-ok _ _ n _ (range-back 1 seconds_limit n is.0 is.1 (omega arith)) refl)
+part-back (Horizon n) is =
+    let s = spells-part (Horizon n) is in
+    s.says ∙ ap as_statement (ap horizon s.behind ∙ then-ok _ _ n _ (range-back 0 horizon_limit n (omega arith) is (omega arith)) refl)
+part-back (Node name capacity start) is =
+    let s = spells-part (Node name capacity start) is in
+    let more : List (List ℕ) = decimal capacity ∷ decimal start ∷ [] in
+    s.says ∙ ap as_statement (ap node s.behind ∙ then-ok _ _ name _ (name-back name is.0) (ap (λ t. cond t (exit_fields name more) (node_fields name more)) is.1
+    ∙ then-ok _ _ capacity _ (range-back 0 capacity_limit capacity (omega arith) is.2 (omega arith))
+    (then-ok _ _ start _ (range-back 0 capacity_limit start (omega arith) is.3 (omega arith)) refl)))
+part-back (Exit name) is =
+    let s = spells-part (Exit name) is in
+    s.says ∙ ap as_statement (ap node s.behind ∙ then-ok _ _ name _ (name-back name is.0) (ap (λ t. cond t (exit_fields name []) (node_fields name [])) is.1))
+part-back (Arc a b t r) is =
+    let s = spells-part (Arc a b t r) is in
+    s.says ∙ ap as_statement (ap arc s.behind ∙ then-ok _ _ a _ (name-back a is.0) (then-ok _ _ b _ (name-back b is.1)
+    (then-ok _ _ t _ (range-back 1 travel_limit t is.2 is.3 (omega arith)) (then-ok _ _ r _ (range-back 0 rate_limit r (omega arith) is.4 (omega arith)) refl))))
+part-back (Window a b p q) is =
+    let s = spells-part (Window a b p q) is in
+    s.says ∙ ap as_statement (ap window s.behind ∙ then-ok _ _ a _ (name-back a is.0) (then-ok _ _ b _ (name-back b is.1)
+    (then-ok _ _ p _ (range-back 0 horizon_limit p (omega arith) is.2 (omega arith)) (then-ok _ _ q _ (range-back 1 (horizon_limit + 1) q is.3 is.4 (omega arith)) refl))))
+part-back (Entrant a t n) is =
+    let s = spells-part (Entrant a t n) is in
+    s.says ∙ ap as_statement (ap entrant s.behind ∙ then-ok _ _ a _ (name-back a is.0)
+    (then-ok _ _ t _ (range-back 1 horizon_limit t is.1 is.2 (omega arith)) (then-ok _ _ n _ (range-back 1 people_limit n is.3 is.4 (omega arith)) refl)))
 
-pub said-back : (s : Said) → IsSpelled s → statement_of (said_line s) ≡ Ok s
-said-back Blank is = absurd is
-said-back (Header version) is = header-back version is
-said-back (Part part) is = part-back part is
-said-back End is = end-back
+pub statement_back : (s : Said) → IsSpelled s → statement_of (said_line s) ≡ Ok s
+statement_back Blank is = absurd is
+statement_back (Header version) is = header-back version is
+statement_back (Part part) is = part-back part is
+statement_back End is = spells-end.says ∙ ap end spells-end.behind

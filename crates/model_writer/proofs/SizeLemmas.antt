@@ -33,9 +33,6 @@ line-content : (x : List ℕ) → IsLine x → IsContent x
 unfolding line_limit
 line-content x is = (is.short, kept-whole x is.kept)
 
-title-content : (text : List ℕ) → IsTextBehind line_limit 6 text → IsContent (part_line (Title text))
-title-content text is = ((let fits = is.fits in omega arith), is.one_line)
-
 floor-content : (floor : ℕ) (text : List ℕ) → floor ≤ floor_number_limit → IsTextBehind line_limit (7 + length (decimal floor)) text → IsContent (part_line (Floor floor text))
 unfolding floor_number_limit
 floor-content floor text few is =
@@ -49,7 +46,7 @@ floor-content floor text few is =
     )
 
 pub content-part : (p : SaidPart) → IsSpelledPart p → HasText line_limit p → IsContent (part_line p)
-content-part (Title text) is fits = title-content text fits
+content-part (Title text) is fits = ((let short = fits.fits in omega arith), fits.one_line)
 content-part (Period seconds) is text = line-content _ (spells-part (Period seconds) is).line
 content-part (Horizon moments) is text = line-content _ (spells-part (Horizon moments) is).line
 content-part (Floor floor text) is fits = floor-content floor text is.0.0 fits
@@ -131,40 +128,26 @@ entrants-few nodes horizon (e ∷ es) each =
 
 parts-few : (d : Description) → length (parts_said d)
     ≡ length (title_said d.title) + (2 + (length d.floors + (length d.model.nodes + (length d.model.arcs + (length (flat_map (windows_said d.model) d.model.arcs) + length d.model.entrants)))))
-parts-few d =
-    let m = d.model in
-    let es = map (entrant_said m) m.entrants in
-    let ws = flat_map (windows_said m) m.arcs in
-    let as' = map (arc_said m) m.arcs in
-    let ns = map node_said m.nodes in
-    let fs = map floor_said d.floors in
-    let a = length-append (title_said d.title) (Period m.seconds ∷ Horizon m.horizon ∷ (fs ++ (ns ++ (as' ++ (ws ++ es))))) in
-    let b = length-append fs (ns ++ (as' ++ (ws ++ es))) in
-    let c = length-append ns (as' ++ (ws ++ es)) in
-    let e = length-append as' (ws ++ es) in
-    let f = length-append ws es in
-    let floors = length-map d.floors floor_said in
-    let nodes = length-map m.nodes node_said in
-    let arcs = length-map m.arcs (arc_said m) in
-    let entrants = length-map m.entrants (entrant_said m) in
-    omega arith
+parts-few d = simp (length-append, length-map) (omega arith)
 
 pub few-said : (limit : ℕ) (d : Description) → IsPlain limit d → length (said_of d) < 2 ^ 17
 unfolding floor_limit node_limit arc_limit window_limit people_limit people
 few-said limit d plain =
     let m = d.model in
     let valid = plain.valid in
-    let parts = parts-few d in
-    let title = title-few d.title in
-    let windows = windows-few m m.arcs valid.arcs in
-    let coming = entrants-few m.nodes m.horizon m.entrants valid.entrants in
-    let a = plain.few_floors in
-    let b = valid.nodes_fit in
-    let c = valid.arcs_fit in
-    let e = valid.people_fit in
-    let all = length-append (map Part (parts_said d)) (End ∷ []) in
-    let same = length-map (parts_said d) Part in
-    omega arith
+    omega (
+      arith,
+      parts-few d,
+      title-few d.title,
+      windows-few m m.arcs valid.arcs,
+      entrants-few m.nodes m.horizon m.entrants valid.entrants,
+      plain.few_floors,
+      valid.nodes_fit,
+      valid.arcs_fit,
+      valid.people_fit,
+      length-append (map Part (parts_said d)) (End ∷ []),
+      length-map (parts_said d) Part,
+    )
 
 -- lines within the limit, fewer than some number
 texts-fit : (ss : List Said) → All (λ s. IsContent (said_line s)) ss → length ss < 2 ^ 17 → length (flat_map said_text ss) ≤ input_limit

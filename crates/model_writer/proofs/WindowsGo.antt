@@ -1,5 +1,5 @@
 -- Windows of arcs one after the other.
-use Rattle.std.proofs.Common.{◌≡◌, ◌≤◌, true, false, cond, not, nat_le, nat_lt, List, [], ◌∷◌, ◌++◌, length, map, refl, sym, ap, subst, ◌∙◌, arith, append_assoc, append-nil, length-append, eq-eqb, set}
+use Rattle.std.proofs.Common.{◌≡◌, ◌≤◌, true, false, cond, not, nat_le, nat_lt, List, [], ◌∷◌, ◌++◌, length, map, refl, sym, ap, subst, ◌∙◌, arith, append_assoc, length-append, eq-eqb, set}
 use Rattle.std.specs.List.{All, AllPairs, flat_map, list_any}
 use Rattle.std.proofs.Math.Seq.{get_or-append_seam, set-append_seam}
 use Rattle.std.proofs.lemmas.Bool.{le-ltb, lt-leb}
@@ -17,7 +17,7 @@ use Rattle.model_text.specs.Grammar.{SaidPart, IsSaidPart, Window}
 use Rattle.model_text.specs.Taken.{arc_windows, closing, joins, place_of_arc, place_of_node, same_name, part_checks, part_fault}
 use Rattle.model_text.proofs.InsertLemmas.{none-passes}
 use Rattle.model_writer.specs.ModelText.{name_at, window_said, windows_said}
-use Rattle.model_writer.proofs.Adding.{Adds, AddsAll, Gathered, adds-append, adds-is, adds-more, adds-none, all-front, all-one, before-one, gathered, no-code, none-before, second-fails}
+use Rattle.model_writer.proofs.Adding.{Adds, AddsAll, Gathered, adds-append, adds-each, adds-is, adds-none, all-front, all-one, before-one, gathered, no-code, none-before, second-fails}
 use Rattle.model_writer.proofs.ArcsGo.{AreNamed, EndsDiffer, IsPlainArc, apart-ends, bare, known-name}
 
 -- an arc with some of its windows
@@ -127,18 +127,13 @@ window-adds m g done rest a ws w more taken named is valid new are =
 
 -- ---- windows
 
--- windows of one arc after those so far
-windows-of-go : (m : Model) (g : Gathered) (done rest : List ArcRow) (a : ArcRow) (more ws : List Closed) (taken : List SaidPart) → AreNamed m.nodes
-    → gathered taken ≡ record g { nodes = m.nodes; arcs = arcs_around done a ws rest } → IsArc m.nodes a → list_any (joins a.from a.to) done ≡ false → AreWindows (ws ++ more)
-    → AddsAll taken (map (window_said m a) more) (record g { nodes = m.nodes; arcs = arcs_around done a (ws ++ more) rest })
-windows-of-go m g done rest a [] ws taken named is valid new are =
-    adds-none taken _ (is ∙ ap (λ l. record g { nodes = m.nodes; arcs = arcs_around done a l rest }) (sym (append-nil ws)))
-windows-of-go m g done rest a (w ∷ more) ws taken named is valid new are =
-    let joined : (ws ++ (w ∷ [])) ++ more ≡ ws ++ (w ∷ more) = append_assoc ws (w ∷ []) more in
-    let this = window-adds m g done rest a ws w more taken named is valid new are in
-    adds-more taken (window_said m a w) (map (window_said m a) more) _ _ this
-    (adds-is (window_said m a w ∷ taken) (map (window_said m a) more) _ _ (ap (λ l. record g { nodes = m.nodes; arcs = arcs_around done a l rest }) joined)
-    (windows-of-go m g done rest a more (ws ++ (w ∷ [])) (window_said m a w ∷ taken) named this.is valid new (subst AreWindows (sym joined) are)))
+-- the windows of one arc
+windows-of-go : (m : Model) (g : Gathered) (done rest : List ArcRow) (a : ArcRow) (all : List Closed) (taken : List SaidPart) → AreNamed m.nodes
+    → gathered taken ≡ record g { nodes = m.nodes; arcs = arcs_around done a [] rest } → IsArc m.nodes a → list_any (joins a.from a.to) done ≡ false → AreWindows all
+    → AddsAll taken (map (window_said m a) all) (record g { nodes = m.nodes; arcs = arcs_around done a all rest })
+windows-of-go m g done rest a all taken named is valid new are =
+    adds-each (window_said m a) (λ l. record g { nodes = m.nodes; arcs = arcs_around done a l rest }) all [] all taken refl is (λ ws w more before split at.
+    window-adds m g done rest a ws w more before named at valid new (subst AreWindows split are))
 
 -- an arc that isn't shut, with all of its windows
 whole-arc : (a : ArcRow) → a.shut ≡ false → with_windows a a.windows.items ≡ a
@@ -155,6 +150,6 @@ windows-go m g (a ∷ as') done taken named is plain differ =
     let with-arcs : List ArcRow → Gathered = λ l. record g { nodes = m.nodes; arcs = l } in
     let next : arcs_around done a a.windows.items (map bare as') ≡ (done ++ (a ∷ [])) ++ map bare as' =
     ap (λ x. done ++ (x ∷ map bare as')) (whole-arc a first.unshut) ∙ sym (append_assoc done (a ∷ []) (map bare as')) in
-    adds-append taken (windows_said m a) (flat_map (windows_said m) as') _ _ (windows-of-go m g done (map bare as') a a.windows.items [] taken named is first.valid new first.valid.windows)
+    adds-append taken (windows_said m a) (flat_map (windows_said m) as') _ _ (windows-of-go m g done (map bare as') a a.windows.items taken named is first.valid new first.valid.windows)
     (λ now. adds-is _ (flat_map (windows_said m) as') _ _ (ap with-arcs joined)
     (windows-go m g as' (done ++ (a ∷ [])) _ named (now ∙ ap with-arcs next) (All-tail (IsPlainArc m.nodes) a as' plain) (subst (AllPairs EndsDiffer) (sym joined) differ)))

@@ -7,11 +7,13 @@ pub fn lines_read_back()
 {}
 
 /// The lines of a header of version 2, of parts without a fault and of an end describe the building of the parts.
+#[tactic(auto, using(crate::proofs::ReadBack::parts_back))]
 pub fn fine_parts_read_back()
     ensures { FinePartsReadBack }
 {}
 
 /// A statement's line says it.
+#[tactic(auto, using(crate::proofs::SaidBack::statement_back))]
 pub fn statements_read_back()
     ensures { StatementsReadBack }
 {}

@@ -1,7 +1,10 @@
-use Rattle.std.proofs.Common.{Ok, Err, refl, sym, ap, ◌∙◌}
+use Rattle.std.proofs.Common.{[], Ok, Err, refl, ap, ◌∙◌}
+use Rattle.line_io.specs.declared.hearing.Heard.TheVariants.{Last}
+use Rattle.line_io.specs.declared.hearing.Ending.TheVariants.{Failed, Finished, InputEnded}
+use Rattle.line_io.specs.declared.lines.Found.TheVariants.{End}
 use Rattle.line_io.proofs.CallLemmas.{asks-none, asks-then}
-use Rattle.line_io.proofs.PassLemmas.{passes-text, passes-end, passes-fault, left-end, end-empty}
-use Rattle.line_io.proofs.HearingLemmas.{went-none, went-more, listens-closed, listens-failed, listens-ended, listens-fault, hears-so}
+use Rattle.line_io.proofs.PassLemmas.{IsClosed, passes-text, passes-end, passes-fault, left-by, end-empty}
+use Rattle.line_io.proofs.HearingLemmas.{went-none, went-more, listens-line, listens-none, listens-fault, hears-so}
 use Rattle.line_io.proofs.hearing.listen.Goals as goal
 
 pub loop-listener-init : goal.loop-listener-init
@@ -17,9 +20,8 @@ loop-listener-init g c = record {
 pub loop-listener-preserved : goal.loop-listener-preserved
 loop-listener-preserved g c =
     let e = c.in-Ok-Text.ensures in
-    let is = c.in-Ok-Text.field-0-is in
-    let number = e.found (ap Ok is) in
-    let passes = passes-text c.loop-listener.lines c.next.new.self _ _ (rw is at e.bytes) (rw is at e.lines) number (λ s. sym (ap Ok is) ∙ (e.settled s).1) e.room in
+    let is = ap Ok c.in-Ok-Text.field-0-is in
+    let passes = passes-text _ c.loop-listener.lines c.next.new.self _ _ is e.bytes e.lines (e.found is) (λ s. (e.settled s).1) e.room in
     record {
       went = went-more g.L.Listener.hears c.args.listener.now c.loop-listener.listener c.hear.new.self c.args.lines.now c.loop-listener.lines c.next.new.self _ _ _ c.loop-listener.invariant.went passes
           (hears-so g.L.Listener.hears _ _ _ _ _ _ _ _ c.number.ensures.number c.text.ensures.text (ap Ok c.in-Ok-More.field-0-is) c.in-Ok-More.ensures.hears);
@@ -33,30 +35,28 @@ loop-listener-preserved g c =
 pub returns-in-Ok-Last-clause-listens : goal.returns-in-Ok-Last-clause-listens
 returns-in-Ok-Last-clause-listens g c =
     let e = c.in-Ok-Text.ensures in
-    let is = c.in-Ok-Text.field-0-is in
-    let number = e.found (ap Ok is) in
-    let passes = passes-text c.loop-listener.lines c.next.new.self _ _ (rw is at e.bytes) (rw is at e.lines) number (λ s. sym (ap Ok is) ∙ (e.settled s).1) e.room in
-    listens-closed g.L.Listener.hears c.args.listener.now c.loop-listener.listener c.hear.new.self c.args.lines.now c.loop-listener.lines c.next.new.self _ _ _ c.loop-listener.invariant.went passes
-    (hears-so g.L.Listener.hears _ _ _ _ _ _ _ _ c.number.ensures.number c.text.ensures.text (ap Ok c.in-Ok-Last.field-0-is) c.in-Ok-Last.ensures.hears)
+    let is = ap Ok c.in-Ok-Text.field-0-is in
+    let passes = passes-text _ c.loop-listener.lines c.next.new.self _ _ is e.bytes e.lines (e.found is) (λ s. (e.settled s).1) e.room in
+    listens-line g.L.Listener.hears Finished (Ok Last) c.args.listener.now c.loop-listener.listener c.hear.new.self c.args.lines.now c.loop-listener.lines c.next.new.self _ _ _ c.loop-listener.invariant.went passes
+    (hears-so g.L.Listener.hears _ _ _ _ _ _ _ _ c.number.ensures.number c.text.ensures.text (ap Ok c.in-Ok-Last.field-0-is) c.in-Ok-Last.ensures.hears) (λ k rest h. (_, refl, h)) tt
 
 pub returns-in-Err-hear-clause-listens : goal.returns-in-Err-hear-clause-listens
 returns-in-Err-hear-clause-listens g c =
     let e = c.in-Ok-Text.ensures in
-    let is = c.in-Ok-Text.field-0-is in
-    let number = e.found (ap Ok is) in
-    let passes = passes-text c.loop-listener.lines c.next.new.self _ _ (rw is at e.bytes) (rw is at e.lines) number (λ s. sym (ap Ok is) ∙ (e.settled s).1) e.room in
-    listens-failed g.L.Listener.hears c.args.listener.now c.loop-listener.listener c.hear.new.self c.in-Err-hear.fault c.args.lines.now c.loop-listener.lines c.next.new.self _ _ _ c.loop-listener.invariant.went passes
-    (hears-so g.L.Listener.hears _ _ _ _ _ _ _ _ c.number.ensures.number c.text.ensures.text refl c.in-Err-hear.ensures.hears)
+    let is = ap Ok c.in-Ok-Text.field-0-is in
+    let passes = passes-text _ c.loop-listener.lines c.next.new.self _ _ is e.bytes e.lines (e.found is) (λ s. (e.settled s).1) e.room in
+    listens-line g.L.Listener.hears (Failed c.in-Err-hear.fault) _ c.args.listener.now c.loop-listener.listener c.hear.new.self c.args.lines.now c.loop-listener.lines c.next.new.self _ _ _ c.loop-listener.invariant.went passes
+    (hears-so g.L.Listener.hears _ _ _ _ _ _ _ _ c.number.ensures.number c.text.ensures.text refl c.in-Err-hear.ensures.hears) (λ k rest h. (_, refl, h)) tt
 
 pub returns-in-Ok-End-clause-listens : goal.returns-in-Ok-End-clause-listens
 returns-in-Ok-End-clause-listens g c =
     let e = c.in-Ok-End.ensures in
     let is = c.in-Ok-End.field-0-is in
     let number = (e.stays (λ h. cc)).0 in
-    let ended = e.end (ap Ok is) in
-    let passes = passes-end c.loop-listener.lines c.next.new.self _ _ (rw is at e.bytes) (rw is at e.lines) number ended (rw is at e.last) e.room in
-    listens-ended g.L.Listener.hears c.args.listener.now c.loop-listener.listener c.args.lines.now c.loop-listener.lines c.next.new.self _ _ _ c.loop-listener.invariant.went passes
-    (left-end c.next.new.self.text _ _ (rw is at e.lines)) (ended, end-empty c.next.new.self (rw is at e.last))
+    let closed : IsClosed c.next.new.self = (e.end (ap Ok is), end-empty c.next.new.self (rw is at e.last)) in
+    let passes = passes-end c.loop-listener.lines c.next.new.self _ _ (rw is at e.bytes) (rw is at e.lines) number closed e.room in
+    listens-none g.L.Listener.hears InputEnded c.args.listener.now c.loop-listener.listener c.args.lines.now c.loop-listener.lines c.next.new.self _ _ _ [] c.loop-listener.invariant.went passes
+    (left-by (Ok End) c.next.new.self.text [] (λ x y h. h.1 ∙ h.0) _ _ (rw is at e.lines)) (refl, refl, refl) closed
 
 pub returns-in-Err-clause-listens : goal.returns-in-Err-clause-listens
 returns-in-Err-clause-listens g c =

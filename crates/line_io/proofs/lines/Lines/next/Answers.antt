@@ -3,7 +3,7 @@ use Rattle.std.proofs.lemmas.Bool.{both_ways}
 use Rattle.std.proofs.KnownBytes.{Keeps-refl, Keeps-trans}
 use Rattle.line_io.specs.Reader.{is_settled}
 use Rattle.line_io.proofs.CallLemmas.{asks-none, asks-same, asks-then}
-use Rattle.line_io.proofs.ReaderLemmas.{counts-first, gives-first, gives-none, takes-more, takes-none}
+use Rattle.line_io.proofs.ReaderLemmas.{counts-first, gives-first, gives-none, refills-more, refills-none}
 use Rattle.line_io.proofs.lines.Lines.next.Goals as goal
 
 pub returns-in-Some-clause-bytes : goal.returns-in-Some-clause-bytes
@@ -13,7 +13,7 @@ returns-in-Some-clause-bytes g c =
 
 pub returns-in-Err-clause-bytes : goal.returns-in-Err-clause-bytes
 returns-in-Err-clause-bytes g c =
-    gives-none c.args.self.now c.refill.new.self _ _ (takes-more _ _ _ _ _ _ c.loop-size.invariant.taken c.in-Err.ensures.taken) (c.in-Err.ensures.rest.0 ∙ c.loop-size.invariant.given)
+    gives-none _ c.args.self.now c.refill.new.self c.refill.new.self _ _ (refills-more _ _ _ _ _ _ c.loop-size.invariant.taken c.in-Err.ensures.taken) (c.in-Err.ensures.rest.0 ∙ c.loop-size.invariant.given) refl refl
 
 pub returns-in-Some-clause-asks : goal.returns-in-Some-clause-asks
 returns-in-Some-clause-asks g c =
@@ -28,7 +28,7 @@ loop-size-preserved g c =
     let inv = c.loop-size.invariant in
     record {
       ahead = Keeps-trans _ _ _ inv.ahead c.refill.ensures.bytes;
-      taken = takes-more _ _ _ _ _ _ inv.taken c.refill.ensures.taken;
+      taken = refills-more _ _ _ _ _ _ inv.taken c.refill.ensures.taken;
       drained = λ d. c.refill.ensures.drained (inv.drained d);
       settled = λ s. absurd (both_ways _ off (ap is_settled (inv.settled s).1 ∙ s));
       given = c.refill.ensures.rest.0 ∙ inv.given;
@@ -41,7 +41,7 @@ loop-size-preserved g c =
 pub loop-size-init : goal.loop-size-init
 loop-size-init g c = record {
   ahead = Keeps-refl _;
-  taken = takes-none c.args.self.now _ _ (Keeps-refl _);
+  taken = refills-none c.args.self.now _;
   drained = λ d. d;
   settled = λ s. (refl, refl);
   given = refl;

@@ -4,13 +4,13 @@ use Rattle.std.specs.Io.KnownBytes.{Keeps}
 use Rattle.line_io.specs.Calls.{Asks}
 use Rattle.line_io.specs.Line.{line_limit}
 use Rattle.line_io.specs.Reader.{ahead, Drained, is_settled}
-use Rattle.line_io.specs.Scan.{Takes}
+use Rattle.line_io.specs.Scan.{Refills}
 use Rattle.line_io.proofs.lines.Lines.next.Given as goal
 
 abbrev pub invariant-loop-size : goal.invariant-loop-size
 invariant-loop-size g l = record {
   ahead : Keeps (ahead l.initial.self (g.S.Source.left l.initial.source)) (ahead l.self (g.S.Source.left l.source));
-  taken : Takes l.initial.self l.self (g.S.Source.left l.initial.source) (g.S.Source.left l.source);
+  taken : Refills l.initial.self l.self (g.S.Source.left l.initial.source) (g.S.Source.left l.source);
   drained : Drained l.initial.self (g.S.Source.left l.initial.source) → Drained l.self (g.S.Source.left l.source);
   settled : is_settled l.initial.self ≡ true → (l.source ≡ l.initial.source) × (l.self ≡ l.initial.self);
   given : l.self.given ≡ l.initial.self.given;
