@@ -115,15 +115,12 @@ names-differ n i j before within = λ e.
 
 -- the exits stand at the places 1 and 2
 exit-places : (kind : Kind) (w f : ℕ) → is_exit kind ≡ true → (1 ≤ name-place kind w f) × (name-place kind w f ≤ 2)
-exit-places Work w f e = cc
-exit-places Hall w f e = cc
-exit-places Stair w f e = cc
-exit-places Lobby w f e = cc
 exit-places Exit w f e = either (w == 1)
   where
     either : (t : Bool) → (1 ≤ cond t 1 2) × (cond t 1 2 ≤ 2)
     either true = (omega arith, omega arith)
     either false = (omega arith, omega arith)
+exit-places _ w f e = cc
 
 not-true : (t : Bool) → (t ≡ true → ⊥) → IsFalse t
 not-true true h = absurd (h refl)

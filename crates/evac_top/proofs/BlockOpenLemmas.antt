@@ -82,11 +82,8 @@ open-behind-block r0 r1 r2 r3 l0 l1 l2 l3 building block result fresh h g t is =
 
 -- a block isn't read because of a read fault only where there is one
 failed-reading : (fault : BlockFault) → block_fault fault ≡ ReadFault → fault ≡ block_faults.ReadFault
-failed-reading (block_faults.Bad line) e = cc
-failed-reading (block_faults.LineTooLong line) e = cc
-failed-reading (block_faults.InputTooLong line) e = cc
 failed-reading block_faults.ReadFault e = refl
-failed-reading block_faults.Memory e = cc
+failed-reading _ e = cc
 
 -- the source failed in a block
 abbrev pub BlockFailed : Result Block BlockFault → Type 0

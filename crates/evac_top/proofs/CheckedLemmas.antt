@@ -20,7 +20,7 @@ use Rattle.certificate_text.specs.BlockLaws.{IsAnswerBlock, ReadsBack, block_lim
 use Rattle.certificate_text.specs.BlockReadings as blocks
 use Rattle.certificate_text.specs.BlockReadings.{ReadsAs}
 use Rattle.certificate_text.proofs.AnswerBack.{reads_back}
-use Rattle.building_table.specs.Names.{NameTable, names_of}
+use Rattle.building_table.specs.Names.{names_of}
 use Rattle.block_reader.proofs.OneReading.{one-reading}
 use Rattle.plan_checker.specs.Verdicts.{IsRight}
 use Rattle.edit_session.specs.Sessions.{IsSolved, SessionState}
@@ -29,9 +29,10 @@ use Rattle.evac_top.specs.Accounts.{Account}
 use Rattle.evac_top.specs.Answers.{ChecksInput}
 use Rattle.evac_top.specs.Check.{Checks}
 use Rattle.evac_top.specs.Inputs.{Asked, Claimed, ClaimsBehind, claim_by, input_of, tail_fault}
-use Rattle.evac_top.specs.Solve.{SaysPlan, Solves}
+use Rattle.evac_top.specs.Solve.{Solves}
 use Rattle.evac_top.specs.TwoRuns.{SolvedIsChecked}
 use Rattle.evac_top.specs.Words.{asking}
+use Rattle.evac_top.proofs.PlanLemmas.{block-alone}
 use Rattle.evac_top.proofs.PromiseLemmas.{check-answered}
 use Rattle.evac_top.proofs.QuietLemmas.{IsQuiet, lines-described, quiet-reads, quiet-tail}
 use Rattle.evac_top.proofs.TwoRunsLemmas.{solve-answered}
@@ -82,13 +83,6 @@ behind bytes texts quiet d last s x whole room lines described all of solved (cl
     let claims : ClaimsBehind (Described d last (text_lines quiet ++ more)) claim = subst (λ (r : Reading). ClaimsBehind r claim) read is_claim in
     by-claim (bytes ++ w) d last finish (text_lines quiet ++ more) back.block claim x (subst IsValid of solved.valid) reads right claims checks
 
--- with no flag the block alone is written
-alone : (names : NameTable) (s : SessionState) (text : List ℕ) → SaysPlan (asking false false) names s text → text ≡ block_text 0 s
-alone names s text h =
-    let b = block_text 0 s in
-    h.parts ∙ ap (λ t. b ++ t ++ h.cards ++ h.reports) h.says_routes ∙ ap (λ t. b ++ [] ++ t ++ h.reports) h.says_cards
-    ∙ ap (λ t. b ++ [] ++ [] ++ t) h.says_reports ∙ append-nil (b ++ [] ++ []) ∙ append-nil (b ++ []) ∙ append-nil b
-
 -- by what an input says
 checked : (input : List ℕ) (result : Result Asked (Code × ℕ)) (x y : Account) → IsWhole input → length input + block_limit ≤ input_limit
     → input_of (lines_of input) ≡ result → Solves (asking false false) input result x → x.status ≡ 0 → ChecksInput (input ++ x.written) y → y.status ≡ 0
@@ -100,12 +94,12 @@ checked input (Ok asked) x y whole room e (taken, inl h) done checks =
     let lines : lines_of input ≡ text_lines texts =
     front.1 ∙ ap (λ ls. text_lines front.0 ++ ls) tail.parts ∙ sym (text_lines-append front.0 tail.texts) in
     let described = is.1 ∙ ap (λ ls. Described asked.building asked.last ls) tail.parts in
-    let says = subst (λ w. ChecksInput (input ++ w) y) (alone (names_of asked.building) h.opening x.written h.says) checks in
+    let says = subst (λ w. ChecksInput (input ++ w) y) (block-alone (names_of asked.building) h.opening x.written h.says) checks in
     behind input texts tail.texts asked.building asked.last h.opening y whole room lines described tail.quiet h.begins.begun h.begins.solved says
 checked input (Ok asked) x y whole room e (taken, inr short) done checks = absurd (omega (arith, done, short.refused))
 checked input (Err fault) x y whole room e ends done checks = absurd (omega (arith, done, ends.over))
 
-pub solved-is-checked : SolvedIsChecked
-solved-is-checked input x y whole room solves done checks =
+pub solved_is_checked : SolvedIsChecked
+solved_is_checked input x y whole room solves done checks =
     checked input (input_of (lines_of input)) x y whole room refl (solve-answered (asking false false) input x solves) done
     (check-answered (input ++ x.written) y checks)

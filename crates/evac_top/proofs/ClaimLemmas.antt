@@ -1,5 +1,5 @@
 -- What an input with a block says, by its parts, and how a checked block ends a run.
-use Rattle.std.proofs.Common.{◌≡◌, ◌≤◌, arith, ℕ, List, Result, Ok, Err, Some, None, refl, sym, ap, subst, ◌∙◌}
+use Rattle.std.proofs.Common.{◌≡◌, ◌≤◌, arith, ℕ, List, Ok, Err, Some, None, refl, sym, ap, subst}
 use Rattle.std.specs.declared.option.Option.{Option}
 use Rattle.evac_law.specs.declared.code.Code.{Code}
 use Rattle.line_io.specs.Line.{Line, lines_of}
@@ -20,7 +20,7 @@ use Rattle.certificate_text.specs.BlockReadings as blocks
 use Rattle.certificate_text.specs.BlockReadings.{ReadsAs}
 use Rattle.block_reader.specs.BlockReads.{ReadsBlock}
 use Rattle.plan_checker.specs.declared.verdict.Verdict.{Verdict}
-use Rattle.plan_checker.specs.declared.verdict.Verdict.TheVariants.{Yes, PeopleWrong, RateBroken, HeldBroken, NotAllOut, OutWrong, CutWrong}
+use Rattle.plan_checker.specs.declared.verdict.Verdict.TheVariants.{Yes, RateBroken, HeldBroken}
 use Rattle.plan_checker.specs.Verdicts.{IsRight, IsVerdict}
 use Rattle.plan_checker.proofs.LawLemmas.{one_verdict, yes_is_certified}
 use Rattle.evac_top.specs.Accounts.{Account, Told}
@@ -94,19 +94,12 @@ said-tail building block Memory n1 n2 bytes b c h g f = tt
 
 -- ---- the same by a fresh reader
 
-abbrev refused-block : ModelFault → Result Block ModelFault
-refused-block fault = Err fault
-
-same-refusal : (fault other : ModelFault) → refused-block fault ≡ refused-block other → fault ≡ other
-same-refusal fault other e = cc
-
-pub told-block-fault : (r : Reader) (left : Option (List ℕ)) (building : Building) (told found : ModelFault) (fault : BlockFault) (n1 n2 : ℕ)
-    (b c : Option (List Line)) → told ≡ block_fault fault → refused-block told ≡ refused-block found → IsFresh r
-    → ReadsModel (Ok building) r.number n1 (lines_left r left) b → ReadsBlock building.model (Err fault) n1 n2 b c → Told left (ClaimIs (Err found))
-told-block-fault r left building told found fault n1 n2 b c is e fresh h g =
+pub told-block-fault : (r : Reader) (left : Option (List ℕ)) (building : Building) (found : ModelFault) (fault : BlockFault) (n1 n2 : ℕ)
+    (b c : Option (List Line)) → found ≡ block_fault fault → IsFresh r → ReadsModel (Ok building) r.number n1 (lines_left r left) b
+    → ReadsBlock building.model (Err fault) n1 n2 b c → Told left (ClaimIs (Err found))
+told-block-fault r left building found fault n1 n2 b c is fresh h g =
     told-model r left building n1 b (ClaimIs (Err found)) fresh h (λ bytes read.
-    subst (λ (f : ModelFault). ClaimIs (Err f) bytes) (sym is ∙ same-refusal told found e)
-    (said-block-fault building fault n1 n2 bytes b c read g))
+    subst (λ (f : ModelFault). ClaimIs (Err f) bytes) (sym is) (said-block-fault building fault n1 n2 bytes b c read g))
 
 pub told-claim : (r : Reader) (left : Option (List ℕ)) (building : Building) (block : Block) (n1 n2 : ℕ) (b c : Option (List Line))
     → IsFresh r → ReadsModel (Ok building) r.number n1 (lines_left r left) b → ReadsBlock building.model (Ok block) n1 n2 b c → ReadsTail (Ok tt) n2 c
@@ -115,33 +108,20 @@ told-claim r left building block n1 n2 b c fresh h g f =
     told-model r left building n1 b (ClaimIs (Ok (record { building = building; block = block }))) fresh h
     (λ bytes read. said-claim building block n1 n2 bytes b c read g f)
 
-pub told-tail : (r : Reader) (left : Option (List ℕ)) (building : Building) (block : Block) (fault found : ModelFault) (n1 n2 : ℕ)
-    (b c : Option (List Line)) → refused-block fault ≡ refused-block found → IsFresh r
-    → ReadsModel (Ok building) r.number n1 (lines_left r left) b → ReadsBlock building.model (Ok block) n1 n2 b c → ReadsTail (Err fault) n2 c → Told left (ClaimIs (Err found))
-told-tail r left building block fault found n1 n2 b c e fresh h g f =
-    told-model r left building n1 b (ClaimIs (Err found)) fresh h (λ bytes read.
-    subst (λ (x : ModelFault). ClaimIs (Err x) bytes) (same-refusal fault found e)
-    (said-tail building block fault n1 n2 bytes b c read g f))
+pub told-tail : (r : Reader) (left : Option (List ℕ)) (building : Building) (block : Block) (fault : ModelFault) (n1 n2 : ℕ) (b c : Option (List Line))
+    → IsFresh r → ReadsModel (Ok building) r.number n1 (lines_left r left) b → ReadsBlock building.model (Ok block) n1 n2 b c → ReadsTail (Err fault) n2 c
+    → Told left (ClaimIs (Err fault))
+told-tail r left building block fault n1 n2 b c fresh h g f =
+    told-model r left building n1 b (ClaimIs (Err fault)) fresh h (λ bytes read. said-tail building block fault n1 n2 bytes b c read g f)
 
 -- ---- checking
 
 yes-by : (v : Verdict) → verdict_status v ≡ 0 → v ≡ Yes
 yes-by Yes e = refl
-yes-by PeopleWrong e = cc
-yes-by (RateBroken t a) e = cc
-yes-by (HeldBroken t n) e = cc
-yes-by NotAllOut e = cc
-yes-by (OutWrong k) e = cc
-yes-by (CutWrong k) e = cc
+yes-by _ e = cc
 
 pub status-few : (v : Verdict) → verdict_status v ≤ 1
-status-few Yes = omega arith
-status-few PeopleWrong = omega arith
-status-few (RateBroken t a) = omega arith
-status-few (HeldBroken t n) = omega arith
-status-few NotAllOut = omega arith
-status-few (OutWrong k) = omega arith
-status-few (CutWrong k) = omega arith
+status-few v = grind arith
 
 pub status-small : (v : Verdict) → verdict_status v ≤ 2
 status-small v = omega (arith, status-few v)
@@ -166,13 +146,9 @@ checked-few m b x h = omega (arith, h.ends.over, status-few h.verdict)
 
 -- the place of a verdict is the model's
 pub verdict-of : (m : Model) (b : Block) (v : Verdict) → IsVerdict m b v → IsVerdictOf m v
-verdict-of m b Yes h = tt
-verdict-of m b PeopleWrong h = tt
 verdict-of m b (RateBroken t a) h = h.1.arc_in
 verdict-of m b (HeldBroken t n) h = h.2.node_in
-verdict-of m b NotAllOut h = tt
-verdict-of m b (OutWrong k) h = tt
-verdict-of m b (CutWrong k) h = tt
+verdict-of m b _ h = tt
 
 pub said-checked : (claim : Claim) (bytes : List ℕ) → ClaimIs (Ok claim) bytes → (x : Account) → x.taken ≡ bytes → IsChecked claim.building.model claim.block x
     → (runs_of (Some Check)).Answers bytes x

@@ -115,8 +115,8 @@ answers-all (Some Replan) input x h = replans-all (model_of (lines_of input)) x 
 answers-all (Some Upgrade) input x h = upgrades-all input (input_of (lines_of input)) x h
 answers-all (Some (Drill n)) input x h = h.1.ends.over
 
-pub runs-answer : RunsAnswer
-runs-answer mode status before after r reads_kept writes_kept memory =
+pub runs_answer : RunsAnswer
+runs_answer mode status before after r reads_kept writes_kept memory =
     let three : status ≡ 3 → ⊥ = λ e. reads_kept (r.causes.reads_rose e) in
     let four : status ≡ 4 → ⊥ = λ e. writes_kept (r.causes.writes_rose e) in
     let known : status ≤ 5 = r.causes.known in

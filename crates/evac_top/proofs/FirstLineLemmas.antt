@@ -127,8 +127,8 @@ goes-on edited s text reply behind x first none a w = record {
   next = w;
 }
 
-pub first-edit-gets-its-block : FirstEditGetsItsBlock
-first-edit-gets-its-block d last line rest x edited kept a =
+pub first_edit_gets_its_block : FirstEditGetsItsBlock
+first_edit_gets_its_block d last line rest x edited kept a =
     let s = kept.opening.after in
     let Gets : Replying State = λ line s text r. Replies (names_of d) line s (command_of text) r × KeepsPromise s r in
     let f = first-reply (session (names_of d) d.model) Gets last line rest x kept.opening kept.more kept.answered kept.rest kept.parts
@@ -166,8 +166,8 @@ session-gets d number line c s r start says h =
     let g = subst Q start (subst P e h) in
     let R : Result Command TextFault → Type 0 = λ x. Replies (names_of d) number s.session x g.0 in (g.0, subst R (sym says) g.1, g.2)
 
-pub first-replan-edit-gets-its-block : FirstReplanEditGetsItsBlock
-first-replan-edit-gets-its-block d last line rest x edited kept a =
+pub first_replan_edit_gets_its_block : FirstReplanEditGetsItsBlock
+first_replan_edit_gets_its_block d last line rest x edited kept a =
     let o = kept.opening in
     let q = kept.opens.0 in
     let opens = kept.opens.1 in
@@ -187,9 +187,9 @@ first-replan-edit-gets-its-block d last line rest x edited kept a =
 no-more : (xs ys zs : List ℕ) → xs ≡ xs ++ (ys ++ zs) → ys ≡ []
 no-more xs ys zs e = empty-of ys (omega (arith, ap length e, length-append xs (ys ++ zs), length-append ys zs))
 
-pub stopping-is-refused : StoppingIsRefused
-stopping-is-refused d last line rest x edited kept a stops =
-    let g = first-edit-gets-its-block d last line rest x edited kept a in
+pub stopping_is_refused : StoppingIsRefused
+stopping_is_refused d last line rest x edited kept a stops =
+    let g = first_edit_gets_its_block d last line rest x edited kept a in
     block-some g.reply.after (sym g.best.block ∙ no-more kept.opening.text g.reply.text g.behind (sym stops ∙ g.next))
 
 -- ---- an undo
@@ -204,8 +204,8 @@ undo-gets d number line s r none says h =
     let Q : List Model → Type 0 = λ ms. Undoes number s ms r in
     subst Q none (subst P says h)
 
-pub first-undo-is-refused : FirstUndoIsRefused
-first-undo-is-refused d last line rest x kept says =
+pub first_undo_is_refused : FirstUndoIsRefused
+first_undo_is_refused d last line rest x kept says =
     let o = kept.opening in
     let Gets : Replying State = λ line s text r. Replies (names_of d) line s (command_of text) r × KeepsPromise s r in
     let f = first-reply (session (names_of d) d.model) Gets last line rest x o kept.more kept.answered kept.rest kept.parts
@@ -218,8 +218,8 @@ first-undo-is-refused d last line rest x kept says =
 work-stays : (line : List ℕ) → command_of line ≡ Ok commands.Work → command_of line ≡ Ok commands.Quit → ⊥
 work-stays line says quits = cc
 
-pub first-work-is-of-the-opening : FirstWorkIsOfTheOpening
-first-work-is-of-the-opening d last line rest x kept asks =
+pub first_work_is_of_the_opening : FirstWorkIsOfTheOpening
+first_work_is_of_the_opening d last line rest x kept asks =
     let o = kept.opening in
     let Gets : Replying State = λ line s text r. Replies (names_of d) line s (command_of text) r × KeepsPromise s r in
     let f = first-reply (session (names_of d) d.model) Gets last line rest x o kept.more kept.answered kept.rest kept.parts
@@ -248,8 +248,8 @@ advance-gets d number line p s r start high asks named low h =
 none-gone : (m : Model) (k n : ℕ) → k ≤ m.horizon → slice_index (nobody_gone m) k + n ≡ n
 none-gone m k n h = omega (arith, get_or-replicate {A = ℕ} (m.horizon + 1) k 0 0 (omega (arith, h)))
 
-pub first-advance-is-carried-out : FirstAdvanceIsCarriedOut
-first-advance-is-carried-out d last line rest x p kept asks named low high =
+pub first_advance_is_carried_out : FirstAdvanceIsCarriedOut
+first_advance_is_carried_out d last line rest x p kept asks named low high =
     let o = kept.opening in
     let s = o.after.session in
     let m = s.standing.model in

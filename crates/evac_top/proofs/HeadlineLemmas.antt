@@ -17,7 +17,7 @@ use Rattle.line_io.specs.Line.{Line, lines_of}
 use Rattle.model_text.specs.declared.command.Command.{Command}
 use Rattle.model_text.specs.declared.command.Command.TheVariants as commands
 use Rattle.model_text.specs.declared.command.Report.{Report}
-use Rattle.model_text.specs.declared.command.Report.TheVariants.{Routes, Clearing, Bottlenecks, Summary}
+use Rattle.model_text.specs.declared.command.Report.TheVariants.{Routes, Summary}
 use Rattle.model_text.specs.declared.fault.TextFault.{TextFault}
 use Rattle.model_text.specs.Commands.{command_of}
 use Rattle.model_text.specs.Readings.{Described, Reading, Refused, model_of}
@@ -103,19 +103,16 @@ undoes line s (m ∷ earlier) r h = advances s m earlier r h
 
 reports : (names : NameTable) (s : State) (report : Report) (r : Reply State) → Reports names s report r → KeepsPromise s r
 reports names s Routes r h = stays s h.0 r h.2
-reports names s Clearing r h = stays s _ r h
-reports names s Bottlenecks r h = stays s _ r h
 reports names s Summary r h = stays s h.0 r h.2
+reports names s _ r h = stays s _ r h
 
 one_line : (names : NameTable) (line : ℕ) (s : State) (c : Result Command TextFault) (r : Reply State) → Replies names line s c r → KeepsPromise s r
-one_line names line s (Err fault) r h = stays s _ r h
-one_line names line s (Ok commands.Blank) r h = stays s _ r h
 one_line names line s (Ok (commands.Edit edit)) r h = named line s (edit_named names edit) r h
 one_line names line s (Ok commands.Undo) r h = undoes line s s.standing.former r h
 one_line names line s (Ok (commands.Cut k)) r h = inr (ap (λ (a : Reply State). a.after) h ∙ cut_stays line s k)
 one_line names line s (Ok (commands.Report report)) r h = reports names s report r h
-one_line names line s (Ok commands.Work) r h = stays s _ r h
 one_line names line s (Ok commands.Quit) r h = absurd h
+one_line names line s _ r h = stays s _ r h
 
 -- ---- all lines
 
@@ -173,8 +170,8 @@ session-kept input x h = (
   h.1,
 )
 
-pub sessions-keep-promise : SessionsKeepPromise
-sessions-keep-promise = each-run Session _ session-kept
+pub sessions_keep_promise : SessionsKeepPromise
+sessions_keep_promise = each-run Session _ session-kept
 
 -- ---- a plan that is carried out
 
@@ -234,8 +231,8 @@ replan-kept input x h = (
   h.1,
 )
 
-pub replans-keep-promise : ReplansKeepPromise
-replans-keep-promise = each-run Replan _ replan-kept
+pub replans_keep_promise : ReplansKeepPromise
+replans_keep_promise = each-run Replan _ replan-kept
 
 -- ---- a plan that is written
 
@@ -262,5 +259,5 @@ plan-kept : (flags : Flags) (input : List ℕ) (x : Account) → (runs_of (Some 
 unfolding runs_of
 plan-kept flags input x h = keeps-plan flags input (input_of (lines_of input)) x h
 
-pub plans-keep-promise : PlansKeepPromise
-plans-keep-promise flags = each-run (Solve flags) _ (plan-kept flags)
+pub plans_keep_promise : PlansKeepPromise
+plans_keep_promise flags = each-run (Solve flags) _ (plan-kept flags)

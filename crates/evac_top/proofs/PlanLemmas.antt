@@ -1,14 +1,12 @@
 -- The block of a session with what is asked for after it.
-use Rattle.std.proofs.Common.{IfSome, ◌≡◌, ℕ, List, [], ◌++◌, Some, None, is_some, refl, sym, subst}
+use Rattle.std.proofs.Common.{IfSome, ◌≡◌, ℕ, List, [], ◌++◌, false, Some, None, is_some, ap, append-nil, arith, refl, sym, subst, ◌∙◌}
 use Rattle.std.specs.declared.option.Option.{Option}
+use Rattle.std.proofs.lemmas.Grind.{common_steps}
 use Rattle.building_table.specs.Names.{NameTable}
 use Rattle.edit_session.specs.Sessions.{SessionState}
-use Rattle.report_text.specs.ReportText.{SaysCards}
-use Rattle.session_text.specs.StateTexts.{SaysReports, SaysRoutesOf, block_text}
-use Rattle.evac_top.specs.Solve.{SaysPlan, Where}
-use Rattle.evac_top.specs.Tables.{HasTablesAsked}
-use Rattle.evac_top.specs.declared.report_tables.Tables.{Tables}
-use Rattle.evac_top.specs.declared.words.Flags.{Flags}
+use Rattle.session_text.specs.StateTexts.{block_text}
+use Rattle.evac_top.specs.Solve.{SaysAsked, SaysPlan, Where}
+use Rattle.evac_top.specs.Words.{asking}
 
 -- ---- what is asked for
 
@@ -21,15 +19,14 @@ where-none {A} o Says e = subst (λ (z : Option A). Where (is_some z) Says []) (
 pub some-holds : {A : Type 0} (o : Option A) (x : A) (P : A → Type 0) → o ≡ Some x → IfSome o P → P x
 some-holds {A} o x P e h = subst (λ (z : Option A). IfSome z P) e h
 
-pub says-plan : (flags : Flags) (names : NameTable) (s : SessionState) (t : Tables) (r q p : List ℕ) → HasTablesAsked flags names s t
-    → Where (is_some t.routes) (SaysRoutesOf 0 s) r → Where (is_some t.cards) (SaysCards 0 s.model s.plan) q → Where (is_some t.reports) (SaysReports names 0 s) p
-    → SaysPlan flags names s (block_text 0 s ++ r ++ q ++ p)
-says-plan flags names s t r q p has says_r says_q says_p = record {
-  routes = r;
-  says_routes = subst (λ b. Where b (SaysRoutesOf 0 s) r) has.routes_asked says_r;
-  cards = q;
-  says_cards = subst (λ b. Where b (SaysCards 0 s.model s.plan) q) has.cards_asked says_q;
-  reports = p;
-  says_reports = subst (λ b. Where b (SaysReports names 0 s) p) has.reports_asked says_p;
-  parts = refl;
-}
+-- ---- what isn't asked for
+
+-- with no flag nothing comes after the block
+none-asked : (s : SessionState) (text : List ℕ) → SaysAsked (asking false false) s text → text ≡ []
+none-asked s text h = grind (arith, common_steps)
+
+pub block-alone : (names : NameTable) (s : SessionState) (text : List ℕ) → SaysPlan (asking false false) names s text → text ≡ block_text 0 s
+block-alone names s text h =
+    let b = block_text 0 s in
+    h.parts ∙ ap (λ t. b ++ t ++ h.reports) (none-asked s h.asked h.says_asked) ∙ ap (λ t. b ++ [] ++ t) h.says_reports
+    ∙ append-nil (b ++ []) ∙ append-nil b

@@ -15,7 +15,7 @@ use Rattle.evac_law.proofs.WeakDuality.{out_le_value}
 use Rattle.line_io.specs.Line.{Line, lines_of}
 use Rattle.model_text.specs.declared.fault.TextFault.{TextFault}
 use Rattle.model_text.specs.declared.study.StudyCommand.{StudyCommand}
-use Rattle.model_text.specs.declared.study.StudyCommand.TheVariants.{Blank, Exits, Least, Quit}
+use Rattle.model_text.specs.declared.study.StudyCommand.TheVariants.{Exits}
 use Rattle.model_text.specs.Readings.{Described, Reading, Refused, model_of}
 use Rattle.model_text.specs.StudyCommands.{study_command_of}
 use Rattle.model_text.specs.Taken.{Description}
@@ -29,7 +29,7 @@ use Rattle.exit_study.specs.declared.exits.ExitRow.TheVariants.{Clears, Short}
 use Rattle.model_writer.specs.ModelText.{model_text, said_of}
 use Rattle.model_writer.proofs.AgainLemmas.{texts-again}
 use Rattle.plan_checker.specs.declared.verdict.Verdict.{Verdict}
-use Rattle.plan_checker.specs.declared.verdict.Verdict.TheVariants.{Yes, PeopleWrong, RateBroken, HeldBroken, NotAllOut, OutWrong, CutWrong}
+use Rattle.plan_checker.specs.declared.verdict.Verdict.TheVariants.{Yes}
 use Rattle.study_talk.specs.Studies.{StudyReplies, study}
 use Rattle.study_talk.specs.StudyTexts.{Row, SaysExits, exits_of}
 use Rattle.talk.specs.Talks.{EndsAt, Reply, TalkRun}
@@ -97,11 +97,8 @@ says-right m text valid h = record {
 }
 
 keeps-rows : (names : NameTable) (m : Model) (line : ℕ) (c : Result StudyCommand TextFault) (r : Reply (Unit {0})) → IsValid m → StudyReplies names m line c r → KeepsRows m c r
-keeps-rows names m line (Err fault) r valid h = tt
-keeps-rows names m line (Ok Blank) r valid h = tt
 keeps-rows names m line (Ok Exits) r valid h = says-right m r.text valid h
-keeps-rows names m line (Ok (Least from to k)) r valid h = tt
-keeps-rows names m line (Ok Quit) r valid h = tt
+keeps-rows names m line _ r valid h = tt
 
 studies-keep : (d : Description) (last : ℕ) (lines : List Line) (x : Account) → IsValid d.model → TalkRun (study (names_of d) d.model) last lines (spoken x)
     → KeepsStudy d last lines x
@@ -136,8 +133,8 @@ study-kept : (input : List ℕ) (x : Account) → (runs_of (Some Study)).Answers
 unfolding runs_of
 study-kept input x h = (keeps-study (model_of (lines_of input)) x (λ d last rest e. opening-valid (lines_of input) 0 d last rest e) h.0, h.1)
 
-pub study-keeps-promise : StudyKeepsPromise
-study-keeps-promise = each-run Study _ study-kept
+pub study_keeps_promise : StudyKeepsPromise
+study_keeps_promise = each-run Study _ study-kept
 
 -- ---- a check
 
@@ -176,18 +173,13 @@ pub check-answered : (input : List ℕ) (x : Account) → (runs_of (Some Check))
 unfolding runs_of
 check-answered input x h = h
 
-pub checks-keep-promise : ChecksKeepPromise
-checks-keep-promise = each-run Check _ (λ input x h. check-kept input x (check-answered input x h))
+pub checks_keep_promise : ChecksKeepPromise
+checks_keep_promise = each-run Check _ (λ input x h. check-kept input x (check-answered input x h))
 
 -- the verdict at status 0
 verdict-yes : (m : Model) (v : Verdict) → verdict_status v ≡ 0 → verdict_text m v ≡ verdict_text m Yes
 verdict-yes m Yes e = refl
-verdict-yes m PeopleWrong e = absurd (omega (arith, e))
-verdict-yes m (RateBroken t a) e = absurd (omega (arith, e))
-verdict-yes m (HeldBroken t n) e = absurd (omega (arith, e))
-verdict-yes m NotAllOut e = absurd (omega (arith, e))
-verdict-yes m (OutWrong k) e = absurd (omega (arith, e))
-verdict-yes m (CutWrong k) e = absurd (omega (arith, e))
+verdict-yes m _ e = absurd (omega (arith, e))
 
 yes-of : (input : List ℕ) (x : Account) → x.status ≡ 0 → (claim : Result Claimed (Code × ℕ)) → IsClaimOf (lines_of input) claim → KeepsClaim input claim x
     → IsYes input x
@@ -203,8 +195,8 @@ yes-of input x e (Ok c) is h =
     }
 yes-of input x e (Err f) is ends = absurd (omega (arith, e, ends.over))
 
-pub yes-is-best : YesIsBest
-yes-is-best status before after r done =
+pub yes_is_best : YesIsBest
+yes_is_best status before after r done =
     let over : r.did.status ≡ 0 = r.account.answered ∙ done in
     of-input (runs_of (Some Check)).reads before.source.bytes (λ input. (runs_of (Some Check)).Answers input r.did) (λ input. IsYes input r.did)
     (λ input h. (let kept = check-kept input r.did (check-answered input r.did h) in yes-of input r.did over kept.0 kept.1 kept.2)) (r.answered (omega (arith, done)))
@@ -226,8 +218,8 @@ upgrade-kept : (input : List ℕ) (x : Account) → (runs_of (Some Upgrade)).Ans
 unfolding runs_of
 upgrade-kept input x h = keeps-upgrade input (input_of (lines_of input)) x refl h
 
-pub upgrades-keep-promise : UpgradesKeepPromise
-upgrades-keep-promise = each-run Upgrade _ upgrade-kept
+pub upgrades_keep_promise : UpgradesKeepPromise
+upgrades_keep_promise = each-run Upgrade _ upgrade-kept
 
 -- ---- a drill
 
@@ -248,5 +240,5 @@ drill-kept : (n : ℕ) (input : List ℕ) (x : Account) → (runs_of (Some (Dril
 unfolding runs_of
 drill-kept n input x h = (h.0, keeps-summary n x h.1)
 
-pub drills-keep-promise : DrillsKeepPromise
-drills-keep-promise n = each-run (Drill n) (λ input x. KeepsDrill n x) (drill-kept n)
+pub drills_keep_promise : DrillsKeepPromise
+drills_keep_promise n = each-run (Drill n) (λ input x. KeepsDrill n x) (drill-kept n)

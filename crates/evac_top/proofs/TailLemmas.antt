@@ -82,9 +82,5 @@ passes-tail ending from to a c l n result h caused = record {
   where
     nothing : (ending : Ending TextFound) → ending ≡ Fault faults.ReadFault → (h : Listens Hears ending from to a c l n) → (rest : List Line)
         → tail_fault a.number (text_lines (h.texts ++ h.last) ++ rest) ≡ tail_fault c.number rest
-    nothing InputEnded e h = cc
-    nothing Finished e h = cc
-    nothing (Failed f) e h = cc
-    nothing (Fault faults.LineTooLong) e h = cc
-    nothing (Fault faults.InputTooLong) e h = cc
     nothing (Fault faults.ReadFault) e h = means-rest IsAt meaning h tt (comes Hears IsAt meaning goes-on h tt tt) h.ends.0
+    nothing _ e h = cc

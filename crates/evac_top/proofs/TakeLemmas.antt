@@ -90,18 +90,6 @@ takes-value IsOpen value r0 r1 l0 l1 texts fresh p all = takes IsOpen (Ok value)
 pub fresh-drained : (r : Reader) (left : Option (List ℕ)) → IsFresh r → Drained r left
 fresh-drained r left fresh = λ e. absurd (true≢false (sym e ∙ ap (λ (x : Reader). x.ended) fresh))
 
--- ---- the same of another result
-
-pub taken-value : {T U : Type 0} (IsOpen : List Line → Type 0) (value : T) (other : U) (l0 l1 : Option (List ℕ)) → Takes {T = T} IsOpen (Ok value) l0 l1
-    → Takes {T = U} IsOpen (Ok other) l0 l1
-taken-value {T} {U} IsOpen value other l0 l1 t =
-    record { taken = t.taken; consumed = t.consumed; few = t.few; all = t.all; open_lines = λ e. absurd (not-failed {T = U} other e) }
-
-pub taken-fault : {T U : Type 0} (IsOpen : List Line → Type 0) (fault : ModelFault) (l0 l1 : Option (List ℕ)) → Takes {T = T} IsOpen (Err fault) l0 l1
-    → Takes {T = U} IsOpen (Err fault) l0 l1
-taken-fault {T} {U} IsOpen fault l0 l1 t =
-    record { taken = t.taken; consumed = t.consumed; few = t.few; all = tt; open_lines = λ e. t.open_lines (ap Err (read-fault {T = U} fault e)) }
-
 -- ---- the bytes that a source gave, also where it doesn't tell them
 
 pub asked-fresh : {S : Type 0} {takes : Taking S} {r0 r1 : Reader} {s s' : S} → IsFresh r0 → Asks takes r0 s r1 s' → (HasRoom r0 → HasRoom r1)

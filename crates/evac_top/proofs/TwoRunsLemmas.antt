@@ -145,8 +145,8 @@ by-reports false flags names s text front reports e none parts = record {
 
 ends-so : (flags : Flags) (names : NameTable) (s : SessionState) (text : List ℕ) → SaysPlan flags names s text → EndsWithSummary flags names s text
 ends-so flags names s text h =
-    by-reports flags.reports flags names s text (rest_text s ++ h.routes ++ h.cards) h.reports refl h.says_reports
-    (h.parts ∙ ap (λ b. b ++ h.routes ++ h.cards ++ h.reports) (block-parts s) ∙ simp append_assoc)
+    by-reports flags.reports flags names s text (rest_text s ++ h.asked) h.reports refl h.says_reports
+    (h.parts ∙ ap (λ b. b ++ h.asked ++ h.reports) (block-parts s) ∙ simp append_assoc)
 
 where-same : (asked : Bool) (names : NameTable) (m : Model) (s t : SessionState) (x y : List ℕ) → Begins m s → Begins m t
     → Where asked (SaysSummary names 0 s) x → Where asked (SaysSummary names 0 t) y → x ≡ y
@@ -190,8 +190,8 @@ solved : (flags : Flags) (input : List ℕ) (asked : Asked) (x : Account) → in
     → IsPlannedOrShort flags (names_of asked.building) asked.building.model asked.last x
 solved flags input asked x e h = (subst (λ (r : Result Asked (Code × ℕ)). Solves flags input r x) e (solve-answered flags input x h)).1
 
-pub solves-agree : SolvesAgree
-solves-agree flags input asked x y e h g =
+pub solves_agree : SolvesAgree
+solves_agree flags input asked x y e h g =
     end-alike flags (names_of asked.building) asked.building.model asked.last asked.last x y (solved flags input asked x e h) (solved flags input asked y e g)
 
 -- ---- what was upgraded
@@ -206,14 +206,14 @@ reads-again : (input : List ℕ) (asked : Asked) (w : Account) → input_of (lin
     → input_of (lines_of w.written) ≡ Ok (record { building = asked.building; last = length (said_of asked.building) })
 reads-again input asked w e h = ap (λ text. input_of (lines_of text)) (upgraded input asked w e h).1 ∙ upgraded-reads-alike input asked e
 
-pub upgraded-twice : UpgradedTwice
-upgraded-twice input asked x y e h g =
+pub upgraded_twice : UpgradedTwice
+upgraded_twice input asked x y e h g =
     let again : Asked = record { building = asked.building; last = length (said_of asked.building) } in
     let two = upgraded x.written again y (reads-again input asked x e h) g in
     (two.0, two.1 ∙ sym (upgraded input asked x e h).1)
 
-pub upgraded-solves-alike : UpgradedSolvesAlike
-upgraded-solves-alike flags input asked w x y e u h g =
+pub upgraded_solves_alike : UpgradedSolvesAlike
+upgraded_solves_alike flags input asked w x y e u h g =
     let again : Asked = record { building = asked.building; last = length (said_of asked.building) } in
     end-alike flags (names_of asked.building) asked.building.model asked.last again.last x y (solved flags input asked x e h)
     (solved flags w.written again y (reads-again input asked w e u) g)
@@ -301,8 +301,8 @@ session-answered : (input : List ℕ) (y : Account) → Answered Session input y
 unfolding runs_of
 session-answered input y h = h.0
 
-pub session-solves-alike : SessionSolvesAlike
-session-solves-alike input asked x y e h g =
+pub session_solves_alike : SessionSolvesAlike
+session_solves_alike input asked x y e h g =
     let d = asked.building in
     let is = building-of (model_of (lines_of input)) asked e in
     let tail = quiet-tail asked.last is.0 is.2 in
@@ -319,6 +319,6 @@ drill-same n x y h g =
       h.ends.text_whole ∙ ap (drill_text n m) (figures-same m h.opening g.opening h.time g.time h.begins g.begins h.uncongested g.uncongested) ∙ sym g.ends.text_whole,
     )
 
-pub drills-agree : DrillsAgree
+pub drills_agree : DrillsAgree
 unfolding runs_of
-drills-agree n i j x y h g = drill-same n x y h.1 g.1
+drills_agree n i j x y h g = drill-same n x y h.1 g.1

@@ -21,15 +21,21 @@ abbrev pub Where : Bool → (List ℕ → Type 0) → List ℕ → Type 0
 Where true Says text = Says text
 Where false Says text = text ≡ []
 
--- the block of a state, and after it its routes, its cards and the reports on it, where they are asked for
-pub record SaysPlan (flags : Flags) (names : NameTable) (s : SessionState) (text : List ℕ) : Type 0 where
+-- what is asked for between the block of a state and the reports on it: its routes, and its cards
+pub record SaysAsked (flags : Flags) (s : SessionState) (text : List ℕ) : Type 0 where
   pub routes : List ℕ
   pub says_routes : Where flags.routes (SaysRoutesOf 0 s) routes
   pub cards : List ℕ
   pub says_cards : Where flags.cards (SaysCards 0 s.model s.plan) cards
+  pub parts : text ≡ routes ++ cards
+
+-- the block of a state, after it what is asked for, and last the reports on it, where they are asked for too
+pub record SaysPlan (flags : Flags) (names : NameTable) (s : SessionState) (text : List ℕ) : Type 0 where
+  pub asked : List ℕ
+  pub says_asked : SaysAsked flags s asked
   pub reports : List ℕ
   pub says_reports : Where flags.reports (SaysReports names 0 s) reports
-  pub parts : text ≡ block_text 0 s ++ routes ++ cards ++ reports
+  pub parts : text ≡ block_text 0 s ++ asked ++ reports
 
 -- a building is answered by the block of a plan that takes everybody out, with a cut for each period that is worth as many as are out by then;
 -- so no feasible plan has more people out by any period. After it comes what is asked for. As many steps are counted as people were sent on

@@ -9,7 +9,6 @@ ghost use Rattle.line_io.specs.Reader.{Drained, HasRoom, lines_left};
 ghost use Rattle.line_io.specs.View.{Reader};
 ghost use Rattle.line_io.specs.declared.limits.TheConstants.{BUFFER_SIZE};
 ghost use Rattle.building_table.specs.Names.{NamesFit};
-ghost use Rattle.building_table.specs.declared.faults.ModelFault.{ModelFault as FaultValue};
 ghost use Rattle.building_table.specs.Passes.{ReadsLines, ReadsModel};
 ghost use Rattle.certificate_text.specs.Block.{IsBlockOf};
 ghost use Rattle.evac_top.specs.Inputs.{IsOpenClaim};
@@ -46,42 +45,6 @@ fn block_fault(fault: BlockFault) -> ModelFault
 }
 
 // Reads the block after a building, and to the end of the input after it. What they say with the building is said of a reader that read it.
-fn read_block_alone<S: Source>(
-    alloc: Global,
-    lines: &mut Lines,
-    source: &mut S,
-    building: &Building,
-) -> Result<Block, ModelFault>
-    requires valid { IsValid building.now.model }
-    requires names { NamesFit building.now.names building.now.model }
-    ensures block { IfOk result (λ block. IsBlockOf building.now.model block) }
-    ensures stated { (first : Reader) (left : Option (List ℕ)) → IsFresh first
-        → ReadsModel (Ok building.now) first.number lines.old.number (lines_left first left) (lines_left lines.old (S.left source.old))
-        → IfOk result (λ block. Told left (ClaimIs (Ok (record { building = building.now; block = block })))) }
-    ensures refused { (first : Reader) (left : Option (List ℕ)) (fault : FaultValue) → IsFresh first
-        → ReadsModel (Ok building.now) first.number lines.old.number (lines_left first left) (lines_left lines.old (S.left source.old))
-        → result ≡ Err fault → Told left (ClaimIs (Err fault)) }
-    ensures takes { (first : Reader) (left : Option (List ℕ)) → IsFresh first → ReadsLines (Ok building.now) first lines.old left (S.left source.old)
-        → (Drained first left → Drained lines.old (S.left source.old)) → Takes IsOpenClaim result left (S.left source.new) }
-    ensures asks { Asks S.takes lines.old source.old lines.new source.new }
-    ensures room { HasRoom lines.old → HasRoom lines.new }
-    ensures failed { result ≡ Err ModelFault.ReadFault → Rose (S.faults source.old) (S.faults source.new) }
-    ensures quiet { (result ≡ Err ModelFault.ReadFault → ⊥) → S.faults source.new ≡ S.faults source.old }
-{
-    let block = match read_block(alloc, lines, source, &building.model, &building.names) {
-        Ok(block) => block,
-        Err(fault) => return Err(block_fault(fault)),
-    };
-    match read_tail(lines, source) {
-        Ok(()) => Ok(block),
-        Err(fault) => {
-            drop(block);
-            Err(fault)
-        }
-    }
-}
-
-// The same with the building itself.
 fn read_behind<S: Source>(
     alloc: Global,
     lines: &mut Lines,
@@ -101,9 +64,17 @@ fn read_behind<S: Source>(
     ensures failed { result ≡ Err ModelFault.ReadFault → Rose (S.faults source.old) (S.faults source.new) }
     ensures quiet { (result ≡ Err ModelFault.ReadFault → ⊥) → S.faults source.new ≡ S.faults source.old }
 {
-    match read_block_alone(alloc, lines, source, &building) {
-        Ok(block) => Ok(Claim { building, block }),
+    let block = match read_block(alloc, lines, source, &building.model, &building.names) {
+        Ok(block) => block,
         Err(fault) => {
+            drop(building);
+            return Err(block_fault(fault));
+        }
+    };
+    match read_tail(lines, source) {
+        Ok(()) => Ok(Claim { building, block }),
+        Err(fault) => {
+            drop(block);
             drop(building);
             Err(fault)
         }

@@ -56,11 +56,13 @@ pub fn first_advance_is_carried_out()
 {}
 
 /// Whoever keeps the promise of a session refuses an undo as the first line after the building: no edit is kept yet.
+#[tactic(auto, using(crate::proofs::FirstLineLemmas::first_undo_is_refused))]
 pub fn first_undo_is_refused()
     ensures { FirstUndoIsRefused }
 {}
 
 /// It says of the work before any edit that nobody was taken back.
+#[tactic(auto, using(crate::proofs::FirstLineLemmas::first_work_is_of_the_opening))]
 pub fn first_work_is_of_the_opening()
     ensures { FirstWorkIsOfTheOpening }
 {}
@@ -92,6 +94,7 @@ pub fn drills_keep_promise()
 {}
 
 /// A check of an input that `solve` planned, followed by the block that it wrote, says yes.
+#[tactic(auto, using(crate::proofs::CheckedLemmas::solved_is_checked))]
 pub fn solved_is_checked()
     ensures { SolvedIsChecked }
 {}
@@ -102,6 +105,7 @@ pub fn solves_agree()
 {}
 
 /// To upgrade what an upgrade wrote changes nothing.
+#[tactic(auto, using(crate::proofs::TwoRunsLemmas::upgraded_twice))]
 pub fn upgraded_twice()
     ensures { UpgradedTwice }
 {}
@@ -117,6 +121,7 @@ pub fn session_solves_alike()
 {}
 
 /// A drill has one summary, whatever best plan is found.
+#[tactic(auto, using(crate::proofs::TwoRunsLemmas::drills_agree))]
 pub fn drills_agree()
     ensures { DrillsAgree }
 {}

@@ -10,6 +10,7 @@ mod drill;
 mod holding;
 mod laws;
 mod plan;
+mod query;
 mod read;
 mod report_tables;
 mod room;

@@ -1,15 +1,15 @@
 //! The block of a session with what is asked for after it.
-ghost use Rattle.std.specs.Prelude.{ℕ, List, IfSome, is_some};
+ghost use Rattle.std.specs.Prelude.{ℕ, List, ◌++◌, IfSome, is_some};
 ghost use Rattle.line_io.specs.Writer.{Writes};
 ghost use Rattle.report_text.specs.ReportText.{SaysCards};
 ghost use Rattle.plan_layout.specs.Layouts.{IsSameSite};
 ghost use Rattle.session_text.specs.Spaces.{IsSpace};
 ghost use Rattle.session_text.specs.StateTexts.{SaysReports, SaysRoutesOf};
-ghost use Rattle.evac_top.specs.Solve.{SaysPlan, Where};
+ghost use Rattle.evac_top.specs.Solve.{SaysAsked, SaysPlan, Where};
 ghost use Rattle.evac_top.specs.Tables.{HasTablesAsked};
-ghost use Rattle.evac_top.specs.declared.words.Flags.{Flags};
 ghost use Rattle.talk.specs.Held.{SendsBy};
 
+use crate::query::Query;
 use crate::report_tables::Tables;
 use building_table::Names;
 use cards::Cards;
@@ -59,24 +59,37 @@ fn put_reports<K: Sink>(
     }
 }
 
+// Puts what is asked for after the block.
+fn put_asked<K: Sink>(
+    writer: &mut Writer<'_, K>,
+    query: &Query,
+    session: &Session,
+    tables: &mut Tables,
+)
+    requires { HasTablesAsked query.now.flags query.now.names session.now.state tables.old }
+    ensures { let s = session.now.state in
+        (asked : List ℕ) × (reports : List ℕ) × SaysAsked query.now.flags s asked × Where query.now.flags.reports (SaysReports query.now.names 0 s) reports
+        × Writes K.held K.faults writer.old (asked ++ reports) writer.new }
+{
+    put_routes(writer, session, &mut tables.routes);
+    put_cards(writer, session, &mut tables.cards);
+    put_reports(writer, session, &query.names, &mut tables.reports);
+}
+
 /// Sends the block of a session with what is asked for after it.
 pub(crate) fn send_plan<K: Sink>(
     out: &mut Out,
     sink: &mut K,
+    query: &Query,
     session: &Session,
-    names: &Names,
     tables: &mut Tables,
 ) -> Result<(), WriteFault>
-    requires site { IfSome tables.old.routes (λ r. IsSameSite session.now.state.model r.model) }
-    requires cards { IfSome tables.old.cards (λ c. IsSameSite session.now.state.model c.model) }
-    requires space { IfSome tables.old.reports (IsSpace session.now.state.model names.now) }
-    ensures { (flags : Flags) → HasTablesAsked flags names.now session.now.state tables.old → (text : List ℕ) × SaysPlan flags names.now session.now.state text
+    requires { HasTablesAsked query.now.flags query.now.names session.now.state tables.old }
+    ensures { (text : List ℕ) × SaysPlan query.now.flags query.now.names session.now.state text
         × SendsBy result text (K.held sink.old) out.old (K.faults sink.old) (K.held sink.new) out.new (K.faults sink.new) }
 {
     let mut writer = Writer::new(out, sink);
     put_block(&mut writer, session, 0);
-    put_routes(&mut writer, session, &mut tables.routes);
-    put_cards(&mut writer, session, &mut tables.cards);
-    put_reports(&mut writer, session, names, &mut tables.reports);
+    put_asked(&mut writer, query, session, tables);
     writer.flush()
 }

@@ -4,7 +4,7 @@ ghost use Rattle.plan_layout.specs.Layouts.{IsSameSite};
 ghost use Rattle.session_text.specs.Spaces.{IsSpace};
 ghost use Rattle.evac_top.specs.Tables.{HasTablesAsked};
 
-use crate::words::Flags;
+use crate::query::Query;
 use building_table::Names;
 use cards::Cards;
 use edit_session::Session;
@@ -23,18 +23,17 @@ pub struct Tables {
 // Room for the routes of a session's plan, where they are asked for.
 fn room_for_routes(
     alloc: Global,
-    flags: Flags,
+    asked: bool,
     session: &Session,
 ) -> Result<Option<Routes>, AllocError>
-    ensures asked { IfOk result (λ r. is_some r ≡ flags.routes) }
+    ensures asked { IfOk result (λ r. is_some r ≡ asked) }
     ensures site { IfOk result (λ r. IfSome r (λ routes. IsSameSite session.now.state.model routes.model)) }
 {
-    let routes = if flags.routes {
-        Some(Routes::new(alloc, session.model())?)
+    if asked {
+        Ok(Some(Routes::new(alloc, session.model())?))
     } else {
-        None
-    };
-    Ok(routes)
+        Ok(None)
+    }
 }
 
 // Room for the cards of a session's plan, where they are asked for.
@@ -70,69 +69,19 @@ fn room_for_reports(
     }
 }
 
-// The tables with these routes and cards.
-fn with_reports(
-    alloc: Global,
-    flags: Flags,
-    session: &Session,
-    names: &Names,
-    routes: Option<Routes>,
-    cards: Option<Cards>,
-) -> Result<Tables, AllocError>
-    requires routes { is_some routes ≡ flags.routes }
-    requires site { IfSome routes (λ r. IsSameSite session.now.state.model r.model) }
-    requires cards { is_some cards ≡ flags.cards }
-    requires cards_site { IfSome cards (λ c. IsSameSite session.now.state.model c.model) }
-    ensures { IfOk result (HasTablesAsked flags names.now session.now.state) }
-{
-    match room_for_reports(alloc, flags.reports, session, names) {
-        Ok(reports) => Ok(Tables {
+impl Tables {
+    /// Takes all memory that what is asked for needs.
+    pub(crate) fn new(alloc: Global, query: &Query, session: &Session) -> Result<Tables, AllocError>
+        ensures { IfOk result (HasTablesAsked query.now.flags query.now.names session.now.state) }
+    {
+        let flags = query.flags;
+        let routes = room_for_routes(alloc, flags.routes, session)?;
+        let cards = room_for_cards(alloc, flags.cards, session)?;
+        let reports = room_for_reports(alloc, flags.reports, session, &query.names)?;
+        Ok(Tables {
             routes,
             cards,
             reports,
-        }),
-        Err(fault) => {
-            drop(cards);
-            drop(routes);
-            Err(fault)
-        }
-    }
-}
-
-// The tables with these routes.
-fn with_cards(
-    alloc: Global,
-    flags: Flags,
-    session: &Session,
-    names: &Names,
-    routes: Option<Routes>,
-) -> Result<Tables, AllocError>
-    requires routes { is_some routes ≡ flags.routes }
-    requires site { IfSome routes (λ r. IsSameSite session.now.state.model r.model) }
-    ensures { IfOk result (HasTablesAsked flags names.now session.now.state) }
-{
-    match room_for_cards(alloc, flags.cards, session) {
-        Ok(cards) => with_reports(alloc, flags, session, names, routes, cards),
-        Err(fault) => {
-            drop(routes);
-            Err(fault)
-        }
-    }
-}
-
-impl Tables {
-    /// Takes all memory that what is asked for needs.
-    pub(crate) fn new(
-        alloc: Global,
-        flags: Flags,
-        session: &Session,
-        names: &Names,
-    ) -> Result<Tables, AllocError>
-        ensures { IfOk result (HasTablesAsked flags names.now session.now.state) }
-    {
-        match room_for_routes(alloc, flags, session) {
-            Ok(routes) => with_cards(alloc, flags, session, names, routes),
-            Err(fault) => Err(fault),
-        }
+        })
     }
 }

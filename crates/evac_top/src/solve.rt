@@ -1,6 +1,5 @@
 //! The mode `solve`: a model is read, all arrival moments are settled, and the plan or the shortfall is sent.
 ghost use Rattle.std.specs.Prelude.{◌≡◌, ℕ, ◌+◌, [], Some};
-ghost use Rattle.evac_law.specs.Building.{IsValid};
 ghost use Rattle.edit_session.specs.Sessions.{BeginEnds, Begins};
 ghost use Rattle.evac_law.specs.declared.model.Model.{Model as ModelValue};
 ghost use Rattle.line_io.specs.Calls.{AsksAtMost};
@@ -14,12 +13,12 @@ ghost use Rattle.evac_top.specs.declared.words.Mode.TheVariants.{Solve};
 ghost use Rattle.talk.specs.Statuses.{status_number};
 
 use crate::plan::send_plan;
-use crate::read::{Input, read_input};
+use crate::query::Query;
+use crate::read::read_input;
 use crate::report_tables::Tables;
 use crate::room::take_room;
 use crate::stop::{stop, stop_short};
 use crate::words::Flags;
-use building_table::Names;
 use edit_session::{BeginFault, Session};
 use evac_law::Steps;
 use line_io::{Out, Sink, Source};
@@ -30,21 +29,20 @@ use talk::{Status, status_after};
 // Sends the plan with which a session begins. All memory is taken before.
 fn answer_plan<K: Sink>(
     alloc: Global,
-    flags: Flags,
     out: &mut Out,
     sink: &mut K,
+    query: &Query,
     session: &Session,
-    names: &Names,
 ) -> Status
     requires fresh { out.old ≡ [] }
     requires begins { Begins session.now.state.model session.now.state }
-    ensures { Tells (IsPlanned flags names.now session.now.state.model) (status_number result) session.now.state.work.pushes
+    ensures { Tells (IsPlanned query.now.flags query.now.names session.now.state.model) (status_number result) session.now.state.work.pushes
         (side (K.held sink.old) (K.faults sink.old)) (side (K.held sink.new) (K.faults sink.new)) }
 {
-    let Ok(mut tables) = Tables::new(alloc, flags, session, names) else {
+    let Ok(mut tables) = Tables::new(alloc, query, session) else {
         return Status::NoMemory;
     };
-    let sent = send_plan(out, sink, session, names, &mut tables);
+    let sent = send_plan(out, sink, query, session, &mut tables);
     drop(tables);
     status_after(sent, Status::Done)
 }
@@ -52,62 +50,39 @@ fn answer_plan<K: Sink>(
 // Sends the plan with which a session begins, and ends the session.
 fn answer_begun<K: Sink>(
     alloc: Global,
-    flags: Flags,
     out: &mut Out,
     sink: &mut K,
+    query: &Query,
     session: Session,
-    names: &Names,
 ) -> Status
     requires fresh { out.old ≡ [] }
     requires begins { Begins session.state.model session.state }
-    ensures { Tells (IsPlanned flags names.now session.state.model) (status_number result) session.state.work.pushes
+    ensures { Tells (IsPlanned query.now.flags query.now.names session.state.model) (status_number result) session.state.work.pushes
         (side (K.held sink.old) (K.faults sink.old)) (side (K.held sink.new) (K.faults sink.new)) }
 {
-    let status = answer_plan(alloc, flags, out, sink, &session, names);
+    let status = answer_plan(alloc, out, sink, query, &session);
     drop(session);
     status
 }
 
-// Sends what a session begins with, or why there is none on a building whose end is at a line.
+// Sends what a session begins with, or why there is none.
 fn tell<K: Sink>(
     alloc: Global,
-    flags: Flags,
     out: &mut Out,
     sink: &mut K,
+    query: &Query,
     begun: Result<Session, BeginFault>,
-    names: &Names,
-    line: u32,
 ) -> Status
     requires fresh { out.old ≡ [] }
     requires begun { (m : ModelValue) × HasBegun m begun }
-    ensures { (m : ModelValue) (steps : ℕ) → BeginEnds m begun steps → Tells (IsPlannedOrShort flags names.now m line) (status_number result) steps
+    ensures { (m : ModelValue) (steps : ℕ) → BeginEnds m begun steps
+        → Tells (IsPlannedOrShort query.now.flags query.now.names m query.now.line) (status_number result) steps
         (side (K.held sink.old) (K.faults sink.old)) (side (K.held sink.new) (K.faults sink.new)) }
 {
     match begun {
-        Ok(session) => answer_begun(alloc, flags, out, sink, session, names),
-        Err(fault) => stop_short(out, sink, line, fault),
+        Ok(session) => answer_begun(alloc, out, sink, query, session),
+        Err(fault) => stop_short(out, sink, query.line, fault),
     }
-}
-
-// Sends the answer for a building.
-fn answer<K: Sink, L: Ledger>(
-    alloc: Global,
-    flags: Flags,
-    out: &mut Out,
-    sink: &mut K,
-    input: Input,
-    steps: &mut Steps<L>,
-) -> Status
-    requires fresh { out.old ≡ [] }
-    requires valid { IsValid input.building.model }
-    ensures { (count : ℕ) × (steps.new ≡ steps.old + count) × Tells (IsPlannedOrShort flags input.building.names input.building.model input.last) (status_number result) count
-        (side (K.held sink.old) (K.faults sink.old)) (side (K.held sink.new) (K.faults sink.new)) }
-{
-    let names = input.building.names;
-    let begun = Session::begin(alloc, input.building.model, steps);
-    let status = tell(alloc, flags, out, sink, begun, &names, input.last);
-    drop(names);
-    status
 }
 
 /// Runs the mode.
@@ -127,7 +102,17 @@ pub(crate) fn solve<S: Source, K: Sink, L: Ledger>(
         return Status::NoMemory;
     };
     match read_input(alloc, &mut lines, source) {
-        Ok(input) => answer(alloc, flags, &mut out, sink, input, steps),
+        Ok(input) => {
+            let begun = Session::begin(alloc, input.building.model, steps);
+            let query = Query {
+                flags,
+                names: input.building.names,
+                line: input.last,
+            };
+            let status = tell(alloc, &mut out, sink, &query, begun);
+            drop(query);
+            status
+        }
         Err(fault) => stop(&mut out, sink, fault),
     }
 }

@@ -1,5 +1,6 @@
 -- The rows of a session come after those of a replan.
 use Rattle.std.proofs.Common.{◌≡◌, ℕ, Bool, true, false, ◌&&◌, nat_lt, Result, Ok, Err, refl, sym, ap, ◌∙◌, subst}
+use Rattle.std.proofs.Math.Bool.{and-false}
 use Rattle.evac_law.specs.declared.code.Code.TheVariants as codes
 use Rattle.evac_law.specs.declared.edit.Edit.{Edit}
 use Rattle.evac_law.specs.Edits.{applied}
@@ -17,16 +18,12 @@ use Rattle.replan_talk.specs.ReplanTalks.{AsksSession, Replanned, SessionRow, as
 use Rattle.replan_talk.proofs.Carrying.{Carries}
 use Rattle.talk.specs.Talks.{Reply, refuses}
 
-never : (b : Bool) → (b && false) ≡ false
-never true = refl
-never false = refl
-
 -- ---- a row by whether it comes too late
 
 free-row : (names : NameTable) (line : ℕ) (s : Replanned) (c : Command) (people : Bool) (r : Reply Replanned) → people ≡ false → Carries s (Replies names line s.session (Ok c)) r
     → AsksSession names line s c (nat_lt 0 s.moment && people) r
 free-row names line s c people r none h =
-    let P : Bool → Type 0 = λ b. AsksSession names line s c b r in subst P (sym (ap (λ (b : Bool). nat_lt 0 s.moment && b) none ∙ never (nat_lt 0 s.moment))) h
+    let P : Bool → Type 0 = λ b. AsksSession names line s c b r in subst P (sym (ap (λ (b : Bool). nat_lt 0 s.moment && b) none ∙ and-false (nat_lt 0 s.moment))) h
 
 -- a line that is no edit of people gets what a session says
 pub session_row : (names : NameTable) (line : ℕ) (s : Replanned) (c : Command) → asks_of_people names c ≡ false → (r : Reply Replanned)

@@ -10,7 +10,7 @@ ghost use Rattle.clearing_report.specs.Clearing.{IsReport, latest, clearing_mome
 ghost use Rattle.report_text.specs.ReportText.{clearing_text, floor_clear_part, node_clear_part};
 
 use crate::lines::{put_floor_clear, put_node_clear, put_number};
-use building_table::Names;
+use crate::subject::Subject;
 use certificate_text::put_end;
 use clearing_report::Clearing;
 use evac_law::Model;
@@ -53,23 +53,21 @@ fn put_floors<K: Sink>(
     }
 }
 
-/// Puts when each node that is no exit and each floor is empty, by a report on a plan. The index is that of the plan's answer.
+/// Puts when each node that is no exit and each floor is empty, by a report on the plan of an answer.
 pub fn put_clearing<K: Sink>(
     writer: &mut Writer<'_, K>,
-    model: &Model,
-    index: u32,
-    names: &Names,
+    subject: &Subject<'_>,
     floors: &FloorIndex,
     clearing: &Clearing,
 )
-    requires valid { IsValid model.now }
-    requires size { length clearing.now.moments ≡ length model.now.nodes }
-    requires floors { floors.now ≡ table_of model.now names.now.floors }
-    ensures { (p : List Move) → IsReport model.now p clearing.now
-        → Writes K.held K.faults writer.old (clearing_text index names.now.floors model.now p) writer.new }
+    requires valid { IsValid subject.now.model.now }
+    requires size { length clearing.now.moments ≡ length subject.now.model.now.nodes }
+    requires floors { floors.now ≡ table_of subject.now.model.now subject.now.names.now.floors }
+    ensures { let m = subject.now.model.now in (p : List Move) → IsReport m p clearing.now
+        → Writes K.held K.faults writer.old (clearing_text subject.now.index subject.now.names.now.floors m p) writer.new }
 {
-    put_number(writer, b"clearing", u64::from(index));
-    put_nodes(writer, model, clearing);
-    put_floors(writer, names.floors(), floors, clearing);
+    put_number(writer, b"clearing", u64::from(subject.index));
+    put_nodes(writer, subject.model, clearing);
+    put_floors(writer, subject.names.floors(), floors, clearing);
     put_end(writer);
 }

@@ -10,6 +10,7 @@ mod cut;
 mod lines;
 mod person_cards;
 mod routes;
+mod subject;
 mod summary;
 
 pub use bottlenecks::put_bottlenecks;
@@ -18,4 +19,5 @@ pub use cut::put_cut;
 pub use lines::{put_cut_line, put_number, put_work};
 pub use person_cards::put_cards;
 pub use routes::put_routes;
+pub use subject::Subject;
 pub use summary::put_summary;

@@ -9,6 +9,7 @@ use evac_law::NodeName;
 use line_io::{Sink, TextLine, Writer};
 
 /// Puts a line of a word and a number.
+#[tactic(auto, unfolding(crate::specs::ReportText::number_line))]
 pub fn put_number<K: Sink>(writer: &mut Writer<'_, K>, word: &[u8], number: u64)
     requires { length word.now ≤ 100 }
     ensures { Writes K.held K.faults writer.old (number_line word.now number) writer.new }
@@ -19,6 +20,7 @@ pub fn put_number<K: Sink>(writer: &mut Writer<'_, K>, word: &[u8], number: u64)
 }
 
 /// Puts the line of a cut: its moment and its value.
+#[tactic(auto, unfolding(crate::specs::ReportText::cut_line))]
 pub fn put_cut_line<K: Sink>(writer: &mut Writer<'_, K>, moment: u16, value: u64)
     ensures { Writes K.held K.faults writer.old (cut_line moment value) writer.new }
 {
@@ -28,6 +30,7 @@ pub fn put_cut_line<K: Sink>(writer: &mut Writer<'_, K>, moment: u16, value: u64
     writer.put(line);
 }
 
+#[tactic(auto, unfolding(crate::specs::ReportText::entry_line))]
 pub(crate) fn put_entry<K: Sink>(writer: &mut Writer<'_, K>, name: NodeName, people: u32)
     requires { IsName name }
     ensures { Writes K.held K.faults writer.old (entry_line (name_text name) people) writer.new }
@@ -38,6 +41,7 @@ pub(crate) fn put_entry<K: Sink>(writer: &mut Writer<'_, K>, name: NodeName, peo
     writer.put(line);
 }
 
+#[tactic(auto, unfolding(crate::specs::ReportText::hold_line))]
 pub(crate) fn put_hold<K: Sink>(
     writer: &mut Writer<'_, K>,
     name: NodeName,
@@ -54,6 +58,7 @@ pub(crate) fn put_hold<K: Sink>(
     writer.put(line);
 }
 
+#[tactic(auto, unfolding(crate::specs::ReportText::arc_line))]
 pub(crate) fn put_arc<K: Sink>(
     writer: &mut Writer<'_, K>,
     moment: u16,
@@ -83,6 +88,7 @@ fn put_entered(line: &mut TextLine, moment: u16)
     }
 }
 
+#[tactic(auto, unfolding(crate::specs::ReportText::route_line))]
 pub(crate) fn put_route_line<K: Sink>(
     writer: &mut Writer<'_, K>,
     people: u32,
@@ -99,6 +105,7 @@ pub(crate) fn put_route_line<K: Sink>(
     writer.put(line);
 }
 
+#[tactic(auto, unfolding(crate::specs::ReportText::card_line))]
 pub(crate) fn put_card_line<K: Sink>(
     writer: &mut Writer<'_, K>,
     number: u32,
@@ -115,6 +122,7 @@ pub(crate) fn put_card_line<K: Sink>(
     writer.put(line);
 }
 
+#[tactic(auto, unfolding(crate::specs::ReportText::step_line))]
 pub(crate) fn put_step<K: Sink>(
     writer: &mut Writer<'_, K>,
     moment: u16,
@@ -143,6 +151,7 @@ fn put_moment(line: &mut TextLine, moment: Option<u16>)
     }
 }
 
+#[tactic(auto, unfolding(crate::specs::ReportText::node_clear_line))]
 pub(crate) fn put_node_clear<K: Sink>(
     writer: &mut Writer<'_, K>,
     name: NodeName,
@@ -157,6 +166,7 @@ pub(crate) fn put_node_clear<K: Sink>(
     writer.put(line);
 }
 
+#[tactic(auto, unfolding(crate::specs::ReportText::floor_clear_line))]
 pub(crate) fn put_floor_clear<K: Sink>(writer: &mut Writer<'_, K>, floor: u16, moment: Option<u16>)
     ensures { Writes K.held K.faults writer.old (floor_clear_line floor moment) writer.new }
 {
@@ -166,6 +176,7 @@ pub(crate) fn put_floor_clear<K: Sink>(writer: &mut Writer<'_, K>, floor: u16, m
     writer.put(line);
 }
 
+#[tactic(auto, unfolding(crate::specs::ReportText::arc_periods_line))]
 pub(crate) fn put_arc_periods<K: Sink>(
     writer: &mut Writer<'_, K>,
     from: NodeName,
@@ -183,6 +194,7 @@ pub(crate) fn put_arc_periods<K: Sink>(
     writer.put(line);
 }
 
+#[tactic(auto, unfolding(crate::specs::ReportText::hold_periods_line))]
 pub(crate) fn put_hold_periods<K: Sink>(writer: &mut Writer<'_, K>, name: NodeName, periods: u32)
     requires { IsName name }
     ensures { Writes K.held K.faults writer.old (hold_periods_line (name_text name) periods) writer.new }
@@ -194,6 +206,7 @@ pub(crate) fn put_hold_periods<K: Sink>(writer: &mut Writer<'_, K>, name: NodeNa
 }
 
 /// Puts the work of an edit: the people who were taken back, and those who were sent anew.
+#[tactic(auto, unfolding(crate::specs::ReportText::work_text))]
 pub fn put_work<K: Sink>(writer: &mut Writer<'_, K>, cancelled: u64, pushes: u64)
     ensures { Writes K.held K.faults writer.old (work_text cancelled pushes) writer.new }
 {

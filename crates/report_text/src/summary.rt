@@ -6,6 +6,7 @@ ghost use Rattle.clearing_report.specs.Clearing.{IsReport};
 ghost use Rattle.report_text.specs.ReportText.{outcome_lines, summary_text, title_line};
 
 use crate::lines::put_number;
+use crate::subject::Subject;
 use building_table::Names;
 use certificate_text::put_end;
 use clearing_report::Clearing;
@@ -43,25 +44,22 @@ fn put_outcome<K: Sink>(writer: &mut Writer<'_, K>, model: &Model, cleared: u16)
     put_number(writer, b"seconds", seconds);
 }
 
-/// Puts the summary of a standing plan, by a report on it. The index is that of the plan's answer.
+/// Puts the summary of a standing plan, by a report on it.
 pub fn put_summary<K: Sink, F: Standing>(
     writer: &mut Writer<'_, K>,
-    model: &Model,
-    index: u32,
-    names: &Names,
+    subject: &Subject<'_>,
     standing: &F,
     clearing: &Clearing,
 )
-    requires valid { IsValid model.now }
-    requires report { IsReport model.now (F.stand standing.now).plan clearing.now }
+    requires valid { IsValid subject.now.model.now }
+    requires report { IsReport subject.now.model.now (F.stand standing.now).plan clearing.now }
     ensures { let s = F.stand standing.now in
-        Writes K.held K.faults writer.old (summary_text index names.now.title model.now s.plan s.last clearing.now.time) writer.new }
+        Writes K.held K.faults writer.old (summary_text subject.now.index subject.now.names.now.title subject.now.model.now s.plan s.last clearing.now.time) writer.new }
 {
-    let number = u64::from(index);
     let time = u64::from(clearing.uncongested());
-    put_number(writer, b"summary", number);
-    put_title(writer, names);
-    put_outcome(writer, model, standing.cleared());
+    put_number(writer, b"summary", u64::from(subject.index));
+    put_title(writer, subject.names);
+    put_outcome(writer, subject.model, standing.cleared());
     put_number(writer, b"uncongested", time);
     put_number(writer, b"personperiods", clearing.person_periods());
     put_end(writer);

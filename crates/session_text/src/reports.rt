@@ -15,6 +15,7 @@ use edit_session::Session;
 use evac_law::Standing;
 use floor_index::FloorIndex;
 use line_io::{Sink, Writer};
+use report_text::Subject;
 use std::alloc::{AllocError, Global};
 use std::marker::Model;
 
@@ -93,7 +94,12 @@ pub fn put_clearing<K: Sink>(
 {
     space.report_plan(session);
     let model = session.model();
-    report_text::put_clearing(writer, model, index, names, &space.floors, &space.clearing);
+    let subject = Subject {
+        model,
+        names,
+        index,
+    };
+    report_text::put_clearing(writer, &subject, &space.floors, &space.clearing);
 }
 
 /// Puts what holds people up, and in how many periods. The index is that of the session's block.
@@ -126,7 +132,12 @@ pub fn put_summary<K: Sink>(
 {
     space.report_plan(session);
     let model = session.model();
-    report_text::put_summary(writer, model, index, names, session, &space.clearing);
+    let subject = Subject {
+        model,
+        names,
+        index,
+    };
+    report_text::put_summary(writer, &subject, session, &space.clearing);
 }
 
 /// Puts the three reports, one after another: clearing, bottlenecks and summary.
@@ -144,7 +155,12 @@ pub fn put_reports<K: Sink>(
     space.report_plan(session);
     space.report_labels(session);
     let model = session.model();
-    report_text::put_clearing(writer, model, index, names, &space.floors, &space.clearing);
+    let subject = Subject {
+        model,
+        names,
+        index,
+    };
+    report_text::put_clearing(writer, &subject, &space.floors, &space.clearing);
     report_text::put_bottlenecks(writer, model, index, &space.bottlenecks);
-    report_text::put_summary(writer, model, index, names, session, &space.clearing);
+    report_text::put_summary(writer, &subject, session, &space.clearing);
 }

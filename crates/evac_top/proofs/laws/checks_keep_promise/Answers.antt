@@ -1,5 +1,5 @@
-use Rattle.evac_top.proofs.PromiseLemmas.{checks-keep-promise}
+use Rattle.evac_top.proofs.PromiseLemmas.{checks_keep_promise}
 use Rattle.evac_top.proofs.laws.checks_keep_promise.Goals as goal
 
 pub returns : goal.returns
-returns c = checks-keep-promise
+returns c = checks_keep_promise

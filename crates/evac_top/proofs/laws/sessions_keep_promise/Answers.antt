@@ -1,5 +1,5 @@
-use Rattle.evac_top.proofs.HeadlineLemmas.{sessions-keep-promise}
+use Rattle.evac_top.proofs.HeadlineLemmas.{sessions_keep_promise}
 use Rattle.evac_top.proofs.laws.sessions_keep_promise.Goals as goal
 
 pub returns : goal.returns
-returns c = sessions-keep-promise
+returns c = sessions_keep_promise

@@ -1,5 +1,5 @@
-use Rattle.evac_top.proofs.TwoRunsLemmas.{solves-agree}
+use Rattle.evac_top.proofs.TwoRunsLemmas.{solves_agree}
 use Rattle.evac_top.proofs.laws.solves_agree.Goals as goal
 
 pub returns : goal.returns
-returns c = solves-agree
+returns c = solves_agree

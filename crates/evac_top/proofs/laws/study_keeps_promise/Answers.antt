@@ -1,5 +1,5 @@
-use Rattle.evac_top.proofs.PromiseLemmas.{study-keeps-promise}
+use Rattle.evac_top.proofs.PromiseLemmas.{study_keeps_promise}
 use Rattle.evac_top.proofs.laws.study_keeps_promise.Goals as goal
 
 pub returns : goal.returns
-returns c = study-keeps-promise
+returns c = study_keeps_promise

@@ -1,5 +1,5 @@
-use Rattle.evac_top.proofs.PromiseLemmas.{yes-is-best}
+use Rattle.evac_top.proofs.PromiseLemmas.{yes_is_best}
 use Rattle.evac_top.proofs.laws.yes_is_best.Goals as goal
 
 pub returns : goal.returns
-returns c = yes-is-best
+returns c = yes_is_best

@@ -10,15 +10,18 @@ use Rattle.evac_top.proofs.solve.solve.Goals as goal
 pub returns-in_default-clause-run : goal.returns-in_default-clause-run
 returns-in_default-clause-run g c = no-memory (Solve c.args.flags) (solve-reads c.args.flags) _
 
+pub tell-status-requires-clause-begun : goal.tell-status-requires-clause-begun
+tell-status-requires-clause-begun g c =
+    let b = c.begin-begun.ensures in (c.in-Ok-read_input.input.building.model, (b.0, c.in-Ok-read_input.ensures.valid, b.2))
+
 pub returns-in-Ok-read_input-clause-run : goal.returns-in-Ok-read_input-clause-run
 returns-in-Ok-read_input-clause-run g c =
     let flags = c.args.flags in
-    let names = c.in-Ok-read_input.input.building.names in
-    let m = c.in-Ok-read_input.input.building.model in
-    let last = c.in-Ok-read_input.input.last in
-    let told = c.answer.ensures in
-    read-told (Solve flags) (solve-reads flags) InputIs (IsPlannedOrShort flags names m last) c.in-Ok-read_input.input (solved-few flags names m last) (said-building flags c.in-Ok-read_input.input)
-    (status_number c.answer.result) told.0 c.args.steps.now c.answer.new.steps _ _ _ _ c.in-Ok-read_input.ensures.takes c.in-Ok-read_input.ensures.quiet told.1 told.2 c.in-Ok-read_input.ensures.input
+    let input = c.in-Ok-read_input.input in
+    let m = input.building.model in
+    let begun = c.begin-begun.ensures in
+    read-told (Solve flags) (solve-reads flags) InputIs (IsPlannedOrShort flags input.building.names m input.last) input (solved-few flags input.building.names m input.last) (said-building flags input)
+    (status_number c.tell-status.result) begun.0 c.args.steps.now c.begin-begun.new.steps _ _ _ _ c.in-Ok-read_input.ensures.takes c.in-Ok-read_input.ensures.quiet begun.1 (c.tell-status.ensures m begun.0 begun.2) c.in-Ok-read_input.ensures.input
 
 pub returns-clause-run : goal.returns-clause-run
 returns-clause-run g c =

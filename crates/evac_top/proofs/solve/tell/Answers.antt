@@ -18,10 +18,11 @@ pub returns-in-Ok : goal.returns-in-Ok
 returns-in-Ok g c = λ m steps ends.
     let v = c.in-Ok.session in
     let h = begun-as m steps c.args.begun v c.in-Ok.is ends in
-    told-planned c.args.flags c.args.names.now m c.args.line v.state steps (status_number c.answer_begun.result) _ _ h.0 h.2 c.answer_begun.ensures
+    told-planned c.args.query.now.flags c.args.query.now.names m c.args.query.now.line v.state steps (status_number c.answer_begun.result) _ _ h.0 h.2 c.answer_begun.ensures
 
 pub returns-in-Err : goal.returns-in-Err
 returns-in-Err g c = λ m steps ends.
-    let line = c.args.line in
-    told-short (IsPlannedOrShort c.args.flags c.args.names.now m line) m line steps (status_number c.stop_short.result) _ _ (λ x h. inr h)
+    let query = c.args.query.now in
+    let line = query.line in
+    told-short (IsPlannedOrShort query.flags query.names m line) m line steps (status_number c.stop_short.result) _ _ (λ x h. inr h)
     (c.stop_short.ensures m steps (fault-as m steps c.args.begun c.in-Err.fault c.in-Err.is ends))

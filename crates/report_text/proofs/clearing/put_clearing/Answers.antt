@@ -11,6 +11,6 @@ pub returns : goal.returns
 unfolding clearing_text
 returns g c =
     λ p report.
-    let m = c.args.model.now in
-    let floors = c.args.names.now.floors in
-    writes_then (writes_then (writes_then (writes_is {u = number_line (codes "clearing") c.args.index} (ap (number_line (codes "clearing")) c.from.ensures) c.put_number.ensures) (writes_is {u = flat_map (node_clear_part m (last_occupied m p)) (places m.nodes)} (node_texts m p c.args.clearing.now report) c.put_nodes.ensures)) (writes_is {u = flat_map (floor_clear_part (floor_occupied m p)) floors} (floors_are c.args.floors.now c.floors.result.now m p c.args.clearing.now report floors c.requires.floors c.floors.ensures.floors) c.put_floors.ensures)) c.put_end.ensures
+    let m = c.args.subject.now.model.now in
+    let floors = c.args.subject.now.names.now.floors in
+    writes_then (writes_then (writes_then (writes_is {u = number_line (codes "clearing") c.args.subject.now.index} (ap (number_line (codes "clearing")) c.from.ensures) c.put_number.ensures) (writes_is {u = flat_map (node_clear_part m (last_occupied m p)) (places m.nodes)} (node_texts m p c.args.clearing.now report) c.put_nodes.ensures)) (writes_is {u = flat_map (floor_clear_part (floor_occupied m p)) floors} (floors_are c.args.floors.now c.floors.result.now m p c.args.clearing.now report floors c.requires.floors c.floors.ensures.floors) c.put_floors.ensures)) c.put_end.ensures

@@ -1,9 +1,0 @@
-use Rattle.std.specs.Prelude.{[], ◌∷◌, codes, decimal}
-use Rattle.line_io.proofs.WriterLemmas.{writes_line}
-use Rattle.evac_law.specs.Names.{name_text}
-use Rattle.report_text.specs.ReportText.{arc_periods_line}
-use Rattle.report_text.proofs.lines.put_arc_periods.Goals as goal
-
-pub returns : goal.returns
-unfolding arc_periods_line
-returns g c = writes_line (codes "arc" ∷ name_text c.args.from ∷ name_text c.args.to ∷ decimal c.args.periods ∷ []) (cc) c.put.ensures

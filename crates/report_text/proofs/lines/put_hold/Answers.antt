@@ -1,9 +1,0 @@
-use Rattle.std.specs.Prelude.{[], ◌∷◌, codes, decimal}
-use Rattle.line_io.proofs.WriterLemmas.{writes_line}
-use Rattle.evac_law.specs.Names.{name_text}
-use Rattle.report_text.specs.ReportText.{hold_line}
-use Rattle.report_text.proofs.lines.put_hold.Goals as goal
-
-pub returns : goal.returns
-unfolding hold_line
-returns g c = writes_line (codes "hold" ∷ name_text c.args.name ∷ decimal c.args.moment ∷ decimal c.args.capacity ∷ []) (cc) c.put.ensures
