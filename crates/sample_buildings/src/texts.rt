@@ -8,14 +8,6 @@ pub const ONE_ROOM: &str = "evacplan 1\nperiod 5\nhorizon 20\nfloor 1 Ground\n\
 pub const EMPTY_ROOM: &str = "evacplan 1\nperiod 5\nhorizon 20\nfloor 1 Ground\n\
     node WP1.1 10 0\nnode DS1.1\narc WP1.1 DS1.1 1 2\nend\n";
 
-/// `ONE_ROOM` with too few periods for three people.
-pub const TOO_SHORT: &str = "evacplan 1\nperiod 5\nhorizon 1\nfloor 1 Ground\n\
-    node WP1.1 10 3\nnode DS1.1\narc WP1.1 DS1.1 1 2\nend\n";
-
-/// Three people in a room, through whose door two go a period, and four who come into it two periods later.
-pub const FOUR_LATE: &str = "evacplan 2\nperiod 5\nhorizon 20\nfloor 1 Ground\n\
-    node WP1.1 10 3\nnode DS1.1\narc WP1.1 DS1.1 1 2\nentrant WP1.1 2 4\nend\n";
-
 /// Five people in a room without a door.
 pub const TRAPPED: &str = "evacplan 1\nperiod 5\nhorizon 10\nfloor 1 Ground\n\
     node WP1.1 5 5\nnode DS1.1\nend\n";
@@ -24,16 +16,6 @@ pub const TRAPPED: &str = "evacplan 1\nperiod 5\nhorizon 10\nfloor 1 Ground\n\
 pub const TWO_EXITS: &str = "evacplan 1\nperiod 5\nhorizon 20\nfloor 1 Ground\n\
     node WP1.1 8 8\nnode DS1.1\nnode DS2.1\n\
     arc WP1.1 DS1.1 1 1\narc WP1.1 DS2.1 3 5\nend\n";
-
-/// `TWO_EXITS`, and a third exit that nobody can reach.
-pub const THREE_EXITS: &str = "evacplan 1\nperiod 5\nhorizon 20\nfloor 1 Ground\n\
-    node WP1.1 8 8\nnode DS1.1\nnode DS2.1\nnode DS3.1\n\
-    arc WP1.1 DS1.1 1 1\narc WP1.1 DS2.1 3 5\nend\n";
-
-/// `TWO_EXITS` with a second room in which nobody is, and a third exit that nobody can reach.
-pub const SPARE_ROOM: &str = "evacplan 1\nperiod 5\nhorizon 20\nfloor 1 Ground\n\
-    node WP1.1 8 8\nnode WP2.1 4 0\nnode DS3.1\nnode DS4.1\nnode DS5.1\n\
-    arc WP1.1 DS3.1 1 1\narc WP1.1 DS4.1 3 5\narc WP2.1 DS3.1 1 1\nend\n";
 
 /// Two rooms with one person each, who go out through a hall; the first room has a longer way of its own.
 pub const TWO_ROOMS: &str = "evacplan 1\nperiod 5\nhorizon 20\nfloor 1 Ground\n\
@@ -44,11 +26,6 @@ pub const TWO_ROOMS: &str = "evacplan 1\nperiod 5\nhorizon 20\nfloor 1 Ground\n\
 pub const THROUGH_HALL: &str = "evacplan 1\nperiod 5\nhorizon 20\nfloor 1 Ground\n\
     node WP1.1 5 4\nnode HA1.1 0 0\nnode DS1.1\n\
     arc WP1.1 HA1.1 1 3\narc HA1.1 DS1.1 1 1\nend\n";
-
-/// A room near a hall and one far from it, from which three people just come out in time.
-pub const NEAR_AND_FAR: &str = "evacplan 1\nperiod 5\nhorizon 8\nfloor 1 Ground\n\
-    node WP1.1 1 1\nnode WP2.1 3 3\nnode HA1.1 0 0\nnode DS1.1\n\
-    arc WP1.1 HA1.1 1 1\narc WP2.1 HA1.1 5 4\narc HA1.1 DS1.1 1 1\nend\n";
 
 /// An office of three storeys with 240 people, two stairs and two exits.
 pub const OFFICE: &str = "evacplan 1\ntitle Three storey office\nperiod 5\nhorizon 120\n\

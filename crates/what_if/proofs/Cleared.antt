@@ -64,19 +64,14 @@ made names exit v v' e work steps before after h named ends first last =
     let shut : IsWithShut v.state.model names exit edit.edited = record { edit = e; inverse = edit.inverse; named = sym named; accepted = edit.accepted } in
     (subst (ClearsAt v.state.model) (sym first) (clears v.state h), (edit.edited, shut, clears-at v'.state edit.edited after edit.goes_on.solved edit.goes_on.gone last))
 
-not-made : (names : NameTable) (exit : NodeName) (v v' : SessionView) (e : Edit) (steps before all most : ℕ) → IsSolved v.state
-    → Ok e ≡ edit_named names (ShutExit exit) → EditEnds v e (Err (refusals.NotCleared all most)) v' steps → before ≡ v.state.last
-    → AnswersOn v.state.model names exit (Ok (NotCleared before all most))
-not-made names exit v v' e steps before all most h named ends first =
-    let edit = ends.0 in
-    let shut : IsWithShut v.state.model names exit edit.edited = record { edit = e; inverse = edit.inverse; named = sym named; accepted = edit.accepted } in
-    (subst (ClearsAt v.state.model) (sym first) (clears v.state h), (edit.edited, v'.refused, shut, edit.not_cleared))
-
 pub barred : (names : NameTable) (exit : NodeName) (v v' : SessionView) (e : Edit) (refusal : EditRefusal) (steps before all most : ℕ) → IsSolved v.state
     → Ok e ≡ edit_named names (ShutExit exit) → refusal ≡ refusals.NotCleared all most → EditEnds v e (Err refusal) v' steps → before ≡ v.state.last
     → AnswersOn v.state.model names exit (Ok (NotCleared before all most))
 barred names exit v v' e refusal steps before all most h named is ends first =
-    not-made names exit v v' e steps before all most h named (subst (λ (x : EditRefusal). EditEnds v e (Err x) v' steps) is ends) first
+    let refused = subst (λ (x : EditRefusal). EditEnds v e (Err x) v' steps) is ends in
+    let edit = refused.0 in
+    let shut : IsWithShut v.state.model names exit edit.edited = record { edit = e; inverse = edit.inverse; named = sym named; accepted = edit.accepted } in
+    (subst (ClearsAt v.state.model) (sym first) (clears v.state h), (edit.edited, v'.refused, shut, edit.not_cleared))
 
 pub faulted : (names : NameTable) (exit : NodeName) (v v' : SessionView) (e : Edit) (refusal : EditRefusal) (fault : EditFault) (steps : ℕ)
     → Ok e ≡ edit_named names (ShutExit exit) → refusal ≡ refusals.Fault fault → EditEnds v e (Err refusal) v' steps
@@ -106,10 +101,7 @@ by-text : (text : List ℕ) (exit : NodeName) (d : Description) (last : ℕ) (re
     → model_of (lines_of text) ≡ Described d last rest → AnswersOn d.model (names_of d) exit result → AnswersWhatIf text exit result
 by-text text exit d last rest (Err (faults.Text code line)) described h = absurd h
 by-text text exit d last rest (Err faults.Memory) described h = tt
-by-text text exit d last rest (Ok answer) described h = record { building = d; last = last; rest = rest; described = described; answer = h }
-by-text text exit d last rest (Err (faults.NeverCleared most)) described h = record { building = d; last = last; rest = rest; described = described; answer = h }
-by-text text exit d last rest (Err (faults.Name fault)) described h = record { building = d; last = last; rest = rest; described = described; answer = h }
-by-text text exit d last rest (Err (faults.Edit fault)) described h = record { building = d; last = last; rest = rest; described = described; answer = h }
+by-text text exit d last rest _ described h = record { building = d; last = last; rest = rest; described = described; answer = h }
 
 pub of-building : (text : List ℕ) (exit : NodeName) (b : Building) (result : Result Answer WhatIfFault) → Describes text (Ok b) → AnswersOn b.model b.names exit result
     → AnswersWhatIf text exit result

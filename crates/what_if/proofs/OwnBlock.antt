@@ -68,11 +68,9 @@ own-back s m before after text result h same left said back =
 -- where it isn't read back, there was no memory, or the source failed
 pub only-memory : (index : ℕ) (m : Model) (p : List Move) (l : LabelTable) (c : ℕ) (fault : BlockFault) (left : Option (List Line)) → IsBack index m p l c (Err fault) left []
     → (fault ≡ faults.ReadFault → ⊥) → fault ≡ faults.Memory
-only-memory index m p l c (faults.Bad line) left back read = absurd back
-only-memory index m p l c (faults.LineTooLong line) left back read = absurd back
-only-memory index m p l c (faults.InputTooLong line) left back read = absurd back
 only-memory index m p l c faults.ReadFault left back read = absurd (read refl)
 only-memory index m p l c faults.Memory left back read = refl
+only-memory index m p l c _ left back read = absurd back
 
 -- of a block that is right the checker says yes
 pub says-yes : {E : Type 0} (m : Model) (b : Block) (result : Result Verdict E) → IsRight m b → IfOk result (λ v. (v ≡ Yes) ↔ IsRight m b) → IfOk result (λ v. v ≡ Yes)

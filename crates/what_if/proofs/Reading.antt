@@ -1,8 +1,7 @@
 -- What is read from a text in memory.
-use Rattle.std.proofs.Common.{◌≡◌, ℕ, inl, inr, false, List, [], Result, Ok, Err, Some, None, arith, ap, ◌∙◌, subst}
+use Rattle.std.proofs.Common.{◌≡◌, ℕ, false, List, [], Result, Ok, Err, Some, None, ap, ◌∙◌, subst}
 use Rattle.std.specs.declared.option.Option.{Option}
 use Rattle.evac_law.specs.declared.code.Code.{Code}
-use Rattle.line_io.specs.Causes.{Rose, unlimited}
 use Rattle.line_io.specs.Line.{Line, lines_of}
 use Rattle.line_io.specs.Reader.{lines_left}
 use Rattle.line_io.specs.View.{Reader}
@@ -20,10 +19,6 @@ fresh = record { pending = []; ended = false; given = 0; number = 0; text = [] }
 -- to a fresh reader all lines are left
 pub all-left : (r : Reader) (bytes text : List ℕ) → r ≡ fresh → bytes ≡ text → lines_left r (Some bytes) ≡ Some (lines_of text)
 all-left r bytes text new same = ap (λ (x : Reader). lines_left x (Some bytes)) new ∙ ap (λ (x : List ℕ). Some (lines_of x)) same
-
--- the count of a source that never fails doesn't rise
-pub never-rose : Rose (unlimited 0) (unlimited 0) → ⊥
-never-rose rose = elim (rose.greater) as (λ _. ⊥) [ inl less ↦ omega (arith, less) | inr some ↦ cc ]
 
 -- the reading of a fresh reader is that of the text
 pub of-text : (r : Reader) (bytes text : List ℕ) (result : Result Building ModelFault) (n : ℕ) (after : Option (List Line)) → r ≡ fresh → bytes ≡ text

@@ -7,7 +7,7 @@ use evac_law::{Code, EditFault};
 use std::alloc::AllocError;
 
 /// What it costs to shut an exit of a building that can be cleared.
-#[derive(Clone, Copy, PartialEq, Eq, Debug)]
+#[derive(Clone, Copy, PartialEq, Eq)]
 pub enum Answer {
     /// The last are out at these moments: with the exit open, and with it shut.
     Cleared { before: u16, after: u16 },
@@ -16,7 +16,7 @@ pub enum Answer {
 }
 
 /// Why there is no answer.
-#[derive(Clone, Copy, PartialEq, Eq, Debug)]
+#[derive(Clone, Copy, PartialEq, Eq)]
 pub enum WhatIfFault {
     /// The first fault of the text, by its code and its line.
     Text { code: Code, line: u32 },

@@ -1,5 +1,5 @@
-//! Worked cases of calls: what a session is left with after a refused edit, what work an edit takes, what a repair answers, the least time
-//! for a building, what faults say, and the examples of a caller. What a whole run prints is a row of worked_rows.
+//! Worked cases of calls: what it costs to shut an exit, whether a session's own plan is right and what its block is, and what faults say. What a
+//! whole run prints is a row of worked_rows.
 //!
 //! Nothing here is called by a program. What is expected was worked out by hand, or by a slow solver of its own.
 #![tactic(auto)]
@@ -8,11 +8,3 @@
 mod caller;
 #[cfg(test)]
 mod faults;
-#[cfg(test)]
-mod refused;
-#[cfg(test)]
-mod repairs;
-#[cfg(test)]
-mod walks;
-#[cfg(test)]
-mod windows;

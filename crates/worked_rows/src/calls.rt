@@ -98,6 +98,13 @@ impl Side {
     }
 }
 
+/// The words of a run, and its input.
+#[derive(Clone, Copy)]
+pub struct Run<'a> {
+    pub words: &'a [String],
+    pub input: &'a str,
+}
+
 /// The status of a run, and the sink with what it wrote.
 #[derive(Drop)]
 pub struct Ran {
@@ -105,17 +112,18 @@ pub struct Ran {
     pub sink: MemSink,
 }
 
-/// A run with these words over an input.
-pub fn run_over(
-    alloc: Global,
-    words: &[String],
-    input: &str,
-    calls: Calls,
-) -> Result<Ran, AllocError> {
+/// What a run comes to.
+pub fn run_over(alloc: Global, run: Run<'_>, calls: Calls) -> Result<Ran, AllocError> {
     let piece = calls.piece.max(1) as usize;
     let put = calls.put.max(1) as usize;
-    let mut source = MemSource::new(alloc, input.as_bytes(), piece, &[calls.read])?;
+    let mut source = MemSource::new(alloc, run.input.as_bytes(), piece, &[calls.read])?;
     let mut sink = MemSink::new(alloc, calls.room as usize, put, &[calls.write])?;
-    let status = run_uncounted::<_, _, Brand>(alloc, words, &mut source, &mut sink, Blank::new(1));
+    let status = run_uncounted::<_, _, Brand>(
+        alloc,
+        run.words,
+        &mut source,
+        &mut sink,
+        Blank::new(1),
+    );
     Ok(Ran { status, sink })
 }

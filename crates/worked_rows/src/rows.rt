@@ -1,6 +1,6 @@
 //! The rows of a table.
 use crate::ask::Ask;
-use crate::calls::{Calls, Ran, Side, run_over};
+use crate::calls::{Calls, Ran, Run, Side, run_over};
 use crate::input::input_of;
 use crate::shown::show_text;
 use std::alloc::{AllocError, Global};
@@ -14,15 +14,14 @@ fn text_of(alloc: Global, ran: &Ran) -> Result<String, AllocError> {
 // Shows how a run ends whose source or sink fails at one call, for each call that the whole run makes.
 fn show_failing(
     rt: &HostRuntime,
-    words: &[String],
-    input: &str,
+    run: Run<'_>,
     whole: &Ran,
     side: Side,
     piece: u32,
 ) -> io::Result<()> {
     let mut last = None;
     for call in 1..1000u32 {
-        let ran = run_over(rt.alloc(), words, input, side.failing(piece, call))?;
+        let ran = run_over(rt.alloc(), run, side.failing(piece, call))?;
         let count = ran.sink.bytes().len();
         if last != Some((ran.status, count)) {
             println!(rt;
@@ -48,27 +47,25 @@ fn show_checked(rt: &HostRuntime, input: &str, answer: &str) -> io::Result<()> {
     whole.push_str(answer)?;
     let check = Ask { head: "check" };
     let words = check.words(rt.alloc(), "check")?;
-    let ran = run_over(rt.alloc(), &words, &whole, Calls::of(check))?;
+    let run = Run {
+        words: &words,
+        input: &whole,
+    };
+    let ran = run_over(rt.alloc(), run, Calls::of(check))?;
     print!(rt; "{}", text_of(rt.alloc(), &ran)?)?;
     println!(rt; "== check {}", ran.status)
 }
 
 // Shows what the calls of a run come to that fail in turn, and what the checker says of its answer, where a row asks for that.
-fn show_more(
-    rt: &HostRuntime,
-    ask: Ask<'_>,
-    words: &[String],
-    input: &str,
-    ran: &Ran,
-) -> io::Result<()> {
+fn show_more(rt: &HostRuntime, ask: Ask<'_>, run: Run<'_>, ran: &Ran) -> io::Result<()> {
     for side in [Side::Source, Side::Sink] {
         match ask.number(side.asked(), 0) {
             0 => {}
-            piece => show_failing(rt, words, input, ran, side, piece)?,
+            piece => show_failing(rt, run, ran, side, piece)?,
         }
     }
     if ask.word("@check").is_some() {
-        show_checked(rt, input, &text_of(rt.alloc(), ran)?)?;
+        show_checked(rt, run.input, &text_of(rt.alloc(), ran)?)?;
     }
     Ok(())
 }
@@ -107,9 +104,13 @@ fn show_run(
     before: Option<&Ran>,
 ) -> io::Result<Ran> {
     let words = ask.words(rt.alloc(), mode)?;
-    let ran = run_over(rt.alloc(), &words, input, Calls::of(ask))?;
+    let run = Run {
+        words: &words,
+        input,
+    };
+    let ran = run_over(rt.alloc(), run, Calls::of(ask))?;
     show_ran(rt, ask, mode, before, &ran)?;
-    show_more(rt, ask, &words, input, &ran)?;
+    show_more(rt, ask, run, &ran)?;
     Ok(ran)
 }
 

@@ -1,9 +1,9 @@
-//! Lines that are found in a source, and text that is put into a sink.
+//! Lines that are found in a source, and what the adapters over std's reader and writer pass on.
 ghost use Rattle.std.specs.Prelude.{◌<◌};
 
 use line_io::{
-    CleanSink, CleanSource, Found, LineFault, Lines, MemSink, MemSource, Out, Source, StdSink,
-    StdSource, TextLine, WriteFault, Writer,
+    CleanSink, Found, LineFault, Lines, MemSink, MemSource, Out, Sink, Source, StdSink, StdSource,
+    WriteFault,
 };
 use std::alloc::{AllocError, Global};
 use std::io::{Error, ErrorKind, Read, Write};
@@ -57,128 +57,44 @@ const LINES: &[(&[u8], &[u8])] = &[
     (b"\n\n", b"||."),
 ];
 
-// A text is spelled so, where some calls of its source fail.
+// A text that comes in pieces is spelled so.
 fn check_spelled(
     rt: &(impl Abort + AllocGlobal),
     input: &[u8],
     piece: usize,
-    failing: &[u32],
     want: &[u8],
 ) -> Result<(), AllocError>
     requires { 0 < piece }
 {
-    let mut source = MemSource::new(rt.alloc(), input, piece, failing)?;
+    let mut source = MemSource::new(rt.alloc(), input, piece, &[])?;
     let text = spelled(rt.alloc(), &mut source)?;
-    assert_eq!(rt; text.as_slice(), want, "{piece}");
+    assert!(rt; text.as_slice() == want, "{piece}");
     Ok(())
 }
 
 #[test]
 fn finds_lines(rt: HostRuntime) -> Result<(), Fail> {
     for (input, want) in LINES {
-        check_spelled(&rt, input, 1, &[], want)?;
-        check_spelled(&rt, input, 7, &[], want)?;
-        check_spelled(&rt, input, 4096, &[], want)?;
+        check_spelled(&rt, input, 1, want)?;
+        check_spelled(&rt, input, 7, want)?;
     }
     Ok(())
 }
 
-#[test]
-fn goes_on_after_read_faults(rt: HostRuntime) -> Result<(), Fail> {
-    check_spelled(&rt, b"one\ntwo\n", 3, &[2, 5], b"rone|two|r.")?;
-    Ok(())
-}
-
-#[test]
-fn bounds_lines(rt: HostRuntime) -> Result<(), Fail> {
-    for (count, end, want) in [
-        (200, "\r\n", b'|'),
-        (200, "", b'|'),
-        (201, "\n", b'2'),
-        (201, "", b'2'),
-        (5000, "", b'2'),
-    ] {
-        let mut input = vec![in rt.alloc(); b'x'; count]?;
-        input.extend_from_slice(end.as_bytes())?;
-        let mut source = CleanSource::new(rt.alloc(), &input)?;
-        let text = spelled(rt.alloc(), &mut source)?;
-        let place = if want == b'|' { 200 } else { 0 };
-        assert_eq!(rt; text.get(place).copied(), Some(want), "{count}");
-    }
-    Ok(())
-}
-
-// Writes into a sink whose second call fails, and which then is full.
-fn put_past_faults(rt: &impl Abort, out: &mut Out, sink: &mut MemSink) -> Result<(), WriteFault> {
-    out.put(sink, b"hello ")?;
-    assert!(rt; out.flush(sink).is_err());
-    assert_eq!(rt; sink.bytes(), b"h".as_slice());
+// Puts a number after a word.
+fn put_number<K: Sink>(out: &mut Out, sink: &mut K) -> Result<(), WriteFault> {
+    out.put(sink, b"seen ")?;
     out.number(sink, 60)?;
-    out.flush(sink)?;
-    assert_eq!(rt; sink.bytes(), b"hello 60".as_slice());
-    out.put(sink, b"!")?;
-    assert!(rt; out.flush(sink).is_err());
-    out.flush(&mut CleanSink::new())
-}
-
-#[test]
-fn goes_on_after_write_faults(rt: HostRuntime) -> Result<(), Fail> {
-    let mut sink = MemSink::new(rt.alloc(), 8, 1, &[2])?;
-    let mut out = Out::new(rt.alloc())?;
-    put_past_faults(&rt, &mut out, &mut sink)?;
-    Ok(())
-}
-
-// Puts a line of each kind of field, and a line of one word.
-fn put_lines(rt: &impl Abort, out: &mut Out, sink: &mut MemSink) -> Result<(), WriteFault> {
-    let mut line = TextLine::new(b"move");
-    line.number(u64::MAX);
-    line.field(b"WP");
-    line.extend(b"1.0");
-    assert_eq!(rt; line.bytes(), b"move 18446744073709551615 WP1.0".as_slice());
-    line.put(out, sink)?;
-    TextLine::new(b"end").put(out, sink)?;
     out.flush(sink)
 }
 
 #[test]
-fn puts_lines(rt: HostRuntime) -> Result<(), Fail> {
-    let mut sink = MemSink::new(rt.alloc(), 100, 7, &[])?;
+fn puts_a_number(rt: HostRuntime) -> Result<(), Fail> {
+    let mut sink = MemSink::new(rt.alloc(), 100, 3, &[])?;
     let mut out = Out::new(rt.alloc())?;
-    put_lines(&rt, &mut out, &mut sink)?;
-    assert_eq!(rt;
-        sink.bytes(),
-        b"move 18446744073709551615 WP1.0\nend\n".as_slice()
-    );
-    Ok(())
-}
-
-// Puts lines by a writer whose sink fails at its second call.
-fn put_past_a_failure(
-    rt: &impl Abort,
-    out: &mut Out,
-    sink: &mut MemSink,
-) -> Result<(), WriteFault> {
-    let mut writer = Writer::new(out, sink);
-    writer.put(TextLine::new(b"one"));
-    writer.flush()?;
-    assert!(rt; !writer.has_failed());
-    writer.put_all(b"two\n");
-    assert!(rt; writer.flush().is_err());
-    assert!(rt; writer.has_failed());
-    writer.put(TextLine::new(b"three"));
-    writer.put_all(b"four\n");
-    writer.flush()
-}
-
-#[test]
-fn a_writer_puts_nothing_after_a_failure(rt: HostRuntime) -> Result<(), Fail> {
-    let mut sink = MemSink::new(rt.alloc(), 100, 100, &[2])?;
-    let mut out = Out::new(rt.alloc())?;
-    assert!(rt; put_past_a_failure(&rt, &mut out, &mut sink).is_err());
-    assert_eq!(rt; sink.bytes(), b"one\n".as_slice());
-    out.flush(&mut sink)?;
-    assert_eq!(rt; sink.bytes(), b"one\ntwo\n".as_slice());
+    put_number(&mut out, &mut sink)?;
+    assert!(rt; sink.bytes() == b"seen 60".as_slice());
+    put_number(&mut out, &mut CleanSink::new())?;
     Ok(())
 }
 
@@ -207,7 +123,7 @@ impl Read for Interrupted {
 fn reads_by_std(rt: HostRuntime) -> Result<(), Fail> {
     let mut source = StdSource::new(Interrupted { calls: 0 });
     let text = spelled(rt.alloc(), &mut source)?;
-    assert_eq!(rt; text.as_slice(), b"rone|tw|.".as_slice());
+    assert!(rt; text.as_slice() == b"rone|tw|.".as_slice());
     Ok(())
 }
 
@@ -236,16 +152,15 @@ impl Write for Halting {
     }
 }
 
-// Writes a text to a writer that halts twice.
-fn put_past_halts(
-    rt: &impl Abort,
-    out: &mut Out,
-    sink: &mut StdSink<&mut Halting>,
-) -> Result<(), WriteFault> {
+// Puts a text, and flushes until all of it is taken; answers how many flushes failed.
+fn put_past_halts(out: &mut Out, sink: &mut StdSink<&mut Halting>) -> Result<u32, WriteFault> {
     out.put(sink, b"some text")?;
-    assert!(rt; out.flush(sink).is_err());
-    assert!(rt; out.flush(sink).is_err());
-    out.flush(sink)
+    for failed in 0..4u32 {
+        if out.flush(sink).is_ok() {
+            return Ok(failed);
+        }
+    }
+    Err(WriteFault)
 }
 
 #[test]
@@ -255,7 +170,7 @@ fn writes_by_std(rt: HostRuntime) -> Result<(), Fail> {
         calls: 0,
     };
     let mut out = Out::new(rt.alloc())?;
-    put_past_halts(&rt, &mut out, &mut StdSink::new(&mut writer))?;
-    assert_eq!(rt; writer.bytes.as_slice(), b"some text".as_slice());
+    let failed = put_past_halts(&mut out, &mut StdSink::new(&mut writer))?;
+    assert!(rt; failed == 2 && writer.bytes.as_slice() == b"some text".as_slice());
     Ok(())
 }

@@ -2,10 +2,11 @@ use Rattle.std.proofs.Common.{Err, Ok, Some, ap, subst, sym}
 use Rattle.evac_law.specs.declared.model.Model.{Model}
 use Rattle.evac_law.specs.Building.{IsValid}
 use Rattle.line_io.specs.Reader.{lines_left}
+use Rattle.line_io.proofs.HearingLemmas.{never-rose}
 use Rattle.building_table.specs.Names.{NamesFit}
 use Rattle.certificate_text.specs.Block.{IsBlockOf}
 use Rattle.what_if.proofs.OwnBlock.{answer-right, only-memory, own-back}
-use Rattle.what_if.proofs.Reading.{all-left, never-rose}
+use Rattle.what_if.proofs.Reading.{all-left}
 use Rattle.what_if.proofs.own_block.block_back.Goals as goal
 
 pub read_block-requires-clause-valid : goal.read_block-requires-clause-valid

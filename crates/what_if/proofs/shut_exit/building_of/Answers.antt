@@ -1,6 +1,7 @@
 use Rattle.std.proofs.Common.{Err, Ok, Some, ap}
 use Rattle.line_io.specs.Reader.{lines_left}
-use Rattle.what_if.proofs.Reading.{described, never-rose, of-text, refused}
+use Rattle.line_io.proofs.HearingLemmas.{never-rose}
+use Rattle.what_if.proofs.Reading.{described, of-text, refused}
 use Rattle.what_if.proofs.shut_exit.building_of.Goals as goal
 
 pub returns-in-Ok-clause-building : goal.returns-in-Ok-clause-building
