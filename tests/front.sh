@@ -14,8 +14,9 @@ name='' here='' status=0
 # Begins a case: a repository of three crates, of which the program is built on two, an empty folder for temporary files, and the stand-in.
 begin() {
   name=$1 here=$room/$((passed + failed))
-  mkdir -p "$here/bin" "$here/tmp" "$here/repo"
+  mkdir -p "$here/bin" "$here/tmp" "$here/repo/docs"
   cp "$top/evacplan" "$top/build" "$here/repo/"
+  cp "$top/docs/FORMATS.md" "$here/repo/docs/"
   cp "$top/tests/front/rt" "$top/tests/front/program" "$here/bin/"
   printf 'rattle-kit-1 logic 0123456789abcdef\n' >"$here/repo/README.md"
   printf '# crates\nlow:\nevacplan: low # and no more\nworked: low\n' >"$here/repo/crates.txt"
