@@ -26,6 +26,7 @@ impl Planned {
     pub fn make_edit<L: Ledger>(
         &mut self,
         edit: Edit,
+        leads_back: bool,
         steps: &mut Steps<L>,
     ) -> Result<Made, EditRefusal>
         requires standing { IsStanding self.old.model self.old.net self.old.labels }
@@ -42,7 +43,7 @@ impl Planned {
             Ok(inverse) => inverse,
             Err(fault) => return Err(EditRefusal::Fault(fault)),
         };
-        match self.repair(edit, steps) {
+        match self.repair(edit, leads_back, steps) {
             Repaired::Cleared { work } => Ok(Made { inverse, work }),
             Repaired::Short { most } => {
                 let people = self.model.people();

@@ -18,8 +18,14 @@ pub enum Repaired {
 
 impl Planned {
     /// Brings the net to the model, which an edit made of the one before; the scratch gets the labels of the new plan, and what is saved is
-    /// the net before. Where not everybody can get out, the net is left as it was, and the scratch has the labels that show it.
-    pub fn repair<L: Ledger>(&mut self, edit: Edit, steps: &mut Steps<L>) -> Repaired
+    /// the net before. Where not everybody can get out, the net is left as it was, and the scratch has the labels that show it. An edit
+    /// that leads back to the net that was saved last is best said to do so: then its flow isn't sought.
+    pub fn repair<L: Ledger>(
+        &mut self,
+        edit: Edit,
+        leads_back: bool,
+        steps: &mut Steps<L>,
+    ) -> Repaired
         requires repairable { IsRepairable self.old.model edit self.old.net self.old.labels }
         requires scratch { IsScratchOf self.old.net.site self.old.scratch }
         ensures mended { IsMended self.old.model self.old.net self.new.net self.old.labels self.new.scratch.labels result }
@@ -29,8 +35,7 @@ impl Planned {
         ensures labels { self.new.labels ≡ self.old.labels }
         ensures refused { self.new.refused ≡ self.old.refused }
     {
-        // where an edit is undone, the net comes to the flow that it saved last
-        self.scratch.search.recall(&self.net);
+        self.scratch.recall(&self.net, leads_back);
         self.net.save();
         let taken = reshape(
             &mut self.net,

@@ -1,11 +1,11 @@
 //! What repairs work with, in memory that is taken once.
-ghost use Rattle.std.specs.Prelude.{IfOk};
+ghost use Rattle.std.specs.Prelude.{◌≡◌, IfOk};
 ghost use Rattle.evac_law.specs.Building.{IsValid};
 ghost use Rattle.residual_net.specs.OfModel.{site_of};
 ghost use Rattle.edit_session.specs.Mended.{IsScratchOf};
 
 use evac_law::{Labels, Model};
-use residual_net::Path;
+use residual_net::{Net, Path};
 use std::alloc::{AllocError, Global};
 use terminal_augment::Search;
 
@@ -28,5 +28,14 @@ impl Scratch {
             path: Path::new(alloc, model.horizon as usize + 2)?,
             search: Search::new(alloc, model)?,
         })
+    }
+
+    /// Where an edit leads back, the net comes to the flow that it saved last: the search recalls it.
+    pub fn recall(&mut self, net: &Net, leads_back: bool)
+        ensures { self.new ≡ self.old }
+    {
+        if leads_back {
+            self.search.recall(net);
+        }
     }
 }

@@ -76,13 +76,19 @@ impl Session {
         }
     }
 
+    // Whether an edit is the one that an undo would make.
+    fn leads_back(&self, edit: Edit) -> bool {
+        self.ring.front().copied() == Some(edit)
+    }
+
     /// Makes an edit and repairs the plan. Where it is refused, all stays as it was but the refused cut.
     pub fn edit<L: Ledger>(&mut self, edit: Edit, steps: &mut Steps<L>) -> Result<Work, EditRefusal>
         requires { IsEditOf self.old.state.model edit }
         ensures ends { (n : ℕ) × (steps.new ≡ steps.old + n) × EditEnds self.old edit result self.new n }
         ensures unchanged { OnErr result (self.new.state ≡ self.old.state) }
     {
-        let made = self.planned.make_edit(edit, steps)?;
+        let leads_back = self.leads_back(edit);
+        let made = self.planned.make_edit(edit, leads_back, steps)?;
         swap(&mut self.planned.labels, &mut self.planned.scratch.labels);
         self.ring.push_front(made.inverse);
         self.work = made.work;
@@ -95,7 +101,7 @@ impl Session {
         ensures ends { (n : ℕ) × (steps.new ≡ steps.old + n) × TrialEnds self.old edit result self.new n }
         ensures unchanged { self.new.state ≡ self.old.state }
     {
-        let made = self.planned.make_edit(edit, steps)?;
+        let made = self.planned.make_edit(edit, false, steps)?;
         let last = self.planned.net.last_arrival();
         self.planned.net.restore();
         // the inverse of an edit that was just made is accepted
@@ -113,7 +119,7 @@ impl Session {
         };
         // a kept edit is accepted by the model that it is kept for
         let _ = apply(&mut self.planned.model, back);
-        match self.planned.repair(back, steps) {
+        match self.planned.repair(back, true, steps) {
             Repaired::Cleared { work } => {
                 swap(&mut self.planned.labels, &mut self.planned.scratch.labels);
                 self.work = work;

@@ -42,6 +42,8 @@ pub struct PathFinder {
     moment: u16,
     /// What the search for shortest paths may cost, if not as much as it likes.
     budget: Option<Budget>,
+    /// Whether the target flow was recalled since it was last renewed.
+    is_recalled: bool,
     ghost paths_fit: { shortest_paths.sizes ≡ sizes } by { Coded-set sizes-code shortest_paths.sizes sizes },
     ghost target_fits: { target_flow.sizes ≡ sizes } by { Coded-set sizes-code target_flow.sizes sizes },
 }
@@ -78,21 +80,26 @@ impl PathFinder {
             phase: Phase::Unknown,
             moment: 0,
             budget: None,
+            is_recalled: false,
         })
     }
 
-    /// Forgets what it knows: the net isn't what it was.
+    /// Forgets what it knows, but for a flow that was recalled since: the net isn't what it was.
     pub fn renew(&mut self)
         ensures { self.new.sizes ≡ self.old.sizes }
     {
         self.phase = Phase::Unknown;
+        if !self.is_recalled {
+            self.target_flow.clear();
+        }
+        self.is_recalled = false;
     }
 
     /// Recalls the flow that a net saved last: where an edit is undone, the net comes to it again.
     pub fn recall(&mut self, net: &Net)
         ensures { self.new.sizes ≡ self.old.sizes }
     {
-        self.target_flow.set(net.saved());
+        self.is_recalled = self.target_flow.set(net.saved());
     }
 
     // Whether a moment follows the one with which it began last.

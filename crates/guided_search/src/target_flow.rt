@@ -89,6 +89,13 @@ impl TargetFlow {
         self.cells.extend_from_slice(cells).is_ok()
     }
 
+    /// Forgets the flow.
+    pub fn clear(&mut self)
+        ensures { self.new.sizes ≡ self.old.sizes }
+    {
+        self.cells.clear();
+    }
+
     /// Whether its limits are those of a net: then it is known, and needn't be sought.
     pub fn has_limits_of(&self, cells: &[Cell]) -> bool {
         let own = self.cells.as_slice();

@@ -31,7 +31,7 @@ relabelled_for {r} {m} site nodes horizon more labels = subst (λ (z : Site). Is
 
 pub reshape-taken-requires : goal.reshape-taken-requires
 reshape-taken-requires g c =
-    rw c.save.ensures (reshapable_saved c.args.self.now.scratch.path.room c.requires.repairable c.requires.scratch.room)
+    rw (c.recall.ensures, c.save.ensures) (reshapable_saved c.args.self.now.scratch.path.room c.requires.repairable c.requires.scratch.room)
 
 pub settle_all-requires : goal.settle_all-requires
 settle_all-requires g c =
