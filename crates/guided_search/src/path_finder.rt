@@ -6,7 +6,6 @@ ghost use Rattle.guided_search.specs.Labelled.{HasLabels};
 use crate::budget::Budget;
 use crate::shortest_paths::ShortestPaths;
 use crate::target_flow::TargetFlow;
-use crate::tuning::MISS_LIMIT;
 use evac_law::{Labels, Model as Building};
 use residual_net::{Cell, Leg, Net};
 use residual_ways::{Residual, Sizes, count_sent, is_all_sent};
@@ -19,8 +18,8 @@ enum Phase {
     Unknown,
     // Everybody was sent at the moment, so that it began with a flood.
     Flood,
-    // It follows shortest paths. Along so many paths of others people were sent.
-    ShortestPaths { missed: u32 },
+    // It follows shortest paths.
+    ShortestPaths,
     // It follows a target flow.
     TargetFlow,
 }
@@ -114,7 +113,7 @@ impl PathFinder {
     {
         let cells = net.cells();
         let sent = match self.phase {
-            Phase::ShortestPaths { .. } | Phase::TargetFlow if self.is_next(k) => return false,
+            Phase::ShortestPaths | Phase::TargetFlow if self.is_next(k) => return false,
             Phase::Flood if self.is_next(k) => true,
             _ => fits(cells, self.sizes) && is_all_sent(cells, self.sizes),
         };
@@ -138,7 +137,7 @@ impl PathFinder {
         let goes_on = self.is_next(k);
         self.moment = k;
         match self.phase {
-            Phase::ShortestPaths { .. } if goes_on => self.shortest_paths.begin(k as u32),
+            Phase::ShortestPaths if goes_on => self.shortest_paths.begin(k as u32),
             Phase::TargetFlow if goes_on => self.target_flow.begin(k as u32),
             _ => self.start(cells, labels, k, net.last_arrival()),
         }
@@ -164,7 +163,7 @@ impl PathFinder {
         self.shortest_paths.begin(k as u32);
         let sent = count_sent(cells, self.sizes);
         self.budget = Budget::new(self.sizes.pairs, sent, self.shortest_paths.unsent);
-        self.phase = Phase::ShortestPaths { missed: 0 };
+        self.phase = Phase::ShortestPaths;
     }
 
     // Seeks a target flow, and follows it.
@@ -185,8 +184,8 @@ impl PathFinder {
         self.phase = Phase::TargetFlow;
     }
 
-    /// People were sent along a path that it didn't find. Where everybody was sent already, they arrive sooner so, and a target flow leads
-    /// others there at once.
+    /// People were sent along a path that it didn't find: they were to arrive later. There are more of them as a rule, where some were taken
+    /// off ahead of them or a way was opened, and each costs a path. So a target flow leads on.
     pub fn miss(&mut self, net: &Net)
         ensures { self.new.sizes ≡ self.old.sizes }
     {
@@ -194,15 +193,8 @@ impl PathFinder {
         if !fits(cells, self.sizes) {
             return;
         }
-        if let Phase::ShortestPaths { missed } = self.phase {
-            if self.shortest_paths.unsent == 0 || missed >= MISS_LIMIT {
-                self.seek(cells);
-                return;
-            }
-            self.phase = Phase::ShortestPaths {
-                missed: missed.saturating_add(1),
-            };
-            self.shortest_paths.count(cells);
+        if let Phase::ShortestPaths = self.phase {
+            self.seek(cells);
         }
     }
 
@@ -214,7 +206,7 @@ impl PathFinder {
         if !fits(cells, self.sizes) {
             return false;
         }
-        if let Phase::ShortestPaths { .. } = self.phase {
+        if let Phase::ShortestPaths = self.phase {
             let found = self.find_shortest(cells);
             if found || self.left() > 0 {
                 return found;

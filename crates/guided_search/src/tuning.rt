@@ -38,11 +38,6 @@ pub const LIVING_GUESS: usize = 2;
 /// instructions to shut an exit of a metro.
 pub const LIVING_SHARE: usize = 4;
 
-/// Along how many paths of others people may be sent in a net with unsent people before a target flow is sought. Where some were taken off,
-/// others can arrive sooner in their place, and each of these costs a path: with 6 in place of 1 a refused edit of a drill takes a sixth more
-/// instructions, but one of a hospital a third fewer.
-pub const MISS_LIMIT: u32 = 1;
-
 /// For one of how many people a pair more may be relabelled globally in a net from which some people were taken, before a target flow is
 /// sought: a target flow is dearer the more people there are.
 pub const CROWD_SHARE: u64 = 8;
