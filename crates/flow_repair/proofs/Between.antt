@@ -43,12 +43,7 @@ still_between {m} {w} {v} {b} h g = record {
 
 pub still_fittable : {m : Model} {l : LabelTable} {w v : Network} {b : Place → Bool} {x : ℕ} (y : ℕ) {r s : Reshaped} → IsRefitted m l w v b r s
     → IsWithinLimits v → IsNet v → y ≡ x → IsFittable m w l x r → IsFittable m v l y s
-still_fittable {v} y {s} g within net same h = record {
-  valid = h.valid;
-  between = still_between h.between g;
-  within = within;
-  cancellable = still_cancellable v y s g.site g.sent same net h.cancellable;
-}
+still_fittable {v} y {s} g within net same h = grind (arith, still_cancellable)
 
 -- ---- within limits again
 

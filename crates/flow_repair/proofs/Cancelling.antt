@@ -18,20 +18,13 @@ module _ (w v : Network) (p : Place) (path : List PathStep) (x : ℕ) (c : IsCan
   on_path i d l = omega (arith, c.taken.flows (get_or path i d).place (c.arrives.1.places i d l), added_on path x i d forwards l)
 
   pub here : flow_at v p + x ≤ flow_at w p
-  here =
-      let t = c.through in
-      let there = on_path t.0 t.1 t.2 in
-      let same : (get_or path t.0 t.1).place ≡ p = ap (λ (r : PathStep). r.place) t.3 ∙ t.4 in
-      subst (λ q. flow_at v q + x ≤ flow_at w q) same there
+  here = grind (arith, on_path)
 
   pub falls : (q : Place) → IsPlace w.site q → flow_at v q ≤ flow_at w q
   falls q i = omega (arith, c.taken.flows q i)
 
   pub open_path : IsNet w → All (λ r. is_barred v.site r.place ≡ false) path
-  open_path net i d l =
-      let place = c.arrives.1.places i d l in
-      ap (λ s. is_barred s (get_or path i d).place) c.taken.site
-      ∙ open_flow w net (get_or path i d).place place (omega (arith, on_path i d l, c.some))
+  open_path net i d l = grind (arith, open_flow, on_path)
 
   pub less_over : x + excess_at v p ≤ excess_at w p
   less_over = omega (arith, here, c.most, c.taken.limits p in_site)

@@ -1,19 +1,16 @@
 -- What an edit leaves of the limits of a model.
-use Rattle.std.proofs.Common.{◌≡◌, ◌≢◌, ℕ, ◌+◌, ◌-◌, ◌<◌, Bool, true, false, cond, ◌&&◌, ◌||◌, eqb, ltb, List, length, refl, ap, ap₂, sym, ◌∙◌, arith, subst, Ok}
+use Rattle.std.proofs.Common.{◌≡◌, ℕ, ◌+◌, ◌-◌, Bool, true, false, cond, ◌&&◌, eqb, List, length, refl, ap, sym, ◌∙◌, arith, subst, Ok}
 use Rattle.std.proofs.Math.Seq.{map-set_same}
 use Rattle.std.proofs.lemmas.List.{get_or-set_other, length-set, length-map}
 use Rattle.std.proofs.lemmas.Bool.{eqb-false, or_parts}
-use Rattle.evac_law.specs.declared.entrant.Entrant.{Entrant}
 use Rattle.evac_law.specs.declared.model.NodeRow.{NodeRow}
 use Rattle.evac_law.specs.declared.model.ArcRow.{ArcRow}
 use Rattle.evac_law.specs.declared.model.Model.{Model}
 use Rattle.evac_law.specs.declared.window.Window.{Window as ClosureWindow}
 use Rattle.evac_law.specs.declared.edit.Edit.{Edit}
 use Rattle.evac_law.specs.declared.edit.Edit.TheVariants.{Shut, Reopen, ShutExit, ReopenExit, Rate, Room, Shift, Enter, Leave, Window, Unwindow}
-use Rattle.evac_law.specs.Building.{IsValid, arc_at, arrival, capacity, head, no_arc, no_node, node_at, rate, start}
-use Rattle.evac_law.specs.Entrants.{entering}
-use Rattle.evac_law.specs.Names.{is_exit}
-use Rattle.evac_law.specs.Windows.{is_closed_at, window_of, with_window, without_window}
+use Rattle.evac_law.specs.Building.{IsValid, arc_at, capacity, head, no_node, node_at, rate, start}
+use Rattle.evac_law.specs.Windows.{window_of, with_window, without_window}
 use Rattle.evac_law.specs.Edits.{IsEditOf, applied, checks, edited, inverse_of, windows_at, with_arc, with_node, with_start}
 use Rattle.evac_law.proofs.EditLemmas.{at-set, unless-Ok, valid_edited}
 use Rattle.time_expansion.specs.Expansion.{to_at}
@@ -33,17 +30,10 @@ abbrev with_parts : ℕ → List Rattle.time_expansion.specs.declared.ends.Ends.
 with_parts n ends horizon exits travels = record { shape = record { nodes = n; ends = ends; horizon = horizon }; exits = exits; travels = travels }
 
 site_arc : (m : Model) (a : ℕ) (row : ArcRow) → joined row ≡ joined (arc_at m a) → row.travel ≡ (arc_at m a).travel → site_of (with_arc m a row) ≡ site_of m
-site_arc m a row ends travel =
-    let exits = (site_of m).exits in
-    ap (λ z. with_parts (length m.nodes) z m.horizon exits (site_of (with_arc m a row)).travels) (map-set_same joined m.arcs a row no_arc ends)
-    ∙ ap (λ z. with_parts (length m.nodes) (site_of m).shape.ends m.horizon exits z) (map-set_same (λ (r : ArcRow). r.travel) m.arcs a row no_arc travel)
+site_arc m a row ends travel = grind (arith, map-set_same, joined)
 
 site_node : (m : Model) (n : ℕ) (row : NodeRow) → row.name ≡ (node_at m n).name → site_of (with_node m n row) ≡ site_of m
-site_node m n row name =
-    let travels = (site_of m).travels in
-    ap (λ z. with_parts z (site_of m).shape.ends m.horizon (site_of (with_node m n row)).exits travels) (length-set m.nodes n row)
-    ∙ ap (λ z. with_parts (length m.nodes) (site_of m).shape.ends m.horizon z travels)
-    (map-set_same (λ (r : NodeRow). is_exit r.name.kind) m.nodes n row no_node (ap (λ z. is_exit z.kind) name))
+site_node m n row name = grind (arith, length-set, map-set_same)
 
 -- an arc with other windows
 abbrev windowed : Model → ℕ → List ClosureWindow → ArcRow
@@ -68,35 +58,24 @@ site_edited m (Unwindow a p q) = site_arc m a (windowed m a (without_window (win
 
 arc_limit_kept : (m m' : Model) (a t : ℕ) → m'.horizon ≡ m.horizon → arc_at m' a ≡ arc_at m a → (node_at m' (head m a)).shut ≡ (node_at m (head m a)).shut
     → model_limit m' (places.Arc a t) ≡ model_limit m (places.Arc a t)
-arc_limit_kept m m' a t h e s =
-    let same : rate m' a t ≡ rate m a t =
-    ap (λ (r : ArcRow). cond ((r.shut || (node_at m' r.to).shut) || is_closed_at r.windows.items t) 0 r.rate) e
-    ∙ ap (λ b. cond (((arc_at m a).shut || b) || is_closed_at (windows_at m a) t) 0 (arc_at m a).rate) s in
-    let late : ltb m'.horizon (arrival m' a t) ≡ ltb m.horizon (arrival m a t) = ap₂ ltb h (ap (λ (r : ArcRow). t + r.travel) e) in
-    ap (λ b. cond b 0 (rate m' a t)) late ∙ ap (λ z. cond (ltb m.horizon (arrival m a t)) 0 z) same
+arc_limit_kept m m' a t h e s = grind arith
 
 hold_limit_kept : (m m' : Model) (n t : ℕ) → m'.horizon ≡ m.horizon → capacity m' n ≡ capacity m n → model_limit m' (places.Hold n t) ≡ model_limit m (places.Hold n t)
 hold_limit_kept m m' n t h e = ap (λ z. cond (eqb t z) 0 (capacity m' n)) h ∙ ap (λ z. cond (eqb t m.horizon) 0 z) e
 
 entry_kept : (m m' : Model) (n t : ℕ) → start m' n ≡ start m n → m'.entrants ≡ m.entrants → model_limit m' (places.Supply n t) ≡ model_limit m (places.Supply n t)
-entry_kept m m' n t e f =
-    ap (λ z. cond (eqb t 0) z (entering m'.entrants n t)) e ∙ ap (λ (es : List Entrant). cond (eqb t 0) (start m n) (entering es n t)) f
+entry_kept m m' n t e f = grind arith
 
 -- another arc at a place
 after_arc : (m : Model) (a : ℕ) (row : ArcRow) (p : Place) → (is_kind kinds.Arc p && eqb (row_of p) a) ≡ false
     → model_limit (with_arc m a row) p ≡ model_limit m p
-after_arc m a row (places.Arc b t) e =
-    arc_limit_kept m (with_arc m a row) b t refl (get_or-set_other m.arcs a b row no_arc (eqb-false b a e)) refl
+after_arc m a row (places.Arc b t) e = grind (arith, arc_limit_kept, get_or-set_other, eqb-false)
 after_arc m a row _ e = refl
 
 -- another mark at an exit
 after_exit : (m : Model) (n : ℕ) (b : Bool) (p : Place) → IsPlace (site_of m) p → (is_kind kinds.Arc p && eqb (to_at (site_of m).shape (row_of p)) n) ≡ false
     → model_limit (with_node m n (record (node_at m n) { shut = b })) p ≡ model_limit m p
-after_exit m n b (places.Arc a t) i e =
-    let in_arcs : a < length m.arcs = omega (arith, length-map m.arcs joined, i.0) in
-    let other : head m a ≢ n = λ f. eqb-false (to_at (site_of m).shape a) n e (to_is m a in_arcs ∙ f) in
-    let row = record (node_at m n) { shut = b } in
-    arc_limit_kept m (with_node m n row) a t refl refl (ap (λ (r : NodeRow). r.shut) (get_or-set_other m.nodes n (head m a) row no_node other))
+after_exit m n b (places.Arc a t) i e = grind (arith, length-map, joined, eqb-false, to_is, arc_limit_kept, get_or-set_other)
 after_exit m n b (places.Hold k t) i e =
     let row = record (node_at m n) { shut = b } in
     hold_limit_kept m (with_node m n row) k t refl (at-set (λ (r : NodeRow). r.capacity) m.nodes n row no_node refl k)
@@ -110,9 +89,7 @@ after_room : (m : Model) (n c : ℕ) (p : Place) → (is_kind kinds.Hold p && eq
 after_room m n c (places.Arc a t) e =
     let row = record (node_at m n) { capacity = c } in
     arc_limit_kept m (with_node m n row) a t refl refl (at-set (λ (r : NodeRow). r.shut) m.nodes n row no_node refl (head m a))
-after_room m n c (places.Hold k t) e =
-    let row = record (node_at m n) { capacity = c } in
-    hold_limit_kept m (with_node m n row) k t refl (ap (λ (r : NodeRow). r.capacity) (get_or-set_other m.nodes n k row no_node (eqb-false k n e)))
+after_room m n c (places.Hold k t) e = grind (arith, hold_limit_kept, get_or-set_other, eqb-false)
 after_room m n c (places.Supply k t) e =
     let row = record (node_at m n) { capacity = c } in
     entry_kept m (with_node m n row) k t (at-set (λ (r : NodeRow). r.start) m.nodes n row no_node refl k) refl
@@ -125,9 +102,7 @@ after_start m n s (places.Arc a t) e =
 after_start m n s (places.Hold k t) e =
     let row = record (node_at m n) { start = s } in
     hold_limit_kept m (with_node m n row) k t refl (at-set (λ (r : NodeRow). r.capacity) m.nodes n row no_node refl k)
-after_start m n s (places.Supply k t) e =
-    let row = record (node_at m n) { start = s } in
-    entry_kept m (with_node m n row) k t (ap (λ (r : NodeRow). r.start) (get_or-set_other m.nodes n k row no_node (eqb-false k n e))) refl
+after_start m n s (places.Supply k t) e = grind (arith, entry_kept, get_or-set_other, eqb-false)
 
 pub untouched : (m : Model) (e : Edit) (p : Place) → IsPlace (site_of m) p → touches (site_of m) e p ≡ false → model_limit (edited m e) p ≡ model_limit m p
 untouched m (Shut a) p i t = after_arc m a (record (arc_at m a) { shut = true }) p t

@@ -1,12 +1,12 @@
 -- Limits set and people taken off, one after another.
-use Rattle.std.proofs.Common.{◌≡◌, ℕ, ◌+◌, ◌-◌, ◌<◌, ◌≤◌, Bool, true, false, cond, ◌||◌, leb, List, get_or, min, refl, ap, sym, ◌∙◌, arith, inl, inr, ◌⊎◌, subst}
+use Rattle.std.proofs.Common.{◌≡◌, ℕ, ◌+◌, ◌-◌, ◌<◌, ◌≤◌, Bool, true, false, cond, ◌||◌, leb, List, get_or, min, ap, sym, ◌∙◌, arith, inl, inr, ◌⊎◌, subst}
 use Rattle.std.specs.List.{All, Any}
 use Rattle.std.proofs.lemmas.Bool.{cases_Bool}
 use Rattle.evac_law.specs.declared.model.Model.{Model}
 use Rattle.evac_law.specs.LabelTable.{LabelTable}
 use Rattle.residual_net.specs.declared.place.Place.{Place}
 use Rattle.residual_net.specs.declared.place.PathStep.{PathStep}
-use Rattle.residual_net.specs.Site.{Site, IsPlace, door_by, is_source, same_place, sum_places}
+use Rattle.residual_net.specs.Site.{Site, IsPlace, is_source, same_place, sum_places}
 use Rattle.residual_net.specs.Network.{Network, IsNet, flow_at, flow_out, limit_at}
 use Rattle.residual_net.specs.Change.{IsCancelled, IsLimitSet}
 use Rattle.residual_net.specs.OfModel.{model_limit}
@@ -15,7 +15,7 @@ use Rattle.residual_net.proofs.Kept.{into_same, out_same}
 use Rattle.evac_law.proofs.SumLemmas.{cond_le}
 use Rattle.residual_net.proofs.Places.{place-same, same-place, sum_places-add, sum_places-le, sum_places-pick, sum_places-same}
 use Rattle.flow_repair.specs.declared.reshaped.Reshaped.{Reshaped}
-use Rattle.flow_repair.specs.Opened.{IsLabelsOf, IsLeastOpened, IsOpened, head_number}
+use Rattle.flow_repair.specs.Opened.{IsLeastOpened, IsOpened, head_number}
 use Rattle.flow_repair.specs.Refit.{IsCancellable, IsRefitted, IsStepPerPerson, overrun}
 use Rattle.residual_net.proofs.Steps.{added_some}
 use Rattle.flow_repair.proofs.Cancelling.{falls, less_over, on_path}
@@ -46,9 +46,7 @@ over_falls m w v p x site i flows at_p =
 
 over_same : (m : Model) (w v : Network) → v.site ≡ w.site → ((q : Place) → IsPlace w.site q → flow_at v q ≡ flow_at w q) → overrun m v ≡ overrun m w
 unfolding overrun
-over_same m w v e h =
-    ap (λ s. sum_places s (λ q. flow_at v q - model_limit m q)) e
-    ∙ sum_places-same w.site _ _ (λ q i. ap (λ z. z - model_limit m q) (h q i))
+over_same m w v e h = grind (arith, sum_places-same)
 
 -- ---- one cancel
 
@@ -97,11 +95,7 @@ one_cancelled {m} l {w} {v} {p} {path} {x} before after c i limit sum most all o
 -- ---- one after another
 
 pub least_none : (l : LabelTable) (w : Network) (first : ℕ) → IsLeastOpened l w w first first
-least_none l w first = record {
-  most = omega arith;
-  places = λ p i o. elim o [ inl rose ↦ absurd (omega (arith, rose)) | inr fell ↦ absurd (omega (arith, fell)) ];
-  one = inl refl;
-}
+least_none l w first = grind arith
 
 -- what rises or falls over two changes does so over the one or the other
 apart : (a b c x y z : ℕ) → (a < c) ⊎ (z < x) → ((a < b) ⊎ (y < x)) ⊎ ((b < c) ⊎ (z < y))
@@ -143,12 +137,7 @@ steps_then h g = record { counted = omega (arith, h.counted, g.counted); ticked 
 -- while the counts add up, more people can be taken off
 pub still_cancellable : {w : Network} (v : Network) {l : LabelTable} {x : ℕ} (y : ℕ) {r : Reshaped} (s : Reshaped) → v.site ≡ w.site
     → flow_out v is_source + s.cancelled ≡ flow_out w is_source + r.cancelled → y ≡ x → IsNet v → IsCancellable w l x r → IsCancellable v l y s
-still_cancellable v {l} y s site sent same net h = record {
-  net = net;
-  labels = subst (λ (z : Site). IsLabelsOf z l) (sym site) h.labels;
-  room = omega (arith, ap (λ (z : Site). z.shape.horizon) site, h.room, same);
-  few = omega (arith, sent, h.few);
-}
+still_cancellable v {l} y s site sent same net h = grind arith
 
 -- a number that is set where the one or the other test passes
 set_twice : (b c d : Bool) (x old mid new : ℕ) → mid ≡ cond b x old → new ≡ cond c x mid → d ≡ (c || b) → new ≡ cond d x old
@@ -184,60 +173,22 @@ refitted_then {m} {w} {v} {u} {b} {c} d h g or = record {
 -- ---- one limit set
 
 swap_limit : (m : Model) (w : Network) (p q : Place) → cond (same_place p q) (model_limit m p) (limit_at w q) ≡ cond (same_place p q) (model_limit m q) (limit_at w q)
-swap_limit m w p q = elim (cases_Bool (same_place p q)) [
-  | inl e ↦ rw e (ap (model_limit m) (same-place p q e))
-  | inr e ↦ rw e refl
-]
+swap_limit m w p q = grind (arith, cases_Bool, same-place)
 
 pub set_refitted : (m : Model) {l : LabelTable} {w v : Network} {p : Place} (before after : Reshaped) → IsLimitSet w v p (model_limit m p)
     → after.cancelled ≡ before.cancelled → IsLeastOpened l w v before.least_label after.least_label → IsRefitted m l w v (same_place p) before after
-set_refitted m {w} {v} {p} before after set same least = record {
-  site = set.site;
-  saved = set.saved;
-  limits = λ q i. set.limits q i ∙ swap_limit m w p q;
-  flows = λ q i. omega (arith, set.flows q i);
-  more = omega (arith, same);
-  sent = omega (arith, same, out_same w v set.site set.flows is_source);
-  bounded = omega (arith, same, over_same m w v set.site set.flows);
-  arrivals = λ k. omega (arith, same, into_same w v set.site set.flows (door_by k));
-  idle = λ e. set.flows;
-  least = least;
-}
+set_refitted m {w} {v} {p} before after set same least = grind (arith, swap_limit, out_same, over_same, into_same)
 
 -- only the place itself is opened, where its limit rises
 opened_one : (m : Model) {w v : Network} {p : Place} (q : Place) → IsLimitSet w v p (model_limit m p) → IsPlace w.site q → IsOpened w v q
     → (p ≡ q) × (limit_at w q < model_limit m p)
 opened_one m q set i (inr fell) = absurd (omega (arith, fell, set.flows q i))
-opened_one m {w} {v} {p} q set i (inl rose) = elim (cases_Bool (same_place p q)) [
-  | inl e ↦
-      let new : limit_at v q ≡ model_limit m p = set.limits q i ∙ ap (λ b. cond b (model_limit m p) (limit_at w q)) e in
-      (same-place p q e, omega (arith, rose, new))
-  | inr e ↦
-      let old : limit_at v q ≡ limit_at w q = set.limits q i ∙ ap (λ b. cond b (model_limit m p) (limit_at w q)) e in
-      absurd (omega (arith, rose, old))
-]
+opened_one m {w} {v} {p} q set i (inl rose) = grind (arith, cases_Bool, same-place)
 
 pub least_raised : (m : Model) (l : LabelTable) {w v : Network} {p : Place} (first x least : ℕ) → IsLimitSet w v p (model_limit m p) → IsPlace w.site p
     → limit_at w p < model_limit m p → x ≡ head_number l w.site p → least ≡ min first x → IsLeastOpened l w v first least
-least_raised m l {w} {v} {p} first x least set i rose e f = record {
-  most = (least_of least first x f).0;
-  places = λ q j o.
-      let one = opened_one m q set j o in
-      subst (λ z. least ≤ head_number l w.site z) one.0 (omega (arith, e, (least_of least first x f).1));
-  one = elim (least_of least first x f).2 [
-    | inl g ↦ inl g
-    | inr g ↦
-        let new : limit_at v p ≡ model_limit m p = set.limits p i ∙ ap (λ b. cond b (model_limit m p) (limit_at w p)) (place-same p) in
-        inr (p, i, inl (omega (arith, rose, new)), g ∙ e)
-  ];
-}
+least_raised m l {w} {v} {p} first x least set i rose e f = grind (arith, least_of, first, opened_one, place-same)
 
 pub least_lowered : (m : Model) (l : LabelTable) {w v : Network} {p : Place} (first : ℕ) → IsLimitSet w v p (model_limit m p)
     → model_limit m p ≤ limit_at w p → IsLeastOpened l w v first first
-least_lowered m l {w} first set low = record {
-  most = omega arith;
-  places = λ q j o.
-      let one = opened_one m q set j o in
-      absurd (omega (arith, low, one.1, ap (limit_at w) one.0));
-  one = inl refl;
-}
+least_lowered m l {w} first set low = grind (arith, opened_one)

@@ -1,5 +1,5 @@
 -- A repair that goes on: one part after another, and where nothing is left to do.
-use Rattle.std.proofs.Common.{◌≡◌, ℕ, ◌+◌, ◌≤◌, Bool, false, cond, ◌&&◌, ◌||◌, eqb, ltb, refl, ap, sym, ◌∙◌, subst, arith, rules}
+use Rattle.std.proofs.Common.{◌≡◌, ℕ, ◌+◌, ◌≤◌, Bool, false, ◌&&◌, ◌||◌, eqb, ltb, refl, ap, sym, subst, arith}
 use Rattle.std.proofs.lemmas.Bool.Decides.{nat_tests}
 use Rattle.evac_law.specs.declared.model.Model.{Model}
 use Rattle.evac_law.specs.LabelTable.{LabelTable}
@@ -15,34 +15,20 @@ use Rattle.residual_net.proofs.Begin.{row_so_far}
 use Rattle.flow_repair.specs.declared.repair.Repair.{Repair}
 use Rattle.flow_repair.specs.declared.reshaped.Reshaped.{Reshaped}
 use Rattle.flow_repair.specs.Opened.{IsLeastOpened}
-use Rattle.flow_repair.specs.Refit.{IsCancellable, IsFittable, IsRefitted}
+use Rattle.flow_repair.specs.Refit.{IsRefitted}
 use Rattle.flow_repair.specs.Repairing.{CanCancel, CanFit, RepairsOn, IsSameRepair, Refits}
 use Rattle.flow_repair.proofs.Between.{still_fittable}
 use Rattle.flow_repair.proofs.Refitting.{least_lowered, least_none, refitted_then, set_refitted, steps_then, still_cancellable}
 
 pub same_then : {S : Type 0} {r s t : Repair S} → IsSameRepair r s → IsSameRepair s t → IsSameRepair r t
-same_then h g = record {
-  model = g.model ∙ h.model;
-  labels = g.labels ∙ h.labels;
-  room = g.room ∙ h.room;
-  same_net = g.same_net ∙ h.same_net;
-  same_path = g.same_path ∙ h.same_path;
-  same_steps = g.same_steps ∙ h.same_steps;
-}
+same_then h g = grind arith
 
 -- while people are taken off, more can be
 pub still_can_cancel : {S : Type 0} {r s : Repair S} {b : Place → Bool} → RepairsOn b r s → CanCancel r → CanCancel s
-still_can_cancel {r} {s} h can =
-    subst (λ (l : LabelTable). IsCancellable s.net.now l s.path.now.room s.done) (sym h.same.labels)
-    (still_cancellable s.net.now s.path.now.room s.done h.refitted.site h.refitted.sent h.same.room h.net can)
+still_can_cancel {r} {s} h can = grind (arith, still_cancellable)
 
 pub still_can_fit : {S : Type 0} {r s : Repair S} {b : Place → Bool} → Refits b r s → CanFit r → CanFit s
-still_can_fit {r} {s} h can =
-    let same = h.goes_on.same in
-    let there : IsFittable r.model.now s.net.now r.labels.now s.path.now.room s.done =
-    still_fittable s.path.now.room h.goes_on.refitted h.within h.goes_on.net same.room can in
-    subst (λ (m : Model). IsFittable m s.net.now s.labels.now s.path.now.room s.done) (sym same.model)
-    (subst (λ (l : LabelTable). IsFittable r.model.now s.net.now l s.path.now.room s.done) (sym same.labels) there)
+still_can_fit {r} {s} h can = grind (arith, still_fittable)
 
 pub goes_then : {S : Type 0} {r s t : Repair S} {b c : Place → Bool} (d : Place → Bool) → RepairsOn b r s → RepairsOn c s t
     → ((p : Place) → IsPlace r.net.now.site p → d p ≡ (c p || b p)) → RepairsOn d r t
@@ -58,23 +44,7 @@ refits_then d h g or = record { goes_on = goes_then d h.goes_on g.goes_on or; wi
 
 -- nothing is left to do
 pub goes_none : {S : Type 0} (r : Repair S) (b : Place → Bool) → ((p : Place) → b p ≡ false) → IsNet r.net.now → RepairsOn b r r
-goes_none r b none net = record {
-  same = search rules;
-  refitted = record {
-    site = refl;
-    saved = refl;
-    limits = λ p i. sym (ap (λ x. cond x (model_limit r.model.now p) (limit_at r.net.now p)) (none p));
-    flows = λ p i. omega arith;
-    more = omega arith;
-    sent = refl;
-    bounded = omega arith;
-    arrivals = λ k. omega arith;
-    idle = λ e p i. refl;
-    least = least_none r.labels.now r.net.now r.done.least_label;
-  };
-  net = net;
-  steps = search rules;
-}
+goes_none r b none net = grind (arith, least_none)
 
 -- the same places by another test
 pub refits_by : {S : Type 0} {r s : Repair S} {b : Place → Bool} (d : Place → Bool) → Refits b r s → ((p : Place) → IsPlace r.net.now.site p → d p ≡ b p) → Refits d r s

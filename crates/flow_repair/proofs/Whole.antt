@@ -19,7 +19,7 @@ use Rattle.residual_net.specs.NetLaws.{labelled}
 use Rattle.residual_net.specs.OfModel.{IsNetOf, model_limit, plan_of, site_of, stand_of}
 use Rattle.residual_net.specs.declared.end.End.{End}
 use Rattle.residual_net.specs.declared.end.End.TheVariants.{Source, Pair, Door}
-use Rattle.residual_net.specs.Site.{Site, IsPlace, arc_count, exit_at, head_of, is_barred, start_of, stop_of, sum_places}
+use Rattle.residual_net.specs.Site.{Site, IsPlace, arc_count, exit_at, is_barred, start_of, stop_of, sum_places}
 use Rattle.residual_net.proofs.Begin.{joined}
 use Rattle.residual_net.proofs.Fit.{fits}
 use Rattle.residual_net.proofs.Held.{arcs_same, arrival_is, horizon_same, nodes_same}
@@ -51,24 +51,11 @@ closed_stays {l} {w} {v} site falls opened closed i q r place room stop =
     there = subst (λ (s : Site). reached (labelled l i) i (stop_of s r) ≡ true) site stop
 
     shut_off : r.back ≡ false → IsOpened w v r.place → ⊥
-    shut_off on o =
-        let head : reached (labelled l i) i (head_of w.site r.place) ≡ true = rw on at there in
-        let low = reached_number l i (head_of w.site r.place) head in
-        omega (arith, opened.places r.place at o, low, q)
+    shut_off on o = grind (arith, at, there, reached_number)
 
     still : (r.back ≡ true) ⊎ (r.back ≡ false) → 0 < residual_room w r
-    still (inl b) =
-        let flow : 0 < flow_at v r.place = rw b at room in
-        rw b (omega (arith, flow, falls r.place at))
-    still (inr b) =
-        let some : 0 < limit_at v r.place - flow_at v r.place = rw b at room in
-        rw b (elim (cases_lt (limit_at w r.place) (limit_at v r.place)) [
-          | inl rose ↦ absurd (shut_off b (inl rose))
-          | inr kept ↦ elim (cases_lt (flow_at v r.place) (flow_at w r.place)) [
-            | inl fell ↦ absurd (shut_off b (inr fell))
-            | inr same ↦ omega (arith, some, kept, same)
-          ]
-        ])
+    still (inl b) = grind (arith, at)
+    still (inr b) = grind (arith, at, cases_lt, shut_off)
 
 -- ---- the limits of the edited model
 
@@ -94,13 +81,7 @@ pub valid_now : {m : Model} {e : Edit} {w : Network} → IsEditOfNet m e w → I
 valid_now {m} {e} h = valid_after m e h.inverse h.valid h.in_range h.edited
 
 pub between_now : {m : Model} {e : Edit} {w : Network} → IsEditOfNet m e w → IsBetween m w
-between_now {m} {e} h = record {
-  other = h.before;
-  valid = h.valid;
-  of_other = h.of.site;
-  of_model = h.of.site ∙ sym (site_edited h.before e) ∙ ap site_of (is_edited h.before m e h.inverse h.edited);
-  limits = λ p i. inl (h.of.limits p i);
-}
+between_now {m} {e} h = grind (arith, site_edited, is_edited)
 
 pub edit_now : {m : Model} {e : Edit} {w : Network} → IsEditOfNet m e w → IsEditOf m e
 edit_now {m} {e} h = subst (λ z. IsEditOf z e) (is_edited h.before m e h.inverse h.edited) (still_edit h.before e h.in_range)
@@ -146,10 +127,7 @@ module _ (m n : Model) (w : Network) (valid : IsValid m) (net : IsNet w) (of : I
 
   entry_over : (k t : ℕ) → k < w.site.shape.nodes → t < w.site.shape.horizon + 1
       → flow_at w (Supply k t) - model_limit n (Supply k t) ≤ entry m k t - entry n k t
-  entry_over k t i j =
-      let place : IsPlace w.site (Supply k t) = (i, omega (arith, j)) in
-      let most : flow_at w (Supply k t) ≤ entry m k t = omega (arith, within (Supply k t) place, of.limits (Supply k t) place) in
-      omega (arith, most)
+  entry_over k t i j = grind arith
 
   pub few_over : overrun n w ≤ violation m (plan_of w) n
   unfolding overrun violation sum_places

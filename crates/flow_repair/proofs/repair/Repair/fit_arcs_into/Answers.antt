@@ -16,8 +16,7 @@ use Rattle.flow_repair.proofs.repair.Repair.fit_arcs_into.Goals as goal
 use Rattle.flow_repair.proofs.repair.Repair.fit_arcs_into.Goals.{then-arc-node, else-arc-node}
 
 pub fit_row-requires-clause-fittable : goal.fit_row-requires-clause-fittable
-fit_row-requires-clause-fittable g c =
-    still_can_fit c.loop-arc.invariant c.requires.fittable
+fit_row-requires-clause-fittable g c = grind (arith, still_can_fit)
 
 pub loop-arc-preserved : goal.loop-arc-preserved
 loop-arc-preserved g c =

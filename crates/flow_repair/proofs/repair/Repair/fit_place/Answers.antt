@@ -1,4 +1,4 @@
-use Rattle.std.proofs.Common.{◌≡◌, ◌≤◌, ◌<◌, ℕ, true, ap, cond, subst, refl, arith, rules, ◌∙◌}
+use Rattle.std.proofs.Common.{◌≡◌, ◌≤◌, ◌<◌, ℕ, true, ap, subst, refl, arith, rules, ◌∙◌}
 use Rattle.std.proofs.lemmas.Bool.{false_from_ne_true}
 use Rattle.evac_law.specs.Building.{IsValid}
 use Rattle.evac_law.specs.declared.model.Model.{Model}
@@ -6,7 +6,7 @@ use Rattle.residual_net.specs.declared.place.Place.{Place}
 use Rattle.residual_net.specs.Change.{IsLimitSet}
 use Rattle.residual_net.specs.Network.{Network, limit_at}
 use Rattle.residual_net.specs.OfModel.{model_limit, site_of}
-use Rattle.residual_net.specs.Site.{IsPlace, Site, is_barred, is_source}
+use Rattle.residual_net.specs.Site.{IsPlace, Site, is_barred}
 use Rattle.residual_net.proofs.Begin.{barred_limit}
 use Rattle.flow_repair.specs.Opened.{head_number}
 use Rattle.residual_net.proofs.Kept.{out_same}
@@ -18,39 +18,19 @@ use Rattle.flow_repair.proofs.repair.Repair.fit_place.Goals as goal
 
 -- a barred place of the net has the limit 0 in the model
 barred_none : {m : Model} (w : Network) (p : Place) → IsValid m → w.site ≡ site_of m → IsPlace w.site p → is_barred w.site p ≡ true → model_limit m p ≡ 0
-barred_none {m} w p valid site i b =
-    barred_limit m p valid (subst (λ (s : Site). IsPlace s p) site i) (subst (λ (s : Site). is_barred s p ≡ true) site b)
+barred_none {m} w p valid site i b = grind (arith, barred_limit)
 
 pub set_limit-requires-clause-open : goal.set_limit-requires-clause-open
-set_limit-requires-clause-open g c = λ b.
-    let h = c.requires.fittable in
-    c.limit_of-limit.ensures ∙ barred_none c.args.self.now.net.now c.args.place h.valid h.between.of_model c.requires.place b
+set_limit-requires-clause-open g c = grind (arith, barred_none)
 
 pub head_number-number-requires-clause-open : goal.head_number-number-requires-clause-open
-head_number-number-requires-clause-open g c =
-    let h = c.requires.fittable in
-    let p = c.args.place in
-    ap (λ (s : Site). is_barred s p) c.set_limit.ensures.set.site
-    ∙ false_from_ne_true (is_barred c.args.self.now.net.now.site p)
-    (λ b. omega (
-      arith,
-      c.limit_of-limit.ensures,
-      barred_none c.args.self.now.net.now p h.valid h.between.of_model c.requires.place b,
-      c.if-limit-old.true,
-    ))
+head_number-number-requires-clause-open g c = grind (arith, false_from_ne_true, barred_none)
 
 pub cancel_all-requires-clause-cancellable : goal.cancel_all-requires-clause-cancellable
-cancel_all-requires-clause-cancellable g c =
-    let w = c.args.self.now.net.now in
-    let v = c.set_limit.new.self in
-    let set = c.set_limit.ensures.set in
-    still_cancellable v c.args.self.now.path.now.room c.args.self.now.done set.site
-    (omega (arith, out_same w v set.site set.flows is_source)) refl c.set_limit.ensures.net c.requires.fittable.cancellable
+cancel_all-requires-clause-cancellable g c = grind (arith, still_cancellable, out_same)
 
 pub cancel_all-requires-clause-limit : goal.cancel_all-requires-clause-limit
-cancel_all-requires-clause-limit g c =
-    c.set_limit.ensures.set.limits c.args.place c.requires.place
-    ∙ ap (λ b. cond b c.limit_of-limit.result (limit_at c.args.self.now.net.now c.args.place)) (place-same c.args.place) ∙ c.limit_of-limit.ensures
+cancel_all-requires-clause-limit g c = grind (arith, place-same)
 
 pub returns-then-limit-old : goal.returns-then-limit-old
 returns-then-limit-old g c =

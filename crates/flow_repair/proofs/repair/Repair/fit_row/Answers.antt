@@ -1,7 +1,7 @@
-use Rattle.std.proofs.Common.{◌+◌, ◌≤◌, ◌&&◌, eqb, ap, arith, subst}
+use Rattle.std.proofs.Common.{◌+◌, arith, subst}
 use Rattle.residual_net.specs.declared.place.Place.{Place}
-use Rattle.residual_net.specs.Site.{Site, same_place}
-use Rattle.residual_net.specs.Start.{is_kind, place_of, row_of}
+use Rattle.residual_net.specs.Site.{same_place}
+use Rattle.residual_net.specs.Start.{place_of}
 use Rattle.residual_net.proofs.Begin.{row_so_far, row_step}
 use Rattle.flow_repair.specs.Repairing.{Refits}
 use Rattle.flow_repair.proofs.Repairing.{refits_by, refits_then, still_can_fit, whole_row}
@@ -22,9 +22,4 @@ loop-moment-preserved g c =
     refits_then (row_so_far k n (i + 1)) c.loop-moment.invariant here (λ q _. row_step k n i q)
 
 pub returns : goal.returns
-returns g c =
-    let site = c.args.self.now.net.now.site in
-    let last : site.shape.horizon + 1 ≤ c.loop-moment.moment =
-    omega (arith, c.loop-moment-test.false, c.loop-moment.auto.moment-end, ap (λ (z : Site). z.shape.horizon) c.requires.fittable.between.of_model) in
-    refits_by (λ p. is_kind c.args.kind p && eqb (row_of p) c.args.number) c.loop-moment.invariant
-    (λ p i. whole_row site c.args.kind c.args.number c.loop-moment.moment p i last)
+returns g c = grind (arith, refits_by, whole_row)
