@@ -41,9 +41,7 @@ less-differs a b h = ne_eqb a b (λ e. let l = ltb-true a b h in omega arith)
 
 -- the test of a key is that of its entrant
 key-test : (k l : ℕ × ℕ) (people : ℕ) → is_eq (key-order k l) ≡ is_coming k.0 k.1 (entrant_of l.0 l.1 people)
-key-test k l people =
-    equal-tests (nat_lt k.0 l.0) (k.0 == l.0) (nat_lt k.1 l.1) (k.1 == l.1) (less-differs k.0 l.0) (less-differs k.1 l.1)
-    ∙ ap₂ (λ x y. x && y) (test-swap k.0 l.0) (test-swap k.1 l.1)
+key-test k l people = grind (arith, equal-tests, less-differs, test-swap)
 
 -- a key is found where its entrant is listed
 pub found-listed : (k : ℕ × ℕ) (es : List ((ℕ × ℕ) × ℕ)) → is_some (lookup (λ l. is_eq (key-order k l)) es) ≡ list_any (is_coming k.0 k.1) (map entrant_row es)

@@ -30,16 +30,15 @@ few-by true keys key = omega arith
 few-by false keys key = omega (arith, length-append keys (key ∷ []))
 
 -- there is at most one more
-pub few-names : (names : List NodeName) (name : NodeName) → length (names_with names name) ≤ length names + 1
-few-names names name = few-by (list_any (λ n. same_name n name) names) names name
+pub few_names : (names : List NodeName) (name : NodeName) → length (names_with names name) ≤ length names + 1
+few_names names name = few-by (list_any (λ n. same_name n name) names) names name
 
-pub few-ends : (ends : List (ℕ × ℕ)) (new : ℕ × ℕ) → length (ends_with ends new) ≤ length ends + 1
-few-ends ends new = few-by (list_any (λ (e : ℕ × ℕ). e.0 == new.0 && e.1 == new.1) ends) ends new
+pub few_ends : (ends : List (ℕ × ℕ)) (new : ℕ × ℕ) → length (ends_with ends new) ≤ length ends + 1
+few_ends ends new = few-by (list_any (λ (e : ℕ × ℕ). e.0 == new.0 && e.1 == new.1) ends) ends new
 
 -- a set into which a name is put
 pub insert-name : (names : List NodeName) (name : NodeName) → insert_key eq-value.it names name ≡ names_with names name
-insert-name names name =
-    ap (λ t. cond t names (names ++ (name ∷ []))) (any-same (eq-value.it name) (λ n. same_name n name) names (name-test name))
+insert-name names name = grind (arith, any-same, name-test)
 
 -- an index with these names
 abbrev pub with-nodes : List (ℕ × ℕ) → List NodeName → NameLists
@@ -49,21 +48,18 @@ with-nodes ends nodes = record { nodes = nodes; ends = ends }
 push-key : {R K : Type 0} (key : R → K) (test : K → Bool) (rows : List R) (row : R) (keys : List K)
     → keys ≡ map key rows → list_any (λ r. test (key r)) rows ≡ false
     → with-key test keys (key row) ≡ map key (rows ++ (row ∷ []))
-push-key key test rows row keys same new =
-    ap (λ l. with-key test l (key row)) same
-    ∙ ap (λ t. cond t (map key rows) (map key rows ++ (key row ∷ []))) (any-map test key rows ∙ new)
-    ∙ sym (map-append key rows (row ∷ []))
+push-key key test rows row keys same new = grind (arith, any-map, map-append)
 
 -- the name of one more node, and the ends of one more arc
-pub push-name : (rows : List NodeRow) (row : NodeRow) (names : List NodeName)
+pub push_name : (rows : List NodeRow) (row : NodeRow) (names : List NodeName)
     → names ≡ map (λ n. n.name) rows → list_any (λ n. same_name n.name row.name) rows ≡ false
     → names_with names row.name ≡ map (λ n. n.name) (rows ++ (row ∷ []))
-push-name rows row names same new = push-key (λ (n : NodeRow). n.name) (λ n. same_name n row.name) rows row names same new
+push_name rows row names same new = push-key (λ (n : NodeRow). n.name) (λ n. same_name n row.name) rows row names same new
 
-pub push-ends : (rows : List ArcRow) (row : ArcRow) (ends : List (ℕ × ℕ))
+pub push_ends : (rows : List ArcRow) (row : ArcRow) (ends : List (ℕ × ℕ))
     → ends ≡ map ends-of rows → list_any (λ a. a.from == row.from && a.to == row.to) rows ≡ false
     → ends_with ends (ends-of row) ≡ map ends-of (rows ++ (row ∷ []))
-push-ends rows row ends same new = push-key ends-of (λ (e : ℕ × ℕ). e.0 == row.from && e.1 == row.to) rows row ends same new
+push_ends rows row ends same new = push-key ends-of (λ (e : ℕ × ℕ). e.0 == row.from && e.1 == row.to) rows row ends same new
 
 -- ---- rows in turn
 
@@ -83,20 +79,20 @@ test-false true h = absurd (h refl)
 test-false false h = refl
 
 -- the name of the next node
-pub add-name : (rows : List NodeRow) (i : ℕ) (names : List NodeName)
+pub add_name : (rows : List NodeRow) (i : ℕ) (names : List NodeName)
     → i < length rows → NamesDiffer rows → names ≡ map (λ n. n.name) (take i rows)
     → names_with names (get_or rows i no_node).name ≡ map (λ n. n.name) (take (i + 1) rows)
-add-name rows i names within differ same =
+add_name rows i names within differ same =
     let new = (get_or rows i no_node).name in
     add-next (λ (n : NodeRow). n.name) (λ n. same_name n new) rows i no_node names within (λ k h.
     let old = (get_or rows k no_node).name in
     test-false (same_name old new) (λ is. differ k i h within (same-name-is old new is))) same
 
 -- the ends of the next arc
-pub add-ends : (rows : List ArcRow) (i : ℕ) (d : ArcRow) (ends : List (ℕ × ℕ))
+pub add_ends : (rows : List ArcRow) (i : ℕ) (d : ArcRow) (ends : List (ℕ × ℕ))
     → i < length rows → EndsDiffer rows → ends ≡ map ends-of (take i rows)
     → ends_with ends (ends-of (get_or rows i d)) ≡ map ends-of (take (i + 1) rows)
-add-ends rows i d ends within differ same =
+add_ends rows i d ends within differ same =
     let new = ends-of (get_or rows i no_arc) in
     ap (λ a. ends_with ends (ends-of a)) (get_or_default rows i d no_arc within)
     ∙ add-next ends-of (λ (e : ℕ × ℕ). e.0 == new.0 && e.1 == new.1) rows i no_arc ends within (λ k h.

@@ -60,6 +60,7 @@ impl NameIndex {
     }
 
     /// Puts in the names of some nodes, where there are none yet.
+    #[tactic(auto, using(crate::proofs::IndexLemmas::few_names, crate::proofs::IndexLemmas::add_name))]
     pub(crate) fn insert_nodes(&mut self, rows: &[NodeRow]) -> Result<(), AllocError>
         requires empty { self.old.nodes ≡ [] }
         requires few { length rows.now ≤ node_limit }
@@ -73,6 +74,7 @@ impl NameIndex {
     }
 
     /// Puts in the ends of some arcs, where there are none yet.
+    #[tactic(auto, using(crate::proofs::IndexLemmas::few_ends, crate::proofs::IndexLemmas::add_ends))]
     pub(crate) fn insert_arcs(&mut self, rows: &[ArcRow]) -> Result<(), AllocError>
         requires empty { self.old.ends ≡ [] }
         requires few { length rows.now ≤ arc_limit }

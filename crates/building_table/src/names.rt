@@ -2,10 +2,10 @@
 ghost use Rattle.std.specs.Prelude.{◌≡◌, ◌<◌, ◌≤◌, length, map, slice_get, IfOk, Some};
 ghost use Rattle.std.specs.Option.{option_map};
 ghost use Rattle.evac_law.specs.Limits.{arc_limit, node_limit};
-ghost use Rattle.building_table.specs.Names.{EndsDiffer, NameTable, NamesDiffer, arc_place, node_place};
+ghost use Rattle.building_table.specs.Names.{EndsDiffer, NameTable, NamesDiffer, arc_ends, arc_place, node_names, node_place};
 
 use crate::name_index::NameIndex;
-use evac_law::{ArcRow, NodeName, NodeRow};
+use evac_law::NodeName;
 use std::alloc::{AllocError, Global};
 use std::marker::Model;
 
@@ -37,26 +37,25 @@ impl Model for Names {
 }
 
 impl Names {
-    /// The names of some nodes and arcs, with the floors and the title.
+    /// The names of a model's nodes and the ends of its arcs, with the floors and the title.
     pub fn new(
         alloc: Global,
-        nodes: &[NodeRow],
-        arcs: &[ArcRow],
+        model: &evac_law::Model,
         floors: Vec<u16>,
         texts: Vec<Vec<u8>>,
         title: Option<Vec<u8>>,
     ) -> Result<Names, AllocError>
         requires floors { length floors.items ≡ length texts.items }
-        requires few_nodes { length nodes.now ≤ node_limit }
-        requires few_arcs { length arcs.now ≤ arc_limit }
-        ensures nodes { IfOk result (λ n. NamesDiffer nodes.now → n.nodes ≡ map (λ row. row.name) nodes.now) }
-        ensures ends { IfOk result (λ n. EndsDiffer arcs.now → n.ends ≡ map (λ row. (row.from, row.to)) arcs.now) }
+        requires few_nodes { length model.now.nodes ≤ node_limit }
+        requires few_arcs { length model.now.arcs ≤ arc_limit }
+        ensures nodes { IfOk result (λ n. NamesDiffer model.now.nodes → n.nodes ≡ node_names model.now) }
+        ensures ends { IfOk result (λ n. EndsDiffer model.now.arcs → n.ends ≡ arc_ends model.now) }
         ensures floors { IfOk result (λ n. (n.floors ≡ floors.items) × (n.texts ≡ map (λ t. t.items) texts.items)) }
         ensures title { IfOk result (λ n. n.title ≡ option_map (λ t. t.items) title) }
     {
         let mut index = NameIndex::new(alloc);
-        index.insert_nodes(nodes)?;
-        index.insert_arcs(arcs)?;
+        index.insert_nodes(model.nodes.as_slice())?;
+        index.insert_arcs(model.arcs.as_slice())?;
         Ok(Names::from_index(index, floors, texts, title))
     }
 

@@ -5,7 +5,7 @@ use Rattle.evac_law.specs.declared.model.NodeRow.{NodeRow}
 use Rattle.building_table.specs.Built.{Built}
 use Rattle.building_table.specs.Names.{NameLists, names_with}
 use Rattle.building_table.specs.Taking.{holds_node}
-use Rattle.building_table.proofs.IndexLemmas.{push-name}
+use Rattle.building_table.proofs.IndexLemmas.{push_name}
 use Rattle.building_table.proofs.builder.Builder.push_node.Goals as goal
 
 pub invariant_of-self-2 : goal.invariant_of-self-2
@@ -17,7 +17,7 @@ invariant_of-self-2 c =
     let made : c.insert_node.new.self ≡ record index { nodes = names_with index.nodes row.name } = grind (arith, common_steps) in
     let new = ap (λ (b : Built). holds_node b c.args.name) c.self.view_is ∙ c.requires.new in
     record {
-      listed_nodes = ap (λ (x : NameLists). x.nodes) made ∙ push-name rows row index.nodes c.self.invariant.listed_nodes new
+      listed_nodes = ap (λ (x : NameLists). x.nodes) made ∙ push_name rows row index.nodes c.self.invariant.listed_nodes new
           ∙ ap (map (λ (n : NodeRow). n.name)) (sym pushed);
       listed_arcs = ap (λ (x : NameLists). x.ends) made ∙ c.self.invariant.listed_arcs;
       counted = grind (arith, common_steps);
