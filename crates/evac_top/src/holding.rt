@@ -16,7 +16,7 @@ use evac_law::Steps;
 use line_io::{Sink, Source};
 use std::alloc::Global;
 use std::sync::ledger::Ledger;
-use talk::{Speaker, Status, hold_talk};
+use talk::{Channel, Speaker, Status, hold_talk};
 
 /// Runs a mode that holds such a talk.
 pub(crate) fn hold<T: Speaker + Drop, S: Source, K: Sink, L: Ledger>(
@@ -34,9 +34,10 @@ pub(crate) fn hold<T: Speaker + Drop, S: Source, K: Sink, L: Ledger>(
         return Status::NoMemory;
     };
     match read_model(alloc, &mut lines, source) {
-        Ok(building) => hold_talk::<T, S, K, L>(
-            alloc, &mut lines, source, &mut out, sink, building, steps,
-        ),
+        Ok(building) => {
+            let mut channel = Channel::new(&mut lines, source, &mut out, sink);
+            hold_talk::<T, S, K, L>(alloc, &mut channel, building, steps)
+        }
         Err(fault) => stop(&mut out, sink, fault),
     }
 }

@@ -43,8 +43,7 @@ module _ {N S X : Type 0} (held : X → Option (List ℕ)) (faults : X → Count
 -- what is heard where the sink failed, by an equal result
 pub hears_fault : {N S : Type 0} (talk : Talk S) (Reaches : ℕ → N → S → Type 0) (r : Result Heard AnswerFault) (x z : Shown N S) (line : ℕ) (text : List ℕ) (fault : WriteFault)
     → r ≡ Err (Write fault) → HearsText talk Reaches x line text (Err (Write fault)) z → HearsText talk Reaches x line text r z
-hears_fault talk Reaches r x z line text fault is h =
-    let P : Result Heard AnswerFault → Type 0 = λ y. HearsText talk Reaches x line text y z in subst P (sym is) h
+hears_fault talk Reaches r x z line text fault is h = grind arith
 
 -- ---- a listener that shows what it is
 
@@ -78,8 +77,7 @@ module _ {S T F : Type 0} (f : S → T) (from : Hearing S F) (hears : Hearing T 
   }
 
 pub shown-so : {N S : Type 0} (i : N) (s : S) (a b : Option (List ℕ)) (p q : List ℕ) (f g : Count) (n k : ℕ) → a ≡ b → p ≡ q → f ≡ g → n ≡ k → shown i s a p f n ≡ shown i s b q g k
-shown-so i s a b p q f g n k e h j l =
-    ap (λ (x : Option (List ℕ)). shown i s x p f n) e ∙ ap (λ (x : List ℕ). shown i s b x f n) h ∙ ap (λ (x : Count). shown i s b q x n) j ∙ ap (λ (x : ℕ). shown i s b q g x) l
+shown-so i s a b p q f g n k e h j l = grind arith
 
 -- ---- the replies to all lines
 

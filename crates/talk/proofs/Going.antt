@@ -204,7 +204,7 @@ module _ {N S : Type 0} (talk : Talk S) (Reaches : ℕ → N → S → Type 0) (
         at_5 talk (around a l reads held faults k) (around c n reads' to.held to.faults to.steps) did (h.texts ++ h.last)
         (record { passes = h.passes; written = subst (λ (z : Option (List ℕ)). Appends held z w.replies.text) (sym quiet.held) w.written; counted = omega (arith, quiet.steps, w.counted) })
         refl same (quiet.faults ∙ w.faults_same)
-        (record {
+        (inr (record {
           answered = h.texts;
           line = line;
           parts = last;
@@ -213,7 +213,7 @@ module _ {N S : Type 0} (talk : Talk S) (Reaches : ℕ → N → S → Type 0) (
           text_said = refl;
           counted = spent;
           wants = subst (λ (z : S). talk.Wants (a.number + length h.texts + 1) z line) (sym w.state) heard.0;
-        })
+        }))
 
   -- a line had a fault, and its refusal was sent
   held_fault : (sent : Result (Unit {0}) WriteFault) (held : Option (List ℕ)) (faults : Count) (k : ℕ) (code : Code) (at : Shown N S) (a c : Reader) (l n : Option (List ℕ)) (reads reads' : Count)

@@ -1,5 +1,5 @@
 -- A talk over the lines of a source is over.
-use Rattle.std.proofs.Common.{◌≡◌, ℕ, ◌+◌, List, [], ◌++◌, Result, Ok, Err, Some, None, refl, sym, ap, subst, ◌∙◌, arith, append-nil, append_assoc, ◌⊎◌, inl, inr, false}
+use Rattle.std.proofs.Common.{◌≡◌, ◌≢◌, ◌≤◌, ℕ, ◌+◌, List, [], ◌++◌, Result, Ok, Err, Some, None, refl, sym, ap, subst, ◌∙◌, arith, append-nil, append_assoc, ◌⊎◌, inl, inr, false}
 use Rattle.std.specs.declared.option.Option.{Option}
 use Rattle.std.specs.Io.KnownBytes.{Appends}
 use Rattle.std.proofs.KnownBytes.{Appends-nil, Appends-trans}
@@ -26,9 +26,7 @@ rose_so status before after rose = record { rose = λ e. rose; same = λ e. absu
 
 -- a text after no pending bytes that leaves none pending went over whole
 pub went_over : (held held' : Option (List ℕ)) (pending pending' text : List ℕ) → Puts held pending text held' pending' → pending ≡ [] → pending' ≡ [] → Appends held held' text
-went_over held held' pending pending' text put none gone =
-    let sent : text ≡ put.sent = ap (λ (l : List ℕ). l ++ text) (sym none) ∙ put.order ∙ ap (λ (l : List ℕ). put.sent ++ l) gone ∙ append-nil put.sent in
-    subst (Appends held held') (sym sent) put.over
+went_over held held' pending pending' text put none gone = grind (arith, append-nil)
 
 -- a front of a text went over
 pub record Over (held held' : Option (List ℕ)) (text : List ℕ) : Type 0 where
@@ -78,100 +76,62 @@ pub record Base (a b : Around) (did : Spoken) (heard : List (List ℕ)) : Type 0
   pub written : Appends a.held b.held did.text
   pub counted : b.steps ≡ a.steps + did.steps
 
-pub at_0 : {S : Type 0} (talk : Talk S) (a b : Around) (did : Spoken) (heard : List (List ℕ)) → Base a b did heard → did.status ≡ 0 → b.reads ≡ a.reads → b.writes ≡ a.writes
-    → OfLines (lines_left a.reader a.left) (λ lines. TalkAnswers talk a.reader.number lines did) → IsReadOut b.reader ⊎ EndsByQuit talk.Quits heard → HoldsTalk talk 0 a b
-at_0 talk a b did heard base over reads writes whole read_on = record {
+-- a talk was held, by what holds at its status
+held-at : {S : Type 0} (talk : Talk S) (status : ℕ) (a b : Around) (did : Spoken) (heard : List (List ℕ)) → Base a b did heard → did.status ≡ status → (status ≤ 5) × (status ≢ 2)
+    → RoseAt status 3 a.reads b.reads → RoseAt status 4 a.writes b.writes → (status ≤ 1 → OfLines (lines_left a.reader a.left) (λ lines. TalkAnswers talk a.reader.number lines did))
+    → (status ≡ 0 → IsReadOut b.reader ⊎ EndsByQuit talk.Quits heard) → (status ≡ 3 → TalkGoesOn talk a.reader.number heard did × (is_settled b.reader ≡ false))
+    → (status ≡ 4 → OfLines (lines_left a.reader a.left) (λ lines. TalkFront talk a.reader.number lines did))
+    → (status ≡ 5 → ((did.text ≡ []) × (heard ≡ [])) ⊎ TalkWants talk a.reader.number heard did) → HoldsTalk talk status a b
+held-at talk status a b did heard base over known reads writes whole read_on so_far front no_memory = record {
   did = did;
   heard = heard;
   passes = base.passes;
   over = over;
-  known = (omega arith, λ e. omega (arith, e));
+  known = known;
   written = base.written;
   counted = base.counted;
-  reads = rose_not 0 3 a.reads b.reads (λ e. omega (arith, e)) reads;
-  writes = rose_not 0 4 a.writes b.writes (λ e. omega (arith, e)) writes;
-  whole = λ l. whole;
-  read_on = λ e. read_on;
-  so_far = λ e. absurd (let f : ⊥ = omega (arith, e) in f);
-  front = λ e. absurd (let f : ⊥ = omega (arith, e) in f);
-  no_memory = λ e. absurd (let f : ⊥ = omega (arith, e) in f);
+  reads = reads;
+  writes = writes;
+  whole = whole;
+  read_on = read_on;
+  so_far = so_far;
+  front = front;
+  no_memory = no_memory;
 }
+
+-- from what can't be, anything follows
+never : {P A : Type 0} → (P → ⊥) → P → A
+never barred p = absurd (barred p)
+
+pub at_0 : {S : Type 0} (talk : Talk S) (a b : Around) (did : Spoken) (heard : List (List ℕ)) → Base a b did heard → did.status ≡ 0 → b.reads ≡ a.reads → b.writes ≡ a.writes
+    → OfLines (lines_left a.reader a.left) (λ lines. TalkAnswers talk a.reader.number lines did) → IsReadOut b.reader ⊎ EndsByQuit talk.Quits heard → HoldsTalk talk 0 a b
+at_0 talk a b did heard base over reads writes whole read_on =
+    held-at talk 0 a b did heard base over (omega arith, λ e. omega (arith, e)) (rose_not 0 3 _ _ (λ e. omega (arith, e)) reads) (rose_not 0 4 _ _ (λ e. omega (arith, e)) writes) (λ l. whole)
+    (λ e. read_on) (never (λ e. omega (arith, e))) (never (λ e. omega (arith, e))) (never (λ e. omega (arith, e)))
 
 pub at_1 : {S : Type 0} (talk : Talk S) (a b : Around) (did : Spoken) (heard : List (List ℕ)) → Base a b did heard → did.status ≡ 1 → b.reads ≡ a.reads → b.writes ≡ a.writes
     → OfLines (lines_left a.reader a.left) (λ lines. TalkAnswers talk a.reader.number lines did) → HoldsTalk talk 1 a b
-at_1 talk a b did heard base over reads writes whole = record {
-  did = did;
-  heard = heard;
-  passes = base.passes;
-  over = over;
-  known = (omega arith, λ e. omega (arith, e));
-  written = base.written;
-  counted = base.counted;
-  reads = rose_not 1 3 a.reads b.reads (λ e. omega (arith, e)) reads;
-  writes = rose_not 1 4 a.writes b.writes (λ e. omega (arith, e)) writes;
-  whole = λ l. whole;
-  read_on = λ e. absurd (let f : ⊥ = omega (arith, e) in f);
-  so_far = λ e. absurd (let f : ⊥ = omega (arith, e) in f);
-  front = λ e. absurd (let f : ⊥ = omega (arith, e) in f);
-  no_memory = λ e. absurd (let f : ⊥ = omega (arith, e) in f);
-}
+at_1 talk a b did heard base over reads writes whole =
+    held-at talk 1 a b did heard base over (omega arith, λ e. omega (arith, e)) (rose_not 1 3 _ _ (λ e. omega (arith, e)) reads) (rose_not 1 4 _ _ (λ e. omega (arith, e)) writes) (λ l. whole)
+    (never (λ e. omega (arith, e))) (never (λ e. omega (arith, e))) (never (λ e. omega (arith, e))) (never (λ e. omega (arith, e)))
 
 pub at_3 : {S : Type 0} (talk : Talk S) (a b : Around) (did : Spoken) (heard : List (List ℕ)) → Base a b did heard → did.status ≡ 3 → Rose a.reads b.reads → b.writes ≡ a.writes
     → TalkGoesOn talk a.reader.number heard did → is_settled b.reader ≡ false → HoldsTalk talk 3 a b
-at_3 talk a b did heard base over reads writes goes open_line = record {
-  did = did;
-  heard = heard;
-  passes = base.passes;
-  over = over;
-  known = (omega arith, λ e. omega (arith, e));
-  written = base.written;
-  counted = base.counted;
-  reads = rose_so 3 a.reads b.reads reads;
-  writes = rose_not 3 4 a.writes b.writes (λ e. omega (arith, e)) writes;
-  whole = λ l. absurd (let f : ⊥ = omega (arith, l) in f);
-  read_on = λ e. absurd (let f : ⊥ = omega (arith, e) in f);
-  so_far = λ e. (goes, open_line);
-  front = λ e. absurd (let f : ⊥ = omega (arith, e) in f);
-  no_memory = λ e. absurd (let f : ⊥ = omega (arith, e) in f);
-}
+at_3 talk a b did heard base over reads writes goes open_line =
+    held-at talk 3 a b did heard base over (omega arith, λ e. omega (arith, e)) (rose_so 3 _ _ reads) (rose_not 3 4 _ _ (λ e. omega (arith, e)) writes) (never (λ l. omega (arith, l)))
+    (never (λ e. omega (arith, e))) (λ e. (goes, open_line)) (never (λ e. omega (arith, e))) (never (λ e. omega (arith, e)))
 
 pub at_4 : {S : Type 0} (talk : Talk S) (a b : Around) (did : Spoken) (heard : List (List ℕ)) → Base a b did heard → did.status ≡ 4 → b.reads ≡ a.reads → Rose a.writes b.writes
     → OfLines (lines_left a.reader a.left) (λ lines. TalkFront talk a.reader.number lines did) → HoldsTalk talk 4 a b
-at_4 talk a b did heard base over reads writes front = record {
-  did = did;
-  heard = heard;
-  passes = base.passes;
-  over = over;
-  known = (omega arith, λ e. omega (arith, e));
-  written = base.written;
-  counted = base.counted;
-  reads = rose_not 4 3 a.reads b.reads (λ e. omega (arith, e)) reads;
-  writes = rose_so 4 a.writes b.writes writes;
-  whole = λ l. absurd (let f : ⊥ = omega (arith, l) in f);
-  read_on = λ e. absurd (let f : ⊥ = omega (arith, e) in f);
-  so_far = λ e. absurd (let f : ⊥ = omega (arith, e) in f);
-  front = λ e. front;
-  no_memory = λ e. absurd (let f : ⊥ = omega (arith, e) in f);
-}
+at_4 talk a b did heard base over reads writes front =
+    held-at talk 4 a b did heard base over (omega arith, λ e. omega (arith, e)) (rose_not 4 3 _ _ (λ e. omega (arith, e)) reads) (rose_so 4 _ _ writes) (never (λ l. omega (arith, l)))
+    (never (λ e. omega (arith, e))) (never (λ e. omega (arith, e))) (λ e. front) (never (λ e. omega (arith, e)))
 
 pub at_5 : {S : Type 0} (talk : Talk S) (a b : Around) (did : Spoken) (heard : List (List ℕ)) → Base a b did heard → did.status ≡ 5 → b.reads ≡ a.reads → b.writes ≡ a.writes
-    → TalkWants talk a.reader.number heard did → HoldsTalk talk 5 a b
-at_5 talk a b did heard base over reads writes wants = record {
-  did = did;
-  heard = heard;
-  passes = base.passes;
-  over = over;
-  known = (omega arith, λ e. omega (arith, e));
-  written = base.written;
-  counted = base.counted;
-  reads = rose_not 5 3 a.reads b.reads (λ e. omega (arith, e)) reads;
-  writes = rose_not 5 4 a.writes b.writes (λ e. omega (arith, e)) writes;
-  whole = λ l. absurd (let f : ⊥ = omega (arith, l) in f);
-  read_on = λ e. absurd (let f : ⊥ = omega (arith, e) in f);
-  so_far = λ e. absurd (let f : ⊥ = omega (arith, e) in f);
-  front = λ e. absurd (let f : ⊥ = omega (arith, e) in f);
-  no_memory = λ e. inr wants;
-}
+    → ((did.text ≡ []) × (heard ≡ [])) ⊎ TalkWants talk a.reader.number heard did → HoldsTalk talk 5 a b
+at_5 talk a b did heard base over reads writes wants =
+    held-at talk 5 a b did heard base over (omega arith, λ e. omega (arith, e)) (rose_not 5 3 _ _ (λ e. omega (arith, e)) reads) (rose_not 5 4 _ _ (λ e. omega (arith, e)) writes)
+    (never (λ l. omega (arith, l))) (never (λ e. omega (arith, e))) (never (λ e. omega (arith, e))) (never (λ e. omega (arith, e))) (λ e. wants)
 
 pub held_as : {S : Type 0} (talk : Talk S) (status k : ℕ) (a b : Around) → status ≡ k → HoldsTalk talk k a b → HoldsTalk talk status a b
 held_as talk status k a b is h = subst (λ (z : ℕ). HoldsTalk talk z a b) (sym is) h
@@ -180,22 +140,9 @@ held_as talk status k a b is h = subst (λ (z : ℕ). HoldsTalk talk z a b) (sym
 
 pub held_none : {S : Type 0} (talk : Talk S) (r : Reader) (left : Option (List ℕ)) (reads : Count) (held : Option (List ℕ)) (writes : Count) (k j n : ℕ) → j ≡ k + n
     → HoldsTalk talk 5 (around r left reads held writes k) (around r left reads held writes j)
-held_none talk r left reads held writes k j n counted = record {
-  did = record { status = 5; text = []; steps = n };
-  heard = [];
-  passes = passes-none r left;
-  over = refl;
-  known = (omega arith, λ e. omega (arith, e));
-  written = Appends-nil held;
-  counted = counted;
-  reads = rose_not 5 3 reads reads (λ e. omega (arith, e)) refl;
-  writes = rose_not 5 4 writes writes (λ e. omega (arith, e)) refl;
-  whole = λ l. absurd (let f : ⊥ = omega (arith, l) in f);
-  read_on = λ e. absurd (let f : ⊥ = omega (arith, e) in f);
-  so_far = λ e. absurd (let f : ⊥ = omega (arith, e) in f);
-  front = λ e. absurd (let f : ⊥ = omega (arith, e) in f);
-  no_memory = λ e. inl (refl, refl);
-}
+held_none talk r left reads held writes k j n counted =
+    at_5 talk (around r left reads held writes k) (around r left reads held writes j) (record { status = 5; text = []; steps = n }) []
+    (record { passes = passes-none r left; written = Appends-nil held; counted = counted }) refl refl refl (inl (refl, refl))
 
 pub all_lines_so : (x : Option (List Line)) (Holds : List Line → Type 0) → ((lines : List Line) → Holds lines) → OfLines x Holds
 all_lines_so None Holds holds = tt

@@ -11,14 +11,10 @@ nothing_first s r = ap (λ (n : ℕ). record r { steps = n }) (zero-add r.steps)
 
 together : {S : Type 0} (t u : List ℕ) (s : S) (n k : ℕ) → t ≡ u → n ≡ k
     → let P : Reply S = record { text = t; after = s; steps = n } in let Q : Reply S = record { text = u; after = s; steps = k } in P ≡ Q
-together {S} t u s n k e f =
-    ap (λ (x : List ℕ). let P : Reply S = record { text = x; after = s; steps = n } in P) e
-    ∙ ap (λ (x : ℕ). let P : Reply S = record { text = u; after = s; steps = x } in P) f
+together {S} t u s n k e f = grind arith
 
 pub followed_assoc : {S : Type 0} (a b c : Reply S) → followed (followed a b) c ≡ followed a (followed b c)
-followed_assoc a b c =
-    together (a.text ++ b.text ++ c.text) (a.text ++ (b.text ++ c.text)) c.after (a.steps + b.steps + c.steps) (a.steps + (b.steps + c.steps))
-    (append_assoc a.text b.text c.text) (add_assoc a.steps b.steps c.steps)
+followed_assoc a b c = grind (arith, append_assoc, add_assoc)
 
 -- the replies to lines, and then those to more lines
 pub record Parts {S : Type 0} (Gets : Replying S) (before : ℕ) (s : S) (xs ys : List (List ℕ)) (r : Reply S) : Type 0 where
@@ -61,10 +57,7 @@ replies_split Gets before s (x ∷ xs) ys r h =
 pub replies_join : {S : Type 0} (Gets : Replying S) (before : ℕ) (s : S) (xs ys : List (List ℕ)) (r more : Reply S) → RepliesTo Gets before s xs r
     → RepliesTo Gets (before + length xs) r.after ys more → RepliesTo Gets before s (xs ++ ys) (followed r more)
 unfolding RepliesTo
-replies_join {S} Gets before s [] ys r more h g =
-    let Q : Reply S → Type 0 = λ a. RepliesTo Gets (before + 0) a.after ys more → RepliesTo Gets before s ys (followed a more) in
-    subst Q (sym h) (λ k. let P : ℕ → Type 0 = λ n. RepliesTo Gets n s ys more in
-    let R : Reply S → Type 0 = λ a. RepliesTo Gets before s ys a in subst R (sym (nothing_first s more)) (subst P (add-zero before) k)) g
+replies_join {S} Gets before s [] ys r more h g = grind (arith, more, add-zero)
 replies_join {S} Gets before s (x ∷ xs) ys r more h g =
     let one = h.0 in
     let rest = h.2.0 in

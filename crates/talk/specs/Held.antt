@@ -15,6 +15,7 @@ use Rattle.line_io.specs.declared.lines.LineFault.TheVariants.{ReadFault, LineTo
 use Rattle.line_io.specs.declared.out.WriteFault.{WriteFault}
 use Rattle.certificate_text.specs.BlockText.{refusal_line}
 use Rattle.talk.specs.Talks.{Spoken, Talk, TalkAnswers, TalkFront, TalkGoesOn, TalkWants}
+use Rattle.talk.specs.declared.channel.Channel.{Channel}
 use Rattle.talk.specs.declared.fault.AnswerFault.{AnswerFault}
 use Rattle.talk.specs.declared.fault.AnswerFault.TheVariants.{Write, Memory}
 
@@ -30,6 +31,17 @@ pub record Around : Type 0 where
 
 abbrev pub around : Reader → Option (List ℕ) → Count → Option (List ℕ) → Count → ℕ → Around
 around reader left reads held writes steps = record { reader = reader; left = left; held = held; reads = reads; writes = writes; steps = steps }
+
+-- what it meets on a channel
+abbrev pub met_on : {S K : Type 0} → (S → Option (List ℕ)) → (S → Count) → (K → Option (List ℕ)) → (K → Count) → Channel S K → ℕ → Around
+met_on left reads held writes c steps = around c.lines.now (left c.source.now) (reads c.source.now) (held c.sink.now) (writes c.sink.now) steps
+
+-- a channel keeps its four ends
+pub record KeepsEnds {S K : Type 0} (c c' : Channel S K) : Type 0 where
+  pub lines : c'.lines.ghost_name ≡ c.lines.ghost_name
+  pub source : c'.source.ghost_name ≡ c.source.ghost_name
+  pub out : c'.out.ghost_name ≡ c.out.ghost_name
+  pub sink : c'.sink.ghost_name ≡ c.sink.ghost_name
 
 -- what holds of the lines that aren't given yet, where the source tells its bytes
 abbrev pub OfLines : Option (List Line) → (List Line → Type 0) → Type 0

@@ -1,4 +1,4 @@
-//! Holding a talk over the lines of a source.
+//! Holding a talk over the lines of a channel.
 ghost use Rattle.std.specs.Prelude.{◌≡◌, ◌≤◌, ◌+◌, [], ℕ};
 ghost use Rattle.evac_law.specs.Building.{IsValid};
 ghost use Rattle.evac_law.specs.declared.model.Model.{Model};
@@ -7,10 +7,11 @@ ghost use Rattle.line_io.specs.Line.{input_limit};
 ghost use Rattle.line_io.specs.Reader.{Drained};
 ghost use Rattle.building_table.specs.Names.{NameTable, NamesFit};
 ghost use Rattle.certificate_text.specs.BlockText.{refusal_line};
-ghost use Rattle.talk.specs.Held.{ConcludesTalk, HoldsTalk, RefusesBy, SendsBy, around};
+ghost use Rattle.talk.specs.Held.{ConcludesTalk, HoldsTalk, KeepsEnds, RefusesBy, SendsBy, met_on};
 ghost use Rattle.talk.specs.Speaking.{opened};
 ghost use Rattle.talk.specs.Statuses.{status_number};
 
+use crate::channel::Channel;
 use crate::fault::AnswerFault;
 use crate::send::{send_refusal, send_short};
 use crate::speaker::Speaker;
@@ -19,7 +20,7 @@ use crate::talker::converse;
 use building_table::Building;
 use edit_session::BeginFault;
 use evac_law::{Code, Steps};
-use line_io::{Ending, LineFault, Lines, Out, Sink, Source, WriteFault, Writer};
+use line_io::{Ending, LineFault, Out, Sink, Source, WriteFault, Writer};
 use std::alloc::Global;
 use std::sync::ledger::Ledger;
 
@@ -65,29 +66,26 @@ fn conclude<K: Sink>(
     }
 }
 
-// Opens a talk and answers the lines of a source, each before it reads on.
+// Opens a talk and answers the lines of a channel, each before it reads on.
 fn hold_begun<T: Speaker + Drop, S: Source, K: Sink, L: Ledger>(
-    lines: &mut Lines,
-    source: &mut S,
-    out: &mut Out,
-    sink: &mut K,
+    channel: &mut Channel<'_, S, K>,
     mut speaker: T,
     steps: &mut Steps<L>,
 ) -> Status
-    requires fresh { out.old ≡ [] }
+    requires fresh { channel.old.out.now ≡ [] }
     requires ready { T.ready speaker }
     ensures held { (names : NameTable) (m : Model) (n k : ℕ) → (T.talk names m).Opens (opened (T.opening speaker) (T.state speaker) n)
-        → T.Reaches names m lines.old.number (T.kept speaker) (T.state speaker) → steps.old ≡ k + n → HoldsTalk (T.talk names m) (status_number result)
-        (around lines.old (S.left source.old) (S.faults source.old) (K.held sink.old) (K.faults sink.old) k)
-        (around lines.new (S.left source.new) (S.faults source.new) (K.held sink.new) (K.faults sink.new) steps.new) }
-    ensures drained { Drained lines.old (S.left source.old) → Drained lines.new (S.left source.new) }
-    ensures asks { Asks S.takes lines.old source.old lines.new source.new }
+        → T.Reaches names m channel.old.lines.now.number (T.kept speaker) (T.state speaker) → steps.old ≡ k + n → HoldsTalk (T.talk names m) (status_number result)
+        (met_on S.left S.faults K.held K.faults channel.old k) (met_on S.left S.faults K.held K.faults channel.new steps.new) }
+    ensures drained { Drained channel.old.lines.now (S.left channel.old.source.now) → Drained channel.new.lines.now (S.left channel.new.source.now) }
+    ensures asks { Asks S.takes channel.old.lines.now channel.old.source.now channel.new.lines.now channel.new.source.now }
+    ensures ends { KeepsEnds channel.old channel.new }
 {
-    match send_opening(&speaker, out, sink) {
+    match send_opening(&speaker, channel.out, channel.sink) {
         Ok(()) => {
-            let ending = converse(lines, source, out, sink, &mut speaker, steps);
+            let ending = converse(channel, &mut speaker, steps);
             drop(speaker);
-            conclude(out, sink, ending, lines.number())
+            conclude(channel.out, channel.sink, ending, channel.lines.number())
         }
         Err(_) => {
             drop(speaker);
@@ -100,27 +98,24 @@ fn hold_begun<T: Speaker + Drop, S: Source, K: Sink, L: Ledger>(
 /// `Refused` where the building or a line was refused for good; else the source or the sink failed, or there was no memory.
 pub fn hold_talk<T: Speaker + Drop, S: Source, K: Sink, L: Ledger>(
     alloc: Global,
-    lines: &mut Lines,
-    source: &mut S,
-    out: &mut Out,
-    sink: &mut K,
+    channel: &mut Channel<'_, S, K>,
     building: Building,
     steps: &mut Steps<L>,
 ) -> Status
-    requires fresh { out.old ≡ [] }
+    requires fresh { channel.old.out.now ≡ [] }
     requires valid { IsValid building.model }
     requires names { NamesFit building.names building.model }
     ensures held { HoldsTalk (T.talk building.names building.model) (status_number result)
-        (around lines.old (S.left source.old) (S.faults source.old) (K.held sink.old) (K.faults sink.old) steps.old)
-        (around lines.new (S.left source.new) (S.faults source.new) (K.held sink.new) (K.faults sink.new) steps.new) }
-    ensures drained { Drained lines.old (S.left source.old) → Drained lines.new (S.left source.new) }
-    ensures asks { Asks S.takes lines.old source.old lines.new source.new }
+        (met_on S.left S.faults K.held K.faults channel.old steps.old) (met_on S.left S.faults K.held K.faults channel.new steps.new) }
+    ensures drained { Drained channel.old.lines.now (S.left channel.old.source.now) → Drained channel.new.lines.now (S.left channel.new.source.now) }
+    ensures asks { Asks S.takes channel.old.lines.now channel.old.source.now channel.new.lines.now channel.new.source.now }
+    ensures ends { KeepsEnds channel.old channel.new }
 {
-    let line = lines.number();
+    let line = channel.lines.number();
     match T::begin(alloc, building, steps) {
-        Ok(speaker) => hold_begun(lines, source, out, sink, speaker, steps),
+        Ok(speaker) => hold_begun(channel, speaker, steps),
         Err(BeginFault::NotCleared(short)) => status_after(
-            send_short(out, sink, &short, line),
+            send_short(channel.out, channel.sink, &short, line),
             Status::Refused,
         ),
         Err(BeginFault::Memory) => Status::NoMemory,

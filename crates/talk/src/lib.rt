@@ -5,6 +5,7 @@
 //! to.
 #![tactic(auto)]
 
+mod channel;
 mod fault;
 mod hold;
 mod send;
@@ -12,6 +13,7 @@ mod speaker;
 mod status;
 mod talker;
 
+pub use channel::Channel;
 pub use hold::hold_talk;
 pub use send::{send_refusal, send_short};
 pub use speaker::Speaker;

@@ -5,12 +5,14 @@ ghost use Rattle.line_io.specs.Calls.{Asks};
 ghost use Rattle.line_io.specs.Hearing.{IsCaused, Listens};
 ghost use Rattle.line_io.specs.Reader.{Drained};
 ghost use Rattle.building_table.specs.Names.{NameTable};
+ghost use Rattle.talk.specs.Held.{KeepsEnds};
 ghost use Rattle.talk.specs.Speaking.{HearsLine, shown};
 
+use crate::channel::Channel;
 use crate::fault::AnswerFault;
 use crate::speaker::Speaker;
 use evac_law::Steps;
-use line_io::{Ending, Heard, Lines, Listener, Out, Sink, Source, Writer, listen};
+use line_io::{Ending, Heard, Listener, Out, Sink, Source, Writer, listen};
 use std::sync::ledger::Ledger;
 
 // Who answers, and where the replies go.
@@ -53,29 +55,27 @@ impl<'a, 'b, T: Speaker, K: Sink, L: Ledger> Listener for Talker<'a, 'b, T, K, L
     }
 }
 
-/// Answers the lines of a source, each before it reads on.
+/// Answers the lines of a channel, each before it reads on.
 pub fn converse<S: Source, K: Sink, L: Ledger, T: Speaker>(
-    lines: &mut Lines,
-    source: &mut S,
-    out: &mut Out,
-    sink: &mut K,
+    channel: &mut Channel<'_, S, K>,
     speaker: &mut T,
     steps: &mut Steps<L>,
 ) -> Ending<AnswerFault>
     requires { T.ready speaker.old }
     ensures hears { (names : NameTable) (m : Model) → (end : T) × Listens (HearsLine (T.talk names m) (T.Reaches names m)) result
-        (shown (T.kept speaker.old) (T.state speaker.old) (K.held sink.old) out.old (K.faults sink.old) steps.old)
-        (shown (T.kept end) (T.state end) (K.held sink.new) out.new (K.faults sink.new) steps.new)
-        lines.old lines.new (S.left source.old) (S.left source.new) }
-    ensures cause { IsCaused result (S.faults source.old) (S.faults source.new) }
-    ensures drained { Drained lines.old (S.left source.old) → Drained lines.new (S.left source.new) }
-    ensures asks { Asks S.takes lines.old source.old lines.new source.new }
+        (shown (T.kept speaker.old) (T.state speaker.old) (K.held channel.old.sink.now) channel.old.out.now (K.faults channel.old.sink.now) steps.old)
+        (shown (T.kept end) (T.state end) (K.held channel.new.sink.now) channel.new.out.now (K.faults channel.new.sink.now) steps.new)
+        channel.old.lines.now channel.new.lines.now (S.left channel.old.source.now) (S.left channel.new.source.now) }
+    ensures cause { IsCaused result (S.faults channel.old.source.now) (S.faults channel.new.source.now) }
+    ensures drained { Drained channel.old.lines.now (S.left channel.old.source.now) → Drained channel.new.lines.now (S.left channel.new.source.now) }
+    ensures asks { Asks S.takes channel.old.lines.now channel.old.source.now channel.new.lines.now channel.new.source.now }
+    ensures ends { KeepsEnds channel.old channel.new }
 {
     let mut talker = Talker {
         speaker,
-        out,
-        sink,
+        out: channel.out,
+        sink: channel.sink,
         steps,
     };
-    listen(lines, source, &mut talker)
+    listen(channel.lines, channel.source, &mut talker)
 }

@@ -7,7 +7,7 @@ use Rattle.talk.proofs.hold.hold_talk.Goals as goal
 pub returns-in-Ok-clause-held : goal.returns-in-Ok-clause-held
 returns-in-Ok-clause-held g c =
     let b = c.in-Ok.ensures.begins in
-    c.hold_begun.ensures.held c.args.building.names c.args.building.model b.0 c.args.steps.now b.2 (c.in-Ok.ensures.reaches c.args.lines.now.number) b.1
+    c.hold_begun.ensures.held c.args.building.names c.args.building.model b.0 c.args.steps.now b.2 (c.in-Ok.ensures.reaches c.args.channel.now.lines.now.number) b.1
 
 pub returns-in-Err-NotCleared-clause-held : goal.returns-in-Err-NotCleared-clause-held
 returns-in-Err-NotCleared-clause-held g c =
