@@ -46,14 +46,6 @@ pub fn drill_model(alloc: Global, number: u32) -> Result<Building, AllocError>
     let arcs = drill_arcs(alloc, storeys)?;
     let floors = floor_numbers(alloc, storeys + 1)?;
     let texts = floor_texts(alloc, storeys + 1)?;
-    let names = Names::new(
-        alloc,
-        nodes.as_slice(),
-        arcs.as_slice(),
-        floors,
-        texts,
-        None,
-    )?;
     let model = Model {
         seconds: 5,
         horizon: 600,
@@ -61,5 +53,6 @@ pub fn drill_model(alloc: Global, number: u32) -> Result<Building, AllocError>
         arcs: Rows::new(arcs),
         entrants: Rows::new(Vec::new(alloc)),
     };
+    let names = Names::new(alloc, &model, floors, texts, None)?;
     Ok(Building { model, names })
 }

@@ -22,29 +22,29 @@ model-as : (n : ℕ) (nodes : List NodeRow) (arcs : List ArcRow) (entrants : Lis
     → model-of nodes arcs entrants ≡ drill_model n
 model-as n nodes arcs entrants a b c = ap₂ (λ x y. model-of x y entrants) a b ∙ ap (model-of (drill_nodes n) (drill_arcs n)) c
 
-pub new-requires-clause-few_nodes : goal.new-requires-clause-few_nodes
+pub new-requires-5-clause-few_nodes : goal.new-requires-5-clause-few_nodes
 unfolding node_limit
-new-requires-clause-few_nodes c =
-    let size = ap (λ (l : List NodeRow). length l) (c.as_slice.ensures.value ∙ c.in_ok-nodes.ensures) in
+new-requires-5-clause-few_nodes c =
+    let size = ap (λ (l : List NodeRow). length l) (c.new.ensures ∙ c.in_ok-nodes.ensures) in
     let count = node-count c.args.number in
     omega (arith, size, count, c.requires)
 
-pub new-requires-clause-few_arcs : goal.new-requires-clause-few_arcs
+pub new-requires-5-clause-few_arcs : goal.new-requires-5-clause-few_arcs
 unfolding arc_limit
-new-requires-clause-few_arcs c =
-    let size = ap (λ (l : List ArcRow). length l) (c.as_slice-2.ensures.value ∙ c.in_ok-arcs.ensures) in
+new-requires-5-clause-few_arcs c =
+    let size = ap (λ (l : List ArcRow). length l) (c.new-2.ensures ∙ c.in_ok-arcs.ensures) in
     let count = arc-count c.args.number in
     omega (arith, size, count, c.requires)
 
 pub returns-clause-building : goal.returns-clause-building
 returns-clause-building c =
     let n = c.args.number in
-    let nodes = c.as_slice.ensures.value ∙ c.in_ok-nodes.ensures in
-    let arcs = c.as_slice-2.ensures.value ∙ c.in_ok-arcs.ensures in
+    let nodes = c.new.ensures ∙ c.in_ok-nodes.ensures in
+    let arcs = c.new-2.ensures ∙ c.in_ok-arcs.ensures in
     let named = c.in_ok-names.ensures in
     let floors = below (n + 1) in
     record {
-      model = model-as n _ _ _ (c.new-2.ensures ∙ c.in_ok-nodes.ensures) (c.new-3.ensures ∙ c.in_ok-arcs.ensures) (c.new-5.ensures ∙ c.new-4.ensures.items);
+      model = model-as n _ _ _ nodes arcs (c.new-4.ensures ∙ c.new-3.ensures.items);
       names = table-is c.in_ok-names.names (names_of (drill_building n))
           (named.nodes (subst NamesDiffer (sym nodes) (names-differ n)) ∙ ap (map (λ (row : NodeRow). row.name)) nodes)
           (named.ends (subst EndsDiffer (sym arcs) (ends-differ n)) ∙ ap (map (λ (row : ArcRow). (row.from, row.to))) arcs)
@@ -56,17 +56,12 @@ returns-clause-building c =
 pub returns-clause-valid : goal.returns-clause-valid
 returns-clause-valid c =
     let n = c.args.number in
-    let entrants = c.new-5.ensures ∙ c.new-4.ensures.items in
-    subst IsValid (sym (model-as n _ _ _ (c.new-2.ensures ∙ c.in_ok-nodes.ensures) (c.new-3.ensures ∙ c.in_ok-arcs.ensures) entrants)) (drill-valid n c.requires)
+    subst IsValid (sym (model-as n _ _ _ (c.new.ensures ∙ c.in_ok-nodes.ensures) (c.new-2.ensures ∙ c.in_ok-arcs.ensures) (c.new-4.ensures ∙ c.new-3.ensures.items))) (drill-valid n c.requires)
 
 pub returns-clause-names : goal.returns-clause-names
 returns-clause-names c =
     let n = c.args.number in
-    let nodes = c.as_slice.ensures.value ∙ c.in_ok-nodes.ensures in
-    let arcs = c.as_slice-2.ensures.value ∙ c.in_ok-arcs.ensures in
     record {
-      nodes = c.in_ok-names.ensures.nodes (subst NamesDiffer (sym nodes) (names-differ n))
-          ∙ ap (map (λ (row : NodeRow). row.name)) (c.as_slice.ensures.value ∙ sym c.new-2.ensures);
-      ends = c.in_ok-names.ensures.ends (subst EndsDiffer (sym arcs) (ends-differ n))
-          ∙ ap (map (λ (row : ArcRow). (row.from, row.to))) (c.as_slice-2.ensures.value ∙ sym c.new-3.ensures);
+      nodes = c.in_ok-names.ensures.nodes (subst NamesDiffer (sym (c.new.ensures ∙ c.in_ok-nodes.ensures)) (names-differ n));
+      ends = c.in_ok-names.ensures.ends (subst EndsDiffer (sym (c.new-2.ensures ∙ c.in_ok-arcs.ensures)) (ends-differ n));
     }
