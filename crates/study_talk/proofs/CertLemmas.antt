@@ -1,5 +1,5 @@
 -- What a session's edit of a rate shows in the texts of a study.
-use Rattle.std.proofs.Common.{◌≡◌, ℕ, zero, suc, ◌+◌, ◌<◌, ◌≤◌, List, [], ◌++◌, length, refl, ap, sym, ◌∙◌, subst, arith, inl, inr, ◌⊎◌, Result, Ok, Err, add-one}
+use Rattle.std.proofs.Common.{◌≡◌, ℕ, zero, suc, ◌+◌, ◌<◌, ◌≤◌, List, ◌++◌, length, refl, ap, sym, ◌∙◌, subst, arith, inl, inr, ◌⊎◌, Result, Ok, Err}
 use Rattle.std.proofs.lemmas.Bool.{cases_lt, le-ltb}
 use Rattle.evac_law.specs.declared.edit.Edit.{Edit}
 use Rattle.evac_law.specs.declared.edit.Edit.TheVariants as edits
@@ -21,7 +21,7 @@ use Rattle.certificate_text.specs.BlockText.{end_line, in_lines, move_lines, nam
 use Rattle.report_text.specs.ReportText.{cut_line}
 use Rattle.edit_session.specs.Sessions.{EditEnds, IsBarred, IsEdited, IsNotCleared, IsSolved, SessionState, SessionView}
 use Rattle.edit_session.proofs.Ring.{edited_is}
-use Rattle.exit_study.specs.Rates.{IsClearedBy, IsEnough, IsLeastRate, IsNoRate, IsTooSlow, at_rate}
+use Rattle.exit_study.specs.Rates.{IsClearedBy, IsEnough, IsLeastRate, IsNoRate, at_rate}
 use Rattle.exit_study.proofs.RateLemmas.{people_at}
 use Rattle.evac_law.proofs.Thinned.{all_out_is_clearable}
 use Rattle.exit_study.proofs.Trying.{cleared_is_enough, fewer_before, none_past, valid_at}
@@ -133,18 +133,6 @@ pub barred_said_by : (v v' : SessionView) (why : EditRefusal) (a k r all most st
 barred_said_by v v' why a k r all most steps text is h says =
     let ends = subst (λ (w : EditRefusal). EditEnds v (edits.Rate a r) (Err w) v' steps) is h in
     barred_said v.state a k r all most steps v'.refused text ends.0 says
-
--- ---- what isn't written any more, by what proves it
-
-pub moves_of : (m : Model) (k : ℕ) → IsClearedBy m k → (text : List ℕ) × SaysMoves m k text
-moves_of m k c = (move_lines m c.plan, record { cleared = c; says = refl })
-
-pub cut_of_slow : (m : Model) (k : ℕ) → IsTooSlow m k → (text : List ℕ) × SaysCut m k text
-cut_of_slow m k x = (cut_line x.moment (cut_value m x.cut x.moment) ++ in_lines m x.cut, record { shown = x; says = refl })
-
-pub cut_below : (m : Model) (a k r : ℕ) → ((q : ℕ) → q + 1 ≡ r → IsTooSlow (at_rate m a q) k) → (text : List ℕ) × SaysCutBelow m a k r text
-cut_below m a k zero slow = ([], refl)
-cut_below m a k (suc q) slow = cut_of_slow (at_rate m a q) k (slow q (add-one q))
 
 -- ---- the whole of a reply
 

@@ -5,6 +5,7 @@ ghost use Rattle.study_talk.specs.Studies.{LeastReply};
 ghost use Rattle.talk.specs.Speaking.{KeepsSink, PutsSome};
 
 use crate::desk::StudyDesk;
+use crate::trial::Question;
 use certificate_text::put_refusal;
 use evac_law::{Code, Steps};
 use line_io::{Sink, Writer};
@@ -15,15 +16,15 @@ pub(crate) fn reply_arc<K: Sink, L: Ledger>(
     desk: &mut StudyDesk,
     writer: &mut Writer<'_, K>,
     steps: &mut Steps<L>,
-    arc: u32,
-    by: u32,
+    question: Question,
     line: u32,
 )
-    requires { arc < length desk.old.session.state.model.arcs }
-    ensures says { let m = desk.old.session.state.model in PutsSome K.held K.faults (LeastReply m line arc by (nat_lt m.horizon by))
+    requires { question.arc < length desk.old.session.state.model.arcs }
+    ensures says { let m = desk.old.session.state.model in PutsSome K.held K.faults (LeastReply m line question.arc question.by (nat_lt m.horizon question.by))
         (shown_study desk.old writer.old steps.old) (shown_study desk.new writer.new steps.new) }
     ensures same { KeepsSink writer.old writer.new }
 {
+    let Question { arc, by } = question;
     if by > u32::from(desk.horizon()) {
         put_refusal(writer, Code::NoPeriod, line)
     } else {

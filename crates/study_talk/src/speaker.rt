@@ -3,6 +3,7 @@ ghost use Rattle.std.specs.Prelude.{◌≡◌};
 
 use crate::desk::StudyDesk;
 use crate::reply::reply_arc;
+use crate::trial::Question;
 use building_table::Building;
 use certificate_text::put_refusal;
 use edit_session::BeginFault;
@@ -61,7 +62,7 @@ impl Speaker for StudyDesk {
             }
             Ok(StudyCommand::Least { from, to, by }) => {
                 match self.find_arc(from, to) {
-                    Ok(arc) => reply_arc(self, writer, steps, arc, by, line),
+                    Ok(arc) => reply_arc(self, writer, steps, Question { arc, by }, line),
                     Err(fault) => put_refusal(writer, fault.code(), line),
                 }
                 Ok(Heard::More)
