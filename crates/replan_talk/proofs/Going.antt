@@ -1,25 +1,13 @@
 -- What carrying a plan out comes to with its desk.
-use Rattle.std.proofs.Common.{◌≡◌, ℕ, ◌+◌, ◌<◌, ◌^◌, ◌==◌, ◌||◌, Bool, true, false, nat_lt, Ok, Err, refl, sym, ap, ◌∙◌, subst}
-use Rattle.std.proofs.lemmas.Bool.{lt-ltb}
-use Rattle.replan.specs.declared.faults.AdvanceFault.{AdvanceFault}
-use Rattle.replan.specs.declared.faults.AdvanceFault.TheVariants.{BadMoment, Memory}
+use Rattle.std.proofs.Common.{◌≡◌, ℕ, ◌+◌, ◌<◌, ◌^◌, Ok, sym, ap, ◌∙◌, subst}
 use Rattle.replan.specs.Replans.{AdvanceEnds, ReplanView}
 use Rattle.evac_law.specs.declared.model.Model.{Model}
 use Rattle.session_talk.specs.Desks.{DeskView, HasTables, IsDesk, IsSameDesk}
 use Rattle.replan_talk.specs.declared.speaker.ReplanTalk.{ReplanTalk}
-use Rattle.replan_talk.specs.Desks.{replanned}
 use Rattle.replan_talk.specs.Talking.{TalkAdvances}
 use Rattle.replan_talk.proofs.Resting.{rest_desk}
 
--- the replan isn't carried out
-pub advance_failed : (t t' : ReplanTalk) (p : ℕ) (fault : AdvanceFault) (n : ℕ) → t'.desk ≡ t.desk → AdvanceEnds t.replan p (Err fault) t'.replan n → TalkAdvances t p (Err fault) t' n
-advance_failed t t' p BadMoment n desk h = (h.0, desk, h.1, h.2)
-advance_failed t t' p Memory n desk h = (h.0, ap (λ (d : DeskView). d.names) desk)
-
--- it is carried out, and the desk's tables are made anew, where there is memory
-pub advance_unserved : (t t' : ReplanTalk) (p : ℕ) (n : ℕ) → t'.desk.names ≡ t.desk.names → AdvanceEnds t.replan p (Ok tt) t'.replan n → TalkAdvances t p (Err Memory) t' n
-advance_unserved t t' p n names h = (h.0, names)
-
+-- it is carried out, and the desk's tables are made anew
 pub advance_served : (t t' : ReplanTalk) (p : ℕ) (n : ℕ) (m : Model) (d : DeskView) → IsDesk t.desk t.replan.session → IsSameDesk t.desk d → HasTables m d → m ≡ t'.replan.session.state.model
     → (d.index + 1 < 2 ^ 32 → t'.desk.index ≡ d.index + 1) → t'.desk ≡ record d { index = t'.desk.index } → AdvanceEnds t.replan p (Ok tt) t'.replan n → TalkAdvances t p (Ok tt) t' n
 advance_served t t' p n m d desk same tables is next counted h =
@@ -42,16 +30,3 @@ pub served_same : (t t' : ReplanTalk) → t'.desk ≡ t.desk → t'.replan ≡ t
 served_same t t' desk replan h =
     let P : DeskView → Type 0 = λ d. IsDesk d t'.replan.session in
     let Q : ReplanView → Type 0 = λ v. IsDesk t.desk v.session in subst P (sym desk) (subst Q (sym replan) h)
-
--- ---- a moment past the horizon
-
-last-true : (a b c : Bool) → b ≡ true → (a || (b || c)) ≡ true
-last-true true b c is = refl
-last-true false true c is = refl
-last-true false false c is = cc
-
-pub past_horizon : (t t' : ReplanTalk) (p : ℕ) → t.replan.session.state.model.horizon < p → t'.desk ≡ t.desk → t'.replan ≡ t.replan → TalkAdvances t p (Err BadMoment) t' 0
-past_horizon t t' p past desk replan =
-    let s = replanned t.desk t.replan in
-    let h = s.session.standing.model.horizon in
-    (last-true (p == 0) (nat_lt h p) (nat_lt p s.moment) (lt-ltb h p past), desk, replan, refl)
