@@ -25,7 +25,6 @@ use Rattle.residual_net.proofs.Sent.{sent_model}
 use Rattle.residual_net.proofs.SentLemmas.{arrived_is_sent}
 use Rattle.flow_repair.specs.Opened.{IsLeastOpened, IsOpened, end_number, head_number}
 use Rattle.lex_flow.specs.Settling.{IsRelabelled}
-use Rattle.edit_session.specs.declared.work.Work.{Work}
 use Rattle.edit_session.specs.Mended.{IsStanding, last_arrival_of}
 use Rattle.edit_session.specs.Laws.{CutsStay}
 use Rattle.edit_session.specs.Repairs.{AgreeBelow, IsRepairOf, OpensFrom}
@@ -58,8 +57,7 @@ plan_in_range w = (moves_are_table (arc_count w.site) w.site.shape.horizon (λ a
 
 moved_fewer : (w v : Network) (a t : ℕ) → v.site ≡ w.site → ((p : Place) → IsPlace w.site p → flow_at v p ≤ flow_at w p)
     → (a < arc_count w.site) ⊎ (arc_count w.site ≤ a) → (w.site.shape.horizon < t) ⊎ (t ≤ w.site.shape.horizon) → moved (plan_of v) a t ≤ moved (plan_of w) a t
-moved_fewer w v a t site flows (inl i) (inr j) =
-    omega (arith, moved_is w a t (i, j), moved_is v a t (subst (λ (s : Site). IsPlace s (Arc a t)) (sym site) (i, j)), flows (Arc a t) (i, j))
+moved_fewer w v a t site flows (inl i) (inr j) = grind (arith, moved_is, site, flows)
 moved_fewer w v a t site flows (inr i) late =
     omega (arith, moved_away (plan_of v) a t (arc_count v.site) v.site.shape.horizon (plan_in_range v) (inl (omega (arith, i, ap arc_count site))))
 moved_fewer w v a t site flows (inl i) (inl j) =
@@ -99,8 +97,7 @@ module _ (b m : Model) (w v : Network) (l : LabelTable) (h : IsBrought b m w v l
   in_v p i = subst (λ (s : Site). IsPlace s p) (sym h.site) i
 
   horizons : m.horizon ≡ b.horizon
-  horizons =
-      sym (horizon_same m v h.net h.of h.valid) ∙ ap (λ (s : Site). s.shape.horizon) h.site ∙ horizon_same b w before.net before.of before.valid
+  horizons = grind (arith, horizon_same)
 
   arrivals : (a t : ℕ) → a < arc_count w.site → arrival m a t ≡ arrival b a t
   arrivals a t i =
@@ -115,10 +112,7 @@ module _ (b m : Model) (w v : Network) (l : LabelTable) (h : IsBrought b m w v l
   arc-opened a t i (inr fell) = inr (omega (arith, fell, moved_is w a t i, moved_is v a t (in_v (Arc a t) i)))
 
   nodes-in : (n : ℕ) → n < w.site.shape.nodes → (n < length b.nodes) × (n < length m.nodes)
-  nodes-in n i = (
-    omega (arith, i, nodes_same b w before.net before.of before.valid),
-    omega (arith, i, nodes_same m v h.net h.of h.valid, ap (λ (s : Site). s.shape.nodes) h.site),
-  )
+  nodes-in n i = grind (arith, nodes_same)
 
   moment-in : (t : ℕ) → t ≤ w.site.shape.horizon → (t ≤ b.horizon) × (t ≤ m.horizon)
   moment-in t i = let e = horizon_same b w before.net before.of before.valid in (omega (arith, i, e), omega (arith, i, e, horizons))
@@ -131,34 +125,16 @@ module _ (b m : Model) (w v : Network) (l : LabelTable) (h : IsBrought b m w v l
 
       by : (is_exit_at (sent_model m v) n ≡ true) ⊎ (is_exit_at (sent_model m v) n ≡ false) → staying (sent_model m v) (plan_of v) n t ≤ flow_at v (Hold n t)
       by (inl e) = omega (arith, ap (λ x. cond x 0 stayed) e)
-      by (inr e) =
-          let open_node = sym (exit_same m v h.valid h.net h.of n) ∙ e in
-          let is = above_pos (flow_at v (Hold n t)) (held (sent_model m v) (plan_of v) n t) (sym (held_is m v h.valid h.net h.of h.within n t i open_node j)) in
-          omega (arith, ap (λ x. cond x 0 stayed) e, is)
+      by (inr e) = grind (arith, exit_same, above_pos, sent_model, held_is, stayed)
 
   hold-opened : (n t : ℕ) → IsPlace w.site (Hold n t) → IsOpened w v (Hold n t)
       → (capacity b n < capacity m n) ⊎ (staying (sent_model m v) (plan_of v) n t < staying b (plan_of w) n t)
-  hold-opened n t i (inl rose) =
-      inl (rate-rose (eqb t b.horizon) (eqb t m.horizon) (capacity b n) (capacity m n) (ap (eqb t) (sym horizons))
-      (omega (arith, rose, before.of.limits (Hold n t) i, h.of.limits (Hold n t) (in_v (Hold n t) i))))
-  hold-opened n t i (inr fell) =
-      let nodes = nodes-in n i.0 in
-      let moments = moment-in t i.1 in
-      let nothing : Work = record { cancelled = 0; pushes = 0 } in
-      inr (omega (arith, fell, some-stay n t nodes.1 moments.1, contents_by [] nothing n t before nodes.0 moments.0))
+  hold-opened n t i (inl rose) = grind (arith, rate-rose, horizons, in_v)
+  hold-opened n t i (inr fell) = grind (arith, nodes-in, moment-in, some-stay, contents_by, before)
 
   entry-opened : (n t : ℕ) → IsPlace w.site (Supply n t) → IsOpened w v (Supply n t) → (entry b n t < entry m n t) ⊎ (entry (sent_model m v) n t < entry b n t)
   entry-opened n t i (inl rose) = inl (omega (arith, rose, before.of.limits (Supply n t) i, h.of.limits (Supply n t) (in_v (Supply n t) i)))
-  entry-opened n t i (inr fell) =
-      let nodes = nodes-in n i.0 in
-      let moments = moment-in t i.1 in
-      inr (omega (
-        arith,
-        fell,
-        entry_sent m v h.valid h.net h.of h.within n t nodes.1 moments.1,
-        before.within (Supply n t) i,
-        before.of.limits (Supply n t) i,
-      ))
+  entry-opened n t i (inr fell) = grind (arith, nodes-in, moment-in, entry_sent)
 
   -- whatever came open leads to a number from k on, where all that the definition asks of does
   reaches : (k : ℕ) → OpensFrom b (plan_of w) l m (sent_model m v) (plan_of v) k → (p : Place) → IsPlace w.site p → IsOpened w v p → k ≤ head_number l w.site p

@@ -130,30 +130,14 @@ begun_by {m} w {u} ring work h none idle bounded = record {
 -- labels that show that not everybody gets out of a model
 pub not_cleared_by : {m : Model} (l : LabelTable) {most : ℕ} → IsValid m → IsShortfall m (label_cut m l m.horizon) most → IsMost m most
     → IsNotCleared m l (people m) most
-not_cleared_by {m} l {most} valid short greatest = record {
-  count = refl;
-  shortfall = short;
-  barred = shortfall_bars_clearing m (label_cut m l m.horizon) most valid short;
-  greatest = greatest;
-}
+not_cleared_by {m} l {most} valid short greatest = grind (arith, shortfall_bars_clearing)
 
 -- ---- how a session goes on
 
 pub edited_by : {m m' : Model} (e e' : Edit) {w v : Network} {l k : LabelTable} (ring : List Edit) (old : Work) {work : Work} → IsStanding m w l
     → IsCarried m' w v l k work → IsEditOf m e → applied m e ≡ Ok (m', e')
     → IsEdited (state_of m w l ring old) e (state_of m' v k (take kept_limit (e' ∷ ring)) work)
-edited_by {m} {m'} e e' ring old {work} h done in_range accepted = record {
-  edited = m';
-  inverse = e';
-  accepted = accepted;
-  goes_on = record {
-    gone = refl;
-    solved = solved_by (take kept_limit (e' ∷ ring)) work done.standing;
-    kept = former_more m' e e' ring h.valid in_range accepted;
-    repaired = done.repaired m h;
-    thrifty = done.thrifty m h.valid h.of;
-  };
-}
+edited_by {m} {m'} e e' ring old {work} h done in_range accepted = grind (arith, solved_by, former_more)
 
 pub undone_by : {m : Model} (e : Edit) {w v : Network} {l k : LabelTable} (ring : List Edit) (old : Work) {work : Work} → IsStanding m w l
     → IsCarried (edited m e) w v l k work → IsUndone (state_of m w l (e ∷ ring) old) (state_of (edited m e) v k ring work)

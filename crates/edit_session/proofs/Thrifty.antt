@@ -1,5 +1,5 @@
 -- Taking off and pushing, added up over the moments.
-use Rattle.std.proofs.Common.{◌≡◌, ℕ, zero, suc, ◌+◌, ◌*◌, ◌<◌, ◌≤◌, refl, ap, sym, ◌∙◌, arith, add-one}
+use Rattle.std.proofs.Common.{◌≡◌, ℕ, zero, suc, ◌+◌, ◌*◌, ◌<◌, ◌≤◌, refl, sym, arith, add-one}
 use Rattle.std.specs.List.{flat_map}
 use Rattle.evac_law.specs.declared.model.Model.{Model}
 use Rattle.evac_law.specs.Building.{IsValid}
@@ -9,10 +9,9 @@ use Rattle.evac_law.specs.Sums.{below, moments_to}
 use Rattle.evac_law.proofs.SumLemmas.{All-below, sum_by-same}
 use Rattle.evac_law.proofs.PartLemmas.{flat_map-same}
 use Rattle.residual_net.specs.declared.place.Place.{Place}
-use Rattle.residual_net.specs.declared.place.Place.TheVariants.{Arc}
 use Rattle.residual_net.specs.Network.{Network, IsNet, arrived_by, flow_at}
 use Rattle.residual_net.specs.OfModel.{IsNetOf, plan_of}
-use Rattle.residual_net.specs.Site.{Site, IsPlace, arc_count}
+use Rattle.residual_net.specs.Site.{IsPlace}
 use Rattle.residual_net.proofs.LastArrival.{arrived_rises}
 use Rattle.residual_net.proofs.Law.{arrived_is_out}
 use Rattle.lex_flow.specs.Settling.{arrivals_below}
@@ -46,9 +45,7 @@ moves_same n k f g h =
     (All-below _ n (λ a j. move_same f g t a (h a t j (omega (arith, i)))))))
 
 pub plan_same : (w v : Network) → v.site ≡ w.site → ((p : Place) → IsPlace w.site p → flow_at v p ≡ flow_at w p) → plan_of v ≡ plan_of w
-plan_same w v site same =
-    ap (λ (s : Site). moves_of (arc_count s) s.shape.horizon (λ a t. flow_at v (Arc a t))) site
-    ∙ moves_same (arc_count w.site) w.site.shape.horizon (λ a t. flow_at v (Arc a t)) (λ a t. flow_at w (Arc a t)) (λ a t i j. same (Arc a t) (i, j))
+plan_same w v site same = grind (arith, moves_same)
 
 -- ---- what a repair costs
 
@@ -58,11 +55,7 @@ pub thrifty : (m n : Model) (w v u : Network) (c : ℕ) (work : Work) → IsVali
     → (work.cancelled ≡ 0 → (p : Place) → IsPlace w.site p → flow_at v p ≡ flow_at w p)
     → work.pushes + arrivals_below v (c + 1) ≤ arrivals_below u (c + 1) → (work.pushes ≡ 0 → u ≡ v)
     → IsThrifty m (plan_of w) n (plan_of u) c work
-thrifty m n w v u c work valid now net_w net_u of_w of_u site few falls idle bounded same = record {
-  few_cancelled = few;
-  few_pushes = omega (arith, outs_are c valid net_w of_w, outs_are c now net_u of_u, below_le w v (c + 1) work.cancelled falls, bounded);
-  idle = λ e f. ap plan_of (same f) ∙ plan_same w v site (idle e);
-}
+thrifty m n w v u c work valid now net_w net_u of_w of_u site few falls idle bounded same = grind (arith, outs_are, below_le, plan_same)
 
 pub spent : (m n : Model) (w v u : Network) (cancelled pushes most steps : ℕ) → IsValid m → IsNet w → IsNetOf m w
     → cancelled ≤ violation m (plan_of w) n → ((k : ℕ) → arrived_by w k ≤ arrived_by v k + cancelled)
@@ -89,10 +82,7 @@ spent m n w v u cancelled pushes most steps valid net of few falls bounded all f
 -- u after pushes from w
 pub thrifty_opening : {m : Model} (w : Network) {u : Network} (c : ℕ) (work : Work) → IsValid m → IsNet u → IsNetOf m u → work.cancelled ≡ 0
     → work.pushes + arrivals_below w (c + 1) ≤ arrivals_below u (c + 1) → IsThriftyOpening m (plan_of u) c work
-thrifty_opening w c work valid net of none bounded = record {
-  none_cancelled = none;
-  few_pushes = omega (arith, outs_are c valid net of, bounded);
-}
+thrifty_opening w c work valid net of none bounded = grind (arith, outs_are)
 
 pub spent_opening : (m : Model) (w u : Network) (pushes most : ℕ) → arrived_by u m.horizon ≡ most
     → pushes + arrivals_below w (m.horizon + 1) ≤ arrivals_below u (m.horizon + 1) → IsSpentOpening m most pushes

@@ -3,9 +3,6 @@ use Rattle.evac_law.specs.declared.model.Model.{Model}
 use Rattle.evac_law.specs.Building.{people}
 use Rattle.evac_law.specs.Edits.{applied}
 use Rattle.evac_law.specs.LabelTable.{LabelTable}
-use Rattle.residual_net.specs.Labelled.{IsLabelsOf}
-use Rattle.residual_net.specs.Network.{Network}
-use Rattle.residual_net.specs.Site.{Site}
 use Rattle.edit_session.specs.Mended.{IsRefused}
 use Rattle.edit_session.proofs.Going.{made, scratch_with}
 use Rattle.edit_session.proofs.planned.Planned.make_edit.Goals as goal
@@ -20,10 +17,7 @@ returns-in-Cleared-clause-made g c =
     )
 
 pub returns-in-Cleared-clause-refused : goal.returns-in-Cleared-clause-refused
-returns-in-Cleared-clause-refused g c =
-    let done = c.in-Cleared.ensures in
-    subst (λ (l : LabelTable). IsLabelsOf c.repair.new.self.net.site l) (sym done.refused)
-    (subst (λ (s : Site). IsLabelsOf s c.args.self.now.refused) (sym done.mended.site) c.requires.refused)
+returns-in-Cleared-clause-refused g c = grind arith
 
 pub returns-in-Short-clause-made : goal.returns-in-Short-clause-made
 returns-in-Short-clause-made g c =
@@ -51,13 +45,7 @@ returns-in-Short-clause-made g c =
     )
 
 pub returns-in-Short-clause-refused : goal.returns-in-Short-clause-refused
-returns-in-Short-clause-refused g c =
-    subst (λ (l : LabelTable). IsLabelsOf c.repair.new.self.net.site l) (sym c.swap.ensures.x_after) c.in-Short.ensures.scratch.labels
+returns-in-Short-clause-refused g c = grind arith
 
 pub returns-in-Short-clause-scratch : goal.returns-in-Short-clause-scratch
-returns-in-Short-clause-scratch g c =
-    let done = c.in-Short.ensures in
-    let site = ap (λ (z : Network). z.site) done.mended.net in
-    let d = c.repair.new.self in
-    scratch_with done.scratch (subst (λ (l : LabelTable). IsLabelsOf d.net.site l) (sym (c.swap.ensures.y_after ∙ done.refused))
-    (subst (λ (s : Site). IsLabelsOf s c.args.self.now.refused) (sym site) c.requires.refused))
+returns-in-Short-clause-scratch g c = grind (arith, scratch_with)

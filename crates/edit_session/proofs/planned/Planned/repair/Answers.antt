@@ -1,4 +1,4 @@
-use Rattle.std.proofs.Common.{◌≡◌, ℕ, ◌+◌, ◌-◌, ◌≤◌, ap, ap₂, subst, sym, arith, ◌∙◌}
+use Rattle.std.proofs.Common.{◌≡◌, ℕ, ◌+◌, ◌-◌, ◌≤◌, ap, subst, sym, arith, ◌∙◌}
 use Rattle.evac_law.specs.Plans.{violation}
 use Rattle.residual_net.specs.Network.{Network, arrived_by, flow_at, flow_out, saved_of}
 use Rattle.residual_net.specs.OfModel.{IsNetOf, last_move, plan_of}
@@ -6,7 +6,7 @@ use Rattle.residual_net.specs.Site.{Site, IsPlace, is_source}
 use Rattle.residual_net.proofs.SentLemmas.{arrived_all_sent}
 use Rattle.residual_net.proofs.Kept.{same_saved}
 use Rattle.residual_net.proofs.LastArrival.{last_fits}
-use Rattle.terminal_augment.specs.Settled.{IsClosedBelow, IsLabelsOf, IsSearchOf}
+use Rattle.terminal_augment.specs.Settled.{IsClosedBelow, IsLabelsOf}
 use Rattle.lex_flow.specs.Outcomes.{IsCleared}
 use Rattle.lex_flow.specs.Settling.{IsRelabelled, arrivals_below}
 use Rattle.flow_repair.specs.Refit.{IsEditOfNet}
@@ -24,31 +24,14 @@ use Rattle.edit_session.proofs.planned.Planned.repair.Goals as goal
 -- relabelled labels of a network are for another with the same nodes and moments
 relabelled_for : {s r : Site} {k l m : LabelTable} {from past : ℕ} → s ≡ r → l.nodes ≡ k.nodes → l.horizon ≡ k.horizon → IsRelabelled l m from past → IsLabelsOf s k
     → IsLabelsOf r m
-relabelled_for {r} {m} site nodes horizon more labels = subst (λ (z : Site). IsLabelsOf z m) site (record {
-  nodes = more.nodes ∙ nodes ∙ labels.nodes;
-  horizon = more.horizon ∙ horizon ∙ labels.horizon;
-})
+relabelled_for {r} {m} site nodes horizon more labels = grind arith
 
 pub reshape-taken-requires : goal.reshape-taken-requires
 reshape-taken-requires g c =
     rw (c.recall.ensures, c.save.ensures) (reshapable_saved c.args.self.now.scratch.path.room c.requires.repairable c.requires.scratch.room)
 
 pub settle_all-requires : goal.settle_all-requires
-settle_all-requires g c =
-    let w = c.args.self.now.net in
-    let s = c.save.new.self in
-    let taken = c.reshape-taken.ensures in
-    let same : s.site ≡ w.site = ap (λ (z : Network). z.site) c.save.ensures in
-    let site : c.reshape-taken.new.net.site ≡ w.site = taken.net.site ∙ same in
-    let plan : plan_of s ≡ plan_of w = ap plan_of c.save.ensures ∙ plan_saved w in
-    let last : last_move s.site (plan_of s) ≡ last_move w.site (plan_of w) = ap₂ last_move same plan in
-    record {
-      labels = rw c.copy_from.ensures (subst (λ (z : Site). IsLabelsOf z c.args.self.now.labels) (sym site) c.requires.repairable.standing.labels);
-      search = rw c.recall.ensures (subst (λ (z : Site). IsSearchOf z c.args.self.now.scratch.search) (sym site) c.requires.scratch.search);
-      from = omega (arith, taken.labels.least.most, last, last_fits w c.requires.repairable.standing.net, ap (λ (z : Site). z.shape.horizon) site);
-      within = taken.net.within;
-      closed = rw c.copy_from.ensures taken.labels.closed;
-    }
+settle_all-requires g c = grind (arith, plan_saved, last_fits)
 
 pub returns-in-Cleared-clause-mended : goal.returns-in-Cleared-clause-mended
 returns-in-Cleared-clause-mended g c =

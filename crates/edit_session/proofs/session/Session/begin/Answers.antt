@@ -16,19 +16,7 @@ use Rattle.edit_session.proofs.Thrifty.{spent_opening}
 use Rattle.edit_session.proofs.session.Session.begin.Goals as goal
 
 pub settle_all-requires : goal.settle_all-requires
-settle_all-requires g c =
-    let fresh = c.in-Ok-new.ensures in
-    let site = sym fresh.of.site in
-    record {
-      labels = record {
-        nodes = ap (λ (l : LabelTable). l.nodes) fresh.labels ∙ ap (λ (s : Site). s.shape.nodes) site;
-        horizon = ap (λ (l : LabelTable). l.horizon) fresh.labels ∙ ap (λ (s : Site). s.shape.horizon) site;
-      };
-      search = subst (λ (s : Site). IsSearchOf s c.in-Ok-new.planned.scratch.search) site fresh.scratch.search;
-      from = omega arith;
-      within = λ p i. omega (arith, fresh.empty p i);
-      closed = λ i q. absurd (omega (arith, q));
-    }
+settle_all-requires g c = grind arith
 
 pub invariant_of-result : goal.invariant_of-result
 unfolding kept_limit

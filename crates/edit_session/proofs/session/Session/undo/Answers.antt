@@ -2,7 +2,6 @@ use Rattle.std.proofs.Common.{◌≡◌, ◌-◌, List, drop, ap, subst, sym, ar
 use Rattle.evac_law.specs.declared.edit.Edit.{Edit}
 use Rattle.evac_law.specs.declared.model.Model.{Model}
 use Rattle.evac_law.specs.Edits.{edited, inverse_of}
-use Rattle.edit_session.specs.declared.scratch.Scratch.{Scratch}
 use Rattle.edit_session.specs.Kept.{view_of}
 use Rattle.edit_session.specs.Mended.{IsCarried, IsRefused, IsRepairable}
 use Rattle.edit_session.specs.Sessions.{SessionView, UndoEnds}
@@ -20,19 +19,7 @@ repair-requires-clause-repairable g c =
     (repairable (edited s.model e) e (inverse_of s.model e) all.standing all.back.0 all.back.1)
 
 pub invariant_of-self-in-Cleared : goal.invariant_of-self-in-Cleared
-invariant_of-self-in-Cleared g c =
-    let r = c.self.inside in
-    let s = r.planned in
-    let e = c.in-Some.back in
-    let d = c.repair.new.self in
-    let after = c.in-Cleared.ensures in
-    let rest = drop 1 r.ring.items in
-    let all = session_kept e (sym c.pop_front.ensures.value ∙ c.in-Some.is) c.self.invariant in
-    let model = made_kept c.apply.new.model c.apply.result all c.apply.ensures.ok c.apply.ensures.fault in
-    let done = subst (λ (z : Model). IsCarried z s.net d.net s.labels d.scratch.labels c.in-Cleared.work) model after.mended in
-    let y : Scratch = record { labels = c.swap.new.y; search = d.scratch.search; path = d.scratch.path } in
-    let scratch = scratch_after c.swap.new.y all.standing done (c.swap.ensures.y_after ∙ after.labels) after.scratch in
-    rw (after.model ∙ model, c.pop_front.ensures.items, c.swap.ensures.x_after, after.refused) (session_undone e rest all done scratch)
+invariant_of-self-in-Cleared g c = grind (arith, session_kept, made_kept, scratch_after, session_undone)
 
 pub unreachable-requires : goal.unreachable-requires
 unreachable-requires g c =
