@@ -153,12 +153,6 @@ asks_named {X} {H} {F} line s made named x y is h = let P : Result Edit NameFaul
 
 -- ---- cuts
 
-pub cut_said : (P : List ℕ → Type 0) (line : ℕ) (s : State) (k : ℕ) → nat_lt s.standing.model.horizon k ≡ false → P (cut_of s.standing k) → P (cut_reply line s k).text
-cut_said P line s k within h = let Q : Bool → Type 0 = λ z. P (if z then refuses s NoPeriod line else says s (cut_of s.standing k)).text in subst Q (sym within) h
-
-pub cut_refused : (P : List ℕ → Type 0) (line : ℕ) (s : State) (k : ℕ) → nat_lt s.standing.model.horizon k ≡ true → P (refusal_line NoPeriod line) → P (cut_reply line s k).text
-cut_refused P line s k past h = let Q : Bool → Type 0 = λ z. P (if z then refuses s NoPeriod line else says s (cut_of s.standing k)).text in subst Q (sym past) h
-
 either_same : (b : Bool) (s : State) (x y : List ℕ) → let r = if b then says s x else says s y in says s r.text ≡ r
 either_same true s x y = refl
 either_same false s x y = refl

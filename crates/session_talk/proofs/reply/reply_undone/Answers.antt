@@ -1,20 +1,12 @@
-use Rattle.std.proofs.Common.{◌≡◌, ℕ, Err, Ok, Result, subst}
-use Rattle.edit_session.specs.declared.faults.UndoRefusal.{UndoRefusal}
-use Rattle.edit_session.specs.declared.work.Work.{Work}
-use Rattle.edit_session.specs.Sessions.{SessionView, UndoEnds}
 use Rattle.session_talk.proofs.Back.{back}
 use Rattle.session_talk.proofs.DeskLemmas.{with_index, with_undone}
 use Rattle.session_talk.proofs.Saying.{undo_made, undo_none}
 use Rattle.session_talk.proofs.reply.reply_undone.Goals as goal
 
--- what an undo came to, by an equal result
-by-result : (v v' : SessionView) (n : ℕ) (made result : Result Work UndoRefusal) → made ≡ result → UndoEnds v made v' n → UndoEnds v result v' n
-by-result v v' n made result is h = let P : Result Work UndoRefusal → Type 0 = λ r. UndoEnds v r v' n in subst P is h
-
 pub returns-in-Ok-clause-says : goal.returns-in-Ok-clause-says
 returns-in-Ok-clause-says g c = λ v n k ends before.
     undo_made back c.args.line n k c.args.desk.now c.count_block.new.self v c.args.session.now c.in-Ok.field-0 _ _ before c.requires c.count_block.ensures.next
-    c.count_block.ensures.same (by-result v c.args.session.now n c.args.undone (Ok c.in-Ok.field-0) c.in-Ok.is ends) c.put_block.ensures
+    c.count_block.ensures.same (rw c.in-Ok.is at ends) c.put_block.ensures
 
 pub returns-in-Ok-clause-desk : goal.returns-in-Ok-clause-desk
 returns-in-Ok-clause-desk g c = λ v n ends h.
@@ -22,8 +14,7 @@ returns-in-Ok-clause-desk g c = λ v n ends h.
 
 pub returns-in-Err-NothingToUndo-clause-says : goal.returns-in-Err-NothingToUndo-clause-says
 returns-in-Err-NothingToUndo-clause-says g c = λ v n k ends before.
-    undo_none c.in-Err-NothingToUndo.field-0 c.args.line n k c.args.desk.now v c.args.session.now _ _
-    (by-result v c.args.session.now n c.args.undone (Err c.in-Err-NothingToUndo.field-0) c.in-Err-NothingToUndo.is ends) c.put_refusal.ensures
+    undo_none c.in-Err-NothingToUndo.field-0 c.args.line n k c.args.desk.now v c.args.session.now _ _ (rw c.in-Err-NothingToUndo.is at ends) c.put_refusal.ensures
 
 pub returns-in-Err-NothingToUndo-clause-desk : goal.returns-in-Err-NothingToUndo-clause-desk
 returns-in-Err-NothingToUndo-clause-desk g c = λ v n ends h. with_undone c.args.desk.now v c.args.session.now c.args.undone n h ends
