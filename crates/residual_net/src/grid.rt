@@ -6,11 +6,12 @@ ghost use Rattle.residual_net.specs.Network.{IsGrid, flow_at, limit_at, residual
 ghost use Rattle.residual_net.specs.Legs.{IsShiftable, steps_of_leg, waits_at, waits_to, with_more};
 ghost use Rattle.residual_net.specs.Route.{IsPushed};
 ghost use Rattle.residual_net.specs.Change.{IsLimitSet};
-ghost use Rattle.residual_net.specs.Start.{emptied, saved_cells};
+ghost use Rattle.residual_net.specs.Start.{emptied};
 ghost use Rattle.residual_net.specs.declared.place.Place.TheVariants.{Arc};
 
 use crate::end::End;
 use crate::place::{Cell, PathStep, Place, Transit};
+use crate::saved::{save_cells, write_saved};
 use std::alloc::{AllocError, Global};
 use std::marker::Model;
 use time_expansion::Shape;
@@ -38,22 +39,6 @@ impl Model for Grid {
     ghost view = { λ g. record { site = record { shape = g.shape; exits = g.exits.items; travels = g.travels.items }; cells = g.cells.items; saved = saved_cells g.is_saved g.cells.items g.saved.items } };
 
     ghost invariant = { λ g. IsGrid (record { site = record { shape = g.shape; exits = g.exits.items; travels = g.travels.items }; cells = g.cells.items; saved = saved_cells g.is_saved g.cells.items g.saved.items }) × (length g.cells.items ≤ vec_capacity g.saved) };
-}
-
-// Writes what is saved, where it isn't written yet.
-fn write_saved(saved: &mut Vec<Cell>, cells: &[Cell], is_saved: bool)
-    requires { length cells.now ≤ vec_capacity saved.old }
-    ensures saved { saved.new.items ≡ saved_cells is_saved cells.now saved.old.items }
-    ensures capacity { vec_capacity saved.new ≡ vec_capacity saved.old }
-{
-    if is_saved {
-        return;
-    }
-    saved.clear();
-    for cell in cells {
-        let limit = cell.limit;
-        saved.push_reserved(Cell { flow: 0, limit });
-    }
 }
 
 // The flow of a cell with more people over its place.
@@ -267,9 +252,8 @@ impl Grid {
     pub fn save(&mut self)
         ensures { self.new ≡ with_saved self.old }
     {
-        write_saved(&mut self.saved, &self.cells, self.is_saved);
+        save_cells(&mut self.saved, &self.cells, self.is_saved);
         self.is_saved = true;
-        self.saved.as_mut_slice().copy_from_slice(&self.cells);
     }
 
     /// The cells that were saved, if any were.

@@ -16,6 +16,7 @@ mod limits;
 mod net;
 mod path;
 mod place;
+mod saved;
 mod standing;
 mod start;
 
