@@ -36,7 +36,8 @@ pub struct Way {
     pub first_pair: u32,
     /// From the moment at which the way ends to that at which it begins: back by its travel forwards, and on by it backwards.
     pub shift: i32,
-    /// Whether somebody may enter its row at some moment, by the limits of the net for which the ways were put in order.
+    /// Whether it leads over an arc forwards that somebody may enter at some moment, by the limits of the net for which the ways were put
+    /// in order.
     pub(crate) may_enter: bool,
 }
 
