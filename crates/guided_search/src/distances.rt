@@ -6,6 +6,7 @@ ghost use Rattle.residual_ways.specs.Steps.{IsStepWithin};
 ghost use Rattle.guided_search.specs.Labelled.{HasLabels};
 
 use crate::tuning::FAR;
+use crate::waits::Waits;
 use evac_law::Labels;
 use residual_net::Cell;
 use residual_ways::{Residual, Sizes, Step, Ways, supplies_of, unsent};
@@ -93,26 +94,30 @@ impl Distances {
 
     /// The lowest moment down to which waits from a step on are admissible, first among their ways, and have room, and nobody comes in
     /// between who is unsent: whoever comes in last can wait for the fewest moments, and so goes first.
-    pub fn wait_back(&self, residual: Residual<'_>, step: Step, label: u32) -> u32
+    pub fn wait_back(&self, residual: Residual<'_>, step: Step) -> u32
         requires residual { residual.ways.now.sizes ≡ self.now.sizes }
         requires step { IsStepWithin self.now.sizes step }
     {
-        let first = step.pair - step.moment;
-        let labels = &self.labels.as_slice()[first as usize..step.pair as usize];
-        let current_arcs = &self.current_arcs.as_slice()[first as usize + 1..step.pair as usize
-            + 1];
-        let first_wait = self.sizes.wait(first) as usize;
-        let waits = &residual.cells[first_wait..first_wait + step.moment as usize];
+        let label = self.labels[step.pair as usize];
+        let moment = step.moment as usize;
+        let first = (step.pair - step.moment) as usize;
+        let first_wait = self.sizes.wait(step.pair - step.moment) as usize;
+        let waits = Waits {
+            labels: &self.labels.as_slice()[first..first + moment],
+            current_arcs: &self.current_arcs.as_slice()[first + 1..first + 1 + moment],
+            cells: &residual.cells[first_wait..first_wait + moment],
+        };
         let unsent_until = self.unsent_until[step.node as usize];
-        for before in (0..step.moment).rev() {
-            let at = before as usize;
-            let low = before + 1;
-            let goes_on = labels[at] as u32 == label
-                && current_arcs[at] == 0
-                && waits[at].flow < waits[at].limit
-                && (low >= unsent_until || unsent(residual.cells, self.sizes, step.node, low) == 0);
+        let quiet = unsent_until.saturating_sub(1).min(step.moment);
+        let low = waits.passable_from(quiet as usize, label) as u32;
+        if low > quiet {
+            return low;
+        }
+        for before in (0..quiet).rev() {
+            let goes_on = waits.is_passable(before as usize, label)
+                && unsent(residual.cells, self.sizes, step.node, before + 1) == 0;
             if !goes_on {
-                return low;
+                return before + 1;
             }
         }
         0

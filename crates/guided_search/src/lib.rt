@@ -26,5 +26,6 @@ mod shortest_paths;
 mod surplus;
 mod target_flow;
 mod tuning;
+mod waits;
 
 pub use path_finder::PathFinder;

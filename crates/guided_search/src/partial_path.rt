@@ -4,6 +4,7 @@ ghost use Rattle.std.specs.List.{All};
 ghost use Rattle.residual_ways.specs.Steps.{IsStayWithin, IsStepWithin};
 
 use crate::lists::add;
+use crate::waits::have_room;
 use residual_net::{Cell, Leg};
 use residual_ways::{Sizes, Stay, Step, is_open, room, room_in, send};
 use std::alloc::{AllocError, Global};
@@ -160,7 +161,11 @@ fn full_wait(cells: &[Cell], sizes: Sizes, stay: Stay) -> Option<u32>
     ensures { IfSome result (λ moment. moment ≤ stay.step.moment) }
 {
     let (first, end) = stay.waits(sizes);
-    let mut waits = cells[first..end].iter().rev();
+    let waits = &cells[first..end];
+    if have_room(waits) {
+        return None;
+    }
+    let mut waits = waits.iter().rev();
     let passed = waits.position(|wait| wait.flow >= wait.limit)?;
     Some(stay.step.moment - passed as u32)
 }

@@ -102,7 +102,7 @@ impl BackwardSearch {
             match look_from(&incoming, &self.distances, from, label) {
                 Look::Admissible { index, step } => {
                     self.distances.set_current_arc(pair, index);
-                    return self.advance(residual, label, index, step);
+                    return self.advance(residual, index, step);
                 }
                 Look::Least { label, index } => self.relabel(pair, label, index),
             }
@@ -117,7 +117,7 @@ impl BackwardSearch {
     }
 
     // Takes an admissible step into the last pair: a wait makes its stay longer, another step begins a stay.
-    fn advance(&mut self, residual: Residual<'_>, label: u32, index: usize, step: Step) -> Progress
+    fn advance(&mut self, residual: Residual<'_>, index: usize, step: Step) -> Progress
         requires residual { residual.ways.now.sizes ≡ self.old.sizes }
         requires step { IsStepWithin self.old.sizes step }
         ensures { self.new.sizes ≡ self.old.sizes }
@@ -131,7 +131,7 @@ impl BackwardSearch {
         }
         // A run of waits is taken at once where the wait is the first way into its node.
         let since = if index == 0 {
-            self.distances.wait_back(residual, step, label)
+            self.distances.wait_back(residual, step)
         } else {
             step.moment
         };
