@@ -132,8 +132,7 @@ answer-by m endings.Finished from to a c l n h valid w (Ok block) done = stated 
         let whole : Says m (h.texts ++ (text ∷ [])) block [] =
         heard-whole m h.at.builder to.builder h.texts text e block w.so_far says ends (subst (λ (x : Model). with_entry x h.at.builder e ≡ Some to.builder) w.of_model took) done in
         (whole.is_block, whole.all_labels, λ rest. reads-last m h valid w text last rest (Stated block c.number rest) (refl, (text, refl, whole)))
-answer-by m endings.Finished from to a c l n h valid w (Err fault) done =
-    subst (λ (f : BlockFault). AnswersBlock m a.number (Err f) c (lines_left a l) (lines_left c n) (h.texts ++ h.last)) (sym done) tt
+answer-by m endings.Finished from to a c l n h valid w (Err fault) done = grind arith
 answer-by m (endings.Failed Bad) from to a c l n h valid w result done =
     subst (λ (r : Result Block BlockFault). AnswersBlock m a.number r c (lines_left a l) (lines_left c n) (h.texts ++ h.last)) (sym done) (bad h.ends)
   where
@@ -143,8 +142,7 @@ answer-by m (endings.Failed Bad) from to a c l n h valid w result done =
         refuses m (faults.Bad c.number) BadBlock c.number h (λ _. Unit {0}) (refl, refl)
         (λ rest _. reads-last m h valid w text last rest (Refused BadBlock c.number)
         (refl, (refl, heard-refused m h.at.builder h.texts text valid w.so_far (subst (λ (x : Model). option_and_then (with_entry x h.at.builder) (entry_of text) ≡ None) w.of_model none)))) tt tt
-answer-by m (endings.Failed Memory) from to a c l n h valid w result done =
-    subst (λ (r : Result Block BlockFault). AnswersBlock m a.number r c (lines_left a l) (lines_left c n) (h.texts ++ h.last)) (sym done) tt
+answer-by m (endings.Failed Memory) from to a c l n h valid w result done = grind arith
 answer-by m endings.InputEnded from to a c l n h valid w result done =
     subst (λ (r : Result Block BlockFault). AnswersBlock m a.number r c (lines_left a l) (lines_left c n) (h.texts ++ h.last)) (sym done)
     (refuses m (faults.Bad (c.number + 1)) BadBlock (c.number + 1) h (λ rest. rest ≡ []) (refl, refl)
@@ -203,9 +201,7 @@ fault-line m first last faults.Memory before code number f e after = tt
 
 reading-fault : (m : Model) (first : ℕ) (c : Reader) (f : BlockFault) (xs ys : List Line) (texts : List (List ℕ)) → Follows texts (Some xs) (Some ys)
     → RefusesBlock m first f c (Some xs) (Some ys) texts → IsBlockReading m (Err f) first c.number xs ys
-reading-fault m first c f xs ys texts follows r =
-    fault-line m first c.number f xs r.code r.line r.fault_is
-    (subst (λ (x : List Line). ReadsAs m first x (Refused r.code r.line)) (sym (follows ∙ ap (λ z. text_lines texts ++ z) r.left_is)) r.left) ys
+reading-fault m first c f xs ys texts follows r = grind (arith, fault-line, texts)
 
 reading-by : (m : Model) (first : ℕ) (c : Reader) (x y : Option (List Line)) (texts : List (List ℕ)) (result : Result Block BlockFault) → Follows texts x y
     → AnswersBlock m first result c x y texts → ReadsBlock m result first c.number x y

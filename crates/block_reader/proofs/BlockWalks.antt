@@ -21,7 +21,7 @@ use Rattle.certificate_text.specs.Block.{HasAllLabels, IsBlockOf}
 use Rattle.certificate_text.specs.BlockEntries.{entries_of, label_entries, label_entry_at, entry_of_move, node_entries, out_entries}
 use Rattle.certificate_text.specs.BlockText.{begins_run}
 use Rattle.block_reader.specs.DraftFacts.{all_runs, node_runs, run_parts}
-use Rattle.block_reader.specs.Drafts.{Draft, IsStated, arc_of, behind_run, follows_move, follows_run, is_curve, is_empty, is_full, is_lists, is_move, is_run, last_of, arc_between, no_draft, node_of, only_exits, run_label, with_entry}
+use Rattle.block_reader.specs.Drafts.{Draft, IsStated, arc_of, follows_move, follows_run, is_curve, is_empty, is_full, is_lists, is_move, last_of, arc_between, no_draft, node_of, run_label, with_entry}
 use Rattle.block_reader.proofs.LastLemmas.{last-in}
 use Rattle.block_reader.proofs.PlacesBack.{arc-back, node-back}
 use Rattle.block_reader.proofs.RunOrder.{last-before, runs-follow}
@@ -35,9 +35,7 @@ with_outs d outs = record d { outs = outs }
 
 pub out-taken : (m : Model) (d : Draft) (xs : List ℕ) (y : ℕ) → is_lists d.stage ≡ true → length xs ≤ d.cleared → with_entry m (with_outs d xs) (entries.Out (length xs) y) ≡ Some (with_outs d (xs ++ (y ∷ [])))
 unfolding with_entry
-out-taken m d xs y lists l =
-    ap (λ b. cond b (Some (with_outs d (xs ++ (y ∷ [])))) None)
-    (and_from (is_lists d.stage) _ lists (and_from (nat_eq (length xs) (length xs)) (nat_le (length xs) d.cleared) (eq-eqb (length xs) (length xs) refl) (le-leb (length xs) d.cleared l)))
+out-taken m d xs y lists l = grind (arith, and_from, eq-eqb, le-leb)
 
 outs-walk : (m : Model) (d : Draft) (xs ys : List ℕ) → is_lists d.stage ≡ true → length xs + length ys ≤ d.cleared + 1
     → walk m (with_outs d xs) (map (λ (o : ℕ × ℕ). entries.Out o.0 o.1) (enumerate_from (length xs) ys)) ≡ Some (with_outs d (xs ++ ys))
@@ -67,13 +65,7 @@ pub label-taken : (m : Model) (d : Draft) (n t v : ℕ) → IsValid m → IsCurv
     → follows_run m (last_of d.runs) n t v ≡ true
     → with_entry m d (entries.Label (node_at m n).name t v) ≡ Some (record d { runs = d.runs ++ (record { node = n; moment = t; label = v } ∷ []) })
 unfolding with_entry
-label-taken m d n t v valid curve a e b l f =
-    let put : ℕ → Option Draft = λ k. cond (is_run m d k t v) (Some (record d { runs = d.runs ++ (record { node = k; moment = t; label = v } ∷ []) })) None in
-    let test : is_run m d n t v ≡ true =
-    and_from (is_curve d) _ curve.curve
-    (and_from (is_empty d.moves) _ curve.no_moves
-    (and_from (not (is_exit_at m n)) _ (ap not e) (and_from (nat_lt t d.cleared) _ (lt-ltb t d.cleared b) (and_from (nat_le v d.cleared) _ (le-leb v d.cleared l) f)))) in
-    ap (option_and_then put) (node-back m n valid a) ∙ ap (λ x. cond x (Some (record d { runs = d.runs ++ (record { node = n; moment = t; label = v } ∷ []) })) None) test
+label-taken m d n t v valid curve a e b l f = grind (arith, and_from, lt-ltb, le-leb, node-back)
 
 moment-by : (m : Model) (f : ℕ → ℕ → ℕ) (d : Draft) (n t : ℕ) (w : Bool) → IsValid m → IsCurve m d → AreFit m d.cleared f → n < length m.nodes → is_exit_at m n ≡ false → t < d.cleared
     → begins_run (f n) t ≡ w
@@ -114,9 +106,7 @@ with_moves d vs = record d { moves = vs }
 
 before-follows : (q x : Move) → Before q x → follows_move (Some q) x.moment x.arc ≡ true
 before-follows q x (inl l) = or_left (nat_lt q.moment x.moment) (nat_eq q.moment x.moment && nat_lt q.arc x.arc) (lt-ltb q.moment x.moment l)
-before-follows q x (inr h) =
-    or_right (nat_lt q.moment x.moment) (nat_eq q.moment x.moment && nat_lt q.arc x.arc)
-    (and_from (nat_eq q.moment x.moment) (nat_lt q.arc x.arc) (eq-eqb q.moment x.moment h.0) (lt-ltb q.arc x.arc h.1))
+before-follows q x (inr h) = grind (arith, or_right, and_from, eq-eqb, lt-ltb)
 
 last-follows : (xs : List Move) (x : Move) (o : Option Move) → last_of xs ≡ o → All (λ v. Before v x) xs → follows_move o x.moment x.arc ≡ true
 last-follows xs x None e h = refl
@@ -178,21 +168,13 @@ block-curve : (m : Model) (b : Block) → IsBlockOf m b → is_curve (block_draf
 block-curve m b of = eq-eqb (length b.outs) (b.cleared + 1) of.outs_full
 
 pub block-full : (m : Model) (b : Block) → IsBlockOf m b → is_full m (block_draft m b) ≡ true
-block-full m b of =
-    let runs = all_runs m (label_at b.labels) b.cleared (length m.nodes) in
-    and_from (is_curve (block_draft m b)) _ (block-curve m b of) (elim (cases_eq b.cleared 0) [
-      | inl e ↦ or_left (nat_eq b.cleared 0) (only_exits m (behind_run (last_of runs)) (length m.nodes)) (eq-eqb b.cleared 0 e)
-      | inr ne ↦ or_right (nat_eq b.cleared 0) (only_exits m (behind_run (last_of runs)) (length m.nodes))
-          (last-before m (label_at b.labels) b.cleared (length m.nodes) (omega (arith, ne))).exits
-    ])
+block-full m b of = grind (arith, and_from, block-curve, cases_eq, or_left, eq-eqb, or_right, last-before)
 
 heads-walk : (m : Model) (index people cleared : ℕ) → cleared ≤ m.horizon
     → walk m no_draft (entries.Index index ∷ entries.People people ∷ entries.Cleared cleared ∷ [])
     ≡ Some (record { stage = stages.Lists; index = index; people = people; cleared = cleared; outs = []; runs = []; moves = [] })
 unfolding walk with_entry
-heads-walk m index people cleared h =
-    let d : Draft = record { stage = stages.Lists; index = index; people = people; cleared = cleared; outs = []; runs = []; moves = [] } in
-    ap (λ b. option_and_then (λ x. walk m x []) (cond b (Some d) None)) (le-leb cleared m.horizon h)
+heads-walk m index people cleared h = grind (arith, walk, le-leb)
 
 end-walk : (m : Model) (d : Draft) → is_full m d ≡ true → walk m d (entries.End ∷ []) ≡ Some d
 unfolding with_entry

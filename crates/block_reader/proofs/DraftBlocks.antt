@@ -73,10 +73,7 @@ can-node m n d es false valid l at curve pos before e more =
 
 -- the nodes from one on get the label 0
 can-nodes : (m : Model) (k n : ℕ) (d : Draft) (es : List Entry) → IsValid m → n + k ≡ length m.nodes → IsAt m d es → IsCurve m d → 0 < d.cleared → LastBefore m n (last_of d.runs) → CanEnd m es
-can-nodes m zero n d es valid l at curve pos before =
-    let same : n ≡ length m.nodes = omega (arith, l) in
-    can-full m d es at (and_from (is_curve d) _ curve.curve
-    (or_right (nat_eq d.cleared 0) (only_exits m (behind_run (last_of d.runs)) (length m.nodes)) (ap (only_exits m (behind_run (last_of d.runs))) (sym same) ∙ before.exits)))
+can-nodes m zero n d es valid l at curve pos before = grind (arith, can-full, at, and_from, or_right)
 can-nodes m (suc k) n d es valid l at curve pos before =
     can-node m n d es (is_exit_at m n) valid (omega (arith, l)) at curve pos before refl
     (λ x xs at_x curve_x pos_x before_x. can-nodes m k (suc n) x xs valid (omega (arith, l)) at_x curve_x pos_x before_x)

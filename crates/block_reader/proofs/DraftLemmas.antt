@@ -1,5 +1,5 @@
 -- What one line more makes of a draft, and what it says then.
-use Rattle.std.proofs.Common.{◌≡◌, ℕ, ◌+◌, ◌<◌, ◌≤◌, Bool, true, false, not, ◌&&◌, ◌||◌, cond, nat_eq, nat_le, nat_lt, List, [], ◌∷◌, ◌++◌, length, map, Some, None, refl, sym, subst, ap, ap₂, ◌∙◌, inl, inr, arith, append_assoc, append-nil, length-append}
+use Rattle.std.proofs.Common.{◌≡◌, ℕ, ◌+◌, ◌<◌, ◌≤◌, Bool, true, false, not, ◌&&◌, ◌||◌, cond, nat_eq, nat_le, nat_lt, List, [], ◌∷◌, ◌++◌, length, map, Some, None, refl, sym, subst, ap, ap₂, ◌∙◌, arith, append_assoc, append-nil, length-append}
 use Rattle.std.specs.declared.option.Option.{Option}
 use Rattle.std.specs.Bool.{IsFalse}
 use Rattle.std.specs.List.{All, AllPairs}
@@ -11,10 +11,8 @@ use Rattle.std.proofs.lemmas.List.Quantifiers.{all_pairs_push, position-Some}
 use Rattle.evac_law.specs.declared.model.Model.{Model}
 use Rattle.evac_law.specs.declared.name.NodeName.{NodeName}
 use Rattle.evac_law.specs.declared.plan.Move.{Move}
-use Rattle.evac_law.specs.Building.{is_exit_at, no_node, node_at}
+use Rattle.evac_law.specs.Building.{is_exit_at}
 use Rattle.evac_law.specs.Stands.{Before}
-use Rattle.building_table.specs.Names.{arc_ends, node_names}
-use Rattle.model_text.specs.Taken.{same_name}
 use Rattle.certificate_text.specs.declared.entry.Entry.{Entry}
 use Rattle.certificate_text.specs.declared.entry.Entry.TheVariants as entries
 use Rattle.block_reader.specs.declared.run.Run.{Run}
@@ -42,10 +40,7 @@ no-runs : (m : Model) (c : ℕ) → AreRuns m c []
 no-runs m c = record { each = All-nil (IsRun m c); own = refl; covered = λ n t l e. absurd (omega (arith, l)) }
 
 no-moves : (m : Model) → AreMoves m []
-no-moves m = record {
-  ordered = record { sorted = λ i j d a b. absurd (omega (arith, b)); in_range = All-nil _; somebody = All-nil _ };
-  fit = All-nil (λ (v : Move). v.people ≤ number_field_limit);
-}
+no-moves m = grind arith
 
 uncurved : (m : Model) (d : Draft) → is_curve d ≡ false → is_full m d ≡ false
 uncurved m d e = and_left (is_curve d) (nat_eq d.cleared 0 || only_exits m (behind_run (last_of d.runs)) (length m.nodes)) e
@@ -80,10 +75,7 @@ says m hs outs runs moves = hs ++ out_entries outs ++ map (run_entry m) runs ++ 
 
 bare-says : (m : Model) (d : Draft) → IsBare d.outs d.runs d.moves → draft_entries m d ≡ head_entries d.stage d.index d.people d.cleared
 unfolding says
-bare-says m d h =
-    let hs = head_entries d.stage d.index d.people d.cleared in
-    ap (λ o. says m hs o d.runs d.moves) h.no_outs ∙ ap (λ r. says m hs [] r d.moves) h.no_runs ∙ ap (λ v. says m hs [] [] v) h.no_moves
-    ∙ append-nil ((hs ++ []) ++ []) ∙ append-nil (hs ++ []) ∙ append-nil hs
+bare-says m d h = grind (arith, head_entries, says, append-nil)
 
 -- the next draft, which says one entry more
 pub record IsNext (m : Model) (d : Draft) (e : Entry) (new : Draft) : Type 0 where
@@ -119,40 +111,23 @@ head-next m d s i p c e new h flat heads says is =
     })
 
 index-next : (m : Model) (d : Draft) (i : ℕ) (new : Draft) → i ≤ number_field_limit → IsDraft m d → with_index d i ≡ Some new → IsNext m d (entries.Index i) new
-index-next m d i new l h e =
-    let c = chosen (is_index d.stage) (record d { stage = stages.People; index = i }) new e in
-    let at = at-index d.stage d.index d.people d.cleared c.test in
-    head-next m d stages.People i d.people d.cleared (entries.Index i) new h at.0
-    (record { in_horizon = h.heads.in_horizon; index_fits = l; people_fit = h.heads.people_fit }) (ap (λ x. x ++ (entries.Index i ∷ [])) (sym at.1)) c.value
+index-next m d i new l h e = grind (arith, chosen, at-index, head-next)
 
 people-next : (m : Model) (d : Draft) (p : ℕ) (new : Draft) → p ≤ number_field_limit → IsDraft m d → with_people d p ≡ Some new → IsNext m d (entries.People p) new
-people-next m d p new l h e =
-    let c = chosen (is_people d.stage) (record d { stage = stages.Cleared; people = p }) new e in
-    let at = at-people d.stage d.index d.people d.cleared c.test in
-    head-next m d stages.Cleared d.index p d.cleared (entries.People p) new h at.0
-    (record { in_horizon = h.heads.in_horizon; index_fits = h.heads.index_fits; people_fit = l }) (ap (λ x. x ++ (entries.People p ∷ [])) (sym at.1)) c.value
+people-next m d p new l h e = grind (arith, chosen, at-people, head-next)
 
 cleared-next : (m : Model) (d : Draft) (c : ℕ) (new : Draft) → IsDraft m d → with_cleared m d c ≡ Some new → IsNext m d (entries.Cleared c) new
-cleared-next m d c new h e =
-    let k = chosen (is_cleared d.stage && nat_le c m.horizon) (record d { stage = stages.Lists; cleared = c }) new e in
-    let p = and_parts (is_cleared d.stage) (nat_le c m.horizon) k.test in
-    let at = at-cleared d.stage d.index d.people d.cleared p.0 in
-    head-next m d stages.Lists d.index d.people c (entries.Cleared c) new h at.0
-    (record { in_horizon = leb-true c m.horizon p.1; index_fits = h.heads.index_fits; people_fit = h.heads.people_fit }) (ap (λ x. x ++ (entries.Cleared c ∷ [])) (sym at.1)) k.value
+cleared-next m d c new h e = grind (arith, chosen, and_parts, at-cleared, head-next, leb-true)
 
 -- ---- the curve
 
 outs-push : (xs : List ℕ) (k n : ℕ) → k ≡ length xs → out_entries (xs ++ (n ∷ [])) ≡ out_entries xs ++ (entries.Out k n ∷ [])
-outs-push xs k n e =
-    ap (map (λ (o : ℕ × ℕ). entries.Out o.0 o.1)) (enumerate-push 0 xs n) ∙ map-append (λ (o : ℕ × ℕ). entries.Out o.0 o.1) _ ((0 + length xs, n) ∷ [])
-    ∙ ap (λ i. out_entries xs ++ (entries.Out i n ∷ [])) (let q : 0 + length xs ≡ k = omega (arith, e) in q)
+outs-push xs k n e = grind (arith, enumerate-push, map-append)
 
 -- a draft that has neither runs nor moves
 curve-says : (m : Model) (d : Draft) → d.runs ≡ [] → d.moves ≡ [] → draft_entries m d ≡ head_entries d.stage d.index d.people d.cleared ++ out_entries d.outs
 unfolding says
-curve-says m d runs moves =
-    let hs = head_entries d.stage d.index d.people d.cleared in
-    ap (λ r. says m hs d.outs r d.moves) runs ∙ ap (λ v. says m hs d.outs [] v) moves ∙ append-nil ((hs ++ out_entries d.outs) ++ []) ∙ append-nil (hs ++ out_entries d.outs)
+curve-says m d runs moves = grind (arith, head_entries, says, append-nil)
 
 unfinished : (d : Draft) → length d.outs ≤ d.cleared → is_curve d ≡ false
 unfinished d l = and_right (is_lists d.stage) (nat_eq (length d.outs) (d.cleared + 1)) (ne_eqb (length d.outs) (d.cleared + 1) (λ q. omega (arith, q, l)))
@@ -193,27 +168,7 @@ push-own-node m c rs r n t h q fits = let x = label-own rs r n t q (omega (arith
 
 push-covers : (m : Model) (c : ℕ) (rs : List Run) (r : Run) → follows_run m (last_of rs) r.node r.moment r.label ≡ true → r.label ≤ c → Covers m c rs → Covers m c (rs ++ (r ∷ []))
 unfolding Covers
-push-covers m c rs r f fits h = λ n t l e.
-    let before : n < r.node + 1 = (let q = ap behind_run (last-push rs r) in omega (arith, q, l)) in
-    elim (follows-how m (last_of rs) r.node r.moment r.label f) [
-      | inl first ↦ elim (cases_eq r.node n) [
-        | inl q ↦ push-own-node m c rs r n t first q fits
-        | inr ne ↦ let x = label-other rs r n t ne in elim (cases_lt n (behind_run (last_of rs))) [
-          | inl b ↦ let old = h n t b e in omega (arith, x, old)
-          | inr b ↦ absurd (let y = exits-at m (behind_run (last_of rs)) r.node n first.exits b (omega (arith, before, ne)) in let z : true ≡ false = sym y ∙ e in cc)
-        ]
-      ]
-      | inr further ↦
-          let inside : n < behind_run (last_of rs) = (let q = ap behind_run further.is in let k = further.node in omega (arith, q, k, before)) in
-          let old = h n t inside e in
-          elim (cases_eq r.node n) [
-            | inl q ↦ elim (cases_lt t r.moment) [
-              | inl a ↦ let x = label-before rs r n t a in omega (arith, x, old)
-              | inr a ↦ let x = label-own rs r n t q a in omega (arith, x, fits)
-            ]
-            | inr ne ↦ let x = label-other rs r n t ne in omega (arith, x, old)
-          ]
-    ]
+push-covers m c rs r f fits h = grind (arith, last-push, follows-how, cases_eq, push-own-node, label-other, cases_lt, exits-at, label-before, label-own)
 
 push-runs : (m : Model) (c : ℕ) (rs : List Run) (r : Run) → IsRun m c r → follows_run m (last_of rs) r.node r.moment r.label ≡ true → AreRuns m c rs → AreRuns m c (rs ++ (r ∷ []))
 unfolding Covers
@@ -224,10 +179,7 @@ push-runs m c rs r is f h = record {
 }
 
 node-within : (m : Model) (name : NodeName) (n : ℕ) → node_of m name ≡ Some n → n < length m.nodes
-node-within m name n e =
-    let p = position-Some (λ x. same_name x name) (node_names m) n no_node.name e in
-    let size : length (node_names m) ≡ length m.nodes = length-map m.nodes (λ x. x.name) in
-    omega (arith, p.0, size)
+node-within m name n e = grind (arith, position-Some, length-map)
 
 empty-is : {X : Type 0} (xs : List X) → is_empty xs ≡ true → xs ≡ []
 empty-is [] h = refl
@@ -236,9 +188,7 @@ empty-is (x ∷ xs) h = cc
 -- a draft that has no moves
 runs-say : (m : Model) (d : Draft) → d.moves ≡ [] → draft_entries m d ≡ (head_entries d.stage d.index d.people d.cleared ++ out_entries d.outs) ++ map (run_entry m) d.runs
 unfolding says
-runs-say m d moves =
-    let hs = head_entries d.stage d.index d.people d.cleared in
-    ap (λ v. says m hs d.outs d.runs v) moves ∙ append-nil ((hs ++ out_entries d.outs) ++ map (run_entry m) d.runs)
+runs-say m d moves = grind (arith, head_entries, says, append-nil, run_entry)
 
 -- a list with one more after other entries
 map-push : {X : Type 0} (f : X → Entry) (hs : List Entry) (xs : List X) (x : X) → hs ++ map f (xs ++ (x ∷ [])) ≡ (hs ++ map f xs) ++ (f x ∷ [])
@@ -280,21 +230,14 @@ run-next m d name t v new h e =
 -- ---- moves
 
 move-before : (q x : Move) → follows_move (Some q) x.moment x.arc ≡ true → Before q x
-move-before q x h =
-    elim (or_cases (nat_lt q.moment x.moment) (nat_eq q.moment x.moment && nat_lt q.arc x.arc) h) [
-      | inl a ↦ inl (ltb-true q.moment x.moment a)
-      | inr a ↦ let p = and_parts (nat_eq q.moment x.moment) (nat_lt q.arc x.arc) a in inr (eqb-true q.moment x.moment p.0, ltb-true q.arc x.arc p.1)
-    ]
+move-before q x h = grind (arith, or_cases, ltb-true, and_parts, eqb-true)
 
 all-before : (p : List Move) (x : Move) (o : Option Move) → last_of p ≡ o → follows_move o x.moment x.arc ≡ true → AllPairs Before p → All (λ v. Before v x) p
 all-before p x None e h pairs = last-none (λ v. Before v x) p e
 all-before p x (Some q) e h pairs = before-all Before before-trans p q x pairs e (move-before q x h)
 
 arc-within : (m : Model) (i j a : ℕ) → arc_of m i j ≡ Some a → a < length m.arcs
-arc-within m i j a e =
-    let p = position-Some (λ x. nat_eq x.0 i && nat_eq x.1 j) (arc_ends m) a (0, 0) e in
-    let size : length (arc_ends m) ≡ length m.arcs = length-map m.arcs (λ x. (x.from, x.to)) in
-    omega (arith, p.0, size)
+arc-within m i j a e = grind (arith, position-Some, length-map)
 
 -- moves stand only after all the rest
 may-move : (m : Model) (d : Draft) → IsDraft m d → (not (is_empty d.moves) || is_full m d) ≡ true → is_full m d ≡ true
@@ -317,9 +260,7 @@ push-moves m moves x arc_in moment_in some few f h = record {
 
 move-named : (m : Model) (start finish : NodeName) (i j : ℕ) (x : Move) → node_of m start ≡ Some i → node_of m finish ≡ Some j → arc_of m i j ≡ Some x.arc
     → entry_of_move m x ≡ entries.Move x.moment start finish x.people
-move-named m start finish i j x is_start is_finish is_arc =
-    let ends = joined m i j x.arc is_arc in
-    ap₂ (λ a b. entries.Move x.moment a b x.people) (ap (λ k. (node_at m k).name) ends.0 ∙ named m start i is_start) (ap (λ k. (node_at m k).name) ends.1 ∙ named m finish j is_finish)
+move-named m start finish i j x is_start is_finish is_arc = grind (arith, joined, named)
 
 move-push : (m : Model) (d : Draft) (start finish : NodeName) (i j t a n : ℕ) (new : Draft) → n ≤ number_field_limit → IsDraft m d → node_of m start ≡ Some i → node_of m finish ≡ Some j
     → arc_of m i j ≡ Some a → cond (is_move m d t a n) (Some (record d { moves = d.moves ++ (record { moment = t; arc = a; people = n } ∷ []) })) None ≡ Some new

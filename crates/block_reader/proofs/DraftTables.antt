@@ -1,5 +1,5 @@
 -- The block that a draft has.
-use Rattle.std.proofs.Common.{ℕ, ◌≤◌, cond, refl, ap, ◌∙◌, arith}
+use Rattle.std.proofs.Common.{ℕ, ◌≤◌, cond, refl, arith}
 use Rattle.std.specs.Prelude.{nat_lt}
 use Rattle.std.proofs.lemmas.Bool.{le-ltb, lt-ltb}
 use Rattle.evac_law.specs.declared.model.Model.{Model}
@@ -16,12 +16,7 @@ stated_block m d = record { index = d.index; people = d.people; cleared = d.clea
 
 run-labels : (m : Model) (d : Draft) → d.cleared ≤ m.horizon → AreRunLabels m d.cleared d.runs (table_of m (run_cell d))
 unfolding run_cell
-run-labels m d inside = record {
-  table = is-table m (run_cell d);
-  full = table-full m (run_cell d);
-  early = λ n t h k. table-at m (run_cell d) n t h (omega (arith, inside, k)) ∙ ap (λ b. cond b (run_label d.runs n t) unset) (lt-ltb t d.cleared k);
-  late = λ n t h k e. table-at m (run_cell d) n t h e ∙ ap (λ b. cond b (run_label d.runs n t) unset) (le-ltb t d.cleared k);
-}
+run-labels m d inside = grind (arith, is-table, table-full, table-at, lt-ltb, le-ltb)
 
 pub is-stated : (m : Model) (d : Draft) → d.cleared ≤ m.horizon → IsStated m d (stated_block m d)
 unfolding stated_block

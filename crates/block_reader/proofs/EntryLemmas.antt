@@ -13,7 +13,7 @@ use Rattle.certificate_text.specs.Block.{number_field_limit}
 use Rattle.block_reader.proofs.DraftEntries.{IsEntry}
 use Rattle.certificate_text.specs.Entries.{entry_by_word, end_entry, entry_of, label_entry, move_entry, entry_of_fields, one_number, out_entry}
 use Rattle.block_reader.proofs.NumberFits.{number-fits}
-use Rattle.block_reader.proofs.OptionLemmas.{follows, some-same}
+use Rattle.block_reader.proofs.OptionLemmas.{some-same}
 
 fits-some : (x : Entry) → IsEntry x → (e : Entry) → Some x ≡ Some e → IsEntry e
 fits-some x h e q = subst IsEntry (some-same x e q) h

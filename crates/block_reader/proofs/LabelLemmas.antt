@@ -12,9 +12,7 @@ pub record IsFull (l : LabelTable) : Type 0 where
   pub full : length l.list ≡ l.nodes * (l.horizon + 1)
 
 place-in : (l : LabelTable) (n t : ℕ) → IsFull l → n < l.nodes → t ≤ l.horizon → label_place l n t < length l.list
-place-in l n t f a b =
-    let fits : t < l.horizon + 1 = omega arith in
-    omega (arith, f.full, mul-add-lt n (l.horizon + 1) t l.nodes a fits, mul_comm (l.horizon + 1) l.nodes)
+place-in l n t f a b = grind (arith, mul-add-lt, mul_comm)
 
 pub set-same : (l : LabelTable) (n t v : ℕ) → IsFull l → n < l.nodes → t ≤ l.horizon → label_at (with_label l n t v) n t ≡ v
 set-same l n t v f a b = get_or-set_same l.list (label_place l n t) v 0 (place-in l n t f a b)
@@ -30,11 +28,7 @@ set-full l n t v f = record { full = length-set l.list (label_place l n t) v ∙
 -- ---- one moment more
 
 lt-more : (t m : ℕ) → (t ≡ m → ⊥) → nat_lt t (m + 1) ≡ nat_lt t m
-lt-more t m ne =
-    elim (cases_lt t m) [
-      | inl l ↦ lt-ltb t (m + 1) (omega arith) ∙ sym (lt-ltb t m l)
-      | inr g ↦ le-ltb t (m + 1) (omega (arith, ne)) ∙ sym (le-ltb t m g)
-    ]
+lt-more t m ne = grind (arith, cases_lt, lt-ltb, le-ltb)
 
 -- whether a cell is one of a run's, up to a stop
 abbrev is_in : Run → ℕ → ℕ → ℕ → Bool
@@ -58,16 +52,10 @@ pub outside-behind : (r : Run) (stop n t : ℕ) → stop ≤ t → is_in r stop 
 outside-behind r stop n t l = and_right (nat_eq r.node n) (nat_le r.moment t && nat_lt t stop) (and_right (nat_le r.moment t) (nat_lt t stop) (le-ltb t stop l))
 
 pub inside-all : (r : Run) (stop n t : ℕ) → r.node ≡ n → r.moment ≤ t → t < stop → is_in r stop n t ≡ true
-inside-all r stop n t e a b =
-    and_from (nat_eq r.node n) (nat_le r.moment t && nat_lt t stop) (eq-eqb r.node n e)
-    (and_from (nat_le r.moment t) (nat_lt t stop) (le-leb r.moment t a) (lt-ltb t stop b))
+inside-all r stop n t e a b = grind (arith, and_from, eq-eqb, le-leb, lt-ltb)
 
 pub filled-none : (l : LabelTable) (r : Run) (stop n t : ℕ) → stop ≤ r.moment → filled l r stop n t ≡ label_at l n t
-filled-none l r stop n t a =
-    elim (cases_lt t r.moment) [
-      | inl b ↦ filled-else l r stop n t (outside-before r stop n t b)
-      | inr b ↦ filled-else l r stop n t (outside-behind r stop n t (omega arith))
-    ]
+filled-none l r stop n t a = grind (arith, cases_lt, filled-else, outside-before, outside-behind)
 
 -- up to a stop before the run nothing is filled
 pub filled-short : (l : LabelTable) (r : Run) (m stop n t : ℕ) → m ≡ r.moment → stop ≤ m → filled l r m n t ≡ filled l r stop n t

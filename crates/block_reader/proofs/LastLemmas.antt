@@ -30,11 +30,7 @@ before-all {X} R trans xs q x pairs e h = λ k d l.
 
 -- a list without a last one has nothing
 pub last-none : {X : Type 0} (P : X → Type 0) (xs : List X) → last_of xs ≡ None → All P xs
-last-none P xs e =
-    elim (slice_get_cases xs (length xs - 1)).1 [
-      | inl s ↦ let f = s.2 in let z = sym e ∙ f in cc
-      | inr s ↦ λ k d l. absurd (omega (arith, s.0, l))
-    ]
+last-none P xs e = grind (arith, slice_get_cases)
 
 -- a list with a last one ends in it
 pub last-split : {X : Type 0} (xs : List X) (x : X) → last_of xs ≡ Some x → (ys : List X) × (xs ≡ ys ++ (x ∷ []))

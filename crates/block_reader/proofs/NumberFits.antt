@@ -1,5 +1,5 @@
 -- The numbers of a line have nine digits at most.
-use Rattle.std.proofs.Common.{◌≡◌, ℕ, ◌+◌, ◌-◌, ◌*◌, ◌^◌, ◌<◌, ◌≤◌, suc, Bool, true, false, ◌||◌, cond, nat_eq, nat_le, nat_lt, List, [], ◌∷◌, length, Some, None, refl, sym, ap, ◌∙◌, arith, le_refl}
+use Rattle.std.proofs.Common.{◌≡◌, ℕ, ◌+◌, ◌-◌, ◌*◌, ◌^◌, ◌<◌, ◌≤◌, suc, Bool, true, false, ◌||◌, cond, nat_eq, nat_le, nat_lt, List, [], ◌∷◌, length, Some, None, refl, arith}
 use Rattle.std.specs.Char.{is_ascii_digit}
 use Rattle.std.proofs.Math.Nat.{mul_assoc, mul_comm, pow-le-pow_right, pow-suc}
 use Rattle.std.proofs.lemmas.Bool.{and_parts, leb-true, ltb-false}
@@ -11,11 +11,7 @@ digit-small : (b : ℕ) → is_ascii_digit b ≡ true → b - 48 ≤ 9
 digit-small b e = let p = and_parts (nat_le 48 b) (nat_le b 57) e in let q = leb-true b 57 p.1 in omega (arith, q)
 
 ten-times : (v d k : ℕ) → d ≤ 9 → (v * 10 + d + 1) * 10 ^ k ≤ (v + 1) * 10 ^ suc k
-ten-times v d k l =
-    let few : v * 10 + d + 1 ≤ (v + 1) * 10 = omega arith in
-    let here = mul-le (v * 10 + d + 1) (10 ^ k) ((v + 1) * 10) (10 ^ k) few (le_refl (10 ^ k)) in
-    let turned : (v + 1) * 10 * 10 ^ k ≡ (v + 1) * 10 ^ suc k = mul_assoc (v + 1) 10 (10 ^ k) ∙ ap (λ x. (v + 1) * x) (mul_comm 10 (10 ^ k) ∙ sym (pow-suc 10 k)) in
-    omega (arith, here, turned)
+ten-times v d k l = grind (arith, mul-le, mul_assoc, mul_comm, pow-suc)
 
 digit-below : (b : ℕ) (bs : List ℕ) (v n : ℕ) (t : Bool) → is_ascii_digit b ≡ t
     → (digits_from (v * 10 + (b - 48)) bs ≡ Some n → n < (v * 10 + (b - 48) + 1) * 10 ^ length bs)
@@ -32,11 +28,7 @@ number-by : (field : List ℕ) (n : ℕ) (s t : Bool) → nat_lt 9 (length field
 unfolding number_field_limit
 number-by field n true t f e = cc
 number-by field n false true f e = cc
-number-by field n false false f e =
-    let few : length field ≤ 9 = ltb-false 9 (length field) f in
-    let below = digits-below field 0 n e in
-    let ten : 10 ^ length field ≤ 1000000000 = pow-le-pow_right {n = 10} (omega arith) {i = length field} {j = 9} few in
-    omega (arith, below, ten)
+number-by field n false false f e = grind (arith, ltb-false, digits-below, pow-le-pow_right)
 
 pub number-fits : (field : List ℕ) (n : ℕ) → field_number field ≡ Some n → n ≤ number_field_limit
 number-fits field n e = number-by field n (nat_eq (length field) 0) (nat_lt 9 (length field)) refl e

@@ -1,5 +1,5 @@
 -- A draft has one block.
-use Rattle.std.proofs.Common.{◌≡◌, ℕ, ◌+◌, ◌<◌, ◌≤◌, List, length, get_or, refl, sym, ap, ◌∙◌, inl, inr, arith}
+use Rattle.std.proofs.Common.{◌≡◌, ℕ, ◌+◌, ◌<◌, ◌≤◌, List, length, get_or, refl, sym, ap, ◌∙◌, arith}
 use Rattle.std.specs.Prelude.{◌*◌, ◌/◌, ◌%◌}
 use Rattle.std.proofs.Math.Nat.{div-add-mod', div-lt_iff_lt-mul}
 use Rattle.std.proofs.lemmas.Bool.{cases_lt}
@@ -12,10 +12,7 @@ use Rattle.block_reader.specs.Drafts.{AreRunLabels, Draft, IsStated}
 
 same-label : (m : Model) (c : ℕ) (runs : List Run) (l o : LabelTable) → AreRunLabels m c runs l → AreRunLabels m c runs o → (n t : ℕ) → n < length m.nodes → t ≤ m.horizon
     → label_at l n t ≡ label_at o n t
-same-label m c runs l o a b n t h k = elim (cases_lt t c) [
-  | inl early ↦ a.early n t h early ∙ sym (b.early n t h early)
-  | inr late ↦ a.late n t h late k ∙ sym (b.late n t h late k)
-]
+same-label m c runs l o a b n t h k = grind (arith, cases_lt)
 
 same-at : (m : Model) (c : ℕ) (runs : List Run) (l o : LabelTable) → AreRunLabels m c runs l → AreRunLabels m c runs o → (i w : ℕ) → w ≡ m.horizon + 1 → i < length m.nodes * w
     → get_or l.list i 0 ≡ get_or o.list i 0

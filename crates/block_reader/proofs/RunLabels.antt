@@ -1,12 +1,11 @@
 -- The labels that runs give.
-use Rattle.std.proofs.Common.{◌≡◌, ℕ, ◌+◌, ◌*◌, ◌<◌, ◌≤◌, cond, ◌&&◌, nat_eq, nat_le, List, [], ◌∷◌, ◌++◌, length, take, get_or, replicate, Some, None, refl, sym, subst, ap, ◌∙◌, inl, inr, arith}
+use Rattle.std.proofs.Common.{◌≡◌, ℕ, ◌+◌, ◌*◌, ◌<◌, ◌≤◌, cond, ◌&&◌, nat_eq, nat_le, List, [], ◌∷◌, ◌++◌, length, take, get_or, replicate, Some, None, refl, sym, ap, ◌∙◌, inl, inr, arith}
 use Rattle.std.specs.declared.option.Option.{Option}
 use Rattle.std.specs.List.{All, slice_get}
 use Rattle.std.proofs.Math.Nat.{mul_comm}
 use Rattle.std.proofs.lemmas.Bool.{and_from, and_left, and_right, cases_eq, cases_lt, eq-eqb, le-leb, lt-leb, ne_eqb}
 use Rattle.std.proofs.lemmas.Grind.{fold-append}
 use Rattle.std.proofs.lemmas.List.{get_or-replicate, length-replicate, take_more}
-use Rattle.std.proofs.lemmas.List.Elements.{All-get_or}
 use Rattle.std.proofs.lemmas.Nat.{mul-add-lt}
 use Rattle.std.proofs.lemmas.Option.{get_or_from_slice_get, slice_get_within}
 use Rattle.evac_law.specs.declared.model.Model.{Model}
@@ -26,17 +25,13 @@ unfolding run_label
 label-push rs r n t = fold-append (λ (label : ℕ) (s : Run). cond (nat_eq s.node n && nat_le s.moment t) s.label label) unset rs (r ∷ [])
 
 pub label-own : (rs : List Run) (r : Run) (n t : ℕ) → r.node ≡ n → r.moment ≤ t → run_label (rs ++ (r ∷ [])) n t ≡ r.label
-label-own rs r n t e l =
-    label-push rs r n t
-    ∙ ap (λ b. cond b r.label (run_label rs n t)) (and_from (nat_eq r.node n) (nat_le r.moment t) (eq-eqb r.node n e) (le-leb r.moment t l))
+label-own rs r n t e l = grind (arith, label-push, and_from, eq-eqb, le-leb)
 
 pub label-other : (rs : List Run) (r : Run) (n t : ℕ) → (r.node ≡ n → ⊥) → run_label (rs ++ (r ∷ [])) n t ≡ run_label rs n t
-label-other rs r n t ne =
-    label-push rs r n t ∙ ap (λ b. cond b r.label (run_label rs n t)) (and_left (nat_eq r.node n) (nat_le r.moment t) (ne_eqb r.node n ne))
+label-other rs r n t ne = grind (arith, label-push, and_left, ne_eqb)
 
 pub label-before : (rs : List Run) (r : Run) (n t : ℕ) → t < r.moment → run_label (rs ++ (r ∷ [])) n t ≡ run_label rs n t
-label-before rs r n t l =
-    label-push rs r n t ∙ ap (λ b. cond b r.label (run_label rs n t)) (and_right (nat_eq r.node n) (nat_le r.moment t) (lt-leb r.moment t l))
+label-before rs r n t l = grind (arith, label-push, and_right, lt-leb)
 
 -- the run at a place doesn't reach a cell
 pub record IsOpen (runs : List Run) (i n t : ℕ) : Type 0 where
@@ -69,9 +64,7 @@ stop-within (Some s) r c h =
     ]
 
 pub run-at : (m : Model) (c : ℕ) (runs : List Run) (i : ℕ) (r : Run) → All (IsRun m c) runs → slice_get runs i ≡ Some r → IsRun m c r
-run-at m c runs i r all e =
-    let P : Run → Type 0 = IsRun m c in
-    subst P (get_or_from_slice_get runs i r no_run e) (All-get_or P runs i no_run (slice_get_within runs i r e) all)
+run-at m c runs i r all e = grind (arith, get_or_from_slice_get, slice_get_within)
 
 pub stop-in : (m : Model) (c : ℕ) (runs : List Run) (i : ℕ) → All (IsRun m c) runs → run_stop runs i c ≤ c
 stop-in m c runs i all = stop-within (slice_get runs (i + 1)) (get_or runs i no_run) c (λ s e. (run-at m c runs (i + 1) s all e).moment_in)

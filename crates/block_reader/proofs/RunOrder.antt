@@ -1,5 +1,5 @@
 -- Which run may stand after the ones before it.
-use Rattle.std.proofs.Common.{◌≡◌, ℕ, ◌+◌, ◌-◌, ◌<◌, ◌≤◌, ◌⊎◌, zero, suc, Bool, true, false, not, ◌&&◌, ◌||◌, cond, nat_eq, nat_lt, List, [], ◌∷◌, ◌++◌, Some, None, refl, sym, subst, ap, ◌∙◌, inl, inr, arith, append_assoc, append-nil}
+use Rattle.std.proofs.Common.{◌≡◌, ℕ, ◌+◌, ◌-◌, ◌<◌, ◌≤◌, ◌⊎◌, zero, suc, Bool, true, false, not, ◌&&◌, cond, nat_eq, nat_lt, List, [], ◌∷◌, ◌++◌, Some, None, refl, sym, subst, ap, ◌∙◌, inl, inr, arith, append_assoc, append-nil}
 use Rattle.std.specs.declared.option.Option.{Option}
 use Rattle.std.proofs.lemmas.Bool.{and_from, and_parts, cases_eq, cases_lt, eq-eqb, eqb-false, eqb-true, lt-ltb, ltb-true, ne_eqb, not-true}
 use Rattle.evac_law.specs.declared.model.Model.{Model}
@@ -44,13 +44,10 @@ follows-how m (Some r) n t v h = elim (cases_eq n r.node) [
 
 pub first-follows : (m : Model) (o : Option Run) (n v : ℕ) → behind_run o ≤ n → only_exits m (behind_run o) n ≡ true → follows_run m o n 0 v ≡ true
 first-follows m None n v l h = h
-first-follows m (Some r) n v l h =
-    let less : r.node < n = omega (arith, l) in
-    rw (ne_eqb n r.node (λ e. omega (arith, e, less))) (and_from (nat_lt r.node n) (nat_eq 0 0 && only_exits m (r.node + 1) n) (lt-ltb r.node n less) h)
+first-follows m (Some r) n v l h = grind (arith, ne_eqb, and_from, lt-ltb)
 
 further-follows : (m : Model) (r : Run) (n t v : ℕ) → r.node ≡ n → r.moment < t → not (nat_eq v r.label) ≡ true → follows_run m (Some r) n t v ≡ true
-further-follows m r n t v e l h =
-    rw (eq-eqb n r.node (sym e)) (and_from (nat_lt r.moment t) (not (nat_eq v r.label)) (lt-ltb r.moment t l) h)
+further-follows m r n t v e l h = grind (arith, eq-eqb, and_from, lt-ltb)
 
 -- ---- the last of a block's runs
 
@@ -111,8 +108,7 @@ before-next m n o r is e =
 
 before-by : (m : Model) (f : ℕ → ℕ → ℕ) (c n : ℕ) (b : Bool) → is_exit_at m n ≡ b → 0 < c → LastBefore m n (last_of (all_runs m f c n))
     → LastBefore m (suc n) (last_of (all_runs m f c n ++ cond b [] (run_parts f n c)))
-before-by m f c n true e pos h =
-    subst (λ (xs : List Run). LastBefore m (suc n) (last_of xs)) (sym (append-nil (all_runs m f c n))) (before-exit m n (last_of (all_runs m f c n)) e h)
+before-by m f c n true e pos h = grind (arith, append-nil, before-exit)
 before-by m f c n false e pos h =
     let w = last-within f n c (all_runs m f c n) pos in before-next m n (last_of (all_runs m f c n ++ run_parts f n c)) w.run w.is w.node
 
@@ -122,15 +118,11 @@ last-before m f c (suc n) pos =
     subst (λ (xs : List Run). LastBefore m (suc n) (last_of xs)) (sym (flat_map-suc (node_runs m f c) n)) (before-by m f c n (is_exit_at m n) refl pos (last-before m f c n pos))
 
 differs : (f : ℕ → ℕ) (t x : ℕ) → begins_run f t ≡ true → 0 < t → x ≡ f (t - 1) → not (nat_eq (f t) x) ≡ true
-differs f t x h pos e =
-    ap (λ y. not (nat_eq (f t) y)) e
-    ∙ sym (ap (λ b. b || not (nat_eq (f t) (f (t - 1)))) (ne_eqb t 0 (λ q. omega (arith, q, pos)))) ∙ h
+differs f t x h pos e = grind (arith, ne_eqb)
 
 -- a run of a block's labels may stand after those before it
 pub runs-follow : (m : Model) (f : ℕ → ℕ → ℕ) (c n t : ℕ) → t < c → begins_run (f n) t ≡ true → follows_run m (last_of (all_runs m f c n ++ run_parts f n t)) n t (f n t) ≡ true
-runs-follow m f c n zero h b =
-    let before = last-before m f c n h in
-    ap (λ xs. follows_run m (last_of xs) n 0 (f n 0)) (append-nil (all_runs m f c n)) ∙ first-follows m (last_of (all_runs m f c n)) n (f n 0) before.behind before.exits
+runs-follow m f c n zero h b = grind (arith, last-before, append-nil, first-follows)
 runs-follow m f c n (suc t) h b =
     let w = last-within f n (suc t) (all_runs m f c n) (omega arith) in
     ap (λ o. follows_run m o n (suc t) (f n (suc t))) w.is ∙ further-follows m w.run n (suc t) (f n (suc t)) w.node w.moment (differs (f n) (suc t) w.run.label b (omega arith) w.label)
@@ -183,12 +175,7 @@ push-by m rs r c e l begins before =
     ∙ ap (λ x. x ++ (r ∷ [])) before
 
 first-own : (m : Model) (rs : List Run) (r : Run) (c : ℕ) → is_exit_at m r.node ≡ false → r.moment < c → IsFirst m (last_of rs) r.node r.moment → AreOwn m c rs → AreOwn m c (rs ++ (r ∷ []))
-first-own m rs r c e l h own =
-    let f = run_label rs in
-    let a = behind_run (last_of rs) in
-    push-by m rs r c e l (ap (begins_run (run_label (rs ++ (r ∷ [])) r.node)) h.moment ∙ begins-zero (run_label (rs ++ (r ∷ [])) r.node))
-    (ap (λ t. all_runs m f c r.node ++ run_parts f r.node t) h.moment ∙ append-nil (all_runs m f c r.node)
-    ∙ below-stop (λ n. cond (is_exit_at m n) [] (run_parts f n c)) a r.node h.behind (λ i b k. ap (λ w. cond w [] (run_parts f i c)) (exits-at m a r.node i h.exits b k)) ∙ own)
+first-own m rs r c e l h own = grind (arith, push-by, begins-zero, append-nil, below-stop, exits-at)
 
 further-own : (m : Model) (rs : List Run) (r : Run) (c : ℕ) → is_exit_at m r.node ≡ false → r.moment < c → IsFurther (last_of rs) r.node r.moment r.label → AreOwn m c rs → AreOwn m c (rs ++ (r ∷ []))
 further-own m rs r c e l h own =
@@ -214,13 +201,8 @@ further-own m rs r c e l h own =
 
 -- with one run more
 pub push-own : (m : Model) (rs : List Run) (r : Run) (c : ℕ) → is_exit_at m r.node ≡ false → r.moment < c → follows_run m (last_of rs) r.node r.moment r.label ≡ true → AreOwn m c rs → AreOwn m c (rs ++ (r ∷ []))
-push-own m rs r c e l h own = elim (follows-how m (last_of rs) r.node r.moment r.label h) [
-  | inl first ↦ first-own m rs r c e l first own
-  | inr further ↦ further-own m rs r c e l further own
-]
+push-own m rs r c e l h own = grind (arith, follows-how, first-own, further-own)
 
 -- all of the runs, where only exits come after the last one
 pub whole-own : (m : Model) (rs : List Run) (c n : ℕ) → LastBefore m n (last_of rs) → AreOwn m c rs → all_runs m (run_label rs) c n ≡ rs
-whole-own m rs c n h own =
-    let a = behind_run (last_of rs) in
-    below-stop (λ i. cond (is_exit_at m i) [] (run_parts (run_label rs) i c)) a n h.behind (λ i b k. ap (λ w. cond w [] (run_parts (run_label rs) i c)) (exits-at m a n i h.exits b k)) ∙ own
+whole-own m rs c n h own = grind (arith, below-stop, exits-at)

@@ -11,7 +11,7 @@ use Rattle.evac_law.specs.Sums.{below}
 use Rattle.evac_law.proofs.PartLemmas.{flat_map-none, flat_map-suc}
 use Rattle.certificate_text.specs.declared.entry.Entry.TheVariants as entries
 use Rattle.block_reader.specs.declared.run.Run.{Run}
-use Rattle.certificate_text.specs.BlockEntries.{label_entries, label_entry_at, node_entries}
+use Rattle.certificate_text.specs.BlockEntries.{label_entries, label_entry_at}
 use Rattle.certificate_text.specs.BlockText.{begins_run}
 use Rattle.block_reader.specs.DraftFacts.{all_runs, node_runs, run_part, run_parts}
 use Rattle.block_reader.proofs.DraftEntries.{run_entry}
@@ -30,15 +30,11 @@ part-entry m f n t false = refl
 
 node-entry : (m : Model) (f : ℕ → ℕ → ℕ) (c n : ℕ) (b : Bool) → cond b [] (flat_map (label_entry_at m f n) (below c)) ≡ map (run_entry m) (cond b [] (run_parts f n c))
 node-entry m f c n true = refl
-node-entry m f c n false =
-    below-same (label_entry_at m f n) (λ t. map (run_entry m) (run_part f n t)) c (λ t l. part-entry m f n t (begins_run (f n) t))
-    ∙ sym (map-flat_map (run_entry m) (run_part f n) (below c))
+node-entry m f c n false = grind (arith, below-same, run_entry, part-entry, map-flat_map)
 
 -- the entries of labels are those of their runs
 pub label_entries-runs : (m : Model) (f : ℕ → ℕ → ℕ) (c : ℕ) → label_entries m f c ≡ map (run_entry m) (all_runs m f c (length m.nodes))
-label_entries-runs m f c =
-    below-same (node_entries m f c) (λ n. map (run_entry m) (node_runs m f c n)) (length m.nodes) (λ n l. node-entry m f c n (is_exit_at m n))
-    ∙ sym (map-flat_map (run_entry m) (node_runs m f c) (below (length m.nodes)))
+label_entries-runs m f c = grind (arith, below-same, run_entry, node-entry, map-flat_map)
 
 -- ---- where a run begins
 
@@ -49,17 +45,10 @@ pub begins-not : (f : ℕ → ℕ) (t : ℕ) → 0 < t → f t ≡ f (t - 1) →
 begins-not f t pos e = or_from (nat_eq t 0) (not (nat_eq (f t) (f (t - 1)))) (ne_eqb t 0 (λ q. omega (arith, q, pos))) (not_from_true (nat_eq (f t) (f (t - 1))) (eq-eqb (f t) (f (t - 1)) e))
 
 pub stays : (f : ℕ → ℕ) (t : ℕ) → begins_run f t ≡ false → f t ≡ f (t - 1)
-stays f t h =
-    elim (cases_eq t 0) [
-      | inl e ↦ let z : true ≡ false = sym (ap (λ b. b || not (nat_eq (f t) (f (t - 1)))) (eq-eqb t 0 e)) ∙ h in cc
-      | inr ne ↦ eqb-true (f t) (f (t - 1)) (not-false (nat_eq (f t) (f (t - 1))) (sym (ap (λ b. b || not (nat_eq (f t) (f (t - 1)))) (ne_eqb t 0 ne)) ∙ h))
-    ]
+stays f t h = grind (arith, cases_eq, eq-eqb, eqb-true, not-false, ne_eqb)
 
 pub later-part : (f : ℕ → ℕ) (t : ℕ) → begins_run f t ≡ false → 0 < t
-later-part f t h = elim (cases_eq t 0) [
-  | inl z ↦ let q : true ≡ false = sym (ap (begins_run f) z ∙ begins-zero f) ∙ h in cc
-  | inr ne ↦ omega (arith, ne)
-]
+later-part f t h = grind (arith, cases_eq, begins-zero)
 
 pub parts-more : (f : ℕ → ℕ → ℕ) (n t : ℕ) (b : Bool) → begins_run (f n) t ≡ b
     → run_parts f n (suc t) ≡ run_parts f n t ++ cond b (record { node = n; moment = t; label = f n t } ∷ []) []
@@ -90,18 +79,14 @@ fold-more n t xs ys = fold-append (λ (x : ℕ) (r : Run). cond (nat_eq r.node n
 
 -- the runs of another node leave a label
 other-node : (m : Model) (f : ℕ → ℕ → ℕ) (c k n t : ℕ) → (k ≡ n → ⊥) → run_label (all_runs m f c (suc k)) n t ≡ run_label (all_runs m f c k) n t
-other-node m f c k n t ne =
-    ap (λ x. run_label x n t) (flat_map-suc (node_runs m f c) k) ∙ fold-more n t (all_runs m f c k) (node_runs m f c k)
-    ∙ fold-other (node_runs m f c k) n t (run_label (all_runs m f c k) n t) (λ i d b e. ne (sym (all-of-node m f c k (is_exit_at m k) i d b) ∙ e))
+other-node m f c k n t ne = grind (arith, flat_map-suc, fold-more, fold-other, all-of-node)
 
 later-given : (m : Model) (f : ℕ → ℕ → ℕ) (c k n t : ℕ) → k ≤ n → run_label (all_runs m f c k) n t ≡ unset
 later-given m f c zero n t h = ap (λ x. run_label x n t) (flat_map-none (node_runs m f c)) ∙ label-none n t
 later-given m f c (suc k) n t h = other-node m f c k n t (λ e. omega (arith, e, h)) ∙ later-given m f c k n t (omega (arith, h))
 
 exit-by : (m : Model) (f : ℕ → ℕ → ℕ) (c n t : ℕ) → is_exit_at m n ≡ true → run_label (all_runs m f c (suc n)) n t ≡ unset
-exit-by m f c n t e =
-    ap (λ x. run_label x n t) (flat_map-suc (node_runs m f c) n ∙ ap (λ x. all_runs m f c n ++ cond x [] (run_parts f n c)) e ∙ append-nil (all_runs m f c n))
-    ∙ later-given m f c n n t (omega arith)
+exit-by m f c n t e = grind (arith, flat_map-suc, append-nil, later-given)
 
 -- an exit has none
 pub exit-given : (m : Model) (f : ℕ → ℕ → ℕ) (c k n t : ℕ) → is_exit_at m n ≡ true → run_label (all_runs m f c k) n t ≡ unset
@@ -120,12 +105,7 @@ reached-run f n t s xs b =
 
 reached-by : (f : ℕ → ℕ → ℕ) (n t s : ℕ) (xs : List Run) (b : Bool) → begins_run (f n) s ≡ b → (0 < s → run_label (xs ++ run_parts f n s) n t ≡ f n (min t (s - 1)))
     → run_label (xs ++ run_parts f n (suc s)) n t ≡ f n (min t s)
-reached-by f n t s xs true e h = reached-run f n t s xs e ∙ elim (cases_lt t s) [
-  | inl l ↦ ap (λ b. cond b (f n s) (run_label (xs ++ run_parts f n s) n t)) (ap₂ (λ p q. p && q) (eq-eqb n n refl) (lt-leb s t l)) ∙ h (omega (arith, l))
-      ∙ ap (f n) (let q : min t (s - 1) ≡ min t s = omega (arith, l) in q)
-  | inr l ↦ ap (λ b. cond b (f n s) (run_label (xs ++ run_parts f n s) n t)) (and_from (nat_eq n n) (nat_le s t) (eq-eqb n n refl) (le-leb s t l))
-      ∙ ap (f n) (let q : s ≡ min t s = omega (arith, l) in q)
-]
+reached-by f n t s xs true e h = grind (arith, reached-run, cases_lt, eq-eqb, lt-leb, and_from, le-leb)
 reached-by f n t s xs false e h =
     let pos = later-part (f n) s e in
     ap (λ y. run_label (xs ++ y) n t) (parts-more f n s false e ∙ append-nil (run_parts f n s)) ∙ h pos ∙ elim (cases_lt t s) [
@@ -139,9 +119,7 @@ reached f n t zero xs h = absurd (omega (arith, h))
 reached f n t (suc s) xs h = reached-by f n t s xs (begins_run (f n) s) refl (λ k. reached f n t s xs k) ∙ ap (λ k. f n (min t k)) (let q : s ≡ suc s - 1 = omega arith in q)
 
 own-given : (m : Model) (f : ℕ → ℕ → ℕ) (c n t : ℕ) → is_exit_at m n ≡ false → t < c → run_label (all_runs m f c (suc n)) n t ≡ f n t
-own-given m f c n t e h =
-    ap (λ x. run_label x n t) (flat_map-suc (node_runs m f c) n ∙ ap (λ x. all_runs m f c n ++ cond x [] (run_parts f n c)) e)
-    ∙ reached f n t c (all_runs m f c n) (omega (arith, h)) ∙ ap (f n) (let q : min t (c - 1) ≡ t = omega (arith, h) in q)
+own-given m f c n t e h = grind (arith, flat_map-suc, reached)
 
 -- the runs of labels give them back
 pub runs-given : (m : Model) (f : ℕ → ℕ → ℕ) (c k n t : ℕ) → n < k → is_exit_at m n ≡ false → t < c → run_label (all_runs m f c k) n t ≡ f n t

@@ -3,7 +3,7 @@ use Rattle.std.proofs.Common.{◌≡◌, ℕ, zero, suc, ◌+◌, ◌<◌, ◌�
 use Rattle.std.proofs.Math.ListN.{set}
 use Rattle.std.specs.List.{filter, list_any}
 use Rattle.std.proofs.Math.Bool.{or_assoc}
-use Rattle.std.proofs.lemmas.Bool.{cases_eq, le-ltb, lt-leb, lt-ltb}
+use Rattle.std.proofs.lemmas.Bool.{cases_eq, le-ltb, lt-ltb}
 use Rattle.std.proofs.lemmas.Bool.Decides.{nat_tests}
 use Rattle.std.proofs.lemmas.Grind.{common_steps}
 use Rattle.std.proofs.lemmas.List.{get_or-set_other, get_or-set_same}
@@ -53,12 +53,8 @@ widen_step i n k to x r s e y here there = split (cases_eq i n)
     swap false false c = sym (or_false c)
 
     split : (i ≡ n) ⊎ (i ≡ n → ⊥) → (r || ltb k y) ≡ ((s || ltb k x) || (ltb i (suc n) && ltb k to))
-    split (inl g) =
-        let r_is : r ≡ s = e ∙ ap (λ b. s || (b && ltb k to)) (le-ltb i n (omega (arith, g))) ∙ or_false s in
-        ap₂ (λ a b. a || ltb k b) r_is (here g) ∙ ap (λ b. s || b) (test_max x to k) ∙ sym (or_assoc s (ltb k x) (ltb k to))
-        ∙ ap (λ b. (s || ltb k x) || (b && ltb k to)) (sym (lt-ltb i (suc n) (omega (arith, g))))
-    split (inr g) =
-        ap₂ (λ a b. a || ltb k b) e (there g) ∙ swap s (ltb i n && ltb k to) (ltb k x) ∙ ap (λ b. (s || ltb k x) || (b && ltb k to)) (sym (next g))
+    split (inl g) = grind (arith, le-ltb, or_false, test_max, or_assoc, lt-ltb)
+    split (inr g) = grind (arith, swap, next)
 
 pub widened : (xs : List ℕ) (i to k n : ℕ) → i < length xs
     → list_any (λ f. ltb k (get_or (set xs i (max (get_or xs i 0) to)) f 0)) (below n) ≡ (list_any (λ f. ltb k (get_or xs f 0)) (below n) || (ltb i n && ltb k to))
@@ -77,9 +73,6 @@ covers_more xs i to k l = widened xs i to k (k + 1) l ∙ ap (λ b. covers xs k 
   where
     by_next : (x y : ℕ) → ltb x (y + 1) ≡ leb x y
     by_next x y = grind (arith, nat_tests)
-
-pub covers_same : (xs : List ℕ) (i to k : ℕ) → length xs ≤ i → k < length xs → covers xs k ≡ (covers xs k || (leb i k && ltb k to))
-covers_same xs i to k l h = sym (ap (λ b. covers xs k || (b && ltb k to)) (lt-leb i k (omega (arith, l, h))) ∙ or_false (covers xs k))
 
 pub covers_none : (xs : List ℕ) (k : ℕ) → ((f : ℕ) → get_or xs f 0 ≡ 0) → covers xs k ≡ false
 covers_none xs k h = any-none (λ f. ltb k (get_or xs f 0)) (k + 1) (λ i l. le-ltb k (get_or xs i 0) (omega (arith, h i)))
@@ -105,9 +98,6 @@ filter-same p q (suc n) h =
 -- how far the spans that begin before a period reach
 pub record IsFar (xs : List ℕ) (n far : ℕ) : Type 0 where
   pub tests : (j : ℕ) → ltb j far ≡ list_any (λ f. ltb j (get_or xs f 0)) (below n)
-
-pub far_first : (xs : List ℕ) → IsFar xs 0 0
-far_first xs = record { tests = λ j. le-ltb j 0 (omega arith) }
 
 pub far_next : (xs : List ℕ) (n far : ℕ) → IsFar xs n far → IsFar xs (n + 1) (max far (get_or xs n 0))
 far_next xs n far h = record {

@@ -45,8 +45,7 @@ pick_test p a (suc n) =
     still e = grind (arith, nat_tests)
 
     split : ((eqb n a ≡ true) × (n ≡ a)) ⊎ ((eqb n a ≡ false) × (n ≡ a → ⊥)) → ((ltb a n && p a) || (p n && eqb n a)) ≡ (ltb a (suc n) && p a)
-    split (inl (e, f)) =
-        ap₂ (λ x y. (x && p a) || (p n && y)) (le-ltb a n (omega (arith, f))) e ∙ and-true (p n) ∙ ap p f ∙ sym (ap (λ b. b && p a) (lt-ltb a (suc n) (omega (arith, f))))
+    split (inl (e, f)) = grind (arith, le-ltb, and-true, lt-ltb)
     split (inr (e, f)) = ap (λ y. (ltb a n && p a) || (p n && y)) e ∙ ap (λ b. (ltb a n && p a) || b) (and-false (p n)) ∙ or_false (ltb a n && p a) ∙ sym (ap (λ b. b && p a) (still f))
 
 -- ---- arcs

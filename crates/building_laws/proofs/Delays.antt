@@ -1,5 +1,5 @@
 -- A cut of a building with other rates, w moments later, is worth no less than one of the building itself.
-use Rattle.std.proofs.Common.{◌≡◌, ◌≢◌, ℕ, ◌+◌, ◌<◌, ◌≤◌, Bool, true, cond, not, ◌&&◌, ◌||◌, eqb, leb, List, [], length, get_or, ap, ap₂, ◌∙◌, arith, inl, inr}
+use Rattle.std.proofs.Common.{◌≡◌, ◌≢◌, ℕ, ◌+◌, ◌<◌, ◌≤◌, Bool, true, cond, ◌&&◌, eqb, List, [], length, get_or, ap, ap₂, arith}
 use Rattle.std.specs.List.{sum_by}
 use Rattle.std.proofs.Math.Nat.{mul-le-mul_left}
 use Rattle.std.proofs.lemmas.Bool.{cases_eq, eqb-true}
@@ -9,7 +9,7 @@ use Rattle.evac_law.specs.Building.{IsValid, arc_at, capacity, entry, head, is_e
 use Rattle.evac_law.specs.Cuts.{Cut, cut_value, leaves_cut}
 use Rattle.evac_law.specs.Names.{is_exit}
 use Rattle.evac_law.specs.Plans.{IsFeasible, out_by}
-use Rattle.evac_law.specs.Sums.{below, moments_to}
+use Rattle.evac_law.specs.Sums.{below}
 use Rattle.evac_law.proofs.Optimal.{out_le_people}
 use Rattle.evac_law.proofs.SumLemmas.{sum_below-same, sum_by-add, sum_moments-le}
 use Rattle.evac_law.proofs.Thinned.{all_out_is_clearable}
@@ -39,27 +39,13 @@ module _ (m m' : Model) (d : DifferInRates m m') where
   people_same = ap₂ (λ ns es. sum_by (λ n. n.start) ns + sum_by (λ e. e.people) es) d.nodes d.entrants
 
   room_too : HasRoomForEntries m → HasRoomForEntries m'
-  room_too room n i =
-      omega (
-        arith,
-        room n (omega (arith, i, ap length d.nodes)),
-        ap (λ h. sum_by (entry m n) (moments_to h)) d.horizon,
-        sum_below-same (entry m n) (entry m' n) (m'.horizon + 1) (λ t _. entry_same n t),
-        capacity_same n,
-      )
+  room_too room n i = grind (arith, sum_below-same, entry_same, capacity_same)
 
   pub leaves_same : (x : Cut) (k t a : ℕ) → leaves_cut m x k t a ≡ leaves_cut m' x k t a
-  leaves_same x k t a =
-      ap₂ (λ u v. x u t && (leb (t + (arc_at m a).travel) k && (is_exit_at m v || not (x v (t + (arc_at m a).travel))))) (d.tails a) (d.heads a)
-      ∙ ap₂ (λ s e. x (tail m' a) t && (leb (t + s) k && (e || not (x (head m' a) (t + s))))) (d.travels a) (exit_same (head m' a))
+  leaves_same x k t a = grind (arith, exit_same)
 
   pub node_same : (x : Cut) (k n : ℕ) → of_node m k x n ≡ of_node m' k x n
-  node_same x k n =
-      ap₂ (λ a b. a + b)
-      (sum_below-same (λ t. cond (x n t || eqb (entry m n t) 0) 0 (entry m n t)) (λ t. cond (x n t || eqb (entry m' n t) 0) 0 (entry m' n t)) (k + 1)
-      (λ t _. ap (λ e. cond (x n t || eqb e 0) 0 e) (entry_same n t)))
-      (sum_below-same (λ t. cond (x n t && not (x n (t + 1))) (capacity m n) 0) (λ t. cond (x n t && not (x n (t + 1))) (capacity m' n) 0) k
-      (λ t _. ap (λ c. cond (x n t && not (x n (t + 1))) c 0) (capacity_same n)))
+  node_same x k n = grind (arith, sum_below-same, entry_same, capacity_same)
 
   -- w moments later a cut of the second model takes at least what one takes of the first that leaves out moments from c on
   module _ (steady : HasSteadyRates m) (room : HasRoomForEntries m) (x : Cut) (k w c : ℕ) (l : k + w ≤ m.horizon) where
@@ -81,16 +67,7 @@ module _ (m m' : Model) (d : DifferInRates m m') where
     -- where it does so of the arcs
     pub delayed_cut : ((a : ℕ) → a < length m.arcs → of_arc m k (from_moments g) a ≤ of_arc m' (k + w) x a)
         → cut_value m (from_moments g) k ≤ cut_value m' x (k + w)
-    delayed_cut arc_part =
-        omega (
-          arith,
-          nodes_and_arcs m k (from_moments g),
-          nodes_and_arcs m' (k + w) x,
-          termwise (of_node m k (from_moments g)) (of_node m' (k + w) x) (length m.nodes) node_part,
-          termwise (of_arc m k (from_moments g)) (of_arc m' (k + w) x) (length m.arcs) arc_part,
-          ap (λ i. sum_by (of_node m' (k + w) x) (below i)) (ap length d.nodes),
-          ap (λ i. sum_by (of_arc m' (k + w) x) (below i)) d.arcs,
-        )
+    delayed_cut arc_part = grind (arith, nodes_and_arcs, from_moments, termwise, of_node, node_part, of_arc, arc_part)
 
   -- a best plan of the second model has w moments later as many out as any of the first, where each cut bounds those so
   module _ (w : ℕ) (valid' : IsValid m') (room : HasRoomForEntries m)
@@ -184,10 +161,7 @@ module _ (m m' : Model) (a w : ℕ) (d : IsDisturbed m m' a w) (steady : HasStea
           )
 
   arc_part : (b : ℕ) → b < length m.arcs → of_arc m k (from_moments later_cut) b ≤ of_arc m' (k + w) x b
-  arc_part b i = elim (cases_eq b a) [
-    | inl same ↦ let j : a < length m.arcs = omega (arith, i, same) in omega (arith, own_arc j, ap (of_arc m k (from_moments later_cut)) same, ap (of_arc m' (k + w) x) same)
-    | inr apart ↦ other_arc b i apart
-  ]
+  arc_part b i = grind (arith, cases_eq, own_arc, of_arc, from_moments, other_arc)
 
   pub disturbed_cut : cut_value m (from_moments later_cut) k ≤ cut_value m' x (k + w)
   disturbed_cut = delayed_cut m m' d.alike steady room x k w (outside (tail m a)) l arc_part

@@ -2,10 +2,9 @@
 use Rattle.std.proofs.Common.{◌≡◌, ℕ, zero, suc, ◌+◌, ◌<◌, ◌≤◌, Bool, true, false, not, ◌&&◌, ◌||◌, ◌⊎◌, ltb, leb, List, [], length, refl, ap, sym, ◌∙◌, subst, add-one, arith, inl, inr, IsTrue, IsFalse, pos}
 use Rattle.std.proofs.lemmas.Bool.{and_parts, leb-true, not-true, cases_Bool, cases_lt, ltb-false, le-leb, lt-ltb, not_from_false, not-false, or_parts}
 use Rattle.std.proofs.lemmas.Int.{ints}
-use Rattle.std.proofs.lemmas.List.Elements.{All-nil}
 use Rattle.evac_law.specs.declared.model.Model.{Model}
 use Rattle.evac_law.specs.declared.plan.Move.{Move}
-use Rattle.evac_law.specs.Building.{IsValid, arrival, capacity, entry, head, is_exit_at, people, rate, tail}
+use Rattle.evac_law.specs.Building.{IsValid, arrival, capacity, head, is_exit_at, people, rate, tail}
 use Rattle.evac_law.specs.Certificates.{IsClearable, IsTight}
 use Rattle.evac_law.specs.Cuts.{Cut, IsCut, cut_value, leaves_cut}
 use Rattle.evac_law.specs.Plans.{IsFeasible, came, held, left, moved, out_by}
@@ -42,9 +41,7 @@ module _ (m : Model) (q : List Move) (z k : ℕ) (by_z : k ≤ z) (valid : IsVal
 
   held_is : (n t c : ℕ) → n < length m.nodes → IsFalse (is_exit_at m n) → t ≤ z → h n t ≡ c → held m q n t ≡ pos c
   unfolding held
-  held_is n t c i e l same =
-      let fits = within m q n t (capacity m n) (feasible.holds n t i e l) in
-      omega (arith, ints, fits.0, same)
+  held_is n t c i e l same = grind (arith, within, ints)
 
   module _ (r : ℕ → ℕ → Bool) (grown : Grown m z k by_z valid f h flow r) (closed : Closed m z k by_z valid f h flow r) where
     empty : (w : ℕ) → ltb 0 w ≡ false → w ≡ 0
@@ -71,26 +68,7 @@ module _ (m : Model) (q : List Move) (z k : ℕ) (by_z : k ≤ z) (valid : IsVal
     going : (a t : ℕ) → a < length m.arcs → t ≤ z → k < arrival m a t → IsFalse (r (tail m a) t)
         → (arrival m a t ≤ z → IsFalse (is_exit_at m (head m a)) → IsFalse (r (head m a) (arrival m a t)) → comes m f (head m a) (arrival m a t) ≡ 0)
         → f a t ≡ 0
-    going a t i l late off next = elim (cases_lt z (arrival m a t)) [
-      | inl after ↦
-          empty (f a t)
-          (last3 (ltb z (arrival m a t)) (not (r (tail m a) t)) (ltb 0 (f a t)) (closed.no_way a t i (omega (arith, l)))
-          (lt-ltb z (arrival m a t) after) (not_from_false (r (tail m a) t) off))
-      | inr in_time ↦
-          let soon = le-leb (arrival m a t) z in_time in elim (cases_Bool (is_exit_at m (head m a))) [
-            | inl exit ↦
-                empty (f a t)
-                (last5 (leb (arrival m a t) z) (is_exit_at m (head m a)) (ltb k (arrival m a t)) (not (r (tail m a) t)) (ltb 0 (f a t))
-                (closed.no_late a t i (omega (arith, l))) soon exit (lt-ltb k (arrival m a t) late) (not_from_false (r (tail m a) t) off))
-            | inr inner ↦ elim (cases_Bool (r (head m a) (arrival m a t))) [
-              | inl on ↦
-                  empty (f a t)
-                  (last5 (leb (arrival m a t) z) (not (is_exit_at m (head m a))) (r (head m a) (arrival m a t)) (not (r (tail m a) t)) (ltb 0 (f a t))
-                  (closed.no_return a t i (omega (arith, l))) soon (not_from_false (is_exit_at m (head m a)) inner) on (not_from_false (r (tail m a) t) off))
-              | inr never ↦ omega (arith, comes_least m f a t i, next in_time inner never)
-            ]
-          ]
-    ]
+    going a t i l late off next = grind (arith, cases_lt, empty, last3, lt-ltb, not_from_false, le-leb, cases_Bool, last5, comes_least)
 
     nobody : (fuel n t : ℕ) → z ≤ t + fuel → n < length m.nodes → IsFalse (is_exit_at m n) → k < t → t ≤ z → IsFalse (r n t)
         → (comes m f n t ≡ 0) × (before h n t ≡ 0)
@@ -183,11 +161,7 @@ module _ (m : Model) (q : List Move) (z k : ℕ) (by_z : k ≤ z) (valid : IsVal
     }
 
     shown : k ≤ m.horizon → HasEqualCut m q k
-    shown l = (
-      cut,
-      record { no_exits = λ n t e. (grown.inside n t (inside n t e).0).1; in_horizon = λ n t e. omega (arith, l, (inside n t e).1) },
-      tight_is_equal m cut q k valid (lawful_down m q k z by_z feasible) tight,
-    )
+    shown l = grind (arith, inside, tight_is_equal, lawful_down, tight)
 
 -- ---- one person more at a time, moment by moment
 
@@ -198,8 +172,7 @@ Best m z k p = IsFeasible m p z × ((i : ℕ) → i < k → HasEqualCut m p i)
 module _ (m : Model) (z k : ℕ) (by_z : k ≤ z) (valid : IsValid m) (l : z ≤ m.horizon) where
   -- where another plan has as many out, it is shown to be best too
   shown_too : (p q : List Move) (i : ℕ) → i ≤ k → IsFeasible m q z → out_by m p i ≤ out_by m q i → HasEqualCut m p i → HasEqualCut m q i
-  shown_too p q i s feasible more is =
-      (is.0, is.1, omega (arith, more, is.2, out_le_value m is.0 q i valid (lawful_down m q i z (omega (arith, s, by_z)) feasible)))
+  shown_too p q i s feasible more is = grind (arith, out_le_value, lawful_down)
 
   -- a set that no one can leave shows that the plan is best at k too
   settle : (q : List Move) (best : Best m z k q) (r : ℕ → ℕ → Bool) → Grown m z k by_z valid (moved q) (stays m q) (flow_of_plan m z q best.0) r
@@ -289,14 +262,7 @@ most_is_reached m q x valid feasible cut least =
 
 pub staying : (m : Model) (k : ℕ) → HasRoomForEntries m → k ≤ m.horizon → IsFeasible m [] k
 unfolding moved held came left
-staying m k room l = record {
-  arcs = All-nil (λ v. v.arc < length m.arcs);
-  rates = λ a t i s. omega arith;
-  holds = λ n t i e s.
-      let fits = room n i in
-      let fewer = sum_moments-le (entry m n) t m.horizon (omega (arith, s, l)) in
-      (omega (arith, ints), omega (arith, ints, fits, fewer));
-}
+staying m k room l = grind (arith, sum_moments-le, ints)
 
 -- where staying is feasible, everybody can get out or a cut is worth fewer
 pub cleared_or_short : (m : Model) → IsValid m → HasRoomForEntries m → IsClearable m ⊎ ((x : Cut) × (cut_value m x m.horizon < people m))

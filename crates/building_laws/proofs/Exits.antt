@@ -1,5 +1,5 @@
 -- Two exits shut together cost at least what each costs alone, added up.
-use Rattle.std.proofs.Common.{◌≡◌, ◌≢◌, ℕ, ◌+◌, ◌<◌, ◌≤◌, Bool, true, false, cond, not, ◌&&◌, ◌||◌, eqb, leb, List, get_or, length, refl, ap, sym, ◌∙◌, arith, inl, inr, subst, Ok}
+use Rattle.std.proofs.Common.{◌≡◌, ◌≢◌, ℕ, ◌+◌, ◌<◌, ◌≤◌, Bool, true, false, cond, not, ◌&&◌, ◌||◌, eqb, leb, List, get_or, length, refl, ap, sym, ◌∙◌, arith, subst, Ok}
 use Rattle.std.proofs.lemmas.Bool.{both_ways, cases_Bool, eqb-true, eqb-false, eq-eqb, not-false}
 use Rattle.std.proofs.lemmas.List.{length-set, get_or-set_same, get_or-set_other}
 use Rattle.evac_law.specs.declared.edit.Edit.{Edit}
@@ -81,8 +81,7 @@ join x y n t = x n t || y n t
 
 pair_le : (n k : ℕ) (a b c d : ℕ → ℕ → ℕ) → ((i j : ℕ) → i < n → j < k → a i j + b i j ≤ c i j + d i j)
     → sum2 n k a + sum2 n k b ≤ sum2 n k c + sum2 n k d
-pair_le n k a b c d h =
-    omega (arith, sum2-le n k (λ i j. a i j + b i j) (λ i j. c i j + d i j) h, sum2-add n k a b, sum2-add n k c d)
+pair_le n k a b c d h = grind (arith, sum2-le, sum2-add)
 
 entry_pair : (x y z : Bool) (p : ℕ) → cond ((x && y) || z) 0 p + cond ((x || y) || z) 0 p ≤ cond (x || z) 0 p + cond (y || z) 0 p
 entry_pair x y z p = grind arith
@@ -110,19 +109,7 @@ arc_pair : (exit i x y u v : Bool) (r s w b : ℕ) → (exit ≡ false → (r �
     → cond ((x && y) && (i && (exit || not (u && v)))) r 0 + cond ((x || y) && (i && (exit || not (u || v)))) b 0
     ≤ cond (x && (i && (exit || not u))) s 0 + cond (y && (i && (exit || not v))) w 0
 arc_pair true i x y u v r s w b e f g h = exit_pair i x y r s w b f g h
-arc_pair false i x y u v r s w b e f g h =
-    let same = e refl in
-    let one = inner_pair i x y u v r in
-    let to_s : r ≡ s = same.0 in
-    let to_w : r ≡ w = same.0 ∙ same.1 in
-    let to_b : r ≡ b = same.0 ∙ same.1 ∙ same.2 in
-    omega (
-      arith,
-      one,
-      ap (λ z. cond ((x || y) && (i && not (u || v))) z 0) to_b,
-      ap (λ z. cond (x && (i && not u)) z 0) to_s,
-      ap (λ z. cond (y && (i && not v)) z 0) to_w,
-    )
+arc_pair false i x y u v r s w b e f g h = grind (arith, inner_pair)
 
 meet_join : (m : Model) (x y : Cut) (k : ℕ) (r s w b : ℕ → ℕ → ℕ) → AreFour m r s w b
     → value_at m (meet x y) k r + value_at m (join x y) k b ≤ value_at m x k s + value_at m y k w
@@ -166,14 +153,7 @@ module _ (m : Model) (e : ℕ) (l : e < length m.nodes) where
   pick b p q c h w i = grind arith
 
   shut_at : (n : ℕ) → (node_at shut n).shut ≡ cond (eqb n e) true (node_at m n).shut
-  shut_at n = elim (cases_Bool (eqb n e)) [
-    | inl same ↦
-        let here : n ≡ e = eqb-true n e same in
-        rw here (ap (λ r. r.shut) (get_or-set_same m.nodes e (record (node_at m e) { shut = true }) no_node l) ∙ sym (ap (λ b. cond b true (node_at m e).shut) (eq-eqb e e refl)))
-    | inr other ↦
-        ap (λ r. r.shut) (get_or-set_other m.nodes e n (record (node_at m e) { shut = true }) no_node (eqb-false n e other))
-        ∙ sym (ap (λ b. cond b true (node_at m n).shut) other)
-  ]
+  shut_at n = grind (arith, cases_Bool, eqb-true, get_or-set_same, eq-eqb, get_or-set_other, eqb-false)
 
   shuts : Shuts m shut e
   shuts = record {
@@ -219,14 +199,10 @@ same_rates p q r s w b h i e f g = (grind arith, grind arith, grind arith)
 module _ (m s w b : Model) (e f : ℕ) (apart : e ≢ f) (one : Shuts m s e) (other : Shuts m w f) (both : Shuts s b f)
     (exit_e : is_exit_at m e ≡ true) (exit_f : is_exit_at m f ≡ true) where
   last_rate : (a t : ℕ) → rate b a t ≡ cond (eqb (head m a) f) 0 (rate s a t)
-  last_rate a t =
-      both.rates a t ∙ ap (λ n. cond (eqb n f) 0 (rate s a t)) (sym (ap (λ l. (get_or l a no_arc).to) one.alike.arcs))
+  last_rate a t = grind arith
 
   not_it : (a g : ℕ) → is_exit_at m g ≡ true → is_exit_at m (head m a) ≡ false → eqb (head m a) g ≡ false
-  not_it a g y n = elim (cases_Bool (eqb (head m a) g)) [
-    | inl same ↦ absurd (both_ways (is_exit_at m (head m a)) n (ap (is_exit_at m) (eqb-true (head m a) g same) ∙ y))
-    | inr other_place ↦ other_place
-  ]
+  not_it a g y n = grind (arith, cases_Bool, both_ways, eqb-true)
 
   not_both : (a : ℕ) → eqb (head m a) e ≡ true → eqb (head m a) f ≡ true → ⊥
   not_both a p q = apart (sym (eqb-true (head m a) e p) ∙ eqb-true (head m a) f q)

@@ -1,5 +1,5 @@
 -- A plan without some of the people: whoever isn't there is taken out of the plan, step by step up to where they went.
-use Rattle.std.proofs.Common.{◌≡◌, ℕ, zero, suc, ◌+◌, ◌-◌, ◌<◌, ◌≤◌, Bool, true, false, cond, ◌&&◌, ◌||◌, eqb, ltb, leb, List, length, set, refl, ap, sym, ◌∙◌, add-one, subst, arith, inl, inr, IsFalse}
+use Rattle.std.proofs.Common.{◌≡◌, ℕ, zero, suc, ◌+◌, ◌-◌, ◌<◌, ◌≤◌, Bool, true, false, cond, ◌&&◌, ◌||◌, eqb, ltb, leb, List, length, refl, ap, sym, ◌∙◌, add-one, subst, arith, inl, inr, IsFalse}
 use Rattle.std.proofs.lemmas.Bool.{and_parts, cases_Bool, cases_eq, cases_lt, eq-eqb, eqb-true, ltb-true, ne_eqb}
 use Rattle.std.proofs.lemmas.Bool.Decides.{nat_tests}
 use Rattle.std.proofs.lemmas.List.{length-set, get_or-set_same, get_or-set_other, set-set, set-get_or}
@@ -173,9 +173,7 @@ module _ (m : Model) (n s : ℕ) (l : n < length m.nodes) where
 
   -- another number of people after that
   pub start_twice : (t : ℕ) → with_start changed n t ≡ with_start m n t
-  start_twice t =
-      ap (λ (r : NodeRow). record m { nodes = set (set m.nodes n row) n (record r { start = t }) }) (get_or-set_same m.nodes n row no_node l)
-      ∙ ap (λ (z : List NodeRow). record m { nodes = z }) (set-set m.nodes n row (record (node_at m n) { start = t }))
+  start_twice t = grind (arith, get_or-set_same, set-set)
 
 pub start_again : (m : Model) (n s : ℕ) → s ≡ start m n → with_start m n s ≡ m
 start_again m n s e = ap (λ c. with_start m n c) e ∙ ap (λ (z : List NodeRow). record m { nodes = z }) (set-get_or m.nodes n no_node)
@@ -191,10 +189,7 @@ module _ (m : Model) (n : ℕ) (l : n < length m.nodes) (valid : IsValid m) (som
   one_fewer = with_start m n (start m n - 1)
 
   inner : IsFalse (is_exit_at m n)
-  inner = elim (cases_Bool (is_exit_at m n)) [
-    | inl exit ↦ let node = node_is m n valid l in absurd (omega (arith, node.start_fits, node.exit_is_empty exit, some))
-    | inr no_exit ↦ no_exit
-  ]
+  inner = grind (arith, cases_Bool, node_is)
 
   there : 0 < goes m (moved p) n 0 + stays m p n 0
   there =
@@ -215,29 +210,10 @@ module _ (m : Model) (n : ℕ) (l : n < length m.nodes) (valid : IsValid m) (som
 
   still_gone : (g : ℕ → ℕ → ℕ) → gone one_fewer z g ≡ gone m z g
   unfolding gone
-  still_gone g =
-      sum2-same (length m.arcs) (z + 1) _ _
-      (λ a t. ap (λ e. cond (e && leb (arrival m a t) z) (g a t) 0) (exits_same m n (start m n - 1) l (head m a)))
+  still_gone g = grind (arith, sum2-same, exits_same)
 
   flow : IsFlow one_fewer z without_one.g without_one.j nobody
-  flow =
-      let is = without_one.moves in record {
-        rates = λ a t i s. omega (arith, is.rates a t i s, rates_same m n (start m n - 1) l a t);
-        rooms = λ i t j e s.
-            omega (
-              arith,
-              is.rooms i t (omega (arith, j, length-set m.nodes n (row m n (start m n - 1) l))) (sym (exits_same m n (start m n - 1) l i) ∙ e) s,
-              rooms_same m n (start m n - 1) l i,
-            );
-        balance = λ i t j e s.
-            omega (
-              arith,
-              is.balance i t (omega (arith, j, length-set m.nodes n (row m n (start m n - 1) l))) (sym (exits_same m n (start m n - 1) l i) ∙ e) s,
-              entry_less m n (start m n - 1) l 1 (omega (arith, some)) i t,
-              still_goes without_one.g i t,
-              still_comes without_one.g i t,
-            );
-      }
+  flow = grind (arith, rates_same, length-set, exits_same, rooms_same, entry_less, still_goes, still_comes)
 
   pub one_leaves : Without m (out_by m p z) z one_fewer 1
   one_leaves = (

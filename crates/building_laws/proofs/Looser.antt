@@ -1,5 +1,5 @@
 -- Buildings with no smaller rates and capacities, and edits that make one.
-use Rattle.std.proofs.Common.{◌≡◌, ℕ, ◌+◌, ◌<◌, ◌≤◌, Bool, true, false, cond, ◌&&◌, ◌||◌, eqb, leb, List, [], ◌∷◌, length, refl, ap, ap₂, sym, ◌∙◌, subst, arith, inl, inr, Ok, pos, ◌-ℤ◌, ◌≤ℤ◌}
+use Rattle.std.proofs.Common.{◌≡◌, ℕ, ◌<◌, ◌≤◌, Bool, true, false, cond, ◌&&◌, ◌||◌, eqb, leb, List, [], ◌∷◌, length, refl, ap, ap₂, sym, ◌∙◌, subst, arith, inl, inr, Ok, pos, ◌-ℤ◌, ◌≤ℤ◌}
 use Rattle.std.specs.List.{All, sum_by}
 use Rattle.std.proofs.lemmas.Bool.{both_ways, cases_eq, or_cases, or_right}
 use Rattle.std.proofs.lemmas.Int.{ints}
@@ -11,12 +11,11 @@ use Rattle.evac_law.specs.declared.model.Model.{Model}
 use Rattle.evac_law.specs.declared.model.NodeRow.{NodeRow}
 use Rattle.evac_law.specs.declared.plan.Move.{Move}
 use Rattle.evac_law.specs.declared.window.Window.{Window as ClosureWindow}
-use Rattle.evac_law.specs.Building.{arc_at, arrival, capacity, entry, head, is_exit_at, no_arc, no_node, node_at, people, rate, start}
-use Rattle.evac_law.specs.Edits.{IsEditOf, applied, checks, edited, inverse_of, windows_at, with_arc, with_node}
-use Rattle.evac_law.specs.Entrants.{entering}
+use Rattle.evac_law.specs.Building.{arc_at, capacity, entry, head, no_node, node_at, people, rate, start}
+use Rattle.evac_law.specs.Edits.{IsEditOf, applied, edited, windows_at, with_arc, with_node}
 use Rattle.evac_law.specs.Names.{is_exit}
 use Rattle.evac_law.specs.Plans.{IsFeasible, came, held, left, out_by}
-use Rattle.evac_law.specs.Sums.{below, moments_to, places}
+use Rattle.evac_law.specs.Sums.{below, places}
 use Rattle.evac_law.specs.Windows.{is_closed_at, is_same_window, is_within, window_of, without_window}
 use Rattle.evac_law.proofs.EditLemmas.{at-set, unless-Ok}
 use Rattle.evac_law.proofs.SumLemmas.{else_mono, sum_by-same, sum_places}
@@ -26,14 +25,11 @@ use Rattle.building_laws.specs.Looser.{IsLooser, IsLoosening, KeepsPlans}
 
 module _ (m m' : Model) (d : IsLooser m m') where
   entry_same : (n t : ℕ) → entry m n t ≡ entry m' n t
-  entry_same n t =
-      ap (λ s. cond (eqb t 0) s (entering m.entrants n t)) (d.starts n) ∙ ap (λ l. cond (eqb t 0) (start m' n) (entering l n t)) d.entrants
+  entry_same n t = grind arith
 
   came_same : (p : List Move) (n t : ℕ) → came m p n t ≡ came m' p n t
   unfolding came
-  came_same p n t =
-      ap₂ (λ x y. x + y) (sum_by-same (entry m n) (entry m' n) (moments_to t) (entry_same n))
-      (sum_by-same _ _ p (λ v. ap₂ (λ h s. cond (eqb h n && leb (v.moment + s) t) v.people 0) (d.heads v.arc) (d.travels v.arc)))
+  came_same p n t = grind (arith, sum_by-same, entry_same)
 
   left_same : (p : List Move) (n t : ℕ) → left m p n t ≡ left m' p n t
   unfolding left
@@ -45,11 +41,7 @@ module _ (m m' : Model) (d : IsLooser m m') where
 
   out_same : (p : List Move) (k : ℕ) → out_by m' p k ≡ out_by m p k
   unfolding out_by
-  out_same p k =
-      sum_by-same _ _ p
-      (λ v. sym (
-      ap (λ e. cond (e && leb (arrival m v.arc v.moment) k) v.people 0) (d.exits (head m v.arc))
-      ∙ ap₂ (λ h s. cond (is_exit_at m' h && leb (v.moment + s) k) v.people 0) (d.heads v.arc) (d.travels v.arc)))
+  out_same p k = grind (arith, sum_by-same)
 
   people_same : people m ≡ people m'
   unfolding people
@@ -94,24 +86,7 @@ rate_in m r t = cond (r.shut || (node_at m r.to).shut || is_closed_at r.windows.
 
 other_arc : (m : Model) (a : ℕ) (row : ArcRow) → a < length m.arcs → row.from ≡ (arc_at m a).from → row.to ≡ (arc_at m a).to
     → row.travel ≡ (arc_at m a).travel → ((t : ℕ) → rate m a t ≤ rate_in m row t) → IsLooser m (with_arc m a row)
-other_arc m a row l from to travel more = record {
-  horizon = refl;
-  places = refl;
-  exits = λ n. refl;
-  starts = λ n. refl;
-  entrants = refl;
-  rooms = λ n. omega arith;
-  arcs = sym (length-set m.arcs a row);
-  tails = λ b. sym (at-set (λ r. r.from) m.arcs a row no_arc from b);
-  heads = λ b. sym (at-set (λ r. r.to) m.arcs a row no_arc to b);
-  travels = λ b. sym (at-set (λ r. r.travel) m.arcs a row no_arc travel b);
-  rates = λ b t i _. elim (cases_eq b a) [
-    | inl same ↦
-        let here = ap (λ r. rate_in m r t) (get_or-set_same m.arcs a row no_arc l) in
-        omega (arith, more t, here, ap (λ c. rate m c t) same, ap (λ c. rate (with_arc m a row) c t) same)
-    | inr apart ↦ omega (arith, ap (λ r. rate_in m r t) (get_or-set_other m.arcs a b row no_arc apart))
-  ];
-}
+other_arc m a row l from to travel more = grind (arith, length-set, at-set, cases_eq, get_or-set_same, get_or-set_other)
 
 -- fewer marks leave an arc its rate
 opened : (p q c p' q' c' : Bool) (r : ℕ) → (p' ≡ true → p ≡ true) → (q' ≡ true → q ≡ true) → (c' ≡ true → c ≡ true)
@@ -202,6 +177,4 @@ loosens m (Unwindow a p q) l h =
     (λ e. e) (λ e. e) (still_closed (windows_at m a) (window_of p q) t))
 
 pub loosening_keeps_plans : (m m' : Model) (e i : Edit) → IsEditOf m e → IsLoosening m e → applied m e ≡ Ok (m', i) → KeepsPlans m m'
-loosening_keeps_plans m m' e i names loose h =
-    let same : edited m e ≡ m' = ap (λ t. t.0) (unless-Ok (checks m e) (edited m e, inverse_of m e) (m', i) h).1 in
-    looser_keeps_plans m m' (subst (IsLooser m) same (loosens m e names loose))
+loosening_keeps_plans m m' e i names loose h = grind (arith, unless-Ok, looser_keeps_plans, loosens)

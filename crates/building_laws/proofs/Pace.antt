@@ -122,8 +122,7 @@ module _ (m : Model) (k : ℕ) (l : k + 2 ≤ m.horizon) (steady : HasSteadyRate
   half a b e h = (omega (arith, e, h), omega (arith, e, h))
 
   both_first : (n : ℕ) → n < length m.nodes → 0 < start m n → (lo n ≡ 0) × (hi n ≡ 0)
-  both_first n i some =
-      half (f n) (g n) (at_once m nobody f k n i (few n i some).0) (at_once m nobody g (k + 2) n i (few n i some).1)
+  both_first n i some = grind (arith, half, at_once)
 
   two_halves : cut_value m (from_moments lo) (k + 1) + cut_value m (from_moments hi) (k + 1)
       ≤ cut_value m (from_moments f) k + cut_value m (from_moments g) (k + 2)

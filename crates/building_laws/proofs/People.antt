@@ -1,12 +1,12 @@
 -- People who leave a room, come into one, or go from one to another.
-use Rattle.std.proofs.Common.{◌≡◌, ℕ, ◌+◌, ◌-◌, ◌<◌, ◌≤◌, not, ◌&&◌, ◌||◌, leb, List, length, refl, ap, sym, ◌∙◌, subst, arith, Ok}
+use Rattle.std.proofs.Common.{◌≡◌, ℕ, ◌+◌, ◌-◌, ◌<◌, ◌≤◌, List, length, refl, ap, sym, ◌∙◌, subst, arith, Ok}
 use Rattle.std.proofs.lemmas.Bool.{eqb-false, ltb-false}
 use Rattle.std.proofs.lemmas.List.{length-set, get_or-set_other}
 use Rattle.evac_law.specs.declared.edit.Edit.{Edit}
 use Rattle.evac_law.specs.declared.edit.Edit.TheVariants.{Enter, Leave, Shift}
 use Rattle.evac_law.specs.declared.model.Model.{Model}
 use Rattle.evac_law.specs.declared.plan.Move.{Move}
-use Rattle.evac_law.specs.Building.{IsValid, arrival, head, no_node, people, start, tail}
+use Rattle.evac_law.specs.Building.{IsValid, no_node, people, start}
 use Rattle.evac_law.specs.Certificates.{IsClearable}
 use Rattle.evac_law.specs.Cuts.{Cut, cut_value, leaves_cut}
 use Rattle.evac_law.specs.Edits.{IsEditOf, applied, checks, edited, inverse_of, with_start}
@@ -34,8 +34,7 @@ module _ (m less : Model) (n w : ℕ) (is : IsWithout m less n w) where
   fewer = with_start m n (start m n - w)
 
   leaves_same : (x : Cut) (k t a : ℕ) → leaves_cut fewer x k t a ≡ leaves_cut m x k t a
-  leaves_same x k t a =
-      ap (λ e. x (tail m a) t && (leb (arrival m a t) k && (e || not (x (head m a) (arrival m a t))))) (exits_same m n (start m n - w) is.node_in (head m a))
+  leaves_same x k t a = grind (arith, exits_same)
 
   -- a cut is worth no more
   value_less : (x : Cut) (k : ℕ) → cut_value less x k ≤ cut_value m x k
@@ -62,8 +61,7 @@ module _ (m less : Model) (n w : ℕ) (is : IsWithout m less n w) where
   little_fewer p q k feasible best = let r = rest p k feasible in omega (arith, r.2, best.most r.0 r.1)
 
   people_less : people m ≡ people less + w
-  people_less =
-      omega (arith, people-set m n (row m n (start m n - w) is.node_in) is.node_in, is.enough) ∙ ap (λ s. people s + w) is.same
+  people_less = grind (arith, people-set, row)
 
   horizon_same : m.horizon ≡ less.horizon
   horizon_same = ap (λ s. s.horizon) is.same
@@ -75,13 +73,7 @@ module _ (m less : Model) (n w : ℕ) (is : IsWithout m less n w) where
       (r.0, subst (IsFeasible less r.0) horizon_same r.1, ap (out_by less r.0) (sym horizon_same) ∙ all)
 
   has_fewer : HasFewer m less w
-  has_fewer = record {
-    never_more = never_more;
-    little_fewer = λ p q k l. little_fewer p q k;
-    no_later = λ p q k l feasible all_out best.
-        omega (arith, little_fewer p q k feasible best, all_out, people_less, out_le_people less q k is.valid_less best.feasible);
-    clears = clears;
-  }
+  has_fewer = grind (arith, never_more, little_fewer, people_less, out_le_people, clears)
 
 -- ---- edits
 

@@ -1,12 +1,11 @@
 -- Buildings without windows have steady rates, and valid ones without entrants have room.
-use Rattle.std.proofs.Common.{◌≡◌, ℕ, cond, ◌||◌, eqb, List, [], ap, sym, ◌∙◌, arith}
+use Rattle.std.proofs.Common.{◌≡◌, ℕ, cond, eqb, List, [], ap, arith}
 use Rattle.std.specs.List.{All}
 use Rattle.evac_law.specs.declared.entrant.Entrant.{Entrant}
 use Rattle.evac_law.specs.declared.model.Model.{Model}
-use Rattle.evac_law.specs.Building.{IsValid, arc_at, entry, head, no_arc, node_at, start}
+use Rattle.evac_law.specs.Building.{IsValid, entry, start}
 use Rattle.evac_law.specs.Entrants.{entering}
 use Rattle.evac_law.specs.Sums.{moments_to}
-use Rattle.evac_law.specs.Windows.{is_closed_at}
 use Rattle.evac_law.proofs.Entries.{once}
 use Rattle.evac_law.proofs.SumLemmas.{sum_by-same}
 use Rattle.evac_law.proofs.ValidLemmas.{node_is}
@@ -29,7 +28,4 @@ nobody_later_has_room m valid e n l =
     )
 
 pub no_windows_are_steady : (m : Model) → All (λ a. a.windows.items ≡ []) m.arcs → HasSteadyRates m
-no_windows_are_steady m h a t l _ =
-    let none = h a no_arc l in
-    let at = λ (s : ℕ). ap (λ ws. cond ((arc_at m a).shut || (node_at m (head m a)).shut || is_closed_at ws s) 0 (arc_at m a).rate) none in
-    at t ∙ sym (at 0)
+no_windows_are_steady m h a t l _ = grind arith

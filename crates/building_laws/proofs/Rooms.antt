@@ -1,23 +1,20 @@
 -- Buildings that differ in capacities alone.
-use Rattle.std.proofs.Common.{◌≡◌, ℕ, ◌+◌, ◌<◌, ◌≤◌, true, cond, not, ◌&&◌, ◌||◌, eqb, leb, List, get_or, length, refl, Ok, ap, sym, ◌∙◌, arith, inl, inr, subst}
+use Rattle.std.proofs.Common.{◌≡◌, ℕ, ◌+◌, ◌<◌, ◌≤◌, true, not, ◌&&◌, leb, List, get_or, length, refl, Ok, ap, sym, ◌∙◌, arith, subst}
 use Rattle.std.specs.List.{sum_by}
 use Rattle.std.proofs.lemmas.Bool.Decides.{nat_tests}
 use Rattle.std.proofs.lemmas.List.{length-set}
 use Rattle.evac_law.specs.declared.edit.Edit.{Edit}
 use Rattle.evac_law.specs.declared.edit.Edit.TheVariants.{Room}
-use Rattle.evac_law.specs.declared.model.ArcRow.{ArcRow}
 use Rattle.evac_law.specs.declared.model.Model.{Model}
 use Rattle.evac_law.specs.declared.model.NodeRow.{NodeRow}
 use Rattle.evac_law.specs.declared.plan.Move.{Move}
-use Rattle.evac_law.specs.Building.{IsValid, arc_at, arrival, entry, head, is_exit_at, no_arc, no_node, node_at, people, rate, start, tail}
+use Rattle.evac_law.specs.Building.{IsValid, arc_at, entry, head, is_exit_at, no_arc, no_node, node_at, people, rate, start}
 use Rattle.evac_law.specs.Certificates.{IsClearable}
 use Rattle.evac_law.specs.Cuts.{Cut, cut_value, leaves_cut}
 use Rattle.evac_law.specs.Edits.{applied, checks, edited, inverse_of, with_node}
-use Rattle.evac_law.specs.Entrants.{entering}
 use Rattle.evac_law.specs.Names.{is_exit}
 use Rattle.evac_law.specs.Plans.{IsFeasible, out_by}
 use Rattle.evac_law.specs.Sums.{below, places}
-use Rattle.evac_law.specs.Windows.{is_closed_at}
 use Rattle.evac_law.proofs.EditLemmas.{at-set, unless-Ok, valid_edited}
 use Rattle.evac_law.proofs.SumLemmas.{sum_by-same, sum_places}
 use Rattle.evac_law.proofs.WeakDuality.{out_le_value}
@@ -37,8 +34,7 @@ module _ (m m' : Model) (d : DifferInRoom m m') where
   start_same n = ap (λ r. r.start) (d.nodes n)
 
   entry_same : (n t : ℕ) → entry m n t ≡ entry m' n t
-  entry_same n t =
-      ap (λ s. cond (eqb t 0) s (entering m.entrants n t)) (start_same n) ∙ ap (λ l. cond (eqb t 0) (start m' n) (entering l n t)) d.entrants
+  entry_same n t = grind (arith, start_same)
 
   head_same : (a : ℕ) → head m a ≡ head m' a
   head_same a = ap (λ r. r.to) (arc_same a)
@@ -47,28 +43,16 @@ module _ (m m' : Model) (d : DifferInRoom m m') where
   shut_same a = ap (λ n. (node_at m n).shut) (head_same a) ∙ ap (λ r. r.shut) (d.nodes (head m' a))
 
   rate_same : (a t : ℕ) → rate m a t ≡ rate m' a t
-  rate_same a t =
-      ap (λ (r : ArcRow). cond (r.shut || (node_at m (head m a)).shut || is_closed_at r.windows.items t) 0 r.rate) (arc_same a)
-      ∙ ap (λ s. cond ((arc_at m' a).shut || s || is_closed_at (arc_at m' a).windows.items t) 0 (arc_at m' a).rate) (shut_same a)
+  rate_same a t = grind (arith, arc_same, shut_same)
 
   leaves_same : (x : Cut) (k t a : ℕ) → leaves_cut m x k t a ≡ leaves_cut m' x k t a
-  leaves_same x k t a =
-      ap (λ (r : ArcRow). x r.from t && (leb (t + r.travel) k && (is_exit_at m r.to || not (x r.to (t + r.travel))))) (arc_same a)
-      ∙ ap (λ e. x (tail m' a) t && (leb (arrival m' a t) k && (e || not (x (head m' a) (arrival m' a t))))) (exit_same (head m' a))
+  leaves_same x k t a = grind (arith, arc_same, exit_same)
 
   never : (f t : ℕ) → (leb f t && not (leb f (t + 1))) ≡ true → ⊥
   never f t e = grind (arith, nat_tests)
 
   waiting_same : (f : ℕ → ℕ) (k : ℕ) → cut_value m' (from_moments f) k ≤ cut_value m (from_moments f) k
-  waiting_same f k =
-      value_le m m' (from_moments f) k
-      (record {
-        places = d.places;
-        arcs = ap length d.arcs;
-        entries = λ n t i o. omega (arith, entry_same n t);
-        holds = λ n t i e. absurd (never (f n) t e);
-        leaves = λ a t i e. (leaves_same (from_moments f) k t a ∙ e, omega (arith, rate_same a t));
-      })
+  waiting_same f k = grind (arith, value_le, from_moments, entry_same, never, leaves_same, rate_same)
 
   people_same : people m ≡ people m'
   unfolding people
@@ -83,17 +67,10 @@ module _ (m m' : Model) (d : DifferInRoom m m') where
       )
 
   steady_too : HasSteadyRates m → HasSteadyRates m'
-  steady_too steady a t j l =
-      sym (rate_same a t) ∙ steady a t (omega (arith, j, ap length d.arcs)) (omega (arith, l, d.horizon)) ∙ rate_same a 0
+  steady_too steady a t j l = grind (arith, rate_same)
 
 other_way : (m m' : Model) → DifferInRoom m m' → DifferInRoom m' m
-other_way m m' d = record {
-  horizon = sym d.horizon;
-  places = sym d.places;
-  nodes = λ n. sym (d.nodes n);
-  arcs = sym d.arcs;
-  entrants = sym d.entrants;
-}
+other_way m m' d = grind arith
 
 -- no plan has more out with other capacities than a cut is worth
 bound : (m m' : Model) → IsValid m' → DifferInRoom m m' → HasSteadyRates m → HasRoomForEntries m → (q : List Move) (x : Cut) (k : ℕ) → k ≤ m.horizon
@@ -103,18 +80,7 @@ bound m m' valid' d steady room q x k l feasible =
     omega (arith, out_le_value m' (from_moments f) q k valid' feasible, waiting_same m m' d f k, waiting_cut m x k l steady room)
 
 clears : (m m' : Model) → IsValid m → IsValid m' → DifferInRoom m' m → HasSteadyRates m' → HasRoomForEntries m' → IsClearable m → IsClearable m'
-clears m m' valid valid' d steady' room' plan = elim (cleared_or_short m' valid' room') [
-  | inl cleared ↦ cleared
-  | inr short ↦
-      absurd (omega (
-        arith,
-        plan.2,
-        people_same m' m d,
-        ap (out_by m plan.0) d.horizon,
-        bound m' m valid d steady' room' plan.0 short.0 m'.horizon (omega arith) (subst (IsFeasible m plan.0) (sym d.horizon) plan.1),
-        short.1,
-      ))
-]
+clears m m' valid valid' d steady' room' plan = grind (arith, cleared_or_short, people_same, bound)
 
 pub rooms_keep_most : (m m' : Model) → IsValid m → IsValid m' → DifferInRoom m m' → HasSteadyRates m → HasRoomForEntries m → HasRoomForEntries m' → HaveSameCurve m m'
 rooms_keep_most m m' valid valid' d steady room room' =

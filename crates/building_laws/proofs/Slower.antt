@@ -38,11 +38,7 @@ module _ (m m' : Model) (s : IsSlower m m') where
     -- the same of the ends that the first model names
     same_ends : (t a : ℕ) → leaves_cut m' (from_moments f) k t a
         ≡ (leb (f (tail m a)) t && (leb (t + (arc_at m' a).travel) k && (is_exit_at m (head m a) || not (leb (f (head m a)) (t + (arc_at m' a).travel)))))
-    same_ends t a =
-        sym (
-        ap₂ (λ u v. leb (f u) t && (leb (t + (arc_at m' a).travel) k && (is_exit_at m v || not (leb (f v) (t + (arc_at m' a).travel))))) (s.tails a) (s.heads a)
-        ∙ ap (λ e. leb (f (tail m' a)) t && (leb (t + (arc_at m' a).travel) k && (e || not (leb (f (head m' a)) (t + (arc_at m' a).travel)))))
-        (exit_same (head m' a)))
+    same_ends t a = grind (arith, exit_same)
 
     value_less : cut_value m' (from_moments f) k ≤ cut_value m (from_moments f) k
     value_less =

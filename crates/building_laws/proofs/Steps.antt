@@ -1,5 +1,5 @@
 -- One person who is too many goes on: steps from flow to flow.
-use Rattle.std.proofs.Common.{◌≡◌, ℕ, ◌+◌, ◌<◌, ◌≤◌, true, cond, ◌&&◌, eqb, length, ap, ap₂, sym, ◌∙◌, arith, inl, inr}
+use Rattle.std.proofs.Common.{◌≡◌, ℕ, ◌+◌, ◌<◌, ◌≤◌, true, length, ap, ap₂, sym, ◌∙◌, arith}
 use Rattle.std.proofs.lemmas.Bool.{both_ways, cases_Bool}
 use Rattle.std.proofs.lemmas.Bool.Decides.{nat_tests}
 use Rattle.evac_law.specs.declared.model.Model.{Model}
@@ -9,14 +9,7 @@ use Rattle.building_laws.proofs.Tables.{IsFlow, IsMore, before_more, comes_more,
 
 -- one more at a pair is within bounds where there was room
 pub within_more : (f g : ℕ → ℕ → ℕ) (a t b s most : ℕ) → IsMore f g a t → f b s ≤ most → (a ≡ b → t ≡ s → f b s < most) → g b s ≤ most
-within_more f g a t b s most more fits room = elim (cases_Bool (eqb a b && eqb t s)) [
-  | inl here ↦
-      let pair = same_pair a b t s here in
-      let less = room pair.0 pair.1 in
-      let one : point a t b s ≡ 1 = ap (λ z. cond z 1 0) here in
-      omega (arith, more b s, one, less)
-  | inr away ↦ let none : point a t b s ≡ 0 = ap (λ z. cond z 1 0) away in omega (arith, more b s, none, fits)
-]
+within_more f g a t b s most more fits room = grind (arith, cases_Bool, same_pair, point)
 
 less_of_more : (f g : ℕ → ℕ → ℕ) (a t b s most : ℕ) → IsMore g f a t → f b s ≤ most → g b s ≤ most
 less_of_more f g a t b s most more fits = omega (arith, more b s, fits)
@@ -83,18 +76,8 @@ module _ (m : Model) (k : ℕ) (f h j : ℕ → ℕ → ℕ) (n t : ℕ) where
   }
 
   pub wait_back : IsMore j h n t → IsFlow m k f h (point n (t + 1)) → IsFlow m k f j (point n t)
-  wait_back more flow = record {
-    rates = flow.rates;
-    rooms = λ b s i e l. less_of_more h j n t b s (capacity m b) more (flow.rooms b s i e l);
-    balance = λ b s i e l. omega (arith, flow.balance b s i e l, before_more j h n t more b s, more b s);
-  }
+  wait_back more flow = grind (arith, less_of_more, before_more)
 
   -- one who is in the node at the end is too many
   pub end_here : t ≡ k → IsMore j h n t → IsFlow m k f h nobody → IsFlow m k f j (point n t)
-  end_here last more flow = record {
-    rates = flow.rates;
-    rooms = λ b s i e l. less_of_more h j n t b s (capacity m b) more (flow.rooms b s i e l);
-    balance = λ b s i e l.
-        let off = off_pair n b (t + 1) s (λ p q. omega (arith, last, l, q)) in
-        omega (arith, flow.balance b s i e l, before_more j h n t more b s, more b s, off);
-  }
+  end_here last more flow = grind (arith, less_of_more, off_pair, before_more)

@@ -111,40 +111,21 @@ module _ (m : Model) (k : ℕ) (f h : ℕ → ℕ → ℕ) (flow : IsFlow m k f 
 
   goes_same : (n t : ℕ) → t ≤ k → goes m (moved plan) n t ≡ goes m f n t
   unfolding goes
-  goes_same n t l =
-      sum_below-same (λ a. cond (eqb (tail m a) n) (moved plan a t) 0) (λ a. cond (eqb (tail m a) n) (f a t) 0) (length m.arcs)
-      (λ a i. ap (λ w. cond (eqb (tail m a) n) w 0) (same a t i l))
+  goes_same n t l = grind (arith, sum_below-same, same)
 
   comes_same : (n t : ℕ) → t ≤ k → comes m (moved plan) n t ≡ comes m f n t
   unfolding comes
-  comes_same n t l =
-      sum_below-same (λ a. cond (eqb (head m a) n && leb (arc_at m a).travel t) (moved plan a (t - (arc_at m a).travel)) 0)
-      (λ a. cond (eqb (head m a) n && leb (arc_at m a).travel t) (f a (t - (arc_at m a).travel)) 0) (length m.arcs)
-      (λ a i. ap (λ w. cond (eqb (head m a) n && leb (arc_at m a).travel t) w 0) (same a (t - (arc_at m a).travel) i (omega (arith, l))))
+  comes_same n t l = grind (arith, sum_below-same, same)
 
   gone_same : (c : ℕ) → c ≤ k → gone m c (moved plan) ≡ gone m c f
   unfolding gone
-  gone_same c s =
-      let at = λ (g : ℕ → ℕ → ℕ) (a t : ℕ). cond (is_exit_at m (head m a) && leb (arrival m a t) c) (g a t) 0 in
-      sum_below-same (λ a. sum_by (at (moved plan) a) (below (c + 1))) (λ a. sum_by (at f a) (below (c + 1))) (length m.arcs)
-      (λ a i. sum_below-same (at (moved plan) a) (at f a) (c + 1)
-      (λ t l. ap (λ w. cond (is_exit_at m (head m a) && leb (arrival m a t) c) w 0) (same a t i (omega (arith, l, s)))))
+  gone_same c s = grind (arith, sum_below-same, same)
 
   pub out_is : (c : ℕ) → c ≤ k → out_by m plan c ≡ gone m c f
   out_is c s = gone_moved m c plan arcs_in ∙ gone_same c s
 
   holds_is : (n : ℕ) → n < length m.nodes → IsFalse (is_exit_at m n) → (t : ℕ) → t ≤ k → came m plan n t ≡ left m plan n t + h n t
-  holds_is n i e zero l =
-      omega (
-        arith,
-        came-zero m plan n,
-        left-zero m plan n,
-        goes_moved m plan n 0 arcs_in,
-        comes_moved m plan n 0 arcs_in,
-        goes_same n 0 l,
-        comes_same n 0 l,
-        flow.balance n 0 i e l,
-      )
+  holds_is n i e zero l = grind (arith, came-zero, left-zero, goes_moved, arcs_in, comes_moved, goes_same, comes_same)
   holds_is n i e (suc t) l =
       omega (
         arith,

@@ -51,10 +51,7 @@ module _ (m : Model) (r u : ℕ) (valid : IsValid m) (is : HasWays m r u) where
   room = nobody_later_has_room m valid is.nobody_later
 
   no_exit : (n : ℕ) → n < length m.nodes → 0 < start m n → IsFalse (is_exit_at m n)
-  no_exit n i some = elim (cases_Bool (is_exit_at m n)) [
-    | inl exit ↦ let node = node_is m n valid i in absurd (omega (arith, node.start_fits, node.exit_is_empty exit, some))
-    | inr inner ↦ inner
-  ]
+  no_exit n i some = grind (arith, cases_Bool, node_is)
 
   starts : (g s : ℕ) (b : Bool) → b ≡ (ltb 0 s && leb g 0) → b ≡ false → s ≤ cond (leb g 0) 0 s
   starts g s b e h = grind (arith, nat_tests)
@@ -165,10 +162,7 @@ module _ (m : Model) (r u : ℕ) (valid : IsValid m) (is : HasWays m r u) where
   ]
 
   cleared : (q : List Move) (k : ℕ) → k ≤ m.horizon → people m ≤ r * (k + 1 - u) → IsBestAt m q k → out_by m q k ≡ people m
-  cleared q k l enough best = elim (in_time k q l best) [
-    | inl all ↦ all
-    | inr many ↦ omega (arith, enough, many, out_le_people m q k valid best.feasible)
-  ]
+  cleared q k l enough best = grind (arith, in_time, out_le_people)
 
   pub ways_keep_pace : KeepsPace m r u
   ways_keep_pace = record {

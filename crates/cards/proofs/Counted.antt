@@ -1,6 +1,6 @@
 -- What true counts say of the moments before.
 use Rattle.std.proofs.Common.{◌≡◌, ℕ, zero, suc, ◌<◌, ◌≤◌, length, refl, arith}
-use Rattle.evac_law.specs.Plans.{came, left}
+use Rattle.evac_law.specs.Plans.{came}
 use Rattle.plan_layout.specs.Tables.{people_at}
 use Rattle.cards.specs.declared.counts.Counts.{Counts}
 use Rattle.cards.specs.Counts.{AreTrueCounts}
@@ -11,8 +11,5 @@ before_same f g zero last l h = refl
 before_same f g (suc t) last l h = h t (omega (arith, l))
 
 module _ (w : Counts) (h : AreTrueCounts w) (n t : ℕ) (l : n < length w.plan.model.nodes) (k : t ≤ w.plan.model.horizon) where
-  pub left_before_is : count_before (people_at w.left n) t ≡ count_before (left w.plan.model w.plan.moves n) t
-  left_before_is = before_same (people_at w.left n) (left w.plan.model w.plan.moves n) t w.plan.model.horizon k (λ s i. h.leaves n s l i)
-
   pub came_before_is : count_before (people_at w.came n) t ≡ count_before (came w.plan.model w.plan.moves n) t
   came_before_is = before_same (people_at w.came n) (came w.plan.model w.plan.moves n) t w.plan.model.horizon k (λ s i. h.comes n s l i)

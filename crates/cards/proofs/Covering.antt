@@ -49,14 +49,10 @@ module _ (m : Model) (p : List Move) (cards : List CardView) (h : IsEvacuation m
   entrant k l = let c = is_card k l in record { moment_in = c.moment_in; not_before = c.not_before; one_of = c.one_of }
 
   pub enters_as : (k : ℕ) → k < length cards → Enters m p arcs (card k).start (card k).entered (number k)
-  enters_as k l =
-      let c = is_card k l in
-      record { from = omega arith; until = omega arith }
+  enters_as k l = grind (arith, is_card)
 
   start_inside : (k : ℕ) → k < length cards → is_exit_at m (card k).start ≡ false
-  start_inside k l =
-      let c = is_card k l in
-      entry_inside m (card k).start (card k).entered h.valid (omega arith)
+  start_inside k l = grind (arith, is_card, entry_inside)
 
   -- ---- each number is met once
 
@@ -73,12 +69,7 @@ module _ (m : Model) (p : List Move) (cards : List CardView) (h : IsEvacuation m
 
   hits_split : (x i k : ℕ) → k < length cards
       → hits_of x i k ≡ one_if (eqb (card k).start x && eqb (number k) i) + later_hits m p arcs x i (card k).start (number k) (card k).steps
-  hits_split x i k l =
-      omega (
-        arith,
-        hits_are m p arcs x i (card k).start (number k) (card k).steps,
-        first_is x i (card k).start (number k) (card k).steps (start_inside k l) (is_card k l).steps,
-      )
+  hits_split x i k l = grind (arith, hits_are, first_is, start_inside, is_card)
 
   -- who comes by an arc is met as often as where the arc was entered
   met_before : (x i s : ℕ) → is_exit_at m x ≡ false → (b : ComesBy m p arcs x s i) → (k : ℕ) → k < length cards
@@ -244,10 +235,7 @@ module _ (m : Model) (p : List Move) (cards : List CardView) (h : IsEvacuation m
           pair_same (card k).start n (card k).entered t one.0 one.1
 
   never_starts : (n t k : ℕ) → entry m n t ≤ 0 → k < length cards → one_if (eqb (card k).start n && eqb (card k).entered t) ≡ 0
-  never_starts n t k none l = none_count (eqb (card k).start n && eqb (card k).entered t) (λ z.
-      let y = same_pair (card k).start n (card k).entered t z in
-      let c = is_card k l in
-      grind (arith, y.0, y.1, none, c.not_before, c.one_of))
+  never_starts n t k none l = grind (arith, none_count, same_pair, is_card)
 
   all_start : (n t : ℕ) → (0 < entry m n t) ⊎ (entry m n t ≤ 0) → sum_by (λ k. one_if (eqb (card k).start n && eqb (card k).entered t)) (places cards) ≡ entry m n t
   all_start n t (inl some) =

@@ -94,9 +94,7 @@ module _ (m : Model) where
       by_node : (n ≡ k) ⊎ ((n < k) ⊎ (k < n)) → (n < k) ⊎ ((n ≡ k) × (t ≤ u))
       by_node (inl e) = same_node e (cases_lt u t)
       by_node (inr (inl b)) = inl b
-      by_node (inr (inr b)) = absurd (
-          omega (arith, earlier_node k n u t b h.moment_in, l)
-          )
+      by_node (inr (inr b)) = grind (arith, earlier_node)
 
   pub one_entrant : (n t k u i : ℕ) → IsOneOf n t i → IsOneOf k u i → (n ≡ k) × (t ≡ u)
   one_entrant n t k u i g h =

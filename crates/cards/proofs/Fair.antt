@@ -1,7 +1,7 @@
 -- Cards by numbers are a first in first out deal, in order.
 use Rattle.std.proofs.Common.{◌≡◌, ℕ, ◌<◌, ◌≤◌, List, [], get_or, arith, subst}
 use Rattle.std.specs.List.{All, flat_map}
-use Rattle.std.proofs.lemmas.List.Elements.{All-from_get_or, All-weaker}
+use Rattle.std.proofs.lemmas.List.Elements.{All-from_get_or}
 use Rattle.evac_law.specs.declared.model.Model.{Model}
 use Rattle.evac_law.specs.declared.plan.Move.{Move}
 use Rattle.evac_law.specs.Plans.{came, left}
@@ -24,10 +24,7 @@ module _ (m : Model) (p : List Move) (h : IsEvacuation m p) where
       first_out (came m p n) (left m p n) a.number b.number v.comes w.comes v.leaves w.leaves (came_grows m p n) (left_grows m p n) comes b.comes leaves b.leaves l
 
   numbered_first_out : (visits : List Visit) → All (IsNumbered m p h) visits → IsFirstInFirstOut visits
-  numbered_first_out visits all =
-      All-weaker (IsNumbered m p h) (λ v. All (λ w. v.node ≡ w.node → v.comes < w.comes → v.leaves ≤ w.leaves) visits)
-      (λ v a. All-weaker (IsNumbered m p h) (λ w. v.node ≡ w.node → v.comes < w.comes → v.leaves ≤ w.leaves) (λ w b. two_visits v w a b) visits all)
-      visits all
+  numbered_first_out visits all = grind (arith, two_visits)
 
 abbrev no_card : CardView
 no_card = record { start = 0; entered = 0; steps = [] }

@@ -1,9 +1,9 @@
 -- A table that is filled moment by moment and row by row.
-use Rattle.std.proofs.Common.{◌≡◌, ℕ, ◌+◌, ◌<◌, ◌≤◌, cond, ◌&&◌, eqb, refl, ◌∙◌, arith}
+use Rattle.std.proofs.Common.{◌≡◌, ℕ, ◌+◌, ◌<◌, cond, ◌&&◌, eqb, ◌∙◌, arith}
 use borrow.Author.Count.{below_more}
 use Rattle.std.proofs.lemmas.Bool.Decides.{nat_tests}
 use Rattle.tables.specs.Tables.{IsPut}
-use Rattle.plan_layout.specs.Tables.{IsRowFilled, PeopleTable, people_at}
+use Rattle.plan_layout.specs.Tables.{PeopleTable, people_at}
 
 -- ---- a row, moment by moment
 
@@ -13,9 +13,6 @@ pub record IsFilling (c d : PeopleTable) (n t : ℕ) (f : ℕ → ℕ) : Type 0 
   pub last : d.last ≡ c.last
   pub row : (k : ℕ) → k < t → people_at d n k ≡ f k
   pub others : (i k : ℕ) → i < n → people_at d i k ≡ people_at c i k
-
-pub none_filled : (c : PeopleTable) (n : ℕ) (f : ℕ → ℕ) → IsFilling c c n 0 f
-none_filled c n f = record { rows = refl; last = refl; row = λ k l. absurd (omega (arith, l)); others = λ i k l. refl }
 
 here : (n t x y : ℕ) → cond (eqb n n && eqb t t) x y ≡ x
 here n t x y = grind (arith, nat_tests)
@@ -33,12 +30,4 @@ one_filled c d e n t x f h put same = record {
   others = λ i k l. put.items 0 i k ∙ elsewhere n i t k x (people_at d i k) (λ a b. omega (arith, a, l)) ∙ h.others i k l;
 }
 
-pub all_filled : (c d : PeopleTable) (n t : ℕ) (f : ℕ → ℕ) → IsFilling c d n t f → c.last < t → IsRowFilled c d n f
-all_filled c d n t f h l = record { rows = h.rows; last = h.last; row = λ k b. h.row k (omega (arith, b, l)); others = h.others }
-
 -- ---- a table, row by row
-
-pub row_filled : (d e : PeopleTable) (i last : ℕ) (f : ℕ → ℕ → ℕ) → ((n t : ℕ) → n < i → t ≤ last → people_at d n t ≡ f n t)
-    → IsRowFilled d e i (f i) → last ≤ d.last → (n t : ℕ) → n < i + 1 → t ≤ last → people_at e n t ≡ f n t
-row_filled d e i last f old row long n t l h =
-    below_more (λ k. people_at e k t ≡ f k t) i (λ k b. row.others k t b ∙ old k t b h) (row.row t (omega (arith, h, long))) n l

@@ -53,8 +53,7 @@ module _ (m : Model) (p : List Move) (h : IsEvacuation m p) where
   -- ---- from a node to the next
 
   leaves_as : (c : Comer) (l : Leaver) → IsLeaver m p c l → Leaves m p h.plan.feasible.arcs l.step.arc l.step.moment c.number
-  leaves_as c l leaver =
-      record { arc_in = leaver.arc_in; from = omega arith; until = omega arith }
+  leaves_as c l leaver = grind arith
 
   pub comes_next : (c : Comer) (l : Leaver) (d : Comer) → IsLeaver m p c l → ComesOutAs m p l d → IsComer m p d
   comes_next c l d leaver next =
@@ -81,8 +80,7 @@ module _ (m : Model) (p : List Move) (h : IsEvacuation m p) where
       (subst (λ (x : ℕ). IsCountedAt (left m p x) c.number l.step.moment) leaver.from (leaves_at m p h.plan.feasible.arcs l.step.arc l.step.moment c.number leaves))
 
   pub comes_later : (c : Comer) (l : Leaver) (d : Comer) → IsComer m p c → IsLeaver m p c l → ComesOutAs m p l d → c.moment < d.moment
-  comes_later c l d comer leaver next =
-      omega (arith, waits c l comer leaver, (arc_is m l.step.arc h.valid leaver.arc_in).travel_fits.0)
+  comes_later c l d comer leaver next = grind (arith, waits, arc_is)
 
   pub before_last : (c : Comer) (l : Leaver) → IsComer m p c → IsLeaver m p c l → c.moment < m.horizon
   before_last c l comer leaver =
@@ -91,13 +89,4 @@ module _ (m : Model) (p : List Move) (h : IsEvacuation m p) where
   -- the steps from the next node on, after the one that leads there
   pub follows_on : (c : Comer) (l : Leaver) (d : Comer) (steps : List RouteStep) → IsLeaver m p c l → ComesOutAs m p l d → FollowsNumbers m p d.node d.number steps
       → FollowsNumbers m p c.node c.number (l.step ∷ steps)
-  follows_on c l d steps leaver next f =
-      let a = l.step.arc in
-      let t = l.step.moment in
-      let same : d.number ≡ number_on m p a t c.number = omega arith in (
-        leaver.arc_in,
-        leaver.from,
-        omega arith,
-        omega arith,
-        subst (λ (n : ℕ). FollowsNumbers m p n (number_on m p a t c.number) steps) next.node (subst (λ (i : ℕ). FollowsNumbers m p d.node i steps) same f),
-      )
+  follows_on c l d steps leaver next f = grind arith

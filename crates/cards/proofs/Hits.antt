@@ -16,8 +16,7 @@ use Rattle.cards.proofs.Ones.{count_between, none_count, one_if, same_count}
 module _ (m : Model) (p : List Move) (arcs : All (λ (v : Move). v.arc < length m.arcs) p) where
   -- whoever enters an arc comes out of it with the next number
   pub goes_on : (a t i : ℕ) → Leaves m p arcs a t i → Comes m p arcs a (arrival m a t) (number_on m p a t i)
-  goes_on a t i h =
-      record { arc_in = h.arc_in; from = omega arith; until = omega (arith, brought_is m p a t) }
+  goes_on a t i h = grind (arith, brought_is)
 
   -- the number with which somebody entered an arc at t, who comes out of it with number k at s
   pub record Entered (a t s k i : ℕ) : Type 0 where
@@ -130,11 +129,7 @@ module _ (m : Model) (p : List Move) (arcs : All (λ (v : Move). v.arc < length 
 
       here : (eqb s.arc a && eqb s.moment t) ≡ true
           → (eqb n (tail m a) && (leb (leavers_before m p a t) i && ltb i (leavers_before m p a t + moved p a t))) ≡ true
-      here h =
-          let z = same_pair s.arc a s.moment t h in
-          and_from _ _ (eq-eqb n (tail m a) (sym e ∙ ap (λ x. tail m x) z.0))
-          (and_from _ _ (le-leb (leavers_before m p a t) i (grind (arith, z.0, z.1, leaves.from)))
-          (lt-ltb i (leavers_before m p a t + moved p a t) (grind (arith, z.0, z.1, leaves.until))))
+      here h = grind (arith, same_pair, and_from, eq-eqb, le-leb, lt-ltb)
 
   pub uses_are : (a t : ℕ) → a < length m.arcs → (n i : ℕ) (steps : List RouteStep) → FollowsNumbers m p n i steps
       → uses a t steps ≡ sum_by (λ o. hits (tail m a) (leavers_before m p a t + o) n i steps) (below (moved p a t))

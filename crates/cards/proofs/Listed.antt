@@ -1,5 +1,5 @@
 -- The arcs at a node as they are listed, and sums over them.
-use Rattle.std.proofs.Common.{◌≡◌, ℕ, zero, suc, ◌+◌, ◌<◌, ◌≤◌, ◌⊎◌, inl, inr, Bool, true, false, cond, eqb, ltb, List, [], ◌∷◌, ◌++◌, length, get_or, take, refl, ap, sym, ◌∙◌, arith, subst}
+use Rattle.std.proofs.Common.{◌≡◌, ℕ, zero, suc, ◌+◌, ◌<◌, ◌≤◌, ◌⊎◌, inl, inr, Bool, true, false, cond, ltb, List, [], ◌∷◌, ◌++◌, length, get_or, take, refl, ap, sym, ◌∙◌, arith, subst}
 use Rattle.std.specs.List.{All, sum_by, filter}
 use Rattle.std.proofs.lemmas.Bool.{cases_lt}
 use Rattle.std.proofs.lemmas.Bool.Decides.{nat_tests}
@@ -15,8 +15,7 @@ use Rattle.evac_law.specs.Sums.{below}
 use Rattle.evac_law.proofs.SumLemmas.{All-below, below-suc, sum_below-none, sum_by-same_all}
 use Rattle.plan_layout.specs.Layouts.{ends_of, shape_of}
 use Rattle.plan_layout.proofs.ShapeLemmas.{listed_arc}
-use Rattle.time_expansion.specs.declared.ends.Ends.{Ends}
-use Rattle.time_expansion.specs.Expansion.{arcs_from, arcs_to, from_at, no_ends, to_at}
+use Rattle.time_expansion.specs.Expansion.{arcs_from, arcs_to, no_ends}
 use Rattle.cards.specs.Numbers.{brought, comers_before, count_before, leavers_before, part}
 use Rattle.cards.proofs.Numbers.{comes_at, coming_is, enters_at, from_node, leaving_is, to_node}
 use Rattle.cards.proofs.Parts.{part-suc}
@@ -55,12 +54,8 @@ all_front xs ys k e = grind (arith, common_steps)
 front_on : (q : ℕ → Bool) (n k : ℕ) (xs : List ℕ) (b : Bool) → xs ≡ picked q n → (k < length xs → IsFront q k xs) → k < length (xs ++ cond b (n ∷ []) [])
     → (k < length xs) ⊎ (length xs ≤ k) → IsFront q k (xs ++ cond b (n ∷ []) [])
 unfolding IsFront
-front_on q n k xs b e old l (inl less) =
-    let ys = cond b (n ∷ []) [] in
-    take-append-le k xs ys (omega (arith, less)) ∙ old less ∙ ap (picked q) (sym (get_or_append_left xs ys 0 k less))
-front_on q n k xs true e old l (inr h) =
-    let last : k ≡ length xs = omega (arith, h, l, length-append xs (n ∷ [])) in
-    all_front xs (n ∷ []) k last ∙ e ∙ ap (picked q) (sym (get_or_push xs n 0 k (sym last)))
+front_on q n k xs b e old l (inl less) = grind (arith, take-append-le, get_or_append_left)
+front_on q n k xs true e old l (inr h) = grind (arith, length-append, all_front, get_or_push)
 front_on q n k xs false e old l (inr h) = absurd (omega (arith, h, l, length-append xs []))
 
 pub picked_front : (q : ℕ → Bool) (n k : ℕ) → k < length (picked q n) → take k (picked q n) ≡ picked q (get_or (picked q n) k 0)
@@ -72,9 +67,7 @@ picked_front q (suc n) k l =
 
 -- of a sum over the picked numbers below n, those below a
 pub part_to : (q : ℕ → Bool) (w : ℕ → ℕ) (a n : ℕ) → a ≤ n → part q (λ b. cond (ltb b a) (w b) 0) n ≡ part q w a
-part_to q w a zero l =
-    let none : a ≡ 0 = omega arith in
-    sum_below-none (λ b. cond (q b) (cond (ltb b a) (w b) 0) 0) ∙ sym (sum_below-none (λ b. cond (q b) (w b) 0)) ∙ ap (part q w) (sym none)
+part_to q w a zero l = grind (arith, sum_below-none)
 part_to q w a (suc n) l = elim (cases_lt n a) [
   | inl less ↦
       let same : suc n ≡ a = omega arith in
@@ -92,22 +85,15 @@ part_to q w a (suc n) l = elim (cases_lt n a) [
 
 module _ (m : Model) where
   end_is : (a : ℕ) → get_or (shape_of m).ends a no_ends ≡ ends_of (get_or m.arcs a no_arc)
-  end_is a = elim (cases_lt a (length m.arcs)) [
-    | inl l ↦ get_or-map ends_of m.arcs a no_arc no_ends l
-    | inr l ↦ get_or_past (shape_of m).ends a no_ends (omega (arith, l, length-map m.arcs ends_of)) ∙ ap ends_of (sym (get_or_past m.arcs a no_arc l))
-  ]
+  end_is a = grind (arith, cases_lt, get_or-map, get_or_past, length-map)
 
   pub listed_from : (n : ℕ) → arcs_from (shape_of m) n ≡ picked (from_node m n) (length m.arcs)
   unfolding arcs_from
-  listed_from n =
-      filter_agree (λ a. eqb (from_at (shape_of m) a) n) (from_node m n) (λ a. ap (λ (e : Ends). eqb e.from n) (end_is a)) (below (length (shape_of m).ends))
-      ∙ ap (picked (from_node m n)) (length-map m.arcs ends_of)
+  listed_from n = grind (arith, filter_agree, from_node, end_is, length-map)
 
   pub listed_to : (n : ℕ) → arcs_to (shape_of m) n ≡ picked (to_node m n) (length m.arcs)
   unfolding arcs_to
-  listed_to n =
-      filter_agree (λ a. eqb (to_at (shape_of m) a) n) (to_node m n) (λ a. ap (λ (e : Ends). eqb e.to n) (end_is a)) (below (length (shape_of m).ends))
-      ∙ ap (picked (to_node m n)) (length-map m.arcs ends_of)
+  listed_to n = grind (arith, filter_agree, to_node, end_is, length-map)
 
   module _ (p : List Move) where
     -- ---- who leaves a node and who comes to it, over the listed arcs

@@ -62,9 +62,7 @@ module _ (m : Model) (p : List Move) where
 
   -- and at its traversal time or later, who entered it that long before
   pub brought_late : (a t d : ℕ) → d ≡ (arc_at m a).travel → d ≤ t → brought m p a t ≡ moved p a (t - d)
-  brought_late a t d e l =
-      let then : arrival m a (t - d) ≡ t = omega (arith, e, l) in
-      ap (brought m p a) (sym then) ∙ brought_is a (t - d)
+  brought_late a t d e l = grind (arith, brought_is)
 
   -- ---- over the arcs of a node
 
@@ -90,13 +88,7 @@ module _ (m : Model) (p : List Move) where
 
     pub leaves_at : (a t i : ℕ) → Leaves a t i → IsCountedAt (left m p (tail m a)) i t
     unfolding leavers_before
-    leaves_at a t i h =
-        let n = tail m a in
-        let some = part_ends (from_node m n) (enters_at p t) a (length m.arcs) h.arc_in (picked_from a n refl) in
-        record {
-          not_before = omega arith;
-          by_then = omega (arith, left_is n t, leaving_is n t, some);
-        }
+    leaves_at a t i h = grind (arith, part_ends, picked_from, left_is, leaving_is)
 
     pub one_leaver : (a b t u i : ℕ) → tail m a ≡ tail m b → Leaves a t i → Leaves b u i → (a ≡ b) × (t ≡ u)
     unfolding leavers_before
@@ -132,9 +124,7 @@ module _ (m : Model) (p : List Move) where
 
     before_entrants : (a t i : ℕ) → Comes a t i → i < entrants_before m p (head m a) t
     unfolding comers_before entrants_before
-    before_entrants a t i h =
-        let n = head m a in
-        omega (arith, coming_is n t, part_ends (to_node m n) (comes_at m p t) a (length m.arcs) h.arc_in (picked_to a n refl))
+    before_entrants a t i h = grind (arith, coming_is, part_ends, picked_to)
 
     pub comes_then : (a t i : ℕ) → Comes a t i → IsCountedAt (came m p (head m a)) i t
     unfolding comers_before entrants_before
@@ -144,8 +134,7 @@ module _ (m : Model) (p : List Move) where
 
     pub enters_then : (n t i : ℕ) → Enters n t i → IsCountedAt (came m p n) i t
     unfolding entrants_before
-    enters_then n t i h =
-        record { not_before = omega arith; by_then = omega (arith, came_is n t) }
+    enters_then n t i h = grind (arith, came_is)
 
     pub one_comer : (a b t u i : ℕ) → head m a ≡ head m b → Comes a t i → Comes b u i → (a ≡ b) × (t ≡ u)
     unfolding comers_before
@@ -206,7 +195,5 @@ module _ (m : Model) (p : List Move) where
             }
 
         split : (i < entrants_before m p n s) ⊎ (entrants_before m p n s ≤ i) → ComesBy n s i ⊎ Enters n s i
-        split (inl l) =
-            inl (by_arc (has_part (to_node m n) (comes_at m p s) (length m.arcs) (i - count_before (came m p n) s)
-            (omega (arith, l, coming_is n s))))
+        split (inl l) = grind (arith, by_arc, has_part, coming_is)
         split (inr l) = inr (record { from = l; until = omega (arith, came_is n s) })

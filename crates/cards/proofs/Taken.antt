@@ -2,7 +2,6 @@
 use Rattle.std.proofs.Common.{◌≡◌, ℕ, ◌+◌, ◌<◌, ◌≤◌, Bool, cond, ◌&&◌, eqb, leb, ltb, List, length, get_or, ap, ap₂, sym, ◌∙◌, arith, subst, pos, ℤ, ◌-ℤ◌, ◌≤ℤ◌}
 use Rattle.std.specs.List.{sum_by}
 use Rattle.std.proofs.lemmas.Bool.Decides.{nat_tests}
-use Rattle.std.proofs.lemmas.List.Elements.{All-weaker}
 use Rattle.evac_law.specs.declared.model.Model.{Model}
 use Rattle.evac_law.specs.declared.plan.Move.{Move}
 use Rattle.evac_law.specs.Building.{arrival, capacity, entry, head, is_exit_at, rate, tail}
@@ -69,10 +68,7 @@ module _ (m : Model) (p q : List Move) (f : AreInRange m p) (g : AreInRange m q)
 
 -- the moves of a plan that is kept are in range
 pub stand_in_range : (m : Model) (f : Stand) → Fits m f → AreInRange m f.plan
-stand_in_range m f fits =
-    in_range_of m f.plan
-    (All-weaker (λ (v : Move). (v.arc < f.arcs) × (v.moment ≤ f.horizon)) (λ v. (v.arc < length m.arcs) × (v.moment ≤ m.horizon))
-    (λ v b. (omega (arith, b.0, fits.arcs_same), omega (arith, b.1, fits.horizon_same))) f.plan fits.ordered.in_range)
+stand_in_range m f fits = grind (arith, in_range_of)
 
 pub stand_evacuates : (m : Model) (f : Stand) → Stands m f → IsEvacuation m f.plan
 stand_evacuates m f h = record { valid = h.valid; plan = h.plan; in_time = (stand_in_range m f h.fits).in_time }

@@ -25,9 +25,7 @@ turn_in m t person valid turn l h = grind (arith, l, h, turn.before, dealt-grows
 -- what is left to go through falls from a turn to the next
 pub falls : (nodes last n t k u : ℕ) → n < nodes → t ≤ last → u ≤ last → ((k ≡ n) × (u ≡ t + 1)) ⊎ ((k ≡ n + 1) × (t ≡ last) × (u ≡ 0))
     → (nodes - k) * (last + 1) + (last - u) < (nodes - n) * (last + 1) + (last - t)
-falls nodes last n t k u l h b (inl e) =
-    let same : (nodes - k) * (last + 1) ≡ (nodes - n) * (last + 1) = ap (λ z. (nodes - z) * (last + 1)) e.0 in
-    omega (arith, same, e.1, h, b)
+falls nodes last n t k u l h b (inl e) = grind arith
 falls nodes last n t k u l h b (inr e) =
     let more : nodes - n ≡ (nodes - k) + 1 = omega (arith, e.0, l) in
     let rows : (nodes - n) * (last + 1) ≡ (nodes - k) * (last + 1) + (last + 1) = ap (λ z. z * (last + 1)) more ∙ one_row (nodes - k) (last + 1) in

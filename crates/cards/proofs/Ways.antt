@@ -40,9 +40,7 @@ module _ (m : Model) (p : List Move) (h : IsEvacuation m p) where
   -- ---- who enters an arc at a moment has a number at its tail, and came by then
 
   pub tail_few : (a t i : ℕ) → Leaves m p h.plan.feasible.arcs a t i → left m p (tail m a) t ≤ came m p (tail m a) t
-  tail_few a t i leaves =
-      few_leave (tail m a) t (tail_in m a h.valid leaves.arc_in) (arc_is m a h.valid leaves.arc_in).from_no_exit
-      (moment_of a t (omega arith))
+  tail_few a t i leaves = grind (arith, few_leave, tail_in, arc_is, moment_of)
 
   leaves_of : (n i : ℕ) (s : RouteStep) (steps : List RouteStep) → FollowsNumbers m p n i (s ∷ steps) → Leaves m p h.plan.feasible.arcs s.arc s.moment i
   leaves_of n i s steps f = record { arc_in = f.0; from = f.2; until = f.3 }

@@ -27,10 +27,10 @@ use Rattle.certificate_text.specs.declared.block.Block.{Block}
 use Rattle.certificate_text.specs.declared.entry.Entry.{Entry}
 use Rattle.certificate_text.specs.declared.entry.Entry.TheVariants as entries
 use Rattle.certificate_text.specs.Block.{AreLabelsOf, HasAllLabels, IsBlockOf, number_field_limit}
-use Rattle.certificate_text.specs.BlockEntries.{entries_of, label_entries, label_entry_at, entry_of_move, node_entries, out_entries}
+use Rattle.certificate_text.specs.BlockEntries.{entries_of, label_entries, label_entry_at, entry_of_move, out_entries}
 use Rattle.certificate_text.specs.BlockLaws.{IsAnswerBlock, ReadsBack, block_limit}
 use Rattle.certificate_text.specs.BlockReadings.{ReadsAs, Stated, as_said, said_by}
-use Rattle.certificate_text.specs.BlockText.{answer_line, answer_text, begins_run, cleared_line, end_line, label_line, label_lines, label_part, moment_moves, move_line, move_lines, move_part, name_of_node, node_labels, out_line, people_line, shown_label}
+use Rattle.certificate_text.specs.BlockText.{answer_line, answer_text, begins_run, cleared_line, end_line, label_line, label_lines, label_part, moment_moves, move_line, move_lines, move_part, name_of_node, out_line, people_line, shown_label}
 use Rattle.certificate_text.proofs.BlockSize.{answer_size, rate-most}
 use Rattle.certificate_text.proofs.CertifiedBack.{shown-certified}
 use Rattle.certificate_text.proofs.EntryTexts.{IsWritable, body, entries-written, entry_text, texts-lines, texts-say}
@@ -115,12 +115,7 @@ labels-shown : (m : Model) (l : LabelTable) (c n t : ℕ) → c ≤ m.horizon �
 labels-shown m l c n t inside a e k = table-at m (answer_cell m l c) n t a (omega (arith, inside, k)) ∙ cell-shown m l c n t e k
 
 labels-are : (m : Model) (l : LabelTable) (c : ℕ) → c ≤ m.horizon → AreLabelsOf m c (answer_labels m l c)
-labels-are m l c inside = record {
-  table = is-table m (answer_cell m l c);
-  exits_unset = λ n t a k e. table-at m (answer_cell m l c) n t a k ∙ cell-exit m l c n t e;
-  late_unset = λ n t a k h. table-at m (answer_cell m l c) n t a k ∙ cell-late m l c n t h;
-  fit = λ n t a e k. let q = labels-shown m l c n t inside a e k in omega (arith, q);
-}
+labels-are m l c inside = grind (arith, is-table, table-at, cell-exit, cell-late, labels-shown)
 
 people-few : (n : ℕ) → n ≤ people_limit → n ≤ number_field_limit
 unfolding people_limit number_field_limit
@@ -201,18 +196,10 @@ begins-same f g t e h = ap₂ (λ x y. nat_eq t 0 || not (nat_eq x y)) e h
 node-text : (m : Model) (f : ℕ → ℕ → ℕ) (l : LabelTable) (c n : ℕ) (w : Bool) → (w ≡ false → (t : ℕ) → t < c → f n t ≡ shown_label l c n t)
     → flat_map entry_line (cond w [] (flat_map (label_entry_at m f n) (below c))) ≡ cond w [] (flat_map (label_part m l c n) (below c))
 node-text m f l c n true same = refl
-node-text m f l c n false same =
-    flat_map-flat_map entry_line (label_entry_at m f n) (below c)
-    ∙ below-same (λ t. flat_map entry_line (label_entry_at m f n t)) (label_part m l c n) c (λ t h.
-    label-text m (f n) (shown_label l c n) n t (begins_run (f n) t) (same refl t h)
-    ∙ ap (λ b. cond b (label_line (name_of_node m n) t (shown_label l c n t)) []) (begins-same (f n) (shown_label l c n) t (same refl t h) (same refl (t - 1) (omega (arith, h)))))
+node-text m f l c n false same = grind (arith, flat_map-flat_map, entry_line, below-same, label-text, begins-same)
 
 labels-text : (m : Model) (l : LabelTable) (c : ℕ) → c ≤ m.horizon → flat_map entry_line (label_entries m (label_at (answer_labels m l c)) c) ≡ label_lines m l c
-labels-text m l c inside =
-    let f = label_at (answer_labels m l c) in
-    flat_map-flat_map entry_line (node_entries m f c) (below (length m.nodes))
-    ∙ below-same (λ n. flat_map entry_line (node_entries m f c n)) (node_labels m l c) (length m.nodes) (λ n a.
-    node-text m f l c n (is_exit_at m n) (λ e t k. labels-shown m l c n t inside a e k))
+labels-text m l c inside = grind (arith, flat_map-flat_map, entry_line, below-same, node-text, labels-shown)
 
 move-text : (m : Model) (f : ℕ → ℕ → ℕ) (t a : ℕ) (b : Bool)
     → flat_map (λ v. entry_line (entry_of_move m v)) (cond b [] (record { moment = t; arc = a; people = f a t } ∷ []))
@@ -244,9 +231,7 @@ end-text = append-nil _
 
 five : (a b c d e : List Entry) → flat_map entry_line ((((a ++ b) ++ c) ++ d) ++ e)
     ≡ (((flat_map entry_line a ++ flat_map entry_line b) ++ flat_map entry_line c) ++ flat_map entry_line d) ++ flat_map entry_line e
-five a b c d e =
-    flat_map-append entry_line (((a ++ b) ++ c) ++ d) e ∙ ap (λ x. x ++ flat_map entry_line e) (flat_map-append entry_line ((a ++ b) ++ c) d
-    ∙ ap (λ x. x ++ flat_map entry_line d) (flat_map-append entry_line (a ++ b) c ∙ ap (λ x. x ++ flat_map entry_line c) (flat_map-append entry_line a b)))
+five a b c d e = grind (arith, flat_map-append, entry_line)
 
 -- the text of an answer says the entries of its block
 answer-spelled : (index : ℕ) (m : Model) (p : List Move) (l : LabelTable) (c : ℕ) → c ≤ m.horizon → IsOrdered (length m.arcs) m.horizon p

@@ -1,5 +1,5 @@
 -- How many bytes an answer block has.
-use Rattle.std.proofs.Common.{◌≡◌, ℕ, ◌+◌, ◌*◌, ◌<◌, ◌≤◌, ◌^◌, zero, suc, Bool, true, false, ◌||◌, cond, nat_eq, List, [], ◌∷◌, ◌++◌, length, ap, ◌∙◌, arith, le_refl, length-append}
+use Rattle.std.proofs.Common.{◌≡◌, ℕ, ◌+◌, ◌*◌, ◌<◌, ◌≤◌, ◌^◌, zero, suc, Bool, true, false, cond, nat_eq, List, [], ◌∷◌, ◌++◌, length, ap, ◌∙◌, arith, length-append}
 use Rattle.std.specs.Prelude.{codes, decimal}
 use Rattle.std.specs.List.{flat_map}
 use Rattle.std.proofs.Math.Nat.{add-mul, mul_assoc, mul_comm}
@@ -7,40 +7,32 @@ use Rattle.std.proofs.lemmas.Fmt.{length-decimal-le}
 use Rattle.std.proofs.lemmas.Nat.{mul-le}
 use Rattle.evac_law.specs.declared.model.Model.{Model}
 use Rattle.evac_law.specs.declared.plan.Move.{Move}
-use Rattle.evac_law.specs.Building.{IsValid, arc_at, head, is_exit_at, node_at, people, rate, tail}
+use Rattle.evac_law.specs.Building.{IsValid, head, node_at, people, rate, tail}
 use Rattle.evac_law.specs.Certificates.{IsCertified}
 use Rattle.evac_law.specs.LabelTable.{LabelTable}
 use Rattle.evac_law.specs.Limits.{cell_limit, horizon_limit, people_limit, rate_limit}
 use Rattle.evac_law.specs.Names.{name_text}
-use Rattle.evac_law.specs.Plans.{moved, out_by}
+use Rattle.evac_law.specs.Plans.{moved}
 use Rattle.evac_law.specs.Sums.{below}
-use Rattle.evac_law.specs.Windows.{is_closed_at}
 use Rattle.evac_law.proofs.NameLemmas.{name_short}
 use Rattle.evac_law.proofs.Optimal.{certified_is_feasible, out_le_people}
 use Rattle.evac_law.proofs.PartLemmas.{flat_map-none, flat_map-suc}
 use Rattle.evac_law.proofs.SumLemmas.{else_le}
 use Rattle.evac_law.proofs.ValidLemmas.{arc_is, head_in, name_is, tail_in}
-use Rattle.line_io.specs.Text.{fields, line_text}
+use Rattle.line_io.specs.Text.{line_text}
 use Rattle.line_io.proofs.TextLemmas.{fields-cons}
 use Rattle.certificate_text.specs.Block.{number_field_limit}
 use Rattle.certificate_text.specs.BlockLaws.{block_limit}
-use Rattle.certificate_text.specs.BlockText.{answer_line, answer_text, begins_run, cleared_line, end_line, label_line, label_lines, label_part, moment_moves, move_line, move_lines, move_part, node_labels, out_line, out_lines, people_line, shown_label}
+use Rattle.certificate_text.specs.BlockText.{answer_line, answer_text, cleared_line, end_line, label_line, label_lines, moment_moves, move_line, move_lines, move_part, out_line, out_lines, people_line}
 
 pub rate-most : (m : Model) (a t : ℕ) → IsValid m → a < length m.arcs → rate m a t ≤ rate_limit
-rate-most m a t valid h =
-    let fits = (arc_is m a valid h).rate_fits in
-    let low = else_le (((arc_at m a).shut || (node_at m (head m a)).shut) || is_closed_at (arc_at m a).windows.items t) (arc_at m a).rate in
-    omega (arith, fits, low)
+rate-most m a t valid h = grind (arith, arc_is, else_le)
 
 -- ---- lines
 
 -- a line of fields has the bytes of each field and one more for it
 size-more : (f g : List ℕ) (fs : List (List ℕ)) (a b : ℕ) → length f ≤ a → length (line_text (g ∷ fs)) ≤ b → length (line_text (f ∷ g ∷ fs)) ≤ a + 1 + b
-size-more f g fs a b h k =
-    let whole = length-append (fields (f ∷ g ∷ fs)) (10 ∷ []) in
-    let rest = length-append (fields (g ∷ fs)) (10 ∷ []) in
-    let parts = ap (λ (x : List ℕ). length x) (fields-cons f g fs) ∙ length-append f (32 ∷ fields (g ∷ fs)) in
-    omega (arith, whole, rest, parts, h, k)
+size-more f g fs a b h k = grind (arith, length-append, fields-cons)
 
 size-one : (f : List ℕ) (a : ℕ) → length f ≤ a → length (line_text (f ∷ [])) ≤ a + 1
 size-one f a h = let whole = length-append f (10 ∷ []) in omega (arith, whole, h)
@@ -121,19 +113,10 @@ neither-size true x b h = omega arith
 neither-size false x b h = h
 
 outs-size : (m : Model) (p : List Move) (l : LabelTable) (c : ℕ) → IsValid m → IsCertified m p l c → length (out_lines m p c) ≤ 38 * (c + 1)
-outs-size m p l c valid cert =
-    all-size (λ k. out_line k (out_by m p k)) 38 (c + 1) (λ k h.
-    out-size k (out_by m p k) (omega (arith, h, cert.in_horizon, valid.horizon))
-    (let a = out_le_people m p k valid (certified_is_feasible m p l c k valid cert) in let b = valid.people_fit in omega (arith, a, b)))
+outs-size m p l c valid cert = grind (arith, all-size, out-size, out_le_people, certified_is_feasible)
 
 labels-size : (m : Model) (p : List Move) (l : LabelTable) (c : ℕ) → IsValid m → IsCertified m p l c → length (label_lines m l c) ≤ 38 * c * length m.nodes
-labels-size m p l c valid cert =
-    all-size (node_labels m l c) (38 * c) (length m.nodes) (λ n a.
-    neither-size (is_exit_at m n) (flat_map (label_part m l c n) (below c)) (38 * c)
-    (all-size (label_part m l c n) 38 c (λ t h.
-    either-size (begins_run (shown_label l c n) t) (label_line (name_text (node_at m n).name) t (shown_label l c n t)) 38
-    (label-size (name_text (node_at m n).name) t (shown_label l c n t) (name_short (node_at m n).name (name_is m n valid a))
-    (omega (arith, h, cert.in_horizon, valid.horizon)) (omega (arith, cert.in_horizon, valid.horizon))))))
+labels-size m p l c valid cert = grind (arith, all-size, neither-size, either-size, label-size, name_short, name_is)
 
 moves-size : (m : Model) (p : List Move) (l : LabelTable) (c : ℕ) → IsValid m → IsCertified m p l c → length (move_lines m p) ≤ 38 * length m.arcs * (m.horizon + 1)
 moves-size m p l c valid cert =
@@ -148,12 +131,7 @@ moves-size m p l c valid cert =
 
 -- the lines of labels and moves, one for a cell at most
 cells-size : (nodes arcs w c : ℕ) → c ≤ w → 38 * c * nodes + 38 * arcs * w ≤ 38 * ((nodes + arcs) * w)
-cells-size nodes arcs w c h =
-    let less = mul-le (38 * c) nodes (38 * w) nodes (omega (arith, h)) (le_refl nodes) in
-    let a : 38 * w * nodes ≡ 38 * (nodes * w) = mul_assoc 38 w nodes ∙ ap (λ x. 38 * x) (mul_comm w nodes) in
-    let b : 38 * arcs * w ≡ 38 * (arcs * w) = mul_assoc 38 arcs w in
-    let d : (nodes + arcs) * w ≡ nodes * w + arcs * w = add-mul nodes arcs w in
-    omega (arith, less, a, b, d)
+cells-size nodes arcs w c h = grind (arith, mul-le, mul_assoc, mul_comm, add-mul)
 
 sum-size : (cells c total : ℕ) → cells ≤ cell_limit → c ≤ horizon_limit → total ≤ 38 * cells + 38 * (c + 1) + 152 → total ≤ block_limit
 unfolding cell_limit horizon_limit block_limit

@@ -12,7 +12,6 @@ use Rattle.evac_law.specs.Names.{IsName, name_text}
 use Rattle.evac_law.specs.Sums.{below}
 use Rattle.evac_law.proofs.ValidLemmas.{head_in, horizon_small, name_is, tail_in}
 use Rattle.line_io.specs.Text.{fields}
-use Rattle.model_text.specs.NameFields.{name_of}
 use Rattle.model_text.specs.Numbers.{has_leading_zero, field_number}
 use Rattle.model_text.proofs.NameLaws.{plain-reads, text-reads}
 use Rattle.certificate_text.specs.declared.block.Block.{Block}
@@ -103,13 +102,8 @@ by-word (Index n) h = number-entry Index n h
 by-word (People n) h = number-entry People n h
 by-word (Cleared c) h = number-entry Cleared c h
 by-word (Out k n) h = ap₂ (λ x y. option_and_then (λ i. option_and_then (λ j. Some (Out i j)) y) x) (field_number-decimal k h.0) (field_number-decimal n h.1)
-by-word (Label name t v) h =
-    ap (λ o. option_and_then (λ n. option_and_then (λ i. option_and_then (λ j. Some (Label n i j)) (field_number (decimal v))) (field_number (decimal t))) o) (text-reads name h.0)
-    ∙ ap₂ (λ x y. option_and_then (λ i. option_and_then (λ j. Some (Label name i j)) y) x) (field_number-decimal t h.1) (field_number-decimal v h.2)
-by-word (Move t start finish n) h =
-    ap₂ (λ x y. option_and_then (λ i. option_and_then (λ f. option_and_then (λ g. option_and_then (λ j. Some (Move i f g j)) (field_number (decimal n))) (name_of (name_text finish))) y) x)
-    (field_number-decimal t h.0) (text-reads start h.1)
-    ∙ ap₂ (λ x y. option_and_then (λ g. option_and_then (λ j. Some (Move t start g j)) y) x) (text-reads finish h.2) (field_number-decimal n h.3)
+by-word (Label name t v) h = grind (arith, text-reads, field_number-decimal)
+by-word (Move t start finish n) h = grind (arith, field_number-decimal, text-reads)
 by-word End h = refl
 
 -- the text of an entry says that entry

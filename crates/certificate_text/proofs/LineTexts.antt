@@ -1,6 +1,6 @@
 -- Lines that are spelled by fields give their fields back.
-use Rattle.std.proofs.Common.{◌≡◌, ℕ, ◌+◌, ◌*◌, ◌%◌, ◌^◌, ◌<◌, ◌≤◌, zero, suc, Bool, true, false, ◌&&◌, ◌||◌, cond, nat_lt, List, [], ◌∷◌, ◌++◌, length, get_or, take, Ok, lit<, refl, sym, ap, ap₂, ◌∙◌, arith, append_assoc, length-append}
-use Rattle.std.specs.Prelude.{codes, decimal}
+use Rattle.std.proofs.Common.{◌≡◌, ℕ, ◌+◌, ◌*◌, ◌%◌, ◌^◌, ◌<◌, ◌≤◌, zero, suc, Bool, true, false, ◌&&◌, ◌||◌, cond, nat_lt, List, [], ◌∷◌, ◌++◌, length, get_or, take, Ok, lit<, refl, sym, ap, ◌∙◌, arith, append_assoc, length-append}
+use Rattle.std.specs.Prelude.{decimal}
 use Rattle.std.specs.List.{flat_map, list_all, list_any}
 use Rattle.std.proofs.lemmas.Bool.{and_parts, and_from, or_parts, lt-ltb, ltb-true, ne_eqb}
 use Rattle.std.proofs.lemmas.Fmt.{decimal_by_steps, decimal_nonempty, length-decimal-le}
@@ -16,7 +16,7 @@ use Rattle.line_io.proofs.PassLemmas.{lines_after-nil}
 use Rattle.line_io.proofs.TextLemmas.{fields-cons}
 use Rattle.evac_law.specs.Names.{IsName, kind_text, name_text}
 use Rattle.evac_law.specs.declared.name.Kind.{Kind}
-use Rattle.evac_law.specs.declared.name.Kind.TheVariants.{Work, Hall, Stair, Lobby, Exit}
+use Rattle.evac_law.specs.declared.name.Kind.TheVariants.{Work}
 use Rattle.evac_law.specs.declared.name.NodeName.{NodeName}
 use Rattle.evac_law.proofs.NameLemmas.{length-kind_text, name_short}
 use Rattle.model_text.specs.Fields.{fields_of, is_blank, joined, onto_first}
@@ -37,9 +37,7 @@ AreFields [] = Unit {0}
 AreFields (f ∷ fs) = IsField f × AreFields fs
 
 pub seen-blank : (b : ℕ) → is_seen b ≡ true → is_blank b ≡ false
-seen-blank b e =
-    let l = ltb-true 32 b e in
-    ap₂ (λ x y. x || y) (ne_eqb b 32 (λ q. omega (arith, q, l))) (ne_eqb b 9 (λ q. omega (arith, q, l)))
+seen-blank b e = grind (arith, ltb-true, ne_eqb)
 
 fields-more : (b : ℕ) (bs : List ℕ) → is_seen b ≡ true → fields_of (b ∷ bs) ≡ joined b bs (fields_of bs)
 unfolding fields_of
@@ -64,9 +62,7 @@ word-alone b (d ∷ bs) h =
     fields-more b (d ∷ bs) p.0 ∙ joined-seen b d bs (fields_of (d ∷ bs)) q.0 ∙ ap (onto_first b) (word-alone d bs p.1)
 
 word-then : (b : ℕ) (bs rest : List ℕ) → list_all is_seen (b ∷ bs) ≡ true → fields_of ((b ∷ bs) ++ (32 ∷ rest)) ≡ (b ∷ bs) ∷ fields_of rest
-word-then b [] rest h =
-    let p = and_parts (is_seen b) true h in
-    fields-more b (32 ∷ rest) p.0 ∙ ap (λ fs. (b ∷ []) ∷ fs) (fields-blank rest)
+word-then b [] rest h = grind (arith, and_parts, fields-more, fields-blank)
 word-then b (d ∷ bs) rest h =
     let p = and_parts (is_seen b) (list_all is_seen (d ∷ bs)) h in
     let q = and_parts (is_seen d) (list_all is_seen bs) p.1 in
@@ -117,16 +113,11 @@ both-seen xs ys h g = list_all-append is_seen xs ys ∙ and_from (list_all is_se
 
 name-seen : (name : NodeName) → IsName name → list_all is_seen (name_text name) ≡ true
 unfolding name_text number_limit floor_number_limit
-name-seen name is =
-    both-seen (kind_text name.kind) (decimal name.number ++ (codes "." ++ decimal name.floor)) (kind-seen name.kind)
-    (both-seen (decimal name.number) (codes "." ++ decimal name.floor) (decimal-seen name.number (omega (arith, is.number.1)))
-    (both-seen (codes ".") (decimal name.floor) refl (decimal-seen name.floor (omega (arith, is.floor)))))
+name-seen name is = grind (arith, both-seen, kind-seen, decimal-seen)
 
 name-some : (name : NodeName) → 0 < length (name_text name)
 unfolding name_text
-name-some name =
-    let size = length-append (kind_text name.kind) (decimal name.number ++ (codes "." ++ decimal name.floor)) in
-    let two = length-kind_text name.kind in omega (arith, size, two)
+name-some name = grind (arith, length-append, length-kind_text)
 
 pub name-field : (name : NodeName) → IsName name → IsField (name_text name)
 name-field name is = record { some = name-some name; few = name_short name is; seen = name-seen name is }
@@ -169,9 +160,7 @@ pieces-line (b ∷ bs) rest h =
     pieces-more b (bs ++ (10 ∷ rest)) p.0 ∙ ap (lines.onto_first b) (pieces-line bs rest p.1)
 
 last-kept : (x : List ℕ) (n : ℕ) → list_all is_kept x ≡ true → length x ≡ suc n → get_or x n 0 ≡ 13 → ⊥
-last-kept x n h size e =
-    let off : list_all is_kept x ≡ false = list_all_at is_kept x n 0 (omega (arith, size)) (ap is_kept e) in
-    let z : true ≡ false = sym h ∙ off in cc
+last-kept x n h size e = grind (arith, list_all_at)
 
 no-cr : (x : List ℕ) (n : ℕ) → length x ≡ n → list_all is_kept x ≡ true → without_last 13 x ≡ x
 no-cr x zero size h = sym (without_last-nil 13 x size)

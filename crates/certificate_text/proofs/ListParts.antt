@@ -1,5 +1,5 @@
 -- Lists of parts, and lists that are told apart by their ends.
-use Rattle.std.proofs.Common.{◌≡◌, ℕ, ◌+◌, ◌<◌, ◌≤◌, zero, suc, List, [], ◌∷◌, ◌++◌, length, map, refl, ap, ◌∙◌, inl, inr, arith, append-nil}
+use Rattle.std.proofs.Common.{◌≡◌, ℕ, ◌+◌, ◌<◌, ◌≤◌, zero, suc, List, [], ◌∷◌, ◌++◌, length, map, refl, ap, ◌∙◌, arith, append-nil}
 use Rattle.std.specs.List.{enumerate_from, flat_map}
 use Rattle.std.proofs.lemmas.Bool.{cases_lt}
 use Rattle.std.proofs.lemmas.Grind.{flat_map-append}
@@ -22,10 +22,7 @@ below-same f g n h = flat_map-same f g (below n) (All-below (λ i. f i ≡ g i) 
 
 stop-by : {X : Type 0} (g : ℕ → List X) (a n : ℕ) → ((i : ℕ) → a ≤ i → i < suc n → g i ≡ []) → (a ≤ n → flat_map g (below n) ≡ flat_map g (below a)) → a ≤ suc n
     → flat_map g (below (suc n)) ≡ flat_map g (below a)
-stop-by g a n none before l = elim (cases_lt n a) [
-  | inl b ↦ let e : suc n ≡ a = omega arith in ap (λ k. flat_map g (below k)) e
-  | inr b ↦ flat_map-suc g n ∙ ap (λ l. flat_map g (below n) ++ l) (none n b (omega arith)) ∙ append-nil (flat_map g (below n)) ∙ before b
-]
+stop-by g a n none before l = grind (arith, cases_lt, flat_map-suc, append-nil)
 
 -- parts that are empty from a place on
 pub below-stop : {X : Type 0} (g : ℕ → List X) (a n : ℕ) → a ≤ n → ((i : ℕ) → a ≤ i → i < n → g i ≡ []) → flat_map g (below n) ≡ flat_map g (below a)

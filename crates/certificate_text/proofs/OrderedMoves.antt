@@ -86,14 +86,7 @@ not-before v w p q h g same b =
     let s = head-some v p h in omega (arith, x, y, z, s)
 
 same-place : (v w : Move) → (Before v w → ⊥) → (Before w v → ⊥) → (v.moment ≡ w.moment) × (v.arc ≡ w.arc)
-same-place v w n k =
-    elim (cases_order v.moment w.moment) [
-      | inl e ↦ elim (cases_order v.arc w.arc) [
-        | inl f ↦ (e, f)
-        | inr s ↦ elim s [ inl l ↦ absurd (n (inr (e, l))) | inr l ↦ absurd (k (inr (sym e, l))) ]
-      ]
-      | inr s ↦ elim s [ inl l ↦ absurd (n (inl l)) | inr l ↦ absurd (k (inl l)) ]
-    ]
+same-place v w n k = grind (arith, cases_order)
 
 make : ℕ → ℕ → ℕ → Move
 make t a n = record { moment = t; arc = a; people = n }
@@ -121,11 +114,7 @@ same-moves (v ∷ p) (w ∷ q) h g same =
     let x = same a t in let y = moved-cons v p a t in let z = moved-cons w q a t in let f = ap (λ (u : Move). here u a t) e in omega (arith, x, y, z, f)))
 
 here-far : (v : Move) (a t : ℕ) → (v.arc ≡ a → v.moment ≡ t → ⊥) → here v a t ≡ 0
-here-far v a t h =
-    elim (cases_eq v.arc a) [
-      | inr ne ↦ ap (λ b. cond b v.people 0) (and_left (nat_eq v.arc a) (nat_eq v.moment t) (ne_eqb v.arc a ne))
-      | inl e ↦ ap (λ b. cond b v.people 0) (and_right (nat_eq v.arc a) (nat_eq v.moment t) (ne_eqb v.moment t (h e)))
-    ]
+here-far v a t h = grind (arith, cases_eq, and_left, ne_eqb, and_right)
 
 -- nobody enters an arc or at a moment that no move has
 pub none-moved : (arcs horizon : ℕ) (p : List Move) (a t : ℕ) → All (λ (v : Move). (v.arc < arcs) × (v.moment ≤ horizon)) p → (a < arcs → t ≤ horizon → ⊥) → moved p a t ≡ 0

@@ -105,8 +105,7 @@ abbrev pub moved_from : Model → List Move → ℕ → ℕ → ℕ → Bool
 moved_from m p i n t = list_any (λ a. eqb (tail m a) n && ltb 0 (moved p a t)) (below i)
 
 moved_from-more : (m : Model) (p : List Move) (i n t : ℕ) → moved_from m p (i + 1) n t ≡ (moved_from m p i n t || (eqb (tail m i) n && ltb 0 (moved p i t)))
-moved_from-more m p i n t =
-    ap (λ j. list_any (λ a. eqb (tail m a) n && ltb 0 (moved p a t)) (below j)) (add-one i) ∙ any-below (λ a. eqb (tail m a) n && ltb 0 (moved p a t)) i
+moved_from-more m p i n t = grind (arith, add-one, any-below)
 
 test_sum : (m : Model) (p : List Move) (n t i : ℕ) → ltb 0 (sum_by (λ a. cond (eqb (tail m a) n) (moved p a t) 0) (below i)) ≡ moved_from m p i n t
 test_sum m p n t zero = grind (arith, nat_tests)
@@ -212,6 +211,4 @@ moment_put m f i xs valid l size h n k = elim (cases_eq n (tail m i)) [
 -- one more of a list
 pub put_next : (g : ℕ → Option ℕ) (xs : List (Option ℕ)) (i : ℕ) (y : Option ℕ) → i < length xs → y ≡ g i → ((n : ℕ) → n < i → get_or xs n None ≡ g n)
     → (n : ℕ) → n < i + 1 → get_or (set xs i y) n None ≡ g n
-put_next g xs i y l e h =
-    below_more (λ n. get_or (set xs i y) n None ≡ g n) i (λ n b. get_or-set_other xs i n y None (λ f. omega (arith, b, f)) ∙ h n b)
-    (get_or-set_same xs i y None l ∙ e)
+put_next g xs i y l e h = grind (arith, below_more, set, get_or-set_other, get_or-set_same)

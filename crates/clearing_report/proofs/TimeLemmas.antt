@@ -73,10 +73,7 @@ module _ (m : Model) (times : List (Option ℕ)) (valid : IsValid m) (are : AreT
     there n f = get_or-set_other times (tail m a) n (Some d) None f
 
     fewer : unknowns with_time + 1 ≡ unknowns times
-    fewer =
-        let f = sum_by-set unknown times (tail m a) (Some d) None in_times in
-        let one : unknown (time_at times (tail m a)) ≡ 1 = ap unknown near.way.from in
-        omega (arith, f, one)
+    fewer = grind (arith, sum_by-set, in_times)
 
     walks_on : (n e : ℕ) → time_at with_time n ≡ Some e → (arcs : List ℕ) × Walk m n arcs × (walk_time m arcs ≡ e)
     walks_on n e g = split (cases_eq n (tail m a))
@@ -110,16 +107,7 @@ module _ (m : Model) (times : List (Option ℕ)) (valid : IsValid m) (are : AreT
         split (inr f) = omega (arith, fewer, are.few n e (sym (there n f) ∙ g))
 
     pub are_on : AreTimes m with_time
-    are_on = record {
-      size = length-set times (tail m a) (Some d) ∙ are.size;
-      walks = walks_on;
-      least = least_on;
-      exits = exits_on;
-      few = few_on;
-    }
-
-    pub fewer_unknown : unknowns with_time < unknowns times
-    fewer_unknown = omega (arith, fewer)
+    are_on = grind (arith, length-set, walks_on, least_on, exits_on, few_on)
 
 -- ---- the first times
 
@@ -212,12 +200,6 @@ best_all m times i None l h = λ a d w. h a d (omega (arith, l, w.arc_in)) w
 best_all m times i (Some b) l h = record { way = h.0; nearest = λ a d w. h.1 a d (omega (arith, l, w.arc_in)) w }
 
 -- ---- one node more
-
-pub farthest_passes : (m : Model) (times : List (Option ℕ)) (i far : ℕ) → IsFarthest m times i far → (IsStartNode m i → ⊥) → IsFarthest m times (i + 1) far
-farthest_passes m times i far h none = record {
-  enough = below_more (λ n. IsStartNode m n → (d : ℕ) × (time_at times n ≡ Some d) × (d ≤ far)) i h.enough (λ s. absurd (none s));
-  reached = h.reached;
-}
 
 pub farthest_takes : (m : Model) (times : List (Option ℕ)) (i far d : ℕ) → IsFarthest m times i far → IsStartNode m i → time_at times i ≡ Some d → IsFarthest m times (i + 1) (max far d)
 farthest_takes m times i far d h s f = record {

@@ -1,17 +1,17 @@
 -- The value of the cut of a period, as the sum of the shares of all entries, holds and arcs.
-use Rattle.std.proofs.Common.{◌≡◌, ℕ, zero, suc, ◌+◌, ◌<◌, ◌≤◌, Bool, cond, not, ◌&&◌, ◌||◌, leb, ltb, eqb, refl, ap, ◌∙◌, ◌⊎◌, inl, inr, arith}
+use Rattle.std.proofs.Common.{◌≡◌, ℕ, zero, suc, ◌+◌, ◌<◌, ◌≤◌, Bool, cond, not, ◌&&◌, ◌||◌, leb, ltb, eqb, ap, ◌∙◌, ◌⊎◌, inl, inr, arith}
 use Rattle.std.specs.List.{sum_by}
 use Rattle.std.proofs.lemmas.Bool.{cases_lt}
 use Rattle.std.proofs.lemmas.Bool.Decides.{nat_tests}
 use Rattle.evac_law.specs.declared.model.Model.{Model}
-use Rattle.evac_law.specs.Building.{arrival, capacity, entry, head, is_exit_at, rate, tail}
+use Rattle.evac_law.specs.Building.{capacity, entry, rate}
 use Rattle.evac_law.specs.Certificates.{label_cut}
 use Rattle.evac_law.specs.Cuts.{cut_value, leaves_cut}
-use Rattle.evac_law.specs.LabelTable.{LabelTable, label_at}
+use Rattle.evac_law.specs.LabelTable.{LabelTable}
 use Rattle.evac_law.specs.Sums.{below, moments_to, places}
 use Rattle.evac_law.proofs.SumLemmas.{All-below, sum_below-suc, sum_by-exchange, sum_by-same, sum_by-same_all}
 use Rattle.evac_law.proofs.WeakDuality.{value_is}
-use Rattle.cut_witness.specs.Shares.{arc_share, arc_shares, entry_share, entry_shares, hold_share, hold_shares}
+use Rattle.cut_witness.specs.Shares.{arc_shares, entry_shares, hold_shares}
 
 -- terms from k on that are 0 add nothing
 trim_more : (f g : ℕ → ℕ) (k h : ℕ) → (k ≤ h → sum_by f (below h) ≡ sum_by g (below k)) → k ≤ suc h → ((t : ℕ) → k ≤ t → f t ≡ 0)
@@ -26,9 +26,7 @@ trim_more f g k h shorter l none same = split (cases_lt h k)
 
 pub trim : (f g : ℕ → ℕ) (k h : ℕ) → k ≤ h → ((t : ℕ) → k ≤ t → f t ≡ 0) → ((t : ℕ) → t < k → f t ≡ g t)
     → sum_by f (below h) ≡ sum_by g (below k)
-trim f g k zero l none same =
-    let no : 0 ≡ k = omega arith in
-    ap (λ n. sum_by f (below n)) no ∙ sum_by-same_all f g (below k) (All-below (λ t. f t ≡ g t) k same)
+trim f g k zero l none same = grind (arith, sum_by-same_all)
 trim f g k (suc h) l none same = trim_more f g k h (λ less. trim f g k h less none same) l none same
 
 -- one entry, one hold, one arc
@@ -50,26 +48,15 @@ arc_past t k r x y l = grind (arith, nat_tests)
 -- the shares of a node or an arc at all moments are its items up to k
 entries_are : (m : Model) (l : LabelTable) (k n : ℕ) → k ≤ m.horizon
     → entry_shares m l k n ≡ sum_by (λ t. cond (label_cut m l k n t || eqb (entry m n t) 0) 0 (entry m n t)) (moments_to k)
-entries_are m l k n h =
-    let within : k + 1 ≤ m.horizon + 1 = omega arith in
-    trim (entry_share m l k n) (λ t. cond (label_cut m l k n t || eqb (entry m n t) 0) 0 (entry m n t)) (k + 1) (m.horizon + 1) within
-    (λ t b. entry_past t k (entry m n t) (label_cut m l k n t) b) (λ t b. entry_by t k (entry m n t) (label_cut m l k n t) b)
+entries_are m l k n h = grind (arith, trim, entry_past, entry_by)
 
 holds_are : (m : Model) (l : LabelTable) (k n : ℕ) → k ≤ m.horizon
     → hold_shares m l k n ≡ sum_by (λ t. cond (label_cut m l k n t && not (label_cut m l k n (t + 1))) (capacity m n) 0) (below k)
-holds_are m l k n h =
-    trim (hold_share m l k n) (λ t. cond (label_cut m l k n t && not (label_cut m l k n (t + 1))) (capacity m n) 0) k m.horizon h
-    (λ t b. hold_past t k (capacity m n) (label_cut m l k n t && not (label_cut m l k n (t + 1))) b)
-    (λ t b. hold_by t k (capacity m n) (label_cut m l k n t && not (label_cut m l k n (t + 1))) b)
+holds_are m l k n h = grind (arith, trim, hold_past, hold_by)
 
 arcs_are : (m : Model) (l : LabelTable) (k a : ℕ) → k ≤ m.horizon
     → arc_shares m l k a ≡ sum_by (λ t. cond (leaves_cut m (label_cut m l k) k t a) (rate m a t) 0) (moments_to k)
-arcs_are m l k a h =
-    let within : k + 1 ≤ m.horizon + 1 = omega arith in
-    trim (arc_share m l k a) (arc_share m l k a) (k + 1) (m.horizon + 1) within
-    (λ t b. arc_past t k (rate m a t) (not (is_exit_at m (tail m a)) && ltb k (label_at l (tail m a) t))
-    (leb (arrival m a t) k && (is_exit_at m (head m a) || not (label_cut m l k (head m a) (arrival m a t)))) b)
-    (λ t b. refl)
+arcs_are m l k a h = grind (arith, trim, arc_past)
 
 -- the value is the sum of all shares
 pub cut_shares : (m : Model) (l : LabelTable) (k : ℕ) → k ≤ m.horizon

@@ -1,8 +1,8 @@
 -- The steps of the walk through the parts of a cut's value.
-use Rattle.std.proofs.Common.{◌≡◌, ℕ, suc, ◌+◌, ◌-◌, ◌*◌, ◌<◌, ◌≤◌, List, [], ◌++◌, length, refl, ap, subst, sym, ◌∙◌, arith, append_assoc, append-nil, mul-le-mul_right}
+use Rattle.std.proofs.Common.{◌≡◌, ℕ, suc, ◌+◌, ◌-◌, ◌*◌, ◌<◌, ◌≤◌, List, [], ◌++◌, length, refl, ap, sym, ◌∙◌, arith, append_assoc, append-nil, mul-le-mul_right}
 use Rattle.evac_law.specs.declared.model.Model.{Model}
 use Rattle.evac_law.specs.declared.cut.CutItem.{CutItem}
-use Rattle.evac_law.specs.Cuts.{Cut, entry_part, hold_part, arc_part, hold_items, arc_items, cut_items}
+use Rattle.evac_law.specs.Cuts.{Cut, arc_part, hold_items, arc_items, cut_items}
 use Rattle.cut_witness.specs.declared.position.Part.{Part}
 use Rattle.cut_witness.specs.declared.position.Part.TheVariants.{Entries, Holds, Arcs}
 use Rattle.cut_witness.specs.declared.position.Position.{Position}
@@ -33,35 +33,20 @@ rest_more m x k p i j l h =
 
 pub rest_turn : (m : Model) (x : Cut) (k : ℕ) (p : Part) (i : ℕ) → i < rows_of m k p
     → rest_in m x k p i (width_of m k p) ≡ rest_in m x k p (i + 1) 0
-rest_turn m x k p i l =
-    let rows : rows_of m k p - i ≡ suc (rows_of m k p - (i + 1)) = omega arith in
-    rest_is m x k p i (width_of m k p)
-    ∙ ap (λ z. z ++ after m x k p) (rest-turn (part_at m x k p) (width_of m k p) i (rows_of m k p - i) (rows_of m k p - (i + 1)) rows)
-    ∙ sym (rest_is m x k p (i + 1) 0)
+rest_turn m x k p i l = grind (arith, rest_is, rest-turn)
 
 pub rest_done : (m : Model) (x : Cut) (k : ℕ) (p : Part) (j : ℕ) → rest_in m x k p (rows_of m k p) j ≡ after m x k p
-rest_done m x k p j =
-    let none : rows_of m k p - rows_of m k p ≡ 0 = omega arith in
-    rest_is m x k p (rows_of m k p) j
-    ∙ ap (λ z. rest_of_rows (part_at m x k p) (width_of m k p) (rows_of m k p) j z ++ after m x k p) none
+rest_done m x k p j = grind (arith, rest_is)
 
 pub holds_start : (m : Model) (x : Cut) (k : ℕ) → rest_in m x k Holds 0 0 ≡ after m x k Entries
-holds_start m x k =
-    let all : length m.nodes - 0 ≡ length m.nodes = omega arith in
-    ap (λ z. rest_of_rows (hold_part m x) k 0 0 z ++ arc_items m x k) all
-    ∙ ap (λ z. z ++ arc_items m x k) (rest-start (hold_part m x) k (length m.nodes))
+holds_start m x k = grind (arith, rest-start)
 
 pub arcs_start : (m : Model) (x : Cut) (k : ℕ) → rest_in m x k Arcs 0 0 ≡ after m x k Holds
-arcs_start m x k =
-    let all : k + 1 - 0 ≡ k + 1 = omega arith in
-    ap (λ z. rest_of_rows (arc_part m x k) (length m.arcs) 0 0 z) all ∙ rest-start (arc_part m x k) (length m.arcs) (k + 1)
+arcs_start m x k = grind (arith, rest-start)
 
 pub items_start : (m : Model) (x : Cut) (k : ℕ) → rest_in m x k Entries 0 0 ≡ cut_items m x k
 unfolding cut_items
-items_start m x k =
-    let all : length m.nodes - 0 ≡ length m.nodes = omega arith in
-    ap (λ z. rest_of_rows (entry_part m x) (k + 1) 0 0 z ++ (hold_items m x k ++ arc_items m x k)) all
-    ∙ ap (λ z. z ++ (hold_items m x k ++ arc_items m x k)) (rest-start (entry_part m x) (k + 1) (length m.nodes))
+items_start m x k = grind (arith, rest-start)
 
 pub left_more : (m : Model) (k : ℕ) (p : Part) (i j : ℕ) → i < rows_of m k p → j < width_of m k p → left_in m k p i (j + 1) < left_in m k p i j
 left_more m k Entries i j l h = omega (arith, left-more (length m.nodes) (k + 1) i j l h)
@@ -85,28 +70,20 @@ pub at_turn : (m : Model) (x : Cut) (k : ℕ) (p : Position) → p.row < rows_of
     → (rest_at m x k p ≡ rest_at m x k (record p { row = p.row + 1; column = 0 }))
     × (left_at m k (record p { row = p.row + 1; column = 0 }) < left_at m k p)
 unfolding rest_at left_at
-at_turn m x k p l e = (
-  ap (λ j. rest_in m x k p.part p.row j) e ∙ rest_turn m x k p.part p.row l,
-  subst (λ j. left_in m k p.part (p.row + 1) 0 < left_in m k p.part p.row j) (sym e) (left_turn m k p.part p.row l),
-)
+at_turn m x k p l e = grind (arith, rest_turn, left_turn)
 
 end_of : (m : Model) (x : Cut) (k : ℕ) (q : Part) (i j : ℕ) → i ≡ rows_of m k q → j ≡ 0 → 0 < left_in m k q i j
     → (after m x k q ≡ rest_in m x k (next_part q) 0 0) × (left_in m k (next_part q) 0 0 < left_in m k q i j)
 end_of m x k Entries i j e z s = (sym (holds_start m x k), omega arith)
 end_of m x k Holds i j e z s = (sym (arcs_start m x k), omega arith)
-end_of m x k Arcs i j e z s =
-    let none : k + 1 - i ≡ 0 = omega arith in
-    let nothing = ap (λ r. r * (length m.arcs + 1)) none in
-    absurd (omega (arith, nothing))
+end_of m x k Arcs i j e z s = grind arith
 
 -- at the end of a part's rows the next part begins
 pub at_end : (m : Model) (x : Cut) (k : ℕ) (p : Position) → p.row ≡ rows_of m k p.part → p.column ≡ 0 → 0 < left_at m k p
     → (rest_at m x k p ≡ rest_at m x k (record { part = next_part p.part; row = 0; column = 0 }))
     × (left_at m k (record { part = next_part p.part; row = 0; column = 0 }) < left_at m k p)
 unfolding rest_at left_at
-at_end m x k p e z some =
-    let next = end_of m x k p.part p.row p.column e z some in
-    (ap (λ i. rest_in m x k p.part i p.column) e ∙ rest_done m x k p.part p.column ∙ next.0, next.1)
+at_end m x k p e z some = grind (arith, end_of, rest_done)
 
 -- where the walk still makes steps, and where it is at its end
 pub some_left : (m : Model) (k : ℕ) (p : Part) (i j : ℕ) → (p ≡ Arcs → i < k + 1) → j ≤ width_of m k p → 0 < left_in m k p i j
@@ -123,7 +100,4 @@ at_some m k p h l = some_left m k p.part p.row p.column l h.column_in
 
 pub at_none : (m : Model) (x : Cut) (k : ℕ) (p : Position) → p.part ≡ Arcs → k + 1 ≤ p.row → rest_at m x k p ≡ []
 unfolding rest_at
-at_none m x k p e l =
-    let none : k + 1 - p.row ≡ 0 = omega arith in
-    ap (λ q. rest_in m x k q p.row p.column) e
-    ∙ ap (λ z. rest_of_rows (arc_part m x k) (length m.arcs) p.row p.column z) none
+at_none m x k p e l = grind arith

@@ -41,10 +41,6 @@ pub net_more : (rises falls : List ℕ) (p n : ℕ) → p < length rises → p <
     → sum (take (p + 1) rises) ≡ sum (take (p + 1) falls) + (n + get_or rises p 0 - get_or falls p 0)
 net_more rises falls p n l h e f = omega (arith, sum_by_more (λ x. x) rises p 0 l, sum_by_more (λ x. x) falls p 0 h)
 
--- only one number is the difference
-pub net_only : (r f v n : ℕ) → r ≡ f + v → r ≡ f + n → n ≡ v
-net_only r f v n e h = omega arith
-
 -- ---- numbers that rise
 
 -- by one number after another

@@ -1,5 +1,5 @@
 -- How many items a cut has.
-use Rattle.std.proofs.Common.{◌≡◌, ℕ, ◌+◌, ◌*◌, ◌^◌, ◌<◌, ◌≤◌, Bool, true, false, cond, List, [], ◌∷◌, ◌++◌, length, arith, subst, length-append}
+use Rattle.std.proofs.Common.{ℕ, ◌+◌, ◌*◌, ◌^◌, ◌<◌, ◌≤◌, Bool, true, false, cond, List, [], ◌∷◌, ◌++◌, length, arith, subst, length-append}
 use Rattle.std.specs.List.{sum_by, flat_map}
 use Rattle.std.proofs.lemmas.List.Concat.{length-flat_map}
 use Rattle.std.proofs.lemmas.List.FromFn.{length-range_with_len}
@@ -36,11 +36,7 @@ at_most_one false x = (omega arith, omega arith)
 
 -- the tables of entries, holds and arcs fit into the cells of a building twice
 tables_fit : (n a h k c : ℕ) → k ≤ h → (n + a) * (h + 1) ≤ c → n * (k + 1) + (n * k + (k + 1) * a) ≤ c + c
-tables_fit n a h k c l f =
-    let fewer : k + 1 ≤ h + 1 = omega (arith, l) in
-    let wide : (n + a) * (k + 1) ≤ (n + a) * (h + 1) = mul-le-mul_left (n + a) fewer in
-    let parted : (n + a) * (k + 1) ≡ n * (k + 1) + (k + 1) * a = omega arith in
-    omega (arith, wide, parted, f)
+tables_fit n a h k c l f = grind (arith, mul-le-mul_left)
 
 pub few_items : (m : Model) (x : Cut) (k : ℕ) → IsValid m → k ≤ m.horizon → length (cut_items m x k) < 2 ^ 32
 unfolding cut_items cell_limit

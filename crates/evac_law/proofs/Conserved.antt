@@ -1,5 +1,5 @@
 -- Where everybody is out, nobody is inside, on an arc or still to come.
-use Rattle.std.proofs.Common.{◌≡◌, ℕ, ◌+◌, ◌<◌, ◌≤◌, Bool, false, cond, not, ◌&&◌, eqb, leb, List, length, get_or, arith, inl, inr, IsFalse}
+use Rattle.std.proofs.Common.{◌≡◌, ℕ, ◌+◌, ◌<◌, ◌≤◌, Bool, false, cond, not, ◌&&◌, eqb, leb, List, length, arith, IsFalse}
 use Rattle.std.specs.List.{sum_by}
 use Rattle.std.proofs.lemmas.List.Elements.{All-weaker}
 use Rattle.std.proofs.lemmas.List.Sums.{get_or-le-sum_by}
@@ -81,9 +81,7 @@ module _ (m : Model) (p : List Move) (k : ℕ) (valid : IsValid m) (feasible : I
 
   came_in_le : sum_by came_in (places m.nodes) ≤ entered_by m k
   unfolding entered_by
-  came_in_le =
-      sum_by-le_all came_in (λ n. sum_by (entry m n) (moments_to k)) (places m.nodes)
-      (λ i d h. let n = get_or (places m.nodes) i d in cond_le (inside n) (sum_by (entry m n) (moments_to k)))
+  came_in_le = grind (arith, sum_by-le_all, cond_le)
 
   fits : (n : ℕ) → n < length m.nodes → IsFalse (is_exit_at m n) → left m p n k ≤ came m p n k
   fits n i e = (within m p n k (capacity m n) (feasible.holds n k i e (omega arith))).0
@@ -117,15 +115,8 @@ module _ (m : Model) (p : List Move) (k : ℕ) (valid : IsValid m) (feasible : I
       omega (arith, back, sum_moments-more (entry m n) k t l)
 
   arrives : (v : Move) → on_way v ≤ 0 → 0 < v.people → v.moment ≤ k → arrival m v.arc v.moment ≤ k
-  arrives v none some by = elim (cases_lt k (arrival m v.arc v.moment)) [
-    | inl late ↦ absurd (omega (arith, some, rw (le-leb v.moment k by, lt-leb (arrival m v.arc v.moment) k late) at none))
-    | inr done ↦ done
-  ]
+  arrives v none some by = grind (arith, cases_lt, le-leb, lt-leb)
 
   pub all_out_leaves_nobody : NobodyIsLeft m p k
   unfolding held
-  all_out_leaves_nobody = record {
-    nobody_inside = λ n i e. let least = fits n i e in let most = same_at n i e in omega (arith, ints, least, most);
-    nobody_on_way = λ i d h. arrives (get_or p i d) (omega (arith, nobody_on_way, get_or-le-sum_by on_way p i d h));
-    nobody_to_come = none_later;
-  }
+  all_out_leaves_nobody = grind (arith, fits, same_at, ints, nobody_on_way, arrives, get_or-le-sum_by, none_later)

@@ -19,8 +19,7 @@ arriving_by m p k a = cond (leb (arc_at m a).travel k && is_exit_at m (head m a)
 -- whoever is out by a moment arrived at one of the moments up to it
 pub out_is_sum : (m : Model) (p : List Move) (k : ℕ) → out_by m p k ≡ sum_by (arriving m p) (moments_to k)
 unfolding out_by arriving
-out_is_sum m p zero =
-    sum_by-same _ _ p (λ v. by_zero (is_exit_at m (head m v.arc)) (arrival m v.arc v.moment) v.people) ∙ sym (sum_moments-zero (arriving m p))
+out_is_sum m p zero = grind (arith, sum_by-same, by_zero, sum_moments-zero)
 out_is_sum m p (suc k) =
     sum_by-same _ _ p (λ v. by_suc (is_exit_at m (head m v.arc)) (arrival m v.arc v.moment) k v.people)
     ∙ sum_by-add (λ v. cond (is_exit_at m (head m v.arc) && leb (arrival m v.arc v.moment) k) v.people 0)

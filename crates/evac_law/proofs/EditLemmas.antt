@@ -135,15 +135,11 @@ valid_windows m a ws v l are = valid_arc m a (record (arc_at m a) { windows = re
 
 -- the numbers that the checks let through are those of a window
 window_is : (p q : ℕ) → (ltb horizon_limit p || (eqb q 0 || ltb (horizon_limit + 1) q)) ≡ false → leb q p ≡ false → IsWindow (window_of p q)
-window_is p q range order =
-    let ends = or_parts (eqb q 0) (ltb (horizon_limit + 1) q) (or_parts (ltb horizon_limit p) (eqb q 0 || ltb (horizon_limit + 1) q) range).1 in
-    record { ordered = leb-false q p order; until_fits = ltb-false (horizon_limit + 1) q ends.1 }
+window_is p q range order = grind (arith, or_parts, leb-false, ltb-false)
 
 -- and the checks let the numbers of a window through
 in_range : (p q : ℕ) → IsWindow (window_of p q) → (ltb horizon_limit p || (eqb q 0 || ltb (horizon_limit + 1) q)) ≡ false
-in_range p q is =
-    or_from (ltb horizon_limit p) _ (le-ltb horizon_limit p (omega (arith, is.ordered, is.until_fits)))
-    (or_from (eqb q 0) _ (ne_eqb q 0 (λ e. omega (arith, is.ordered, e))) (le-ltb (horizon_limit + 1) q is.until_fits))
+in_range p q is = grind (arith, or_from, le-ltb, ne_eqb)
 
 pub valid_shut : (m : Model) (n : ℕ) (b : Bool) → IsValid m → n < length m.nodes → (IsTrue b → IsTrue (is_exit_at m n))
     → IsValid (with_node m n (record (node_at m n) { shut = b }))
@@ -240,8 +236,7 @@ valid_applied m e m' (Err f) v l h = tt
 
 pub unwindow_some : (m : Model) (a p q i : ℕ) → position (λ v. is_same_window v (window_of p q)) (windows_at m a) ≡ Some i
     → applied m (Unwindow a p q) ≡ Ok (with_windows m a (remove (windows_at m a) i), Window a p q)
-unwindow_some m a p q i e =
-    rw (has_some (windows_at m a) (window_of p q) i e, remove_some (windows_at m a) (window_of p q) i e) refl
+unwindow_some m a p q i e = grind (arith, has_some, remove_some)
 
 pub unwindow_none : (m : Model) (a p q : ℕ) → position (λ v. is_same_window v (window_of p q)) (windows_at m a) ≡ None
     → applied m (Unwindow a p q) ≡ Err NoWindow
@@ -273,10 +268,7 @@ node_back m n new again e = ap (λ (z : List NodeRow). record m { nodes = z }) (
 
 -- a new start, and the old one again
 start_back : (m : Model) (n s t : ℕ) → n < length m.nodes → t ≡ start m n → with_start (with_start m n s) n t ≡ m
-start_back m n s t l e =
-    let new = record (node_at m n) { start = s } in
-    node_back m n new (record (node_at (with_start m n s) n) { start = t })
-    (ap (λ (r : NodeRow). record r { start = t }) (read_node m n new l) ∙ ap (λ (z : ℕ). record (node_at m n) { start = z }) e)
+start_back m n s t l e = grind (arith, node_back, read_node)
 
 nodes_long : (m : Model) (n s : ℕ) → length (with_start m n s).nodes ≡ length m.nodes
 nodes_long m n s = length-set m.nodes n (record (node_at m n) { start = s })
@@ -294,8 +286,7 @@ capacity_kept : (m : Model) (n s i : ℕ) → capacity (with_start m n s) i ≡ 
 capacity_kept m n s i = at-set (λ (r : NodeRow). r.capacity) m.nodes n (record (node_at m n) { start = s }) no_node refl i
 
 start_other : (m : Model) (n s i : ℕ) → i ≢ n → start (with_start m n s) i ≡ start m i
-start_other m n s i e =
-    ap (λ (r : NodeRow). r.start) (get_or-set_other m.nodes n i (record (node_at m n) { start = s }) no_node e)
+start_other m n s i e = grind (arith, get_or-set_other)
 
 pub undoes : (m : Model) (e : Edit) → IsValid m → IsEditOf m e → NoneHolds (checks m e) → Undoes m e
 undoes m (Shut a) v l h =

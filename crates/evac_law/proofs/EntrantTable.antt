@@ -32,12 +32,7 @@ one_entrant f b n t = elim (cases_Bool (eqb t 0 || eqb (f n t) 0)) [
 sum_entrants : (n k : ℕ) (f : ℕ → ℕ → ℕ) (b : ℕ → ℕ → Bool)
     → sum_by (λ (e : Entrant). cond (b e.node e.moment) e.people 0) (table_entrants n k f) ≡ sum2 n (k + 1) (λ i t. cond (b i t) (later f i t) 0)
 unfolding table_entrants
-sum_entrants n k f b =
-    let w = λ (e : Entrant). cond (b e.node e.moment) e.people 0 in
-    sum_by-flat_map w (λ i. flat_map (λ t. table_entrant f i t) (moments_to k)) (below n)
-    ∙ sum_by-same _ (λ i. sum_by (λ t. cond (b i t) (later f i t) 0) (moments_to k)) (below n)
-    (λ i. sum_by-flat_map w (λ t. table_entrant f i t) (moments_to k)
-    ∙ sum_by-same _ (λ t. cond (b i t) (later f i t) 0) (moments_to k) (λ t. one_entrant f b i t))
+sum_entrants n k f b = grind (arith, sum_by-flat_map, sum_by-same, later)
 
 pub entering-table_entrants : (n k : ℕ) (f : ℕ → ℕ → ℕ) (i t : ℕ) → i < n → 1 ≤ t → t ≤ k → entering (table_entrants n k f) i t ≡ f i t
 unfolding entering

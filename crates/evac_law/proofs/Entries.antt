@@ -1,5 +1,5 @@
 -- Who comes into a node from nowhere, and the cut of no pair.
-use Rattle.std.proofs.Common.{◌≡◌, ℕ, zero, suc, ◌+◌, ◌<◌, ◌≤◌, Bool, true, false, cond, ◌&&◌, ◌||◌, eqb, ltb, List, [], ◌∷◌, length, get_or, refl, ap, ◌∙◌, arith}
+use Rattle.std.proofs.Common.{◌≡◌, ℕ, zero, suc, ◌+◌, ◌<◌, ◌≤◌, Bool, true, false, cond, ◌&&◌, eqb, ltb, List, [], ◌∷◌, length, get_or, refl, ap, ◌∙◌, arith}
 use Rattle.std.specs.List.{sum_by, All}
 use Rattle.std.proofs.lemmas.List.{get_or_past}
 use Rattle.std.proofs.lemmas.Bool.{both_ways, lt-ltb, ne_eqb}
@@ -105,15 +105,10 @@ apart_at : (a n b t : ℕ) → (a ≡ n → b ≡ t → ⊥) → (eqb a n && eqb
 apart_at a n b t h = grind (arith, nat_tests)
 
 pub none_first : (m : Model) (n : ℕ) → IsValid m → entering m.entrants n 0 ≡ 0
-none_first m n v =
-    none_entering m.entrants n 0
-    (All-weaker (IsEntrant m.nodes m.horizon) _ (λ e h. apart_at e.node n e.moment 0 (λ _ s. omega (arith, h.later, s))) m.entrants v.entrants)
+none_first m n v = grind (arith, none_entering, apart_at)
 
 pub none_late : (m : Model) (n t : ℕ) → IsValid m → m.horizon < t → entry m n t ≡ 0
-none_late m n t v l =
-    let after = none_entering m.entrants n t
-    (All-weaker (IsEntrant m.nodes m.horizon) _ (λ e h. apart_at e.node n e.moment t (λ _ s. omega (arith, h.in_horizon, s, l))) m.entrants v.entrants) in
-    rw (ne_eqb t 0 (λ e. omega (arith, e, l))) after
+none_late m n t v l = grind (arith, none_entering, apart_at, ne_eqb)
 
 -- nor past the last node
 pub none_past : (m : Model) (n t : ℕ) → IsValid m → length m.nodes ≤ n → entry m n t ≡ 0
@@ -135,10 +130,7 @@ exit_entry m n t v l exit = split (eqb t 0)
     starts = let node = node_is m n v l in omega (arith, node.start_fits, node.exit_is_empty exit)
 
     comes : entering m.entrants n t ≡ 0
-    comes =
-        none_entering m.entrants n t
-        (All-weaker (IsEntrant m.nodes m.horizon) _
-        (λ e h. apart_at e.node n e.moment t (λ s _. both_ways (is_exit_at m e.node) h.no_exit (rw s exit))) m.entrants v.entrants)
+    comes = grind (arith, none_entering, apart_at, both_ways)
 
     split : (b : Bool) → cond b (start m n) (entering m.entrants n t) ≡ 0
     split true = starts
@@ -176,11 +168,6 @@ entered_all m v =
 
 unless_zero : (p : ℕ) → cond (eqb p 0) 0 p ≡ p
 unless_zero p = grind (arith, nat_tests)
-
--- entries that count at all moments or at none
-pub without_zero : (b : Bool) (f : ℕ → ℕ) (ts : List ℕ) → sum_by (λ t. cond (b || eqb (f t) 0) 0 (f t)) ts ≡ cond b 0 (sum_by f ts)
-without_zero true f ts = sum_by-nothing ts
-without_zero false f ts = sum_by-same _ f ts (λ t. unless_zero (f t))
 
 pub empty_cut_is : (m : Model) (k : ℕ) → cut_value m (λ _ _. false) k ≡ entered_by m k
 unfolding entered_by

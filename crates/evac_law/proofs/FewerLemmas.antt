@@ -1,9 +1,9 @@
 -- Cuts of a building with some of the people.
-use Rattle.std.proofs.Common.{◌≡◌, ℕ, ◌+◌, ◌<◌, ◌≤◌, Bool, cond, not, ◌&&◌, ◌||◌, eqb, leb, length, ap, ◌∙◌, arith, subst}
+use Rattle.std.proofs.Common.{◌≡◌, ℕ, ◌+◌, ◌<◌, ◌≤◌, Bool, cond, not, ◌&&◌, ◌||◌, eqb, length, ap, arith, subst}
 use Rattle.std.specs.List.{sum_by}
 use Rattle.std.proofs.lemmas.Bool.Decides.{nat_tests}
 use Rattle.evac_law.specs.declared.model.Model.{Model}
-use Rattle.evac_law.specs.Building.{arrival, capacity, entry, head, is_exit_at, people, rate, tail}
+use Rattle.evac_law.specs.Building.{capacity, entry, people, rate}
 use Rattle.evac_law.specs.Cuts.{Cut, cut_value, leaves_cut}
 use Rattle.evac_law.specs.Laws.{PartsAreBounded}
 use Rattle.evac_law.specs.Parts.{IsPart}
@@ -21,24 +21,15 @@ module _ (m s : Model) (h : IsPart m s) (x : Cut) (k : ℕ) where
   came b n t = cond (x n t || eqb (entry b n t) 0) 0 (entry b n t)
 
   pub leaves_same : (t a : ℕ) → leaves_cut s x k t a ≡ leaves_cut m x k t a
-  leaves_same t a =
-      ap (λ n. x n t && (leb (arrival s a t) k && (is_exit_at s (head s a) || not (x (head s a) (arrival s a t))))) (h.tails a)
-      ∙ ap (λ r. x (tail m a) t && (leb r k && (is_exit_at s (head s a) || not (x (head s a) r)))) (ap (λ d. t + d) (h.travels a))
-      ∙ ap (λ n. x (tail m a) t && (leb (arrival m a t) k && (is_exit_at s n || not (x n (arrival m a t))))) (h.heads a)
-      ∙ ap (λ e. x (tail m a) t && (leb (arrival m a t) k && (e || not (x (head m a) (arrival m a t))))) (h.exits (head m a))
+  leaves_same t a = grind arith
 
   arcs_worth : sum_by (λ t. sum_by (λ a. cond (leaves_cut s x k t a) (rate s a t) 0) (places s.arcs)) (moments_to k)
       ≡ sum_by (λ t. sum_by (λ a. cond (leaves_cut m x k t a) (rate m a t) 0) (places m.arcs)) (moments_to k)
-  arcs_worth =
-      ap (λ c. sum_by (λ t. sum_by (λ a. cond (leaves_cut s x k t a) (rate s a t) 0) (below c)) (moments_to k)) h.arcs
-      ∙ sum_by-same _ _ (moments_to k) (λ t. sum_by-same _ _ (places m.arcs)
-      (λ a. ap (λ b. cond b (rate s a t) 0) (leaves_same t a) ∙ ap (λ z. cond (leaves_cut m x k t a) z 0) (h.rates a t)))
+  arcs_worth = grind (arith, sum_by-same, leaves_same)
 
   holds_worth : sum_by (λ n. sum_by (λ t. cond (x n t && not (x n (t + 1))) (capacity s n) 0) (below k)) (places s.nodes)
       ≡ sum_by (λ n. sum_by (λ t. cond (x n t && not (x n (t + 1))) (capacity m n) 0) (below k)) (places m.nodes)
-  holds_worth =
-      ap (λ c. sum_by (λ n. sum_by (λ t. cond (x n t && not (x n (t + 1))) (capacity s n) 0) (below k)) (below c)) h.nodes
-      ∙ sum_by-same _ _ (places m.nodes) (λ n. sum_by-same _ _ (below k) (λ t. ap (λ z. cond (x n t && not (x n (t + 1))) z 0) (h.capacities n)))
+  holds_worth = grind (arith, sum_by-same)
 
   entries_count : sum_by (λ n. sum_by (came s n) (moments_to k)) (places s.nodes) ≡ sum2 (length m.nodes) (k + 1) (came s)
   entries_count = ap (λ c. sum_by (λ n. sum_by (came s n) (moments_to k)) (below c)) h.nodes

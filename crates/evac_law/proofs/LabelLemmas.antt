@@ -1,5 +1,5 @@
 -- Tables of labels, and labels that are unset from a moment on.
-use Rattle.std.proofs.Common.{◌≡◌, ℕ, ◌+◌, ◌*◌, ◌<◌, ◌≤◌, ◌^◌, List, ◌++◌, drop, length, map, take, ap, sym, subst, ◌∙◌, arith}
+use Rattle.std.proofs.Common.{◌≡◌, ℕ, ◌+◌, ◌*◌, ◌<◌, ◌≤◌, ◌^◌, List, ◌++◌, drop, length, map, take, ◌∙◌, arith}
 use Rattle.std.proofs.lemmas.Bool.Decides.{nat_tests}
 use Rattle.std.proofs.lemmas.List.{get_or-map, length-map, take_at}
 use Rattle.std.proofs.lemmas.List.Elements.{All-map}
@@ -19,16 +19,11 @@ unset_table nodes horizon from list h = record {
 -- the table whose list is written over
 pub table_after : (nodes horizon from len : ℕ) (items seen now : List ℕ) → IsTable nodes horizon items → seen ≡ items → length seen ≡ len
     → now ≡ map (below_or_unset from) seen → IsTable nodes horizon (take len (now ++ drop (length now) items))
-table_after nodes horizon from len items seen now table same long unset =
-    let full : length now ≡ len = omega (arith, long, ap length unset, length-map seen (below_or_unset from)) in
-    let whole = take_at now (drop (length now) items) len full in
-    subst (IsTable nodes horizon) (sym (whole ∙ unset ∙ ap (map (below_or_unset from)) same)) (unset_table nodes horizon from items table)
+table_after nodes horizon from len items seen now table same long unset = grind (arith, length-map, take_at, unset_table)
 
 -- the label of each pair stands in the list
 pub label_within : (l : LabelTable) (n t : ℕ) → length l.list ≡ l.nodes * (l.horizon + 1) → n < l.nodes → t ≤ l.horizon → label_place l n t < length l.list
-label_within l n t full node moment =
-    let below = mul-add-lt n (l.horizon + 1) t l.nodes node (omega (arith, moment)) in
-    omega (arith, below, full, mul_comm (l.horizon + 1) l.nodes)
+label_within l n t full node moment = grind (arith, mul-add-lt, mul_comm)
 
 -- each label is one that was below the moment, or is unset
 pub unset_at : (l : LabelTable) (from n t : ℕ) → length l.list ≡ l.nodes * (l.horizon + 1) → n < l.nodes → t ≤ l.horizon

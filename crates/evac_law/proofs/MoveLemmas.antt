@@ -140,10 +140,6 @@ sorted-moves_of f n k =
 pub arcs-moves_of : (n k : ℕ) (f : ℕ → ℕ → ℕ) → All (λ (v : Move). v.arc < n) (moves_of n k f)
 arcs-moves_of n k f = all_of (λ (v : Move). v.arc < n) f n k (λ t v l p. p.arc)
 
--- each move has the people of the table
-pub table-moves_of : (n k : ℕ) (f : ℕ → ℕ → ℕ) → All (λ (v : Move). v.people ≡ f v.arc v.moment) (moves_of n k f)
-table-moves_of n k f = all_of (λ (v : Move). v.people ≡ f v.arc v.moment) f n k (λ t v l p. p.people)
-
 pub ordered-moves_of : (n k : ℕ) (f : ℕ → ℕ → ℕ) → IsOrdered n k (moves_of n k f)
 ordered-moves_of n k f = record {
   sorted = sorted-moves_of f n k;

@@ -32,8 +32,7 @@ pub taken_front : (old text s : List ℕ) (n : ℕ) → IsFront old text s n →
 taken_front old text s n front = ap₂ (λ i z. take i z) front.count front.bytes ∙ take-append_seam text (drop (length text) old)
 
 pub behind_front : (old text s : List ℕ) (n : ℕ) → IsFront old text s n → drop n s ≡ drop n old
-behind_front old text s n front =
-    ap₂ (λ i z. drop i z) front.count front.bytes ∙ drop-append_seam text (drop (length text) old) ∙ ap (λ i. drop i old) (sym front.count)
+behind_front old text s n front = grind (arith, drop-append_seam)
 
 -- the four pieces of a name, one after the other
 pub named_front : (name : NodeName) (old s1 s2 s3 s4 k d f : List ℕ) (n1 n2 n3 n4 : ℕ)
@@ -70,16 +69,4 @@ length-kind_text Exit = refl
 
 pub name_short : (name : NodeName) → IsName name → length (name_text name) ≤ 10
 unfolding name_text
-name_short name is =
-    let k = kind_text name.kind in
-    let d = decimal name.number in
-    let f = decimal name.floor in
-    omega (
-      arith,
-      length-append k (d ++ (codes "." ++ f)),
-      length-append d (codes "." ++ f),
-      length-append (codes ".") f,
-      length-kind_text name.kind,
-      short_number name.number is.number.1,
-      short_floor name.floor is.floor,
-    )
+name_short name is = grind (arith, length-append, length-kind_text, short_number, short_floor)

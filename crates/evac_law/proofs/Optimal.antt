@@ -9,7 +9,7 @@ use Rattle.evac_law.specs.declared.plan.Move.{Move}
 use Rattle.evac_law.specs.LabelTable.{LabelTable}
 use Rattle.evac_law.specs.Sums.{below}
 use Rattle.evac_law.specs.Laws.{SomeoneArrivesFrom}
-use Rattle.evac_law.specs.Building.{capacity, rate, tail, IsValid, is_exit_at, head, arrival, entry, people}
+use Rattle.evac_law.specs.Building.{capacity, rate, IsValid, is_exit_at, head, arrival, entry, people}
 use Rattle.evac_law.specs.Certificates.{IsCertified, IsShortfall, IsClearable, label_cut, stated_cut}
 use Rattle.evac_law.specs.Cuts.{Cut, IsCut, cut_value}
 use Rattle.std.proofs.lemmas.List.Elements.{All-head, All-tail}
@@ -29,28 +29,19 @@ later e r b c p l = grind (arith, nat_tests)
 
 pub out_le_out : (m : Model) (p : List Move) (b c : ℕ) → b ≤ c → out_by m p b ≤ out_by m p c
 unfolding out_by
-out_le_out m p b c l =
-    sum_by-le_all _ _ p (λ i d h. let v = get_or p i d in later (is_exit_at m (head m v.arc)) (arrival m v.arc v.moment) b c v.people l)
+out_le_out m p b c l = grind (arith, sum_by-le_all, later)
 
 pub certified_is_best : (m : Model) (p : List Move) (l : LabelTable) (c : ℕ) → IsValid m → IsCertified m p l c
     → (q : List Move) (k : ℕ) → IsFeasible m q k → out_by m q k ≤ out_by m p k
-certified_is_best m p l c valid good q k feasible = elim (cases_lt k c) [
-  | inl before ↦ omega (arith, good.cuts k before, out_le_value m (label_cut m l k) q k valid feasible)
-  | inr after ↦ omega (arith, good.all_out, out_le_people m q k valid feasible, out_le_out m p c k after)
-]
+certified_is_best m p l c valid good q k feasible = grind (arith, cases_lt, out_le_value, out_le_people, out_le_out)
 
 pub shortfall_bars_clearing : (m : Model) (x : Cut) (v : ℕ) → IsValid m → IsShortfall m x v → ¬ IsClearable m
-shortfall_bars_clearing m x v valid short plan =
-    omega (arith, short.worth, short.below_people, plan.2, out_le_value m x plan.0 m.horizon valid plan.1)
+shortfall_bars_clearing m x v valid short plan = grind (arith, out_le_value)
 
 -- ---- all good plans are alike
 
 pub lawful_down : (m : Model) (p : List Move) (b c : ℕ) → b ≤ c → IsFeasible m p c → IsFeasible m p b
-lawful_down m p b c l h = record {
-  arcs = h.arcs;
-  rates = λ a t i s. h.rates a t i (omega arith);
-  holds = λ n t i e s. h.holds n t i e (omega arith);
-}
+lawful_down m p b c l h = grind arith
 
 -- a sum over moves that are over by c counts them all from c on
 stays : (e : Bool) (r c t w : ℕ) → r ≤ c → c ≤ t → cond (e && leb r t) w 0 ≡ cond (e && leb r c) w 0
@@ -59,9 +50,7 @@ stays e r c t w i j = grind (arith, nat_tests)
 -- nobody gets out later than the last arrival
 pub out_stays : (m : Model) (p : List Move) (c k : ℕ) → c ≤ k → All (λ v. arrival m v.arc v.moment ≤ c) p → out_by m p k ≡ out_by m p c
 unfolding out_by
-out_stays m p c k l a =
-    sum_by-same_all _ _ p
-    (λ i d h. let v = get_or p i d in stays (is_exit_at m (head m v.arc)) (arrival m v.arc v.moment) c k v.people (a i d h) l)
+out_stays m p c k l a = grind (arith, sum_by-same_all, stays)
 
 -- a good plan has everybody out by each moment from its last on
 good_out : (m : Model) (p : List Move) (l : LabelTable) (c k : ℕ) → IsCertified m p l c → c ≤ k → out_by m p k ≡ people m
@@ -103,21 +92,7 @@ certified_plans_agree m p q l i c d valid good other =
 tail_more : (e : Bool) (r w h s : ℕ) → cond (e && leb r h) (w * r) 0 + s ≡ cond (e && leb r h) (h * w) 0
     → cond (e && leb r (suc h)) (w * r) 0 + (s + cond (e && leb r h) w 0) ≡ cond (e && leb r (suc h)) (suc h * w) 0
 tail_more false r w h s i = omega arith
-tail_more true r w h s i = elim (cases_order r (suc h)) [
-  | inl same ↦
-      let now = le-leb r (suc h) (omega arith) in
-      let not_yet = lt-leb r h (omega arith) in
-      let product = ap (λ z. w * z) same in
-      rw now (rw not_yet (omega (arith, product, rw not_yet at i)))
-  | inr (inl less) ↦
-      let now = le-leb r (suc h) (omega arith) in
-      let before = le-leb r h (omega arith) in
-      rw now (rw before (omega (arith, rw before at i)))
-  | inr (inr more) ↦
-      let not_now = lt-leb r (suc h) (omega arith) in
-      let not_yet = lt-leb r h (omega arith) in
-      rw not_now (rw not_yet (omega (arith, rw not_yet at i)))
-]
+tail_more true r w h s i = grind (arith, cases_order, le-leb, lt-leb)
 
 tail_none : (e : Bool) (r w : ℕ) → cond (e && leb r 0) (w * r) 0 + 0 ≡ cond (e && leb r 0) (0 * w) 0
 tail_none e r w = grind (arith, nat_tests)
@@ -161,13 +136,7 @@ some_more f g (x ∷ xs) h = elim (cases_lt (f x) (g x)) [
 -- whom a later moment counts and an earlier one doesn't, arrives in between
 in_between : (e : Bool) (r b h w : ℕ) → cond (e && leb r b) w 0 < cond (e && leb r h) w 0 → (0 < w) × (e ≡ true) × (b + 1 ≤ r) × (r ≤ h)
 in_between false r b h w l = absurd (omega arith)
-in_between true r b h w l = elim (cases_lt b r) [
-  | inl before ↦ elim (cases_lt h r) [
-    | inl never ↦ absurd (omega (arith, rw (lt-leb r h never) at l))
-    | inr by_then ↦ (omega (arith, rw (le-leb r h by_then, lt-leb r b before) at l), refl, omega arith, by_then)
-  ]
-  | inr already ↦ absurd (omega (arith, rw (le-leb r b already) at l, cond_le (leb r h) w))
-]
+in_between true r b h w l = grind (arith, cases_lt, lt-leb, le-leb, cond_le)
 
 pub someone_arrives : (m : Model) (q : List Move) (b : ℕ) → out_by m q b < out_by m q m.horizon → SomeoneArrivesFrom m q (b + 1)
 unfolding out_by
@@ -205,14 +174,11 @@ certified_is_quickest m p q l c valid good feasible everybody =
 came_stays : (m : Model) (p : List Move) (n c t : ℕ) → c ≤ t → All (λ v. arrival m v.arc v.moment ≤ c) p → ((s : ℕ) → c < s → entry m n s ≡ 0)
     → came m p n t ≡ came m p n c
 unfolding came
-came_stays m p n c t l a none =
-    ap₂ (λ x y. x + y) (sum_moments-stays (entry m n) c t l none)
-    (sum_by-same_all _ _ p (λ i d h. let v = get_or p i d in stays (eqb (head m v.arc) n) (arrival m v.arc v.moment) c t v.people (a i d h) l))
+came_stays m p n c t l a none = grind (arith, sum_moments-stays, sum_by-same_all, stays)
 
 left_stays : (m : Model) (p : List Move) (n c t : ℕ) → c ≤ t → All (λ v. arrival m v.arc v.moment ≤ c) p → left m p n t ≡ left m p n c
 unfolding left
-left_stays m p n c t l a =
-    sum_by-same_all _ _ p (λ i d h. let v = get_or p i d in stays (eqb (tail m v.arc) n) v.moment c t v.people (omega (arith, a i d h)) l)
+left_stays m p n c t l a = grind (arith, sum_by-same_all, stays)
 
 held_stays : (m : Model) (p : List Move) (n c t : ℕ) → c ≤ t → All (λ v. arrival m v.arc v.moment ≤ c) p → ((s : ℕ) → c < s → entry m n s ≡ 0)
     → held m p n t ≡ held m p n c
@@ -241,9 +207,7 @@ certified_is_feasible m p l c k valid good = record {
 
     by_hold : (n t : ℕ) → n < length m.nodes → is_exit_at m n ≡ false → (c < t) ⊎ (t ≤ c)
         → (pos 0 ≤ℤ held m p n t) × (held m p n t ≤ℤ pos (capacity m n))
-    by_hold n t i e (inl late) =
-        let over = all_out_leaves_nobody m p c valid good.feasible good.all_out in
-        rw (held_stays m p n c t (omega arith) good.arrives (λ s h. over.nobody_to_come n s i h)) (good.feasible.holds n c i e (omega arith))
+    by_hold n t i e (inl late) = grind (arith, over, all_out_leaves_nobody, held_stays)
     by_hold n t i e (inr soon) = good.feasible.holds n t i e soon
 
 pub certified_is_clearable : (m : Model) (p : List Move) (l : LabelTable) (c : ℕ) → IsValid m → IsCertified m p l c → IsClearable m
@@ -253,10 +217,7 @@ certified_is_clearable m p l c valid good =
 -- ---- the cuts that a block states
 
 pub label_cut_is_cut : (m : Model) (l : LabelTable) (k : ℕ) → k ≤ m.horizon → IsCut m (label_cut m l k)
-label_cut_is_cut m l k h = record {
-  no_exits = λ n t x. not-true _ (and_parts _ _ (and_parts _ _ x).1).0;
-  in_horizon = λ n t x. omega (arith, h, leb-true t k (and_parts _ _ x).0);
-}
+label_cut_is_cut m l k h = grind (arith, not-true, and_parts, leb-true)
 
 pub stated_cut_is_worth : (m : Model) (p : List Move) (l : LabelTable) (c k : ℕ) → IsValid m → IsCertified m p l c
     → (k ≤ m.horizon → IsCut m (stated_cut m l c k)) × (cut_value m (stated_cut m l c k) k ≡ out_by m p k)
@@ -303,7 +264,3 @@ last_is m p (suc b) l all before = omega (arith, last_by m (suc b) p all, reache
   where
     reached : SomeoneArrivesFrom m p (b + 1) → suc b ≤ last_arrival m p
     reached (i, v, j, same, found) = omega (arith, found.2, ap (λ w. arrival m w.arc w.moment) same, at_most_last m p i v j)
-
-pub certified_last : (m : Model) (p : List Move) (l : LabelTable) (c : ℕ) → IsCertified m p l c → last_arrival m p ≡ c
-certified_last m p l c good =
-    last_is m p c good.in_horizon good.arrives (λ b e. omega (arith, good.least b e, good_out m p l c m.horizon good good.in_horizon))

@@ -22,10 +22,7 @@ one_more c f v p true e h =
     let kept : filter c (v ∷ p) ≡ v ∷ filter c p = ap (λ b. cond b (v ∷ filter c p) (filter c p)) e in
     let x = ap (λ (z : List Move). sum_by f z) kept in
     omega (arith, x, sum_by-cons f v (filter c p), sum_by-cons (λ w. cond (c w) (f w) 0) v p, ap (λ z. cond z (f v) 0) e, h)
-one_more c f v p false e h =
-    let kept : filter c (v ∷ p) ≡ filter c p = ap (λ b. cond b (v ∷ filter c p) (filter c p)) e in
-    let x = ap (λ (z : List Move). sum_by f z) kept in
-    omega (arith, x, sum_by-cons (λ w. cond (c w) (f w) 0) v p, ap (λ z. cond z (f v) 0) e, h)
+one_more c f v p false e h = grind (arith, sum_by-cons)
 
 over_filter : (c : Move → Bool) (f : Move → ℕ) (p : List Move) → sum_by f (filter c p) ≡ sum_by (λ v. cond (c v) (f v) 0) p
 over_filter c f [] = refl

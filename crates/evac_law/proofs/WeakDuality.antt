@@ -34,9 +34,7 @@ arc_part false a t r = refl
 -- a sum over two nested `flat_map`s
 nested : (h : ℕ → ℕ → List CutItem) (f : ℕ → ℕ → ℕ) (is ts : List ℕ) → ((i j : ℕ) → sum_by number_of (h i j) ≡ f i j)
     → sum_by number_of (flat_map (λ i. flat_map (λ j. h i j) ts) is) ≡ sum_by (λ i. sum_by (λ j. f i j) ts) is
-nested h f is ts e =
-    sum_by-flat_map number_of (λ i. flat_map (λ j. h i j) ts) is
-    ∙ sum_by-same _ _ is (λ i. sum_by-flat_map number_of (h i) ts ∙ sum_by-same _ _ ts (e i))
+nested h f is ts e = grind (arith, sum_by-flat_map, sum_by-same)
 
 pub value_is : (m : Model) (x : Cut) (k : ℕ) → cut_value m x k
     ≡ sum_by (λ n. sum_by (λ t. cond (x n t || eqb (entry m n t) 0) 0 (entry m n t)) (moments_to k)) (places m.nodes)
@@ -66,10 +64,7 @@ left-suc m q n t =
 
 pub came-zero : (m : Model) (q : List Move) (n : ℕ) → came m q n 0 ≡ entry m n 0 + coming m q n 0
 unfolding came coming
-came-zero m q n =
-    ap₂ (λ u v. u + v)
-    (sum_moments-zero (entry m n))
-    (sum_by-same _ _ q (λ v. by_zero (eqb (head m v.arc) n) (arrival m v.arc v.moment) v.people))
+came-zero m q n = grind (arith, sum_moments-zero, sum_by-same, by_zero)
 
 pub came-suc : (m : Model) (q : List Move) (n t : ℕ)
     → came m q n (suc t) ≡ came m q n t + (entry m n (suc t) + coming m q n (suc t))

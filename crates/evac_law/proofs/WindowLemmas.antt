@@ -1,5 +1,5 @@
 -- Windows in order: what a window more or less leaves of them, and that one undoes the other.
-use Rattle.std.proofs.Common.{◌≡◌, ℕ, suc, ◌+◌, ◌<◌, ◌≤◌, Bool, true, false, not, ◌||◌, eqb, ltb, List, [], ◌∷◌, length, refl, ap, ap₂, sym, ◌∙◌, arith, inl, inr, ◌⊎◌, Some, None}
+use Rattle.std.proofs.Common.{◌≡◌, ℕ, suc, ◌+◌, ◌<◌, ◌≤◌, Bool, true, false, ◌||◌, ltb, List, [], ◌∷◌, length, refl, ap, sym, ◌∙◌, arith, inl, inr, ◌⊎◌, Some, None}
 use Rattle.std.specs.List.{All, AllPairs, list_any, insert, position, position_or_len, remove}
 use Rattle.std.proofs.lemmas.Bool.{and_from, and_parts, and_cases, cases_Bool, eqb-true, eq-eqb, le-ltb, lt-ltb, ltb-false, ltb-true, not-true, or_from, or_parts}
 use Rattle.std.proofs.lemmas.List.Elements.{All-cons, All-head, All-tail}
@@ -9,7 +9,7 @@ use Rattle.std.proofs.lemmas.List.Quantifiers.{position-Some}
 use Rattle.std.proofs.lemmas.List.Sums.{prefix_len-le-length, prefix_len_passes}
 use Rattle.std.proofs.lemmas.Grind.{common_steps}
 use Rattle.evac_law.specs.Limits.{window_limit}
-use Rattle.evac_law.specs.Windows.{AreWindows, EndsBefore, IsWindow, is_same_window, overlaps, with_window, without_window, window_of}
+use Rattle.evac_law.specs.Windows.{AreWindows, EndsBefore, IsWindow, is_same_window, overlaps, with_window, without_window}
 use Rattle.evac_law.specs.declared.window.Window.{Window}
 
 -- ---- a list's first element and the others
@@ -24,10 +24,7 @@ pairs-tail R x xs h i j d l m = h (suc i) (suc j) d (omega (arith, l)) (omega (a
 
 -- windows that share no moment stand one before the other
 apart : (v w : Window) → overlaps v w ≡ false → (w.until ≤ v.from) ⊎ (v.until ≤ w.from)
-apart v w h = elim (and_cases (ltb v.from w.until) (ltb w.from v.until) h) [
-  | inl e ↦ inl (ltb-false v.from w.until e)
-  | inr e ↦ inr (ltb-false w.from v.until e)
-]
+apart v w h = grind (arith, and_cases, ltb-false)
 
 -- and the other way round
 no_overlap : (v w : Window) → (w.until ≤ v.from) ⊎ (v.until ≤ w.from) → overlaps v w ≡ false
@@ -35,9 +32,7 @@ no_overlap v w (inl e) = rw (le-ltb v.from w.until e) refl
 no_overlap v w (inr e) = grind (arith, le-ltb w.from v.until e)
 
 same_numbers : (v w : Window) → is_same_window v w ≡ true → v ≡ w
-same_numbers v w h =
-    let both = and_parts (eqb v.from w.from) (eqb v.until w.until) h in
-    ap₂ window_of (eqb-true v.from w.from both.0) (eqb-true v.until w.until both.1)
+same_numbers v w h = grind (arith, and_parts, eqb-true)
 
 same_itself : (w : Window) → is_same_window w w ≡ true
 same_itself w = and_from _ _ (eq-eqb w.from w.from refl) (eq-eqb w.until w.until refl)
@@ -96,11 +91,7 @@ apart-with (v ∷ vs) w is each h none = elim (cases_Bool (ltb w.from v.from)) [
 
 pub windows_with : (ws : List Window) (w : Window) → AreWindows ws → IsWindow w → list_any (λ v. overlaps v w) ws ≡ false
     → length ws < window_limit → AreWindows (with_window ws w)
-windows_with ws w are is none few = record {
-  few = omega (arith, length-with ws w, few);
-  each = each-with ws w is are.each;
-  apart = apart-with ws w is are.each are.apart none;
-}
+windows_with ws w are is none few = grind (arith, length-with, each-with, apart, apart-with)
 
 -- ---- one window less
 
@@ -156,14 +147,7 @@ has_with (v ∷ vs) w = elim (cases_Bool (ltb w.from v.from)) [
 
 -- a window that shares no moment with another isn't the other
 not_same : (v w : Window) → IsWindow w → overlaps v w ≡ false → is_same_window v w ≡ false
-not_same v w is h = elim (cases_Bool (is_same_window v w)) [
-  | inl t ↦
-      let both = and_parts (eqb v.from w.from) (eqb v.until w.until) t in
-      let from = eqb-true v.from w.from both.0 in
-      let until = eqb-true v.until w.until both.1 in
-      absurd (elim (apart v w h) [ inl e ↦ omega (arith, e, from, is.ordered) | inr e ↦ omega (arith, e, until, is.ordered) ])
-  | inr f ↦ f
-]
+not_same v w is h = grind (arith, cases_Bool, and_parts, eqb-true, apart)
 
 pub without_with : (ws : List Window) (w : Window) → IsWindow w → list_any (λ v. overlaps v w) ws ≡ false
     → without_window (with_window ws w) w ≡ ws
@@ -265,10 +249,7 @@ has_some ws w i e =
     list_any_at (λ v. is_same_window v w) ws i w found.0 found.1
 
 pub has_none : (ws : List Window) (w : Window) → position (λ v. is_same_window v w) ws ≡ None → list_any (λ v. is_same_window v w) ws ≡ false
-has_none ws w e =
-    let all = no_place (λ v. is_same_window v w) ws e in
-    list_any_none (λ v. is_same_window v w) ws
-    (λ k d l. not-true _ (prefix_len_passes (λ v. not (is_same_window v w)) ws k d (omega (arith, all, l))))
+has_none ws w e = grind (arith, list_any_none, not-true, prefix_len_passes)
 
 pub remove_some : (ws : List Window) (w : Window) (i : ℕ) → position (λ v. is_same_window v w) ws ≡ Some i → remove ws i ≡ without_window ws w
 remove_some ws w i e = ap (remove ws) (some_place (λ v. is_same_window v w) ws i e) ∙ remove_at ws w (has_some ws w i e)

@@ -29,9 +29,7 @@ first_in n y = ap (λ b. cond b y []) (lt-ltb 0 (suc n) (omega arith))
 
 next_in : (k n : ℕ) (first : List ℕ) (lists : List (List ℕ))
     → cond (ltb (1 + k) (suc n)) (get_or (first ∷ lists) (1 + k) []) [] ≡ cond (ltb k n) (get_or lists k []) []
-next_in k n first lists =
-    let next : 1 + k ≡ suc k = omega arith in
-    ap (λ j. cond (ltb j (suc n)) (get_or (first ∷ lists) j []) []) next ∙ ap (λ b. cond b (get_or lists k []) []) (suc_lt k n)
+next_in k n first lists = grind (arith, suc_lt)
 
 by_floors : (m : Model) (floors : List ℕ) (floor : ℕ)
     → cond (ltb (position_or_len (λ f. eqb f floor) floors) (length floors)) (get_or (map (nodes_on m) floors) (position_or_len (λ f. eqb f floor) floors) []) []

@@ -1,5 +1,5 @@
 -- Calls of a source or a sink, one after another.
-use Rattle.std.proofs.Common.{◌≡◌, ℕ, ◌+◌, ◌≤◌, Bool, false, List, [], ◌∷◌, ◌++◌, length, Result, refl, sym, ap, ◌∙◌, subst, arith}
+use Rattle.std.proofs.Common.{◌≡◌, ℕ, ◌+◌, ◌≤◌, Bool, false, List, [], ◌∷◌, ◌++◌, length, Result, refl, subst, arith}
 use Rattle.line_io.specs.declared.limits.TheConstants.{BUFFER_SIZE, LEAST_OFFER}
 use Rattle.line_io.specs.declared.outside.Failed.{Failed}
 use Rattle.line_io.specs.Calls.{Asks, AsksAtMost, Offers, Putting, PutsAll, Take, Taking, TakesAll, behind_put, bytes_given, gave_none, given_by}
@@ -43,21 +43,12 @@ asks-then {S} {takes} {a} {b} {c} {s} {mid} {s'} h k = record {
 
 -- the same calls, where as many bytes are given on or pending as before
 pub asks-same : {S : Type 0} {takes : Taking S} {a b c : Reader} {s s' : S} → Asks takes a s b s' → c.ended ≡ b.ended → c.given + length c.pending ≡ b.given + length b.pending → Asks takes a s c s'
-asks-same {S} {takes} {a} {b} {c} {s} {s'} h same count = record {
-  calls = h.calls;
-  all = subst (λ (x : Bool). TakesAll takes a.ended s h.calls x s') (sym same) h.all;
-  counted = h.counted ∙ sym count;
-}
+asks-same {S} {takes} {a} {b} {c} {s} {s'} h same count = grind arith
 
 -- calls that began at a fresh reader gave no more than an input may have, and a buffer
 pub asked-most : {S : Type 0} {takes : Taking S} {a b : Reader} {s s' : S} → Asks takes a s b s' → a.ended ≡ false → a.given ≡ 0 → a.pending ≡ [] → HasRoom b
     → AsksAtMost takes (input_limit + BUFFER_SIZE) s s'
-asked-most {S} {takes} {a} {b} {s} {s'} h going given empty room = record {
-  calls = h.calls;
-  ended = b.ended;
-  all = subst (λ (x : Bool). TakesAll takes x s h.calls b.ended s') going h.all;
-  few = omega (arith, h.counted, given, ap length empty, room.pending, room.given);
-}
+asked-most {S} {takes} {a} {b} {s} {s'} h going given empty room = grind arith
 
 pub asked-none : {S : Type 0} (takes : Taking S) (limit : ℕ) (s : S) → AsksAtMost takes limit s s
 unfolding TakesAll bytes_given
@@ -70,8 +61,7 @@ offers-none puts bytes s = record { answers = []; all = (refl, refl) }
 puts-push : {S : Type 0} (puts : Putting S) (bytes rest : List ℕ) (s mid s' : S) (answers : List (Result ℕ Failed)) (answer : Result ℕ Failed) → PutsAll puts bytes s answers rest mid
     → puts mid rest answer s' → PutsAll puts bytes s (answers ++ (answer ∷ [])) (behind_put rest answer) s'
 unfolding PutsAll
-puts-push puts bytes rest s mid s' [] answer h did =
-    (s', subst (λ (x : List ℕ). puts s x answer s') h.0 (subst (λ (t : _). puts t rest answer s') h.1 did), (subst (λ (x : List ℕ). behind_put rest answer ≡ behind_put x answer) h.0 refl, refl))
+puts-push puts bytes rest s mid s' [] answer h did = grind arith
 puts-push puts bytes rest s mid s' (first ∷ answers) answer h did = (h.0, h.1, puts-push puts (behind_put bytes first) rest h.0 mid s' answers answer h.2 did)
 
 -- one call more

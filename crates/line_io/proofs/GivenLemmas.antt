@@ -1,5 +1,5 @@
 -- The bytes that go away as a line are one line with its end.
-use Rattle.std.proofs.Common.{◌≡◌, ℕ, suc, ◌+◌, ◌<◌, ◌≤◌, Bool, true, false, cond, nat_eq, nat_le, ◌||◌, ◌⊎◌, inl, inr, List, [], ◌∷◌, length, take, drop, refl, sym, ap, ◌∙◌, subst, arith, append-nil, Ok}
+use Rattle.std.proofs.Common.{◌≡◌, ℕ, suc, ◌+◌, ◌<◌, ◌≤◌, Bool, true, false, cond, nat_eq, nat_le, ◌||◌, ◌⊎◌, inl, inr, List, [], ◌∷◌, length, take, drop, refl, sym, ap, ◌∙◌, subst, arith, append-nil}
 use Rattle.std.proofs.lemmas.Bool.{or_cases, leb-true, both_ways, cases_Bool}
 use Rattle.std.proofs.lemmas.List.{length-take-le, drop_all}
 use Rattle.std.proofs.Math.Seq.{take-length}
@@ -21,16 +21,7 @@ first_size-take (b ∷ bs) =
 -- the first line is one piece
 pub first-IsPiece : (xs : List ℕ) → 0 < length xs → IsPiece (take (first_size xs) xs)
 unfolding pieces
-first-IsPiece xs some =
-    let k = first_size xs in
-    let line = take k xs in
-    let size : length line ≡ k = length-take-le k xs (first_size-le xs) in
-    let more = first_size-some xs some in
-    let all : first_size line ≡ length line = first_size-take xs ∙ sym size in
-    pieces-first line (omega arith)
-    ∙ ap (λ n. take n line ∷ pieces (drop n line)) all
-    ∙ ap (λ l. l ∷ pieces (drop (length line) line)) (take-length line)
-    ∙ ap (λ l. line ∷ pieces l) (drop_all (length line) line (omega arith))
+first-IsPiece xs some = grind (arith, length-take-le, first_size-le, first_size-some, first_size-take, pieces-first, take-length, drop_all)
 
 onto-whole-some : (b : ℕ) (ys : List ℕ) → 0 < length ys → onto_whole b ys ≡ b ∷ ys
 onto-whole-some b [] h = absurd (omega arith)
@@ -69,27 +60,9 @@ ended-without false xs settled none short =
 
 finished-first : (r : Reader) → is_settled r ≡ true → length (content (take (first_size r.pending) r.pending)) ≤ line_limit
     → IsWhole (take (first_size r.pending) r.pending) ⊎ ((r.ended ≡ true) × (drop (first_size r.pending) r.pending ≡ []))
-finished-first r settled short =
-    elim (cases_Bool (list_any is_lf r.pending)) [
-      | inl found ↦ inl (first-IsWhole r.pending found)
-      | inr none ↦ inr (ended-without r.ended r.pending settled none short, drop_all (first_size r.pending) r.pending (omega (arith, first_size-none r.pending none)))
-    ]
+finished-first r settled short = grind (arith, cases_Bool, first-IsWhole, ended-without, drop_all, first_size-none)
 
 -- the line that the reader keeps
 pub first-IsGiven : (r after : Reader) (size kept : ℕ) → Front r size kept → is_settled r ≡ true → 0 < size → kept ≤ line_limit → r.given + size ≤ input_limit
     → after ≡ after_first r size kept → IsGiven after (take size r.pending)
-first-IsGiven r after size kept f settled some short near is =
-    let xs = r.pending in
-    let whole : first_size xs ≡ size = sym f.whole in
-    let within = first_size-le xs in
-    let small : length (content (take (first_size xs) xs)) ≤ line_limit = subst (λ (k : ℕ). length (content (take k xs)) ≤ line_limit) f.whole (omega (arith, f.text)) in
-    let text : content (take size xs) ≡ take kept xs =
-    ap (λ k. content (take k xs)) f.whole ∙ take-first xs ∙ ap (λ k. take (length (content (take k xs))) xs) whole ∙ ap (λ k. take k xs) (sym f.text) in
-    let first : IsGiven (after_first r size kept) (take size xs) = record {
-      single = subst (λ (k : ℕ). IsPiece (take k xs)) whole (first-IsPiece xs (omega arith));
-      some = omega (arith, length-take-le size xs (omega arith));
-      finished = subst (λ (k : ℕ). IsWhole (take k xs) ⊎ ((r.ended ≡ true) × (drop k xs ≡ []))) whole (finished-first r settled small);
-      text = sym text;
-      right = line-good (r.given + size) (take size xs) (omega (arith, f.text)) near ∙ ap (λ t. Ok t) text;
-    } in
-    subst (λ (a : Reader). IsGiven a (take size xs)) (sym is) first
+first-IsGiven r after size kept f settled some short near is = grind (arith, first_size-le, take-first, after_first, first-IsPiece, length-take-le, finished-first, line-good)

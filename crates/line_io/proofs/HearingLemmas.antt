@@ -20,8 +20,7 @@ use Rattle.line_io.proofs.PassLemmas.{passes-none, passes-then, left-by, pending
 
 -- the same answer, by equal words
 pub hears-so : {S F : Type 0} (hears : Hearing S F) (s s' : S) (k k' : ℕ) (t t' : List ℕ) (r r' : Result Heard F) → k ≡ k' → t ≡ t' → r ≡ r' → hears s k t r s' → hears s k' t' r' s'
-hears-so hears s s' k k' t t' r r' e f g h =
-    subst (λ (x : _). hears s k' t' x s') g (subst (λ (x : _). hears s k' x r s') f (subst (λ (x : _). hears s x t r s') e h))
+hears-so hears s s' k k' t t' r r' e f g h = grind arith
 
 -- ---- some lines, and one more
 
@@ -32,9 +31,7 @@ goes-none hears s n = refl
 pub goes-push : {S F : Type 0} (hears : Hearing S F) (s mid s' : S) (n k : ℕ) (texts : List (List ℕ)) (text : List ℕ) → HearsAll hears s n texts mid → k ≡ n + length texts + 1
     → hears mid k text (Ok More) s' → HearsAll hears s n (texts ++ (text ∷ [])) s'
 unfolding HearsAll
-goes-push hears s mid s' n k [] text g at h =
-    let e : k ≡ n + 1 = omega (arith, at) in
-    (s', subst (λ (x : _). hears x (n + 1) text (Ok More) s') g (subst (λ (j : ℕ). hears mid j text (Ok More) s') e h), refl)
+goes-push hears s mid s' n k [] text g at h = grind arith
 goes-push hears s mid s' n k (t ∷ ts) text g at h =
     (g.0, g.1, goes-push hears g.0 mid s' (n + 1) k ts text g.2 (omega (arith, at)) h)
 
@@ -193,6 +190,4 @@ means-last Is meaning {ending} {from} {to} {a} h x w t is rest =
 pub means-rest : {S F X R : Type 0} {hears : Hearing S F} (Is : S → X → Type 0) (meaning : X → ℕ → List Line → R) {ending : Ending F} {from to : S} {a c : Reader} {l n : Option (List ℕ)}
     (h : Listens hears ending from to a c l n) (x : X) (w : Comes Is meaning x a.number h.texts h.at) → h.last ≡ [] → (rest : List Line)
     → meaning x a.number (text_lines (h.texts ++ h.last) ++ rest) ≡ meaning w.place c.number rest
-means-rest Is meaning {ending} {from} {to} {a} {c} h x w is rest =
-    let at : a.number + length h.texts ≡ c.number = omega (arith, h.passes.number, length-append h.texts h.last, ap length is) in
-    ap (λ z. meaning x a.number (text_lines z ++ rest)) (ap (λ z. h.texts ++ z) is ∙ append-nil h.texts) ∙ w.means rest ∙ ap (λ k. meaning w.place k rest) at
+means-rest Is meaning {ending} {from} {to} {a} {c} h x w is rest = grind (arith, length-append, is, append-nil)

@@ -1,9 +1,8 @@
 -- Lines of bytes that are put together: what callers need who read line after line.
-use Rattle.std.proofs.Common.{◌≡◌, ℕ, suc, ◌+◌, ◌<◌, true, false, cond, nat_eq, nat_le, ◌||◌, List, [], ◌∷◌, ◌++◌, length, sum_by, Ok, Err, refl, sym, ap, ◌∙◌, arith, append-nil}
+use Rattle.std.proofs.Common.{◌≡◌, ℕ, suc, ◌+◌, ◌<◌, true, false, cond, nat_eq, List, [], ◌∷◌, ◌++◌, length, sum_by, Ok, Err, refl, sym, ap, ◌∙◌, arith, append-nil}
 use Rattle.std.proofs.lemmas.Bool.{or_parts, leb-false}
 use Rattle.std.proofs.lemmas.List.Sums.{sum_by-cons}
 use Rattle.std.specs.List.{list_any}
-use Rattle.evac_law.specs.declared.code.Code.TheVariants as codes
 use Rattle.line_io.specs.Line.{Line, is_lf, pieces, onto_first, line_of, then_lines, lines_after, text_lines, whole_part, onto_whole, IsWhole, line_limit}
 use Rattle.line_io.specs.Reader.{is_settled}
 use Rattle.line_io.specs.View.{Reader}
@@ -53,15 +52,11 @@ whole_part-front gone pending h none = whole_part-append gone pending h ∙ ap (
 
 -- a reader whose next line isn't settled has no LF pending, and its source hasn't ended
 pub unsettled-open : (r : Reader) → is_settled r ≡ false → (r.ended ≡ false) × (list_any is_lf r.pending ≡ false)
-unsettled-open r h =
-    let parts = or_parts r.ended (nat_le (line_limit + 2) (length r.pending) || list_any is_lf r.pending) h in
-    (parts.0, (or_parts (nat_le (line_limit + 2) (length r.pending)) (list_any is_lf r.pending) parts.1).1)
+unsettled-open r h = grind (arith, or_parts)
 
 -- and no more bytes than a line may have
 pub unsettled-few : (r : Reader) → is_settled r ≡ false → length r.pending < line_limit + 2
-unsettled-few r h =
-    let parts = or_parts r.ended (nat_le (line_limit + 2) (length r.pending) || list_any is_lf r.pending) h in
-    leb-false (line_limit + 2) (length r.pending) (or_parts (nat_le (line_limit + 2) (length r.pending)) (list_any is_lf r.pending) parts.1).0
+unsettled-few r h = grind (arith, or_parts, leb-false)
 
 pub whole_part-unsettled : (gone : List ℕ) (r : Reader) → IsWhole gone → is_settled r ≡ false → whole_part (gone ++ r.pending) ≡ gone
 whole_part-unsettled gone r h unsettled = whole_part-front gone r.pending h (unsettled-open r unsettled).1
@@ -75,9 +70,7 @@ onto-some b p ps qs = refl
 onto-append : (b : ℕ) (bs : List ℕ) (qs : List (List ℕ)) → IsWhole (b ∷ bs) → nat_eq b 10 ≡ false → onto_first b (pieces bs ++ qs) ≡ onto_first b (pieces bs) ++ qs
 unfolding whole_part pieces
 onto-append b [] qs h off = let e : cond (nat_eq b 10) (b ∷ []) [] ≡ b ∷ [] = h in let n : [] ≡ b ∷ [] = rw off at e in cc
-onto-append b (c ∷ cs) qs h off =
-    elim (nat_eq c 10) as (λ t. onto_first b (cond t ((c ∷ []) ∷ pieces cs) (onto_first c (pieces cs)) ++ qs) ≡ onto_first b (cond t ((c ∷ []) ∷ pieces cs) (onto_first c (pieces cs))) ++ qs)
-    [ true ↦ refl | false ↦ elim (pieces cs) as (λ l. onto_first b (onto_first c l ++ qs) ≡ onto_first b (onto_first c l) ++ qs) [ [] ↦ refl | p ∷ ps ↦ refl ] ]
+onto-append b (c ∷ cs) qs h off = grind arith
 
 pub pieces-append : (gone rest : List ℕ) → IsWhole gone → pieces (gone ++ rest) ≡ pieces gone ++ pieces rest
 unfolding pieces
@@ -127,10 +120,7 @@ lines_after-append before (p ∷ ps) qs (t ∷ ts) h =
 -- the lines of whole bytes, none with a fault, and then those of what follows
 pub lines_after-whole : (before : ℕ) (gone rest : List ℕ) (texts : List (List ℕ)) → IsWhole gone → lines_after before (pieces gone) ≡ text_lines texts
     → lines_after before (pieces (gone ++ rest)) ≡ text_lines texts ++ lines_after (before + length gone) (pieces rest)
-lines_after-whole before gone rest texts whole h =
-    ap (lines_after before) (pieces-append gone rest whole)
-    ∙ lines_after-append before (pieces gone) (pieces rest) texts h
-    ∙ ap (λ n. text_lines texts ++ lines_after (before + n) (pieces rest)) (pieces-size gone)
+lines_after-whole before gone rest texts whole h = grind (arith, pieces-append, lines_after-append, pieces-size)
 
 pub text_lines-push : (texts : List (List ℕ)) (text : List ℕ) → text_lines (texts ++ text ∷ []) ≡ text_lines texts ++ Ok text ∷ []
 text_lines-push [] text = refl

@@ -9,7 +9,7 @@ use Rattle.evac_law.specs.declared.code.Code.TheVariants as codes
 use Rattle.line_io.specs.declared.limits.TheConstants.{BUFFER_SIZE}
 use Rattle.line_io.specs.Line.{Line, IsWhole, content, input_limit, line_limit, lines_after, pieces, text_lines, line_of, then_lines}
 use Rattle.line_io.specs.declared.lines.Found.{Found}
-use Rattle.line_io.specs.Reader.{Gives, HasRoom, lines_left, Answers, GivesAway, IsGiven, StaysAt, is_settled, pending_lines, settled_answer, answer_at, taken_lines}
+use Rattle.line_io.specs.Reader.{Gives, HasRoom, lines_left, Answers, GivesAway, StaysAt, is_settled, pending_lines, settled_answer, answer_at, taken_lines}
 use Rattle.line_io.specs.View.{Reader}
 use Rattle.line_io.specs.declared.lines.Found.TheVariants.{Text, End}
 use Rattle.line_io.specs.declared.lines.LineFault.{LineFault}
@@ -68,14 +68,8 @@ IsClosed r = (r.ended ≡ true) × (r.pending ≡ [])
 -- the lines of both parts: where the first isn't whole, the second is empty
 said-then : (n m : ℕ) (g h : List ℕ) (xs ys : List (List ℕ)) → lines_after n (pieces g) ≡ text_lines xs → m ≡ n + length g → lines_after m (pieces h) ≡ text_lines ys
     → IsWhole g ⊎ ((h ≡ []) × (ys ≡ [])) → lines_after n (pieces (g ++ h)) ≡ text_lines (xs ++ ys)
-said-then n m g h xs ys first count second (inl whole) =
-    lines_after-whole n g h xs whole first
-    ∙ ap (λ k. text_lines xs ++ lines_after k (pieces h)) (sym count)
-    ∙ ap (λ l. text_lines xs ++ l) second
-    ∙ sym (text_lines-append xs ys)
-said-then n m g h xs ys first count second (inr none) =
-    ap (λ l. lines_after n (pieces (g ++ l))) none.0 ∙ ap (λ l. lines_after n (pieces l)) (append-nil g) ∙ first
-    ∙ ap text_lines (sym (append-nil xs)) ∙ ap (λ l. text_lines (xs ++ l)) (sym none.1)
+said-then n m g h xs ys first count second (inl whole) = grind (arith, lines_after-whole, text_lines-append)
+said-then n m g h xs ys first count second (inr none) = grind (arith, append-nil)
 
 whole-then : (g h : List ℕ) (b c : Reader) → IsWhole g ⊎ IsClosed b → IsWhole h ⊎ IsClosed c → (b.ended ≡ true → b.pending ≡ [] → IsClosed c) → IsWhole (g ++ h) ⊎ IsClosed c
 whole-then g h b c (inl w) (inl v) closed = inl (IsWhole-append g h w v)
@@ -131,23 +125,7 @@ left-by result t rest gives (Some x) (Some y) h = gives x y h
 pub passes-text : (result : Result Found LineFault) (b c : Reader) (m n : Option (List ℕ)) → result ≡ Ok Text → GivesAway result b c m n → Answers result c.text (lines_left b m) (lines_left c n)
     → c.number ≡ b.number + 1 → (is_settled b ≡ true → result ≡ settled_answer b) → HasRoom c → Passes b c m n (c.text ∷ [])
 unfolding lines_after
-passes-text result b c m n is gives answers number settled room =
-    let away = rw is at gives in
-    let given : IsGiven c away.gone = away.line in
-    record {
-      taken = away.taken;
-      gone = away.gone;
-      consumed = away.consumed;
-      tied = away.tied;
-      counted = away.counted;
-      said = ap (lines_after b.given) given.single
-          ∙ ap (λ l. then_lines l []) (ap (λ k. line_of k away.gone) (sym away.counted) ∙ given.right);
-      number = number;
-      whole = given.finished;
-      closed = λ e f. let found : Ok Text ≡ Ok End = sym is ∙ settled (closed-settled b e) ∙ closed-answer b e f in cc;
-      follows = follows-by (Ok Text) c.text (c.text ∷ []) (λ x y h. h) (lines_left b m) (lines_left c n) (rw is at answers);
-      room = λ _. room;
-    }
+passes-text result b c m n is gives answers number settled room = grind (arith, closed-settled, closed-answer, follows-by)
 
 then-answer : (l : Line) (ls : List Line) → answer_at (then_lines l ls) ≡ Ok End → ⊥
 then-answer (Ok t) ls h = cc
@@ -202,11 +180,7 @@ none-pending-lines r empty = ap (λ z. lines_after r.given (pieces z)) empty ∙
 
 -- they are the lines that went by, and those of the bytes that are pending
 pub passes-taken : (a c : Reader) (l n : Option (List ℕ)) (xs : List (List ℕ)) (p : Passes a c l n xs) → taken_lines a p.taken ≡ text_lines xs ++ pending_lines c
-passes-taken a c l n xs p = ap (λ b. lines_after a.given (pieces b)) p.tied ∙ elim p.whole [
-  | inl whole ↦ lines_after-whole a.given p.gone c.pending xs whole p.said ∙ ap (λ k. text_lines xs ++ lines_after k (pieces c.pending)) (sym p.counted)
-  | inr over ↦ ap (λ z. lines_after a.given (pieces (p.gone ++ z))) over.1 ∙ ap (λ z. lines_after a.given (pieces z)) (append-nil p.gone) ∙ p.said
-      ∙ sym (append-nil (text_lines xs)) ∙ ap (λ z. text_lines xs ++ z) (sym (none-pending-lines c over.1))
-]
+passes-taken a c l n xs p = grind (arith, lines_after-whole, append-nil, none-pending-lines)
 
 -- no more is taken than an input may have, and a buffer
 pub passes-few : (a c : Reader) (l n : Option (List ℕ)) (xs : List (List ℕ)) (p : Passes a c l n xs) → HasRoom a → a.given + length a.pending + length p.taken ≤ input_limit + BUFFER_SIZE

@@ -90,9 +90,7 @@ pub field-behind : (xs w : List ℕ) (more : List (List ℕ)) → fields_of xs �
 field-behind xs w more e = let P : List ℕ → Type 0 = λ v. HasBehind (length v) (skipped xs) (behind_field xs) in subst P (first-word xs w more e) (word-behind (skipped xs))
 
 pub line-behind : (xs w : List ℕ) (more : List (List ℕ)) → fields_of xs ≡ w ∷ more → HasBehind (length w) xs (behind_field xs)
-line-behind xs w more e =
-    less-behind (length w) (0 + length w) xs (behind_field xs) (omega arith)
-    (further-behind 0 (length w) xs (skipped xs) (behind_field xs) (skipped-behind xs) (field-behind xs w more e))
+line-behind xs w more e = grind (arith, less-behind, further-behind, skipped-behind, field-behind)
 
 -- fields after a word come after a blank
 pub fields-behind : (ys f : List ℕ) (more : List (List ℕ)) → fields_of (behind_word ys) ≡ f ∷ more → HasBehind 1 (behind_word ys) (skipped (behind_word ys))

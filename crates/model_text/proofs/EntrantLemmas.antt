@@ -1,5 +1,5 @@
 -- Entrants by node and moment, with one more.
-use Rattle.std.proofs.Common.{◌≡◌, ◌+◌, ◌<◌, ◌≤◌, Bool, true, false, cond, ◌&&◌, ◌||◌, ◌==◌, nat_lt, List, [], ◌∷◌, length, refl, ap, ◌∙◌, arith, ◌⊎◌, inl, inr, IsFalse, get_or, ◌++◌, sym, subst}
+use Rattle.std.proofs.Common.{◌≡◌, ◌+◌, ◌<◌, ◌≤◌, Bool, true, false, cond, ◌||◌, nat_lt, List, [], ◌∷◌, length, refl, ap, ◌∙◌, arith, ◌⊎◌, inl, inr, IsFalse, get_or, ◌++◌, sym, subst}
 use Rattle.std.specs.List.{All, AllPairs, list_any, sum_by}
 use Rattle.std.proofs.lemmas.Bool.{and_parts, cases_order, eq-eqb, eqb-true, lt-ltb, ltb-true, or_cases}
 use Rattle.std.proofs.lemmas.List.{get_or_append_left}
@@ -28,10 +28,7 @@ all-with_entrant P es e all new = rw (is-put es e) (all-put P comes_before es e 
 
 -- the test tells whether one comes before another
 first-comes : (e f : Entrant) → comes_before e f ≡ true → ComesBefore e f
-first-comes e f h = elim (or_cases (nat_lt e.node f.node) (e.node == f.node && nat_lt e.moment f.moment) h) [
-  | inl less ↦ inl (ltb-true e.node f.node less)
-  | inr same ↦ let both = and_parts (e.node == f.node) (nat_lt e.moment f.moment) same in inr (eqb-true e.node f.node both.0, ltb-true e.moment f.moment both.1)
-]
+first-comes e f h = grind (arith, or_cases, ltb-true, and_parts, eqb-true)
 
 comes-first : (e f : Entrant) → ComesBefore e f → comes_before e f ≡ true
 comes-first e f (inl less) = rw (lt-ltb e.node f.node less) refl
@@ -49,15 +46,7 @@ further e f g (inr a) (inr b) = inr (a.0 ∙ b.0, (let l = a.1 in let m = b.1 in
 
 -- of two that aren't of one node and moment, one comes before the other
 one-first : (e f : Entrant) → is_coming e.node e.moment f ≡ false → ComesBefore e f ⊎ ComesBefore f e
-one-first e f apart = elim (cases_order e.node f.node) [
-  | inl same ↦ (elim (cases_order e.moment f.moment) [
-    | inl when ↦ let both : is_coming e.node e.moment f ≡ true = rw (same, when, eq-eqb f.node f.node refl, eq-eqb f.moment f.moment refl) refl in cc
-    | inr (inl less) ↦ inl (inr (same, less))
-    | inr (inr more) ↦ inr (inr (sym same, more))
-  ])
-  | inr (inl less) ↦ inl (inl less)
-  | inr (inr more) ↦ inr (inl more)
-]
+one-first e f apart = grind (arith, cases_order, eq-eqb)
 
 fits-by : (e f : Entrant) → ComesBefore e f ⊎ ComesBefore f e → Fits ComesBefore comes_before e f
 fits-by e f (inl first) = record { front = λ _. first; back = λ h. let yes' = comes-first e f first in cc }

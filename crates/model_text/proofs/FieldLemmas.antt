@@ -1,7 +1,7 @@
 -- The first field of bytes.
 use Rattle.std.proofs.Common.{◌≡◌, ℕ, ◌+◌, suc, Bool, true, false, cond, not, List, [], ◌∷◌, take, drop, refl, sym, ap, ◌∙◌, arith}
 use Rattle.std.specs.List.{prefix_len}
-use Rattle.model_text.specs.Fields.{is_blank, fields_of, joined, onto_first, skipped, word, behind_word}
+use Rattle.model_text.specs.Fields.{is_blank, fields_of, joined, skipped, word, behind_word}
 
 abbrev pub is_word : ℕ → Bool
 is_word b = not (is_blank b)
@@ -60,11 +60,8 @@ behind-begun b bs e = ap (λ s. cond s (b ∷ bs) (behind_word bs)) e
 by_next : (b d : ℕ) (ds : List ℕ) (t : Bool) → is_blank d ≡ t → (is_blank d ≡ false → fields_of (d ∷ ds) ≡ word (d ∷ ds) ∷ fields_of (behind_word (d ∷ ds)))
     → joined b (d ∷ ds) (fields_of (d ∷ ds)) ≡ (b ∷ word (d ∷ ds)) ∷ fields_of (behind_word (d ∷ ds))
 unfolding word behind_word
-by_next b d ds true f ih =
-    ap (λ s. cond s ((b ∷ []) ∷ fields_of (d ∷ ds)) (onto_first b (fields_of (d ∷ ds)))) f
-    ∙ (let w : List ℕ = word (d ∷ ds) in let e : (b ∷ []) ∷ fields_of (d ∷ ds) ≡ (b ∷ word (d ∷ ds)) ∷ fields_of (behind_word (d ∷ ds)) = rw f refl in e)
-by_next b d ds false f ih =
-    ap (λ s. cond s ((b ∷ []) ∷ fields_of (d ∷ ds)) (onto_first b (fields_of (d ∷ ds)))) f ∙ ap (onto_first b) (ih f)
+by_next b d ds true f ih = grind arith
+by_next b d ds false f ih = grind arith
 
 -- a line that begins with no blank: its word, and the fields after it
 pub fields-word : (b : ℕ) (bs : List ℕ) → is_blank b ≡ false → fields_of (b ∷ bs) ≡ word (b ∷ bs) ∷ fields_of (behind_word (b ∷ bs))

@@ -1,9 +1,8 @@
 -- What lines say keeps its ranges, and which faults a line may have.
-use Rattle.std.proofs.Common.{◌≡◌, ◌≢◌, ℕ, ◌+◌, ◌<◌, ◌≤◌, Bool, true, false, cond, ◌||◌, nat_lt, IfOk, IfErr, List, [], ◌∷◌, length, Result, Ok, Err, Some, None, refl, sym, subst, arith, codes}
+use Rattle.std.proofs.Common.{◌≡◌, ◌≢◌, ℕ, ◌+◌, ◌<◌, ◌≤◌, Bool, true, false, cond, IfOk, IfErr, List, [], ◌∷◌, length, Result, Ok, Err, Some, None, refl, sym, subst, arith, codes}
 use Rattle.std.specs.declared.option.Option.{Option}
 use Rattle.std.specs.Str.{bytes_eq}
-use Rattle.std.proofs.lemmas.Bool.{ltb-false}
-use Rattle.evac_law.specs.Limits.{seconds_limit, horizon_limit, floor_number_limit, capacity_limit, people_limit, travel_limit, rate_limit}
+use Rattle.evac_law.specs.Limits.{horizon_limit, capacity_limit, people_limit, travel_limit, rate_limit}
 use Rattle.evac_law.specs.Names.{IsName, is_exit}
 use Rattle.evac_law.specs.declared.name.NodeName.{NodeName}
 use Rattle.model_text.specs.declared.command.Command.{Command}
@@ -14,8 +13,8 @@ use Rattle.model_text.specs.declared.fault.TextFault.TheVariants.{UnknownWord, F
 use Rattle.model_text.specs.declared.named_edit.NamedEdit.{NamedEdit}
 use Rattle.model_text.specs.declared.named_edit.NamedEdit.TheVariants as edits
 use Rattle.model_text.specs.Commands.{alone, with_number, command_by_word}
-use Rattle.model_text.specs.NamedEdits.{with_name, two_names, with_names, name_number, with_name_number, names_number, with_names_number, names_numbers, with_names_numbers, edit_by_word}
-use Rattle.model_text.specs.Fields.{fields_of, behind_field, text_of}
+use Rattle.model_text.specs.NamedEdits.{with_name, with_names, with_name_number, with_names_number, with_names_numbers, edit_by_word}
+use Rattle.model_text.specs.Fields.{fields_of, behind_field}
 use Rattle.model_text.specs.Grammar.{◌>>=◌, or_fault, number_field, ranged, name_field, text_field, no_field, one_field, two_fields, three_fields, four_fields, Said, SaidPart, IsSaid, IsSaidPart, Blank, Part, Exit, End, header, title, period, horizon, floor, exit_fields, node_fields, node, arc, window, entrant, part_by_word, end, is_comment, by_word, of_fields, statement_of}
 use Rattle.model_text.specs.Readings.{is_unknown}
 use Rattle.model_text.specs.Reads.{Reads, said}
@@ -55,14 +54,8 @@ good-name F field bad = good-or F IsName BadName (name_of field) bad (reads-righ
 abbrev IsWithin : ℕ → ℕ → ℕ → Type 0
 IsWithin low high n = (low ≤ n) × (n ≤ high)
 
-range-by : (F : TextFault → Type 0) (low high n : ℕ) (a b : Bool) → F OutOfRange → nat_lt n low ≡ a → nat_lt high n ≡ b → Good F (IsWithin low high) (cond (a || b) (Err OutOfRange) (Ok n))
-range-by F low high n true b out e f = out
-range-by F low high n false true out e f = out
-range-by F low high n false false out e f = (ltb-false n low e, ltb-false high n f)
-
 good-ranged : (F : TextFault → Type 0) (low high : ℕ) (field : List ℕ) → F BadNumber → F OutOfRange → Good F (IsWithin low high) (ranged low high field)
-good-ranged F low high field bad out =
-    good-bind F Any-value (IsWithin low high) (number_field field) _ (good-number F field bad) (λ n h. range-by F low high n (nat_lt n low) (nat_lt high n) out refl refl)
+good-ranged F low high field bad out = grind arith
 
 good-text : (F : TextFault → Type 0) (text : List ℕ) → F FieldCount → Good F (λ t. 0 < length t) (text_field text)
 good-text F [] count = count
@@ -116,20 +109,14 @@ good-title : (text : List ℕ) → GoodPart (title text)
 good-title text = good-bind NoCommand (λ t. 0 < length t) IsSaidPart (text_field text) _ (good-text NoCommand text count) (λ t h. h)
 
 good-period : (fields : List (List ℕ)) → GoodPart (period fields)
-good-period fields =
-    good-bind NoCommand Any-value IsSaidPart (one_field fields) _ (good-one NoCommand fields count) (λ f h.
-    good-bind NoCommand (IsWithin 1 seconds_limit) IsSaidPart (ranged 1 seconds_limit f) _ (good-ranged NoCommand 1 seconds_limit f number range) (λ s i. i))
+good-period fields = grind (arith, count, number, range)
 
 good-horizon : (fields : List (List ℕ)) → GoodPart (horizon fields)
-good-horizon fields =
-    good-bind NoCommand Any-value IsSaidPart (one_field fields) _ (good-one NoCommand fields count) (λ f h.
-    good-bind NoCommand (IsWithin 0 horizon_limit) IsSaidPart (ranged 0 horizon_limit f) _ (good-ranged NoCommand 0 horizon_limit f number range) (λ s i. i.1))
+good-horizon fields = grind (arith, count, number, range)
 
 good-floor : (fields : List (List ℕ)) (text : List ℕ) → GoodPart (floor fields text)
 good-floor [] text = count
-good-floor (f ∷ more) text =
-    good-bind NoCommand (λ t. 0 < length t) IsSaidPart (text_field text) _ (good-text NoCommand text count) (λ t h.
-    good-bind NoCommand (IsWithin 0 floor_number_limit) IsSaidPart (ranged 0 floor_number_limit f) _ (good-ranged NoCommand 0 floor_number_limit f number range) (λ s i. (i.1, h)))
+good-floor (f ∷ more) text = grind (arith, count, number, range)
 
 good-room : (n : NodeName) (fields : List (List ℕ)) → IsName n → is_exit n.kind ≡ false → GoodPart (node_fields n fields)
 good-room n fields is room =
@@ -179,20 +166,10 @@ part-by : (t : Bool) (a b : Result SaidPart TextFault) → GoodPart a → GoodPa
 part-by t a b h k = pick NoCommand IsSaidPart t a b h k
 
 good-part : (word rest : List ℕ) → GoodPart (part_by_word word rest)
-good-part word rest =
-    part-by (bytes_eq word (codes "title")) (title (text_of rest)) _ (good-title (text_of rest))
-    (part-by (bytes_eq word (codes "period")) (period (fields_of rest)) _ (good-period (fields_of rest))
-    (part-by (bytes_eq word (codes "horizon")) (horizon (fields_of rest)) _ (good-horizon (fields_of rest))
-    (part-by (bytes_eq word (codes "floor")) (floor (fields_of rest) (text_of (behind_field rest))) _ (good-floor (fields_of rest) (text_of (behind_field rest)))
-    (part-by (bytes_eq word (codes "node")) (node (fields_of rest)) _ (good-node (fields_of rest))
-    (part-by (bytes_eq word (codes "arc")) (arc (fields_of rest)) _ (good-arc (fields_of rest))
-    (part-by (bytes_eq word (codes "window")) (window (fields_of rest)) _ (good-window (fields_of rest))
-    (part-by (bytes_eq word (codes "entrant")) (entrant (fields_of rest)) (Err UnknownWord) (good-entrant (fields_of rest)) (λ e. cc))))))))
+good-part word rest = grind (arith, part-by, good-title, good-period, good-horizon, good-floor, good-node, good-arc, good-window, good-entrant)
 
 good-header : (fields : List (List ℕ)) → GoodSaid (header fields)
-good-header fields =
-    good-bind NoCommand Any-value IsSaid (one_field fields) _ (good-one NoCommand fields count) (λ f h.
-    good-bind NoCommand Any-value IsSaid (number_field f) _ (good-number NoCommand f number) (λ v i. tt))
+good-header fields = grind (arith, count, number)
 
 good-end : (fields : List (List ℕ)) → GoodSaid (end fields)
 good-end fields = good-none NoCommand IsSaid End fields count tt
@@ -275,24 +252,16 @@ good-with_name : (c : NodeName → NamedEdit) (fields : List (List ℕ)) → Goo
 good-with_name c fields = one' fields _ (λ f. field-name f _ (λ n. tt))
 
 good-with_names : (c : NodeName → NodeName → NamedEdit) (fields : List (List ℕ)) → GoodEdit (with_names c fields)
-good-with_names c fields =
-    then-any Any-value (two_names fields) _
-    (then-any Any-value (two_fields fields) _ (good-two NoStatement fields count') (λ f. field-name f.0 _ (λ a. field-name f.1 _ (λ b. tt)))) (λ p. tt)
+good-with_names c fields = grind (arith, count')
 
 good-with_name_number : (c : NodeName → ℕ → NamedEdit) (fields : List (List ℕ)) → GoodEdit (with_name_number c fields)
-good-with_name_number c fields =
-    then-any Any-value (name_number fields) _
-    (then-any Any-value (two_fields fields) _ (good-two NoStatement fields count') (λ f. field-name f.0 _ (λ a. field-number f.1 _ (λ b. tt)))) (λ p. tt)
+good-with_name_number c fields = grind (arith, count')
 
 good-with_names_number : (c : NodeName → NodeName → ℕ → NamedEdit) (fields : List (List ℕ)) → GoodEdit (with_names_number c fields)
-good-with_names_number c fields =
-    then-any Any-value (names_number fields) _
-    (then-any Any-value (three_fields fields) _ (good-three NoStatement fields count') (λ f. field-name f.0 _ (λ a. field-name f.1 _ (λ b. field-number f.2 _ (λ n. tt))))) (λ p. tt)
+good-with_names_number c fields = grind (arith, count')
 
 good-with_names_numbers : (c : NodeName → NodeName → ℕ → ℕ → NamedEdit) (fields : List (List ℕ)) → GoodEdit (with_names_numbers c fields)
-good-with_names_numbers c fields =
-    then-any Any-value (names_numbers fields) _
-    (then-any Any-value (four_fields fields) _ (good-four NoStatement fields count') (λ f. field-name f.0 _ (λ a. field-name f.1 _ (λ b. field-number f.2 _ (λ p. field-number f.3 _ (λ q. tt)))))) (λ p. tt)
+good-with_names_numbers c fields = grind (arith, count')
 
 or-else : {A : Type 0} (t : Bool) (a b : Result A TextFault) → Good NoStatement Any-value a → Good NoStatement Any-value b → Good NoStatement Any-value (cond t a b)
 or-else t a b h k = pick NoStatement Any-value t a b h k

@@ -1,5 +1,5 @@
 -- Lists that grow at their end, and tests of names.
-use Rattle.std.proofs.Common.{◌≡◌, ℕ, ◌+◌, ◌<◌, Bool, true, false, cond, not, ◌||◌, ◌==◌, List, [], ◌∷◌, ◌++◌, length, map, get_or, refl, ap, ◌∙◌, arith, ◌⊎◌, inl, inr, eq-eqb}
+use Rattle.std.proofs.Common.{◌≡◌, ℕ, ◌+◌, ◌<◌, Bool, true, false, cond, not, ◌||◌, List, [], ◌∷◌, ◌++◌, length, map, get_or, refl, ap, arith, ◌⊎◌, inl, inr, eq-eqb}
 use Rattle.std.specs.List.{list_any, position_or_len}
 use Rattle.std.proofs.Math.Seq.{get_or-append_seam}
 use Rattle.std.proofs.lemmas.Bool.{and_parts, cases_lt, eqb-true}
@@ -33,12 +33,7 @@ make-name k n f = record { kind = k; number = n; floor = f }
 
 -- the test of names tells whether they are equal
 pub same-name-is : (a b : NodeName) → same_name a b ≡ true → a ≡ b
-same-name-is a b h =
-    let k = and_parts (same_kind a.kind b.kind) _ h in
-    let n = and_parts (a.number == b.number) (a.floor == b.floor) k.1 in
-    ap (λ x. make-name x a.number a.floor) (same-kind-is a.kind b.kind k.0)
-    ∙ ap (λ x. make-name b.kind x a.floor) (eqb-true a.number b.number n.0)
-    ∙ ap (λ x. make-name b.kind b.number x) (eqb-true a.floor b.floor n.1)
+same-name-is a b h = grind (arith, and_parts, same-kind-is, eqb-true)
 
 pub same-name-self : (a : NodeName) → same_name a a ≡ true
 same-name-self a = rw (same-kind-self a.kind, eq-eqb a.number a.number refl, eq-eqb a.floor a.floor refl) refl
@@ -73,14 +68,8 @@ length-push xs x = length-append xs (x ∷ [])
 push-by : {X : Type 0} (P : X → X → Type 0) (xs : List X) (x d : X) (i j : ℕ)
     → (i < j → j < length xs → P (get_or xs i d) (get_or xs j d)) → (i < length xs → P (get_or xs i d) x)
     → i < j → (j < length xs) ⊎ (j ≡ length xs) → P (get_or (xs ++ (x ∷ [])) i d) (get_or (xs ++ (x ∷ [])) j d)
-push-by P xs x d i j pairs new before (inl h) =
-    let e : get_or (xs ++ (x ∷ [])) i d ≡ get_or xs i d = get_or_append_left xs (x ∷ []) d i (omega arith) in
-    let f : get_or (xs ++ (x ∷ [])) j d ≡ get_or xs j d = get_or_append_left xs (x ∷ []) d j h in
-    rw (e, f) (pairs before h)
-push-by P xs x d i j pairs new before (inr h) =
-    let e : get_or (xs ++ (x ∷ [])) i d ≡ get_or xs i d = get_or_append_left xs (x ∷ []) d i (omega arith) in
-    let f : get_or (xs ++ (x ∷ [])) j d ≡ x = ap (λ k. get_or (xs ++ (x ∷ [])) k d) h ∙ get_or-append_seam xs x [] d in
-    rw (e, f) (new (omega arith))
+push-by P xs x d i j pairs new before (inl h) = grind (arith, get_or_append_left)
+push-by P xs x d i j pairs new before (inr h) = grind (arith, get_or_append_left, get_or-append_seam)
 
 pub push-pairs : {X : Type 0} (P : X → X → Type 0) (xs : List X) (x d : X)
     → ((i j : ℕ) → i < j → j < length xs → P (get_or xs i d) (get_or xs j d)) → ((i : ℕ) → i < length xs → P (get_or xs i d) x)

@@ -1,5 +1,5 @@
 -- A field reads as a name exactly where it is the text of that name.
-use Rattle.std.proofs.Common.{◌≡◌, ℕ, ◌+◌, ◌-◌, ◌*◌, ◌^◌, ◌<◌, ◌≤◌, zero, suc, Bool, true, false, cond, ◌||◌, not, ◌&&◌, nat_lt, List, [], ◌∷◌, ◌++◌, length, take, drop, get_or, Some, None, refl, sym, ap, ap₂, subst, ◌∙◌, arith, rules, codes, lit<, length-drop}
+use Rattle.std.proofs.Common.{◌≡◌, ℕ, ◌+◌, ◌-◌, ◌*◌, ◌^◌, ◌<◌, ◌≤◌, zero, suc, Bool, true, false, cond, not, ◌&&◌, List, [], ◌∷◌, ◌++◌, length, take, drop, get_or, Some, None, refl, sym, ap, ap₂, subst, ◌∙◌, arith, rules, lit<, length-drop}
 use Rattle.std.specs.Prelude.{decimal, option_and_then}
 use Rattle.std.specs.declared.option.Option.{Option}
 use Rattle.std.specs.Char.{is_ascii_digit}
@@ -16,7 +16,7 @@ use Rattle.evac_law.specs.Limits.{number_limit, floor_number_limit}
 use Rattle.evac_law.specs.Names.{IsName, kind_text, name_text}
 use Rattle.evac_law.specs.declared.name.NodeName.{NodeName}
 use Rattle.evac_law.specs.declared.name.Kind.{Kind}
-use Rattle.evac_law.specs.declared.name.Kind.TheVariants.{Work, Hall, Stair, Lobby, Exit}
+use Rattle.evac_law.specs.declared.name.Kind.TheVariants.{Work}
 use Rattle.model_text.specs.Numbers.{digits_from, field_number, has_leading_zero, plain_number_of}
 use Rattle.model_text.specs.NameFields.{kind_of, plain_within, is_dot, name_of, name_of_parts, number_part, floor_part}
 use Rattle.model_text.proofs.NumberLemmas.{number-parts, some-by}
@@ -31,10 +31,7 @@ then-some None f y e = cc
 
 kind-by : (letters w : List ℕ) (k₀ k : Kind) (rest : Option Kind) (b : Bool) → bytes_eq letters w ≡ b → w ≡ kind_text k₀ → (rest ≡ Some k → letters ≡ kind_text k)
     → cond b (Some k₀) rest ≡ Some k → letters ≡ kind_text k
-kind-by letters w k₀ k rest true e spelled other h =
-    let same : k₀ ≡ k = cc in
-    let l : letters ≡ w = search (rules, bytes_eq-Decides letters w) in
-    l ∙ spelled ∙ ap kind_text same
+kind-by letters w k₀ k rest true e spelled other h = grind (arith, letters, bytes_eq-Decides)
 kind-by letters w k₀ k rest false e spelled other h = other h
 
 kind-step : (letters w : List ℕ) (k₀ k : Kind) (rest : Option Kind) → w ≡ kind_text k₀ → (rest ≡ Some k → letters ≡ kind_text k)
@@ -43,12 +40,7 @@ kind-step letters w k₀ k rest spelled other h = kind-by letters w k₀ k rest 
 
 -- letters of a kind are its text
 pub kind-is : (letters : List ℕ) (k : Kind) → kind_of letters ≡ Some k → letters ≡ kind_text k
-kind-is letters k h =
-    kind-step letters (codes "WP") Work k _ refl
-    (kind-step letters (codes "HA") Hall k _ refl
-    (kind-step letters (codes "SW") Stair k _ refl
-    (kind-step letters (codes "LO") Lobby k _ refl
-    (kind-step letters (codes "DS") Exit k None refl (λ n. cc))))) h
+kind-is letters k h = grind (arith, kind-step, letters)
 
 -- the text of a kind reads as the kind
 pub kind-reads : (k : Kind) → kind_of (kind_text k) ≡ Some k
@@ -122,23 +114,11 @@ plain-reads n few small =
 
 -- a field that is read as a number within a range is its text
 within-is : (low high : ℕ) (bs : List ℕ) (n : ℕ) → high < 2 ^ 64 → plain_within low high bs ≡ Some n → ((low ≤ n) × (n ≤ high)) × (bs ≡ decimal n)
-within-is low high bs n small h =
-    let read = then-some (plain_number_of bs) (λ m. cond (nat_lt m low || nat_lt high m) None (Some m)) n h in
-    let m : ℕ = read.0 in
-    let tests = some-by (nat_lt m low || nat_lt high m) (Some m) n read.1.1 in
-    let both = or_parts (nat_lt m low) (nat_lt high m) tests.0 in
-    let inner : Some m ≡ Some n = tests.1 in
-    let same : m ≡ n = cc in
-    let above : low ≤ m = ltb-false m low both.0 in
-    let below : m ≤ high = ltb-false high m both.1 in
-    let text : bs ≡ decimal m = plain-is bs m (omega arith) read.1.0 in
-    ((omega arith, omega arith), text ∙ ap decimal same)
+within-is low high bs n small h = grind (arith, some-by, or_parts, ltb-false, plain-is)
 
 -- the text of a number within a range reads as the number
 within-reads : (low high n : ℕ) → low ≤ n → n ≤ high → n < 10 ^ 9 → n < 2 ^ 64 → plain_within low high (decimal n) ≡ Some n
-within-reads low high n above below few small =
-    ap (option_and_then (λ m. cond (nat_lt m low || nat_lt high m) None (Some m))) (plain-reads n few small)
-    ∙ (let e : cond (nat_lt n low || nat_lt high n) None (Some n) ≡ Some n = rw (le-ltb n low above, le-ltb high n below) refl in e)
+within-reads low high n above below few small = grind (arith, plain-reads, le-ltb)
 
 -- ---- dots
 

@@ -32,25 +32,14 @@ first-none true code cs h = cc
 first-none false code cs h = (refl, h)
 
 pub none-three : (a b c : Bool) (p q r : Code) → first_code ((a, p) ∷ (b, q) ∷ (c, r) ∷ []) ≡ None → (a ≡ false) × (b ≡ false) × (c ≡ false)
-none-three a b c p q r h =
-    let x = first-none a p ((b, q) ∷ (c, r) ∷ []) h in
-    let y = first-none b q ((c, r) ∷ []) x.1 in
-    let z = first-none c r [] y.1 in
-    (x.0, y.0, z.0)
+none-three a b c p q r h = grind (arith, first-none)
 
 pub none-four : (a b c d : Bool) (p q r s : Code) → first_code ((a, p) ∷ (b, q) ∷ (c, r) ∷ (d, s) ∷ []) ≡ None → (a ≡ false) × (b ≡ false) × (c ≡ false) × (d ≡ false)
-none-four a b c d p q r s h =
-    let x = first-none a p ((b, q) ∷ (c, r) ∷ (d, s) ∷ []) h in
-    let y = none-three b c d q r s x.1 in
-    (x.0, y.0, y.1, y.2)
+none-four a b c d p q r s h = grind (arith, first-none, none-three)
 
 none-six : (a b c d e f : Bool) (p q r s t u : Code) → first_code ((a, p) ∷ (b, q) ∷ (c, r) ∷ (d, s) ∷ (e, t) ∷ (f, u) ∷ []) ≡ None
     → (a ≡ false) × (b ≡ false) × (c ≡ false) × (d ≡ false) × (e ≡ false) × (f ≡ false)
-none-six a b c d e f p q r s t u h =
-    let x = first-none a p ((b, q) ∷ (c, r) ∷ (d, s) ∷ (e, t) ∷ (f, u) ∷ []) h in
-    let y = first-none b q ((c, r) ∷ (d, s) ∷ (e, t) ∷ (f, u) ∷ []) x.1 in
-    let z = none-four c d e f r s t u y.1 in
-    (x.0, y.0, z.0, z.1, z.2, z.3)
+none-six a b c d e f p q r s t u h = grind (arith, first-none, none-four)
 
 -- ---- settings
 
@@ -100,18 +89,7 @@ sound-none = record {
 
 -- an arc stays right where a node follows
 arc-kept : (nodes : List NodeRow) (row : NodeRow) (a : ArcRow) → IsArc nodes a → IsArc (nodes ++ (row ∷ [])) a
-arc-kept nodes row a is =
-    let longer = length-push nodes row in
-    record {
-      from_in = let h = is.from_in in omega arith;
-      to_in = let h = is.to_in in omega arith;
-      apart = is.apart;
-      from_no_exit = let e : get_or (nodes ++ (row ∷ [])) a.from no_node ≡ get_or nodes a.from no_node = get_or_append_left nodes (row ∷ []) no_node a.from is.from_in in
-          let P : NodeRow → Type 0 = λ n. IsFalse (is_exit n.name.kind) in subst P (sym e) is.from_no_exit;
-      travel_fits = is.travel_fits;
-      rate_fits = is.rate_fits;
-      windows = is.windows;
-    }
+arc-kept nodes row a is = grind (arith, length-push, nodes, get_or_append_left)
 
 -- one more node
 sound-node : (nodes : List NodeRow) (arcs : List ArcRow) (es : List Entrant) (row : NodeRow) → IsSound nodes arcs es → IsNode row → list_any (λ n. same_name n.name row.name) nodes ≡ false

@@ -4,13 +4,12 @@ use Rattle.std.specs.Prelude.{decimal}
 use Rattle.std.specs.declared.option.Option.{Option}
 use Rattle.std.specs.Str.{bytes_eq}
 use Rattle.std.proofs.lemmas.Slice.Eq.{bytes_eq-Decides}
-use Rattle.evac_law.specs.Limits.{seconds_limit, horizon_limit, floor_number_limit, capacity_limit, people_limit, travel_limit, rate_limit}
-use Rattle.evac_law.specs.Names.{is_exit}
+use Rattle.evac_law.specs.Limits.{seconds_limit, horizon_limit, floor_number_limit}
 use Rattle.evac_law.specs.declared.name.NodeName.{NodeName}
 use Rattle.model_text.specs.declared.fault.TextFault.{TextFault}
 use Rattle.model_text.specs.declared.fault.TextFault.TheVariants.{UnknownWord, BadNumber, OutOfRange}
 use Rattle.model_text.specs.Fields.{fields_of, behind_field, skipped, text_of}
-use Rattle.model_text.specs.Grammar.{◌>>=◌, or_fault, number_field, ranged, name_field, text_field, no_field, one_field, two_fields, three_fields, four_fields, Said, SaidPart, Blank, Part, Title, Floor, Exit, header, title, period, horizon, floor, exit_fields, node_fields, node, arc, window, entrant, part_by_word, end, is_comment, by_word, of_fields, statement_of}
+use Rattle.model_text.specs.Grammar.{◌>>=◌, or_fault, number_field, ranged, text_field, no_field, one_field, Said, SaidPart, Blank, Part, Title, Floor, header, title, period, horizon, floor, node_fields, node, arc, window, entrant, part_by_word, end, is_comment, by_word, of_fields, statement_of}
 use Rattle.model_text.specs.Numbers.{field_number}
 use Rattle.model_text.specs.Plain.{IsContentWithin, IsTextBehind}
 use Rattle.model_text.proofs.BehindLemmas.{field-behind, fields-behind, further-behind, less-text, line-behind, text-behind}
@@ -63,28 +62,20 @@ text-none limit s [] h = h
 text-none limit s (a ∷ more) h = tt
 
 text-room : (limit : ℕ) (n : NodeName) (fields : List (List ℕ)) → GoodText limit (node_fields n fields)
-text-room limit n fields =
-    then-text limit (two_fields fields) _ (λ f _. then-text limit (ranged 0 capacity_limit f.0) _ (λ c _. then-text limit (ranged 0 capacity_limit f.1) _ (λ s _. tt)))
+text-room limit n fields = grind arith
 
 text-node : (limit : ℕ) (fields : List (List ℕ)) → GoodText limit (node fields)
 text-node limit [] = tt
-text-node limit (f ∷ more) =
-    then-text limit (name_field f) _ (λ n _. text-by limit (is_exit n.kind) (exit_fields n more) (node_fields n more) (λ _. text-none limit (Exit n) more tt) (text-room limit n more))
+text-node limit (f ∷ more) = grind (arith, text-by, text-none, text-room)
 
 text-arc : (limit : ℕ) (fields : List (List ℕ)) → GoodText limit (arc fields)
-text-arc limit fields =
-    then-text limit (four_fields fields) _ (λ f _. then-text limit (name_field f.0) _ (λ a _. then-text limit (name_field f.1) _ (λ b _.
-    then-text limit (ranged 1 travel_limit f.2) _ (λ t _. then-text limit (ranged 0 rate_limit f.3) _ (λ r _. tt)))))
+text-arc limit fields = grind arith
 
 text-window : (limit : ℕ) (fields : List (List ℕ)) → GoodText limit (window fields)
-text-window limit fields =
-    then-text limit (four_fields fields) _ (λ f _. then-text limit (name_field f.0) _ (λ a _. then-text limit (name_field f.1) _ (λ b _.
-    then-text limit (ranged 0 horizon_limit f.2) _ (λ p _. then-text limit (ranged 1 (horizon_limit + 1) f.3) _ (λ q _. tt)))))
+text-window limit fields = grind arith
 
 text-entrant : (limit : ℕ) (fields : List (List ℕ)) → GoodText limit (entrant fields)
-text-entrant limit fields =
-    then-text limit (three_fields fields) _ (λ f _. then-text limit (name_field f.0) _ (λ a _.
-    then-text limit (ranged 1 horizon_limit f.1) _ (λ t _. then-text limit (ranged 1 people_limit f.2) _ (λ n _. tt))))
+text-entrant limit fields = grind arith
 
 -- ---- parts with a text
 

@@ -1,5 +1,5 @@
 -- Bytes without the blanks at their end, seen from the end.
-use Rattle.std.proofs.Common.{◌≡◌, ℕ, ◌-◌, ◌<◌, ◌≤◌, suc, true, false, cond, List, [], ◌∷◌, ◌++◌, length, take, get_or, refl, sym, ap, ◌∙◌, arith}
+use Rattle.std.proofs.Common.{◌≡◌, ℕ, ◌-◌, ◌<◌, ◌≤◌, true, false, cond, List, [], ◌∷◌, ◌++◌, length, take, get_or, refl, sym, ap, ◌∙◌, arith}
 use Rattle.std.proofs.Math.Seq.{take-suc}
 use Rattle.model_text.specs.Fields.{is_blank, onto_trimmed, trimmed}
 
@@ -19,17 +19,13 @@ trimmed-kept (x ∷ xs) b e = ap (onto_trimmed x) (trimmed-kept xs b e) ∙ onto
 
 -- the first n bytes are those before the last of them, and it
 take-last : (xs : List ℕ) (n : ℕ) → 0 < n → n ≤ length xs → take n xs ≡ take (n - 1) xs ++ (get_or xs (n - 1) 0 ∷ [])
-take-last xs n some within =
-    let e : n ≡ suc (n - 1) = omega arith in
-    ap (λ k. take k xs) e ∙ take-suc xs (n - 1) 0 (omega arith)
+take-last xs n some within = grind (arith, take-suc)
 
 pub trim-one : (xs : List ℕ) (n : ℕ) → 0 < n → n ≤ length xs → is_blank (get_or xs (n - 1) 0) ≡ true → trimmed (take (n - 1) xs) ≡ trimmed (take n xs)
 trim-one xs n some within blank = sym (ap trimmed (take-last xs n some within) ∙ trimmed-blank (take (n - 1) xs) _ blank)
 
 pub trim-none : (xs : List ℕ) (n : ℕ) → 0 < n → n ≤ length xs → is_blank (get_or xs (n - 1) 0) ≡ false → trimmed (take n xs) ≡ take n xs
-trim-none xs n some within kept =
-    let e = take-last xs n some within in
-    ap trimmed e ∙ trimmed-kept (take (n - 1) xs) _ kept ∙ sym e
+trim-none xs n some within kept = grind (arith, take-last, trimmed-kept)
 
 pub trim-empty : (xs : List ℕ) (n : ℕ) → n ≤ 0 → trimmed (take n xs) ≡ take n xs
 unfolding trimmed

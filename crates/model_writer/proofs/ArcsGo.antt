@@ -1,5 +1,5 @@
 -- Arcs one after the other.
-use Rattle.std.proofs.Common.{◌≡◌, ◌≢◌, ℕ, ◌<◌, ◌≤◌, true, false, not, ◌==◌, nat_le, List, [], ◌∷◌, ◌++◌, length, map, sym, ap, subst, ◌∙◌, arith, length-append, refl}
+use Rattle.std.proofs.Common.{◌≡◌, ◌≢◌, ℕ, ◌<◌, ◌≤◌, true, false, not, nat_le, List, [], ◌∷◌, ◌++◌, length, map, sym, ap, subst, ◌∙◌, arith, length-append, refl}
 use Rattle.std.specs.List.{All, AllPairs, list_any}
 use Rattle.std.proofs.lemmas.Bool.{and_parts, eqb-true, false_from_ne_true, lt-leb}
 use Rattle.std.proofs.lemmas.List.{length-map, map-append}
@@ -37,8 +37,7 @@ pub known-name : (m : Model) (i : ℕ) → AreNamed m.nodes → i < length m.nod
 known-name m i named within = record { named = named.names i no_node within; listed = known-at m.nodes i within; placed = place-at m.nodes i named.differ within }
 
 pub apart-ends : (a b : ArcRow) → EndsDiffer a b → joins b.from b.to a ≡ false
-apart-ends a b differ = false_from_ne_true (joins b.from b.to a) (λ same.
-    let both = and_parts (a.from == b.from) (a.to == b.to) same in differ (eqb-true a.from b.from both.0) (eqb-true a.to b.to both.1))
+apart-ends a b differ = grind (arith, false_from_ne_true, and_parts, differ, eqb-true)
 
 -- ---- an arc
 

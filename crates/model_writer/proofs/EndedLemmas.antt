@@ -1,9 +1,8 @@
 -- Lines with their ends, cut apart again.
-use Rattle.std.proofs.Common.{◌≡◌, ℕ, ◌+◌, ◌-◌, ◌≤◌, suc, Bool, true, false, ◌&&◌, ◌||◌, ◌==◌, cond, nat_eq, List, [], ◌∷◌, ◌++◌, drop, length, Ok, refl, sym, ap, subst, ◌∙◌, arith, append_assoc, length-append, eq-eqb}
+use Rattle.std.proofs.Common.{◌≡◌, ℕ, ◌+◌, ◌≤◌, Bool, true, false, ◌&&◌, ◌||◌, ◌==◌, cond, nat_eq, List, [], ◌∷◌, ◌++◌, length, Ok, refl, sym, ap, subst, ◌∙◌, arith, append_assoc, length-append, eq-eqb}
 use Rattle.std.specs.List.{All, ends_with, flat_map, list_any}
 use Rattle.std.proofs.lemmas.Bool.{or_parts}
 use Rattle.std.proofs.lemmas.List.Elements.{All-head, All-tail}
-use Rattle.std.specs.Cmp.Lexicographic.{pointwise}
 use Rattle.line_io.specs.Line.{content, input_limit, is_lf, line_limit, line_of, lines_after, pieces, text_lines, then_lines, without_last}
 use Rattle.line_io.proofs.PassLemmas.{lines_after-nil}
 use Rattle.line_io.proofs.Pieces.{line-good}
@@ -25,8 +24,7 @@ abbrev pub ends : ℕ → List ℕ → Bool
 ends c xs = ends_with nat_eq xs (c ∷ [])
 
 ends-cons : (c b d : ℕ) (bs : List ℕ) → ends c (b ∷ d ∷ bs) ≡ ends c (d ∷ bs)
-ends-cons c b d bs =
-    let more : length (b ∷ d ∷ bs) - 1 ≡ suc (length (d ∷ bs) - 1) = omega arith in ap (λ n. pointwise nat_eq (c ∷ []) (drop n (b ∷ d ∷ bs))) more
+ends-cons c b d bs = grind arith
 
 -- only the last of some bytes counts
 ends-behind : (c : ℕ) (xs : List ℕ) (y : ℕ) (ys : List ℕ) → ends c (xs ++ (y ∷ ys)) ≡ ends c (y ∷ ys)

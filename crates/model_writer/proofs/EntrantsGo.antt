@@ -1,5 +1,5 @@
 -- Entrants one after the other.
-use Rattle.std.proofs.Common.{◌≡◌, ℕ, ◌+◌, ◌≤◌, false, cond, not, ◌&&◌, ◌==◌, nat_lt, List, [], ◌∷◌, ◌++◌, map, refl, ap, subst, ◌∙◌, arith, inl, inr}
+use Rattle.std.proofs.Common.{◌≡◌, ℕ, ◌+◌, ◌≤◌, false, cond, not, nat_lt, List, [], ◌∷◌, ◌++◌, map, refl, ap, subst, ◌∙◌, arith, inl, inr}
 use Rattle.std.specs.List.{All, AllPairs, list_any, sum_by}
 use Rattle.std.proofs.lemmas.Bool.{and_parts, eqb-true, false_from_ne_true, le-ltb, ne_eqb}
 use Rattle.std.proofs.lemmas.List.Elements.{All-head, All-tail, All-weaker}
@@ -20,21 +20,13 @@ use Rattle.model_writer.proofs.ArcsGo.{AreNamed, known-name}
 
 -- of two entrants only one comes before the other
 later-test : (f e : Coming) → ComesBefore f e → comes_before e f ≡ false
-later-test f e (inl less) =
-    neither (nat_lt e.node f.node) (e.node == f.node && nat_lt e.moment f.moment) (le-ltb e.node f.node (omega arith))
-    (ap (λ t. t && nat_lt e.moment f.moment) (ne_eqb e.node f.node (λ same. omega arith)))
-later-test f e (inr first) =
-    let same = first.0 in
-    let earlier = first.1 in
-    neither (nat_lt e.node f.node) (e.node == f.node && nat_lt e.moment f.moment) (le-ltb e.node f.node (omega arith))
-    (second-fails (e.node == f.node) (nat_lt e.moment f.moment) (le-ltb e.moment f.moment (omega arith)))
+later-test f e (inl less) = grind (arith, neither, le-ltb, ne_eqb)
+later-test f e (inr first) = grind (arith, neither, le-ltb, second-fails)
 
 -- and they aren't of one node and moment
 apart-entrants : (f e : Coming) → ComesBefore f e → is_coming e.node e.moment f ≡ false
-apart-entrants f e (inl less) = false_from_ne_true (is_coming e.node e.moment f) (λ same.
-    let both = and_parts (f.node == e.node) (f.moment == e.moment) same in let node = eqb-true f.node e.node both.0 in omega arith)
-apart-entrants f e (inr less) = false_from_ne_true (is_coming e.node e.moment f) (λ same.
-    let both = and_parts (f.node == e.node) (f.moment == e.moment) same in let moment = eqb-true f.moment e.moment both.1 in let earlier = less.1 in omega arith)
+apart-entrants f e (inl less) = grind (arith, false_from_ne_true, and_parts, eqb-true)
+apart-entrants f e (inr less) = grind (arith, false_from_ne_true, and_parts, eqb-true)
 
 -- an entrant that all others come before stands last
 entrant-last : (es : List Coming) (e : Coming) → All (λ f. comes_before e f ≡ false) es → with_entrant es e ≡ es ++ (e ∷ [])

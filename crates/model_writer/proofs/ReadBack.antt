@@ -3,7 +3,6 @@ use Rattle.std.proofs.Common.{◌≡◌, ℕ, ◌+◌, Bool, true, false, ◌||�
 use Rattle.std.specs.Prelude.{codes}
 use Rattle.std.specs.Str.{bytes_eq}
 use Rattle.model_text.specs.declared.fault.TextFault.{TextFault}
-use Rattle.model_text.specs.declared.fault.TextFault.TheVariants.{UnknownWord}
 use Rattle.model_text.specs.Fields.{behind_field, fields_of}
 use Rattle.model_text.specs.Grammar.{◌>>=◌, Said, SaidPart, Blank, Header, Part, End, header, is_comment, number_field, of_fields, one_field, statement_of}
 use Rattle.model_text.specs.Readings.{Line, Described, ReadingState, InModel, Moved, Ended, after_step, begins_unknown, first_said, later_said, later_statement, model_of, opening_of, reading_at, step_at, step_unless}
@@ -44,9 +43,7 @@ behind taken = InModel 2 taken
 -- a line that says a part without a fault is taken
 takes : (taken : List SaidPart) (line : List ℕ) (p : SaidPart) → statement_of line ≡ Ok (Part p) → part_fault taken p ≡ None → step_at (behind taken) (Ok line) ≡ Moved (behind (p ∷ taken))
 unfolding later_statement
-takes taken line p e none =
-    ap (λ t. later_said 2 taken (cond t (Err UnknownWord) (statement_of line))) (known line p e)
-    ∙ ap (later_said 2 taken) e ∙ ap (λ o. step_unless o (Moved (behind (p ∷ taken)))) none
+takes taken line p e none = grind (arith, known)
 
 -- ---- parts, one after the other
 

@@ -12,7 +12,7 @@ use Rattle.certificate_text.proofs.LineTexts.{AreFields, IsField, IsLine, decima
 use Rattle.model_text.specs.declared.fault.TextFault.{TextFault}
 use Rattle.model_text.specs.declared.fault.TextFault.TheVariants.{BadName, BadNumber, OutOfRange}
 use Rattle.model_text.specs.Fields.{behind_field, behind_word, fields_of, skipped, text_of, word}
-use Rattle.model_text.specs.Grammar.{◌>>=◌, Said, SaidPart, Blank, Header, Part, Title, Period, Horizon, Floor, Node, Exit, Arc, Window, Entrant, End, arc, as_statement, by_word, end, entrant, exit_fields, floor, header, horizon, name_field, node, node_fields, number_field, of_fields, or_fault, period, ranged, statement_of, text_field, title, window}
+use Rattle.model_text.specs.Grammar.{◌>>=◌, Said, SaidPart, Blank, Header, Part, Title, Period, Horizon, Floor, Node, Exit, Arc, Window, Entrant, End, arc, as_statement, by_word, end, entrant, exit_fields, floor, horizon, name_field, node, node_fields, number_field, of_fields, or_fault, period, ranged, statement_of, text_field, title, window}
 use Rattle.model_text.proofs.FieldLemmas.{fields-none, fields-some}
 use Rattle.model_text.proofs.NameLaws.{text-reads}
 use Rattle.model_writer.specs.Laws.{IsSpelled, IsSpelledPart, IsText}
@@ -30,9 +30,7 @@ abbrev within : ℕ → ℕ → ℕ → Result ℕ TextFault
 within low high n = cond (nat_lt n low || nat_lt high n) (Err OutOfRange) (Ok n)
 
 range-back : (low high n : ℕ) → low ≤ n → n ≤ high → high < 10 ^ 9 → ranged low high (decimal n) ≡ Ok n
-range-back low high n above below few =
-    ap (λ r. r >>= within low high) (number-back n (omega arith))
-    ∙ (let e : within low high n ≡ Ok n = rw (le-ltb n low above, le-ltb high n below) refl in e)
+range-back low high n above below few = grind (arith, number-back, le-ltb)
 
 -- a field that is read, and what is made of it
 then-ok : {A B : Type 0} (r : Result A TextFault) (f : A → Result B TextFault) (x : A) (y : Result B TextFault) → r ≡ Ok x → f x ≡ y → r >>= f ≡ y
@@ -113,9 +111,7 @@ pub spells-end : Spells (codes "end") []
 spells-end = spells (codes "end") [] (word-field (codes "end") (omega arith) (omega arith) refl) tt (omega arith)
 
 header-back : (v : ℕ) → v ≤ 2 → statement_of (fields (codes "evacplan" ∷ decimal v ∷ [])) ≡ Ok (Header v)
-header-back v few =
-    let s = spells-header v few in
-    s.says ∙ ap header s.behind ∙ ap (λ r. r >>= λ n. Ok (Header n)) (number-back v (omega arith))
+header-back v few = grind (arith, spells-header, number-back)
 
 -- ---- a line with a text
 
@@ -139,9 +135,7 @@ behind-seen (b ∷ bs) rest h =
 skipped-seen : (f rest : List ℕ) → IsField f → skipped (f ++ rest) ≡ f ++ rest
 unfolding skipped
 skipped-seen [] rest is = absurd (let some = is.some in omega arith)
-skipped-seen (b ∷ bs) rest is =
-    let parts = and_parts (is_seen b) (list_all is_seen bs) is.seen in
-    ap (λ t. cond t (skipped (bs ++ rest)) (b ∷ (bs ++ rest))) (seen-blank b parts.0)
+skipped-seen (b ∷ bs) rest is = grind (arith, and_parts, is_seen, seen-blank)
 
 floor-back : (n : ℕ) (t : List ℕ) → n ≤ floor_number_limit → 0 < length t → IsText t → statement_of (fields (codes "floor" ∷ decimal n ∷ t ∷ [])) ≡ Ok (Part (Floor n t))
 unfolding floor_number_limit statement_of skipped behind_word

@@ -1,8 +1,8 @@
 -- The lines of a plain building's text keep the limits on a line and on an input.
-use Rattle.std.proofs.Common.{◌≡◌, ℕ, ◌+◌, ◌*◌, ◌^◌, ◌<◌, ◌≤◌, Bool, true, false, cond, ◌||◌, List, [], ◌∷◌, ◌++◌, length, map, get_or, ap, ◌∙◌, arith, length-append}
+use Rattle.std.proofs.Common.{◌≡◌, ℕ, ◌+◌, ◌*◌, ◌^◌, ◌<◌, ◌≤◌, Bool, true, false, cond, List, [], ◌∷◌, ◌++◌, length, map, get_or, arith, length-append}
 use Rattle.std.specs.Prelude.{decimal, MatchOption, Some, None, ⊤}
 use Rattle.std.specs.declared.option.Option.{Option}
-use Rattle.std.specs.List.{All, flat_map, list_any, sum_by}
+use Rattle.std.specs.List.{All, flat_map, sum_by}
 use Rattle.std.proofs.lemmas.List.{length-map}
 use Rattle.std.proofs.lemmas.List.Concat.{length-flat_map}
 use Rattle.std.proofs.lemmas.List.Elements.{All-append, All-cons, All-head, All-map, All-nil, All-tail}
@@ -16,8 +16,8 @@ use Rattle.evac_law.specs.declared.model.ArcRow.{ArcRow}
 use Rattle.evac_law.specs.declared.model.Model.{Model}
 use Rattle.evac_law.specs.declared.model.NodeRow.{NodeRow}
 use Rattle.evac_law.proofs.MoveLemmas.{All-flat_map_at}
-use Rattle.certificate_text.proofs.LineTexts.{IsField, IsLine, decimal-field, kept-whole, word-kept}
-use Rattle.line_io.specs.Line.{input_limit, is_lf, line_limit}
+use Rattle.certificate_text.proofs.LineTexts.{IsLine, decimal-field, kept-whole, word-kept}
+use Rattle.line_io.specs.Line.{input_limit, line_limit}
 use Rattle.model_text.specs.Grammar.{Said, SaidPart, Header, Part, Title, Period, Horizon, Floor, Node, Exit, Arc, Window, Entrant, End}
 use Rattle.model_text.specs.Plain.{IsPlain, IsTextBehind}
 use Rattle.model_text.specs.Taken.{Description}
@@ -35,15 +35,7 @@ line-content x is = (is.short, kept-whole x is.kept)
 
 floor-content : (floor : ℕ) (text : List ℕ) → floor ≤ floor_number_limit → IsTextBehind line_limit (7 + length (decimal floor)) text → IsContent (part_line (Floor floor text))
 unfolding floor_number_limit
-floor-content floor text few is =
-    let number : IsField (decimal floor) = decimal-field floor (omega arith) in
-    let size = length-append (decimal floor) (32 ∷ text) in
-    let fits = is.fits in
-    let short : length (part_line (Floor floor text)) ≤ line_limit = omega arith in (
-      short,
-      list_any-append is_lf (decimal floor) (32 ∷ text) ∙ ap (λ t. t || list_any is_lf (32 ∷ text)) (kept-whole (decimal floor) (word-kept (decimal floor) number.seen))
-          ∙ is.one_line,
-    )
+floor-content floor text few is = grind (arith, decimal-field, length-append, list_any-append, kept-whole, word-kept)
 
 pub content-part : (p : SaidPart) → IsSpelledPart p → HasText line_limit p → IsContent (part_line p)
 content-part (Title text) is fits = ((let short = fits.fits in omega arith), fits.one_line)
@@ -110,13 +102,7 @@ title-few None = omega arith
 title-few (Some text) = omega arith
 
 windows-few : (m : Model) (arcs : List ArcRow) → All (IsArc m.nodes) arcs → length (flat_map (windows_said m) arcs) ≤ length arcs * window_limit
-windows-few m arcs each =
-    let whole = length-flat_map (windows_said m) arcs in
-    let most = sum_by-le (λ (a : ArcRow). length (windows_said m a)) window_limit arcs (λ k a within.
-    let few = (each k a within).windows.few in
-    let size = length-map (get_or arcs k a).windows.items (window_said m (get_or arcs k a)) in
-    omega arith) in
-    omega arith
+windows-few m arcs each = grind (arith, length-flat_map, sum_by-le, length-map)
 
 entrants-few : (nodes : List NodeRow) (horizon : ℕ) (es : List Coming) → All (IsEntrant nodes horizon) es → length es ≤ sum_by (λ e. e.people) es
 entrants-few nodes horizon [] each = omega arith

@@ -15,7 +15,7 @@ use Rattle.building_table.specs.Built.{IsBuilding}
 use Rattle.building_table.specs.Names.{NameTable, names_of}
 use Rattle.model_text.specs.Grammar.{Header, Part, Period, Horizon, End}
 use Rattle.model_text.specs.Taken.{Description}
-use Rattle.model_writer.specs.ModelText.{arc_said, arc_text, building_text, entrant_said, entrant_text, floor_said, floor_text, floors_text, model_text, node_said, node_text, part_text, parts_said, rows_text, said_text, title_said, title_text, window_said, windows_said, windows_text}
+use Rattle.model_writer.specs.ModelText.{arc_text, building_text, entrant_text, floor_said, floor_text, floors_text, model_text, node_text, part_text, parts_said, rows_text, said_text, title_text, window_said, windows_said, windows_text}
 
 -- parts by place are parts by element
 by-places : {X : Type 0} (h : X → List ℕ) (xs : List X) (d : X) (n : ℕ) → n ≤ length xs → flat_map (λ i. h (get_or xs i d)) (below n) ≡ flat_map h (take n xs)
@@ -53,24 +53,7 @@ parts-joined : (d : Description) → flat_map part_text (parts_said d)
     ≡ title_text d.title ++ (part_text (Period d.model.seconds) ++ (part_text (Horizon d.model.horizon)
     ++ (flat_map part_text (map floor_said d.floors) ++ (flat_map node_text d.model.nodes ++ (flat_map (arc_text d.model) d.model.arcs
     ++ (flat_map (windows_text d.model) d.model.arcs ++ flat_map (entrant_text d.model) d.model.entrants))))))
-parts-joined d =
-    let m = d.model in
-    let es = map (entrant_said m) m.entrants in
-    let ws = flat_map (windows_said m) m.arcs in
-    let as' = map (arc_said m) m.arcs in
-    let ns = map node_said m.nodes in
-    let fs = map floor_said d.floors in
-    let settings = λ (x : List ℕ). part_text (Period m.seconds) ++ (part_text (Horizon m.horizon) ++ x) in
-    flat_map-append part_text (title_said d.title) (Period m.seconds ∷ Horizon m.horizon ∷ (fs ++ (ns ++ (as' ++ (ws ++ es)))))
-    ∙ ap (λ x. title_text d.title ++ settings x)
-    (flat_map-append part_text fs (ns ++ (as' ++ (ws ++ es)))
-    ∙ ap (λ x. flat_map part_text fs ++ x) (flat_map-append part_text ns (as' ++ (ws ++ es))
-    ∙ ap (λ x. x ++ flat_map part_text (as' ++ (ws ++ es))) (flat_map-map part_text node_said m.nodes)
-    ∙ ap (λ x. flat_map node_text m.nodes ++ x) (flat_map-append part_text as' (ws ++ es)
-    ∙ ap (λ x. x ++ flat_map part_text (ws ++ es)) (flat_map-map part_text (arc_said m) m.arcs)
-    ∙ ap (λ x. flat_map (arc_text m) m.arcs ++ x) (flat_map-append part_text ws es
-    ∙ ap (λ x. x ++ flat_map part_text es) (sym (windows-said m m.arcs))
-    ∙ ap (λ x. flat_map (windows_text m) m.arcs ++ x) (flat_map-map part_text (entrant_said m) m.entrants)))))
+parts-joined d = grind (arith, flat_map-append, flat_map-map, windows-said)
 
 -- the text by parts of a description
 abbrev by-parts : Model → NameTable → List ℕ

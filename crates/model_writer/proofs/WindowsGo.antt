@@ -1,5 +1,5 @@
 -- Windows of arcs one after the other.
-use Rattle.std.proofs.Common.{◌≡◌, ◌≤◌, true, false, cond, not, nat_le, nat_lt, List, [], ◌∷◌, ◌++◌, length, map, refl, sym, ap, subst, ◌∙◌, arith, append_assoc, length-append, eq-eqb, set}
+use Rattle.std.proofs.Common.{◌≡◌, ◌≤◌, true, false, cond, not, nat_le, nat_lt, List, [], ◌∷◌, ◌++◌, length, map, refl, sym, ap, subst, ◌∙◌, arith, append_assoc, length-append, eq-eqb}
 use Rattle.std.specs.List.{All, AllPairs, flat_map, list_any}
 use Rattle.std.proofs.Math.Seq.{get_or-append_seam, set-append_seam}
 use Rattle.std.proofs.lemmas.Bool.{le-ltb, lt-leb}
@@ -65,11 +65,7 @@ begins-later ws w more are k d within =
 
 closed-place : (done : List ArcRow) (a : ArcRow) (ws : List Closed) (rest : List ArcRow) (w : Closed) → All (λ v. v.from ≤ w.from) ws
     → closing (arcs_around done a ws rest) (length done) w ≡ arcs_around done a (ws ++ (w ∷ [])) rest
-closed-place done a ws rest w later =
-    ap (λ (x : ArcRow). set (arcs_around done a ws rest) (length done) (record x { windows = record { items = with_window x.windows.items w } }))
-    (get_or-append_seam done (with_windows a ws) rest no_arc)
-    ∙ set-append_seam done (with_windows a ws) rest (with_windows a (with_window ws w))
-    ∙ ap (λ l. arcs_around done a l rest) (window-last ws w later)
+closed-place done a ws rest w later = grind (arith, get_or-append_seam, set-append_seam, window-last)
 
 apart-windows : (v w : Closed) → EndsBefore v w → overlaps v w ≡ false
 apart-windows v w ended = second-fails (nat_lt v.from w.until) (nat_lt w.from v.until) (le-ltb w.from v.until ended)

@@ -1,11 +1,11 @@
 -- Counts: some people more at a place, and what they say of who came and who left.
-use Rattle.std.proofs.Common.{◌≡◌, ℕ, zero, suc, ◌+◌, ◌<◌, ◌≤◌, ◌^◌, cond, ◌&&◌, eqb, leb, List, length, get_or, take, refl, ap, sym, ◌∙◌, arith}
+use Rattle.std.proofs.Common.{◌≡◌, ℕ, zero, suc, ◌+◌, ◌<◌, ◌≤◌, ◌^◌, List, length, get_or, take, refl, ap, sym, ◌∙◌, arith}
 use Rattle.std.specs.List.{sum_by}
 use Rattle.std.proofs.lemmas.Int.{ints}
 use Rattle.std.proofs.lemmas.List.Sums.{sum_by_more_le_part}
 use Rattle.evac_law.specs.declared.model.Model.{Model}
 use Rattle.evac_law.specs.declared.plan.Move.{Move}
-use Rattle.evac_law.specs.Building.{IsValid, arrival, entry, head, is_exit_at, tail}
+use Rattle.evac_law.specs.Building.{IsValid, entry}
 use Rattle.evac_law.specs.Limits.{people_limit}
 use Rattle.evac_law.specs.Plans.{came, coming, held, leaving, left, out_by}
 use Rattle.evac_law.specs.Sums.{moments_to}
@@ -54,41 +54,23 @@ counted_from_held m p c d n t e f w = (omega (arith, ints, w.0, w.1, e, f), omeg
 
 pub came_fits : (m : Model) (p : List Move) (n t : ℕ) → IsValid m → n < length m.nodes → all_moved p < 2 ^ 62 → came m p n t < 2 ^ 63
 unfolding came people_limit
-came_fits m p n t valid l few =
-    omega (
-      arith,
-      entries_le m n t l,
-      valid.people_fit,
-      sum_by-le_all (λ (v : Move). cond (eqb (head m v.arc) n && leb (arrival m v.arc v.moment) t) v.people 0) (λ (v : Move). v.people) p
-          (λ i d h. let v = get_or p i d in cond_le (eqb (head m v.arc) n && leb (arrival m v.arc v.moment) t) v.people),
-    )
+came_fits m p n t valid l few = grind (arith, entries_le, sum_by-le_all, cond_le)
 
 pub left_fits : (m : Model) (p : List Move) (n t : ℕ) → all_moved p < 2 ^ 62 → left m p n t < 2 ^ 63
 unfolding left
-left_fits m p n t few =
-    omega (
-      arith,
-      sum_by-le_all (λ (v : Move). cond (eqb (tail m v.arc) n && leb v.moment t) v.people 0) (λ (v : Move). v.people) p
-          (λ i d h. let v = get_or p i d in cond_le (eqb (tail m v.arc) n && leb v.moment t) v.people),
-    )
+left_fits m p n t few = grind (arith, sum_by-le_all, cond_le)
 
 -- what is counted so far and the next move's people are within all
 pub leaving_room : (m : Model) (p : List Move) (i n t : ℕ) (d : Move) → i < length p → leaving m (take i p) n t + (get_or p i d).people ≤ all_moved p
 unfolding leaving
-leaving_room m p i n t d l =
-    sum_by_more_le_part (λ (v : Move). cond (eqb (tail m v.arc) n && eqb v.moment t) v.people 0) (λ (v : Move). v.people) p i d l
-    (λ v. cond_le (eqb (tail m v.arc) n && eqb v.moment t) v.people)
+leaving_room m p i n t d l = grind (arith, sum_by_more_le_part, cond_le)
 
 pub coming_room : (m : Model) (p : List Move) (i n t : ℕ) (d : Move) → i < length p → coming m (take i p) n t + (get_or p i d).people ≤ all_moved p
 unfolding coming
-coming_room m p i n t d l =
-    sum_by_more_le_part (λ (v : Move). cond (eqb (head m v.arc) n && eqb (arrival m v.arc v.moment) t) v.people 0) (λ (v : Move). v.people) p i d l
-    (λ v. cond_le (eqb (head m v.arc) n && eqb (arrival m v.arc v.moment) t) v.people)
+coming_room m p i n t d l = grind (arith, sum_by_more_le_part, cond_le)
 
 pub arriving_room : (m : Model) (p : List Move) (i t : ℕ) (d : Move) → i < length p → arriving_at m (take i p) t + (get_or p i d).people ≤ all_moved p
-arriving_room m p i t d l =
-    sum_by_more_le_part (λ (v : Move). cond (is_exit_at m (head m v.arc) && eqb (arrival m v.arc v.moment) t) v.people 0) (λ (v : Move). v.people) p i d l
-    (λ v. cond_le (is_exit_at m (head m v.arc) && eqb (arrival m v.arc v.moment) t) v.people)
+arriving_room m p i t d l = grind (arith, sum_by_more_le_part, cond_le)
 
 -- ---- the curve
 
@@ -105,6 +87,4 @@ curve_counted m p xs k h =
 
 pub out_fits : (m : Model) (p : List Move) (k : ℕ) → out_by m p k ≤ all_moved p
 unfolding out_by
-out_fits m p k =
-    sum_by-le_all (λ (v : Move). cond (is_exit_at m (head m v.arc) && leb (arrival m v.arc v.moment) k) v.people 0) (λ (v : Move). v.people) p
-    (λ i d h. let v = get_or p i d in cond_le (is_exit_at m (head m v.arc) && leb (arrival m v.arc v.moment) k) v.people)
+out_fits m p k = grind (arith, sum_by-le_all, cond_le)

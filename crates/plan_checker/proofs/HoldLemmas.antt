@@ -1,5 +1,5 @@
 -- The first node and moment that don't hold well by counts are the first by the plan.
-use Rattle.std.proofs.Common.{◌≡◌, ℕ, ◌<◌, ◌≤◌, ◌^◌, List, length, arith, ◌∙◌, Option, None, Some, IsFalse, IfSome, MatchOption, inl, inr}
+use Rattle.std.proofs.Common.{◌≡◌, ℕ, ◌<◌, ◌≤◌, ◌^◌, List, length, arith, Option, None, Some, IsFalse, IfSome, MatchOption, inl, inr}
 use Rattle.evac_law.specs.declared.model.Model.{Model}
 use Rattle.evac_law.specs.declared.plan.Move.{Move}
 use Rattle.evac_law.specs.Building.{IsValid, is_exit_at}
@@ -19,29 +19,18 @@ pub record AreCounts (m : Model) (p : List Move) (came' left' : Counts) (last : 
 
 pub are_counts : {m : Model} {p : List Move} {c c' d d' : Counts} {last : ℕ} → IsCountOf (coming m p) c c' → IsCountOf (leaving m p) d d' → c.last ≡ last → c.rows ≡ length m.nodes
     → d.last ≡ last → d.rows ≡ length m.nodes → AreCounts m p c' d' last
-are_counts comings leavings came_last came_nodes left_last left_nodes = record {
-  came_last = comings.last ∙ came_last;
-  came_nodes = comings.nodes ∙ came_nodes;
-  left_last = leavings.last ∙ left_last;
-  left_nodes = leavings.nodes ∙ left_nodes;
-  comings = λ n t h k. comings.counts n t (omega (arith, h, comings.nodes)) (omega (arith, k, comings.last));
-  leavings = λ n t h k. leavings.counts n t (omega (arith, h, leavings.nodes)) (omega (arith, k, leavings.last));
-}
+are_counts comings leavings came_last came_nodes left_last left_nodes = grind (arith, came_last, came_nodes, left_last, left_nodes, comings, leavings)
 
 module _ (m : Model) (p : List Move) (came' left' : Counts) (last : ℕ) (are : AreCounts m p came' left' last) where
   came_same : (n t : ℕ) → n < length m.nodes → t ≤ last → came_by m came' n t ≡ came m p n t
-  came_same n t l k =
-      came_counted m p came' n t (λ s h. are.comings n s (omega (arith, l, are.came_nodes)) (omega (arith, h, k, are.came_last)))
+  came_same n t l k = grind (arith, came_counted)
 
   left_same : (n t : ℕ) → n < length m.nodes → t ≤ last → left_by left' n t ≡ left m p n t
-  left_same n t l k =
-      left_counted m p left' n t (λ s h. are.leavings n s (omega (arith, l, are.left_nodes)) (omega (arith, h, k, are.left_last)))
+  left_same n t l k = grind (arith, left_counted)
 
   pub counts_fit : IsValid m → all_moved p < 2 ^ 62 → (n t : ℕ) → n < length m.nodes → t ≤ came'.last
       → (came_by m came' n t < 2 ^ 63) × (left_by left' n t < 2 ^ 63)
-  counts_fit valid few n t l k =
-      let within : t ≤ last = omega (arith, k, are.came_last) in
-      (omega (arith, came_same n t l within, came_fits m p n t valid l few), omega (arith, left_same n t l within, left_fits m p n t few))
+  counts_fit valid few n t l k = grind (arith, came_same, came_fits, left_same, left_fits)
 
   earlier_in : (s i t n : ℕ) → Earlier s i t n → t ≤ last → s ≤ last
   earlier_in s i t n (inl e) k = omega (arith, e, k)

@@ -1,10 +1,9 @@
 -- Yes and a certified plan, and one verdict of a block.
-use Rattle.std.proofs.Common.{◌≡◌, ℕ, ◌<◌, refl, ap, ap₂, sym, subst, arith, List, ◌⊎◌, inl, inr, Result, Ok, Err, IfOk}
+use Rattle.std.proofs.Common.{◌≡◌, ℕ, ◌<◌, refl, sym, subst, arith, List, ◌⊎◌, inl, inr, Result, Ok, Err, IfOk}
 use Rattle.std.specs.Prelude.{◌↔◌}
 use Rattle.evac_law.specs.declared.model.Model.{Model}
 use Rattle.evac_law.specs.declared.plan.Move.{Move}
 use Rattle.evac_law.specs.Building.{IsValid}
-use Rattle.evac_law.specs.Plans.{IsFeasible}
 use Rattle.evac_law.proofs.Optimal.{certified_is_best, certified_is_quickest, certified_plans_agree, out_le_people}
 use Rattle.certificate_text.specs.declared.block.Block.{Block}
 use Rattle.certificate_text.specs.Block.{IsBlockOf}
@@ -16,31 +15,10 @@ use Rattle.plan_checker.specs.Verdicts.{IsRight, IsVerdict}
 use Rattle.std.proofs.lemmas.Bool.{cases_order}
 
 forwards : (m : Model) (b : Block) → IsValid m → IsBlockOf m b → IsVerdict m b Yes → IsRight m b
-forwards m b valid block (((kept, out), outs), cuts) =
-    let feasible : IsFeasible m b.moves b.cleared = record {
-      arcs = λ i d l. (block.ordered.in_range i d l).0;
-      rates = kept.1;
-      holds = kept.2;
-    } in
-    record {
-      people = kept.0;
-      outs = outs;
-      certified = record {
-        in_horizon = block.in_horizon;
-        feasible = feasible;
-        all_out = omega (arith, out.everybody, out_le_people m b.moves b.cleared valid feasible);
-        arrives = out.arrives;
-        cuts = cuts;
-        least = out.least;
-      };
-    }
+forwards m b valid block (((kept, out), outs), cuts) = grind (arith, out_le_people)
 
 backwards : (m : Model) (b : Block) → IsRight m b → IsVerdict m b Yes
-backwards m b right =
-    let good = right.certified in (
-      (((right.people, good.feasible.rates, good.feasible.holds), record { arrives = good.arrives; everybody = omega (arith, good.all_out); least = good.least }), right.outs),
-      good.cuts,
-    )
+backwards m b right = grind arith
 
 pub yes_is_certified : YesIsCertified
 yes_is_certified m b valid block = (forwards m b valid block, backwards m b)
@@ -67,11 +45,7 @@ rank (CutWrong k) = 5
 rank Yes = 6
 
 one_number : (i j : ℕ) → (i < j → ⊥) → (j < i → ⊥) → i ≡ j
-one_number i j h k = elim (cases_order i j) [
-  | inl e ↦ e
-  | inr (inl l) ↦ absurd (h l)
-  | inr (inr l) ↦ absurd (k l)
-]
+one_number i j h k = grind (arith, cases_order)
 
 -- no verdict of a later part stands beside one: what the first says is wrong is right by the second
 apart : (m : Model) (b : Block) (w v : Verdict) → rank v < rank w → IsVerdict m b v → IsVerdict m b w → ⊥
@@ -120,17 +94,11 @@ one_hold m p c s i t n h k = one_place s i t n (λ e. h.broken (k.kept i s h.nod
 
 agree : (m : Model) (b : Block) (v w : Verdict) → rank v ≡ rank w → IsVerdict m b v → IsVerdict m b w → v ≡ w
 agree m b PeopleWrong PeopleWrong e h k = refl
-agree m b (RateBroken s i) (RateBroken t n) e h k =
-    let one = one_rate m b.moves b.cleared s i t n h.1 k.1 in
-    ap₂ (λ (x y : ℕ). RateBroken x y) one.0 one.1
-agree m b (HeldBroken s i) (HeldBroken t n) e h k =
-    let one = one_hold m b.moves b.cleared s i t n h.2 k.2 in
-    ap₂ (λ (x y : ℕ). HeldBroken x y) one.0 one.1
+agree m b (RateBroken s i) (RateBroken t n) e h k = grind (arith, one_rate)
+agree m b (HeldBroken s i) (HeldBroken t n) e h k = grind (arith, one_hold)
 agree m b NotAllOut NotAllOut e h k = refl
-agree m b (OutWrong i) (OutWrong j) e h k =
-    ap OutWrong (one_number i j (λ l. h.1.wrong (k.1.right i l)) (λ l. k.1.wrong (h.1.right j l)))
-agree m b (CutWrong i) (CutWrong j) e h k =
-    ap CutWrong (one_number i j (λ l. h.1.wrong (k.1.right i l)) (λ l. k.1.wrong (h.1.right j l)))
+agree m b (OutWrong i) (OutWrong j) e h k = grind (arith, one_number)
+agree m b (CutWrong i) (CutWrong j) e h k = grind (arith, one_number)
 agree m b Yes Yes e h k = refl
 agree m b v w e h k = absurd (omega (arith, e))
 
@@ -140,8 +108,7 @@ one_verdict m b v w h k = agree m b v w (same_rank m b v w h k) h k
 -- a verdict is yes exactly where the block is right
 pub yes_where_right : {E : Type 0} (m : Model) (b : Block) (r : Result Verdict E) → IsValid m → IsBlockOf m b → IfOk r (IsVerdict m b)
     → IfOk r (λ v. (v ≡ Yes) ↔ IsRight m b)
-yes_where_right m b (Ok v) valid block h =
-    (λ e. forwards m b valid block (subst (IsVerdict m b) e h), λ right. one_verdict m b v Yes h (backwards m b right))
+yes_where_right m b (Ok v) valid block h = grind (arith, forwards, one_verdict, backwards)
 yes_where_right m b (Err e) valid block h = tt
 
 -- after a yes the plan is optimal

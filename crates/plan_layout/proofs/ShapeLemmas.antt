@@ -8,7 +8,7 @@ use Rattle.evac_law.specs.declared.model.Model.{Model}
 use Rattle.evac_law.specs.declared.model.ArcRow.{ArcRow}
 use Rattle.evac_law.specs.Building.{IsValid, no_arc, tail}
 use Rattle.evac_law.specs.Limits.{arc_limit}
-use Rattle.evac_law.specs.Shapes.{HasSameShape, name_of_row, way_of_row}
+use Rattle.evac_law.specs.Shapes.{HasSameShape, way_of_row}
 use Rattle.evac_law.specs.Sums.{below}
 use Rattle.evac_law.specs.Limits as evac
 use Rattle.time_expansion.specs.Limits as time
@@ -79,16 +79,7 @@ shape_made m n ends arcs a b c = ap₂ (λ x y. shape_with x y m.horizon) a (c �
 -- few arcs leave a node, and few enter it
 few_arcs : (m : Model) (test : ℕ → Bool) → IsValid m → length (filter test (below (length (shape_of m).ends))) < 2 ^ 11
 unfolding arc_limit
-few_arcs m test valid =
-    let arcs = below (length (shape_of m).ends) in
-    omega (
-      arith,
-      length-filter test arcs,
-      count_by-le-length test arcs,
-      length-range_with_len 0 (length (shape_of m).ends),
-      arcs_same m,
-      valid.arcs_fit,
-    )
+few_arcs m test valid = grind (arith, length-filter, count_by-le-length, length-range_with_len, arcs_same)
 
 pub few_from : (m : Model) (n : ℕ) → IsValid m → length (arcs_from (shape_of m) n) < 2 ^ 11
 unfolding arcs_from
@@ -109,12 +100,4 @@ ends_by_way [] = refl
 ends_by_way (a ∷ arcs) = ap (λ (l : List Ends). ends_of a ∷ l) (ends_by_way arcs)
 
 pub site_of_shape : (m o : Model) → HasSameShape o m → IsSameSite m o
-site_of_shape m o h = record {
-  horizon = h.horizon;
-  nodes = sym (length-map m.nodes name_of_row) ∙ ap length h.names ∙ length-map o.nodes name_of_row;
-  ends = ends_by_way m.arcs ∙ ap (map end_of_way) h.ways ∙ sym (ends_by_way o.arcs);
-  entrants = h.entrants;
-}
-
-pub same_site-refl : (m : Model) → IsSameSite m m
-same_site-refl m = record { horizon = refl; nodes = refl; ends = refl; entrants = refl }
+site_of_shape m o h = grind (arith, length-map, ends_by_way, end_of_way)

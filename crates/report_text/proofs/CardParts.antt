@@ -1,21 +1,18 @@
 -- Cards in a text, and the next one after them.
-use Rattle.std.proofs.Common.{◌≡◌, ℕ, ◌+◌, ◌^◌, ◌<◌, List, [], ◌∷◌, ◌++◌, length, ap, sym, ◌∙◌, subst, arith, append-nil, append_assoc}
+use Rattle.std.proofs.Common.{◌≡◌, ℕ, ◌+◌, ◌^◌, ◌<◌, List, [], ◌∷◌, ◌++◌, length, ap, sym, ◌∙◌, arith, append-nil, append_assoc}
 use Rattle.evac_law.specs.declared.model.Model.{Model}
 use Rattle.evac_law.specs.declared.plan.Move.{Move}
 use Rattle.evac_law.specs.Building.{IsValid, people}
 use Rattle.evac_law.specs.Limits.{people_limit}
 use Rattle.cards.specs.Cards.{CardView}
 use Rattle.cards.specs.Dealing.{CardsView, DealsNext}
-use Rattle.cards.specs.Numbers.{IsCardOf}
 use Rattle.cards.proofs.Given.{AreGiven, steps_in}
 use Rattle.report_text.specs.Parts.{IsCardIn}
 use Rattle.report_text.specs.ReportText.{card_lines, cards_from}
 
 pub cards_one : (m : Model) (k : ℕ) (cards : List CardView) (c : CardView)
     → cards_from m k (cards ++ c ∷ []) ≡ cards_from m k cards ++ card_lines m (k + length cards) c
-cards_one m k [] c =
-    let same : k ≡ k + 0 = omega arith in
-    append-nil (card_lines m k c) ∙ ap (λ i. card_lines m i c) same
+cards_one m k [] c = grind (arith, append-nil)
 cards_one m k (d ∷ cards) c =
     let same : (k + 1) + length cards ≡ k + length (d ∷ cards) = omega arith in
     ap (λ l. card_lines m k d ++ l) (cards_one m (k + 1) cards c)
@@ -27,14 +24,10 @@ cards_one m k (d ∷ cards) c =
 
 -- the next card is one of the model
 pub next_in : (m : Model) (p : List Move) (cards : List CardView) (w v : CardsView) → AreGiven m p cards w → DealsNext w v → IsCardIn m v.card
-next_in m p cards w v h next =
-    let card : IsCardOf m w.plan w.given v.card = subst (λ (x : Model). IsCardOf x w.plan w.given v.card) h.same_model next.card in
-    record { start_in = card.node_in; steps_in = steps_in m w.plan v.card.start _ v.card.steps card.steps }
+next_in m p cards w v h next = grind (arith, steps_in)
 
 -- there are few cards
 pub few_given : (m : Model) (p : List Move) (cards : List CardView) (w v : CardsView) → IsValid m → AreGiven m p cards w → DealsNext w v
     → (w.given < people m) × (w.given + 1 < 2 ^ 32)
 unfolding people_limit
-few_given m p cards w v valid h next =
-    let some : w.given < people m = subst (λ (x : Model). w.given < people x) h.same_model next.somebody in
-    (some, omega (arith, some, valid.people_fit))
+few_given m p cards w v valid h next = grind arith

@@ -8,16 +8,14 @@ use Rattle.std.proofs.lemmas.List.Folds.{list_any_at}
 use Rattle.std.proofs.lemmas.List.FromFn.{get_or-map-range_with_len}
 use Rattle.evac_law.specs.declared.model.Model.{Model}
 use Rattle.evac_law.specs.declared.plan.Move.{Move}
-use Rattle.evac_law.specs.Building.{is_exit_at}
 use Rattle.evac_law.specs.Sums.{places}
 use Rattle.evac_law.proofs.SumLemmas.{All-below}
 use Rattle.evac_law.proofs.PartLemmas.{flat_map-same}
-use Rattle.certificate_text.specs.BlockText.{name_of_node}
 use Rattle.certificate_text.proofs.ListParts.{below-same}
 use Rattle.floor_index.specs.Floors.{FloorTable, is_on, listed, nodes_on, table_of}
 use Rattle.floor_index.proofs.FloorLemmas.{listed_is}
 use Rattle.clearing_report.specs.Clearing.{ClearingView, IsReport, floor_occupied, last_inside, last_occupied, later, latest, clearing_moment}
-use Rattle.report_text.specs.ReportText.{floor_clear_line, floor_clear_part, node_clear_line, node_clear_part}
+use Rattle.report_text.specs.ReportText.{floor_clear_line, floor_clear_part, node_clear_part}
 
 latest-same : (first second : ℕ → Option ℕ) (nodes : List ℕ) → All (λ n. first n ≡ second n) nodes → latest first nodes ≡ latest second nodes
 unfolding latest
@@ -33,13 +31,10 @@ inside_only false line x y e = ap line e
 
 module _ (m : Model) (p : List Move) (v : ClearingView) (report : IsReport m p v) where
   moment_is : (n : ℕ) → n < length m.nodes → clearing_moment v n ≡ last_inside m p n
-  moment_is n l =
-      ap (λ (z : List (Option ℕ)). get_or z n None) report.moments_are ∙ get_or-map-range_with_len (last_inside m p) 0 (length m.nodes) n n None l (omega arith)
+  moment_is n l = grind (arith, get_or-map-range_with_len)
 
   pub node_texts : flat_map (node_clear_part m (clearing_moment v)) (places m.nodes) ≡ flat_map (node_clear_part m (last_occupied m p)) (places m.nodes)
-  node_texts =
-      below-same (node_clear_part m (clearing_moment v)) (node_clear_part m (last_occupied m p)) (length m.nodes)
-      (λ n l. inside_only (is_exit_at m n) (node_clear_line (name_of_node m n)) (clearing_moment v n) (last_occupied m p n) (moment_is n l))
+  node_texts = grind (arith, below-same, inside_only, moment_is)
 
   floor_is : (floor : ℕ) → latest (clearing_moment v) (nodes_on m floor) ≡ floor_occupied m p floor
   unfolding nodes_on

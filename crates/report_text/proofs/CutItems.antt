@@ -1,5 +1,5 @@
 -- The items of a cut, and those of the cut of no pair.
-use Rattle.std.proofs.Common.{◌≡◌, ℕ, suc, ◌+◌, Bool, true, false, cond, eqb, List, [], ◌∷◌, ◌++◌, length, refl, ap, ap₂, sym, ◌∙◌, subst, arith, append-nil}
+use Rattle.std.proofs.Common.{◌≡◌, ℕ, suc, ◌+◌, Bool, true, false, cond, List, [], ◌∷◌, ◌++◌, length, refl, ◌∙◌, subst, arith, append-nil}
 use Rattle.std.specs.List.{All, flat_map}
 use Rattle.std.proofs.lemmas.Grind.{flat_map-append}
 use Rattle.std.proofs.lemmas.List.Elements.{All-append, All-cons, All-nil}
@@ -47,8 +47,7 @@ tail_is m items more item e h =
 -- those before it, it and those after it
 pub parted : (m : Model) (done items more whole : List CutItem) (item : CutItem) → items ≡ item ∷ more → done ++ items ≡ whole
     → flat_map (item_line m) done ++ (item_line m item ++ flat_map (item_line m) more) ≡ flat_map (item_line m) whole
-parted m done items more whole item e h =
-    sym (flat_map-append (item_line m) done (item ∷ more)) ∙ ap (flat_map (item_line m)) (ap (λ l. done ++ l) (sym e) ∙ h)
+parted m done items more whole item e h = grind (arith, flat_map-append)
 
 -- ---- the cut of no pair
 
@@ -57,9 +56,7 @@ one_line m n t true = refl
 one_line m n t false = append-nil (entry_line (name_of_node m n) (entry m n t))
 
 node_lines : (m : Model) (n k : ℕ) → flat_map (item_line m) (flat_map (entry_part m no_pair n) (moments_to k)) ≡ flat_map (entry_text m n) (moments_to k)
-node_lines m n k =
-    flat_map-flat_map (item_line m) (entry_part m no_pair n) (moments_to k)
-    ∙ parts-same (λ t. flat_map (item_line m) (entry_part m no_pair n t)) (entry_text m n) (moments_to k) (λ t. one_line m n t (eqb (entry m n t) 0))
+node_lines m n k = grind (arith, flat_map-flat_map, parts-same, one_line)
 
 no_holds : (m : Model) (k : ℕ) → hold_items m no_pair k ≡ []
 no_holds m k = parts-same _ (λ _. []) (places m.nodes) (λ n. parts-nothing (below k)) ∙ parts-nothing (places m.nodes)
@@ -69,10 +66,4 @@ no_arcs m k = parts-same _ (λ _. []) (moments_to k) (λ t. parts-nothing (place
 
 pub entry_lines : (m : Model) (k : ℕ) → flat_map (λ n. flat_map (entry_text m n) (moments_to k)) (places m.nodes) ≡ flat_map (item_line m) (cut_items m no_pair k)
 unfolding cut_items
-entry_lines m k =
-    let entries : flat_map (item_line m) (entry_items m no_pair k) ≡ flat_map (λ n. flat_map (entry_text m n) (moments_to k)) (places m.nodes) =
-    flat_map-flat_map (item_line m) (λ n. flat_map (entry_part m no_pair n) (moments_to k)) (places m.nodes)
-    ∙ parts-same (λ n. flat_map (item_line m) (flat_map (entry_part m no_pair n) (moments_to k))) (λ n. flat_map (entry_text m n) (moments_to k)) (places m.nodes) (λ n. node_lines m n k) in
-    let alone : entry_items m no_pair k ++ (hold_items m no_pair k ++ arc_items m no_pair k) ≡ entry_items m no_pair k =
-    ap₂ (λ h a. entry_items m no_pair k ++ (h ++ a)) (no_holds m k) (no_arcs m k) ∙ append-nil (entry_items m no_pair k) in
-    sym (ap (flat_map (item_line m)) alone ∙ entries)
+entry_lines m k = grind (arith, flat_map-flat_map, parts-same, node_lines, no_holds, no_arcs, append-nil)

@@ -1,5 +1,5 @@
 -- What is known of a route that is handed out, and that fewer people wait after each.
-use Rattle.std.proofs.Common.{◌≡◌, ℕ, ◌+◌, ◌<◌, ◌≤◌, ◌&&◌, Bool, true, cond, eqb, ltb, List, [], ◌∷◌, length, ◌∙◌, arith, subst, inl, inr}
+use Rattle.std.proofs.Common.{◌≡◌, ℕ, ◌+◌, ◌<◌, ◌≤◌, ◌&&◌, Bool, true, cond, eqb, ltb, List, [], ◌∷◌, length, ◌∙◌, arith, subst}
 use Rattle.std.specs.List.{All}
 use Rattle.std.proofs.lemmas.List.Elements.{All-cons, All-nil}
 use Rattle.std.proofs.lemmas.Bool.{cases_lt, lt-ltb}
@@ -29,10 +29,7 @@ pub start_in : (m : Model) (r : RouteView) → IsValid m → IsRoute m r → r.s
 start_in m r valid h = leads_in m r.start r.entered r.steps valid h.some_step h.leads_out
 
 entry_by : (m : Model) (n t : ℕ) → IsValid m → 0 < entry m n t → t ≤ m.horizon
-entry_by m n t valid some = elim (cases_lt m.horizon t) [
-  | inl late ↦ absurd (omega (arith, some, none_late m n t valid late))
-  | inr less ↦ less
-]
+entry_by m n t valid some = grind (arith, cases_lt, none_late)
 
 -- the people who wait
 abbrev pub all_waiting : Model → RoutesView → ℕ

@@ -15,7 +15,7 @@ use Rattle.residual_net.specs.Site.{Site, IsPlace, at, door_by, is_door, is_barr
 use Rattle.residual_net.specs.Network.{Network, IsNet, IsStored, flow_at, limit_at, flow_into, residual_room}
 use Rattle.residual_net.specs.Legs.{IsUnderwayBetween}
 use Rattle.residual_net.specs.Route.{IsUnderway}
-use Rattle.residual_net.specs.Change.{IsFewerBy, rank}
+use Rattle.residual_net.specs.Change.{IsFewerBy}
 use Rattle.residual_net.proofs.Places.{sum_places-same, sum_places-add, sum_places-le}
 use Rattle.residual_net.proofs.Push.{arrivals_moved}
 use Rattle.residual_net.proofs.Quiet.{part_into, rank_in}
@@ -27,10 +27,7 @@ no_tail s _ k e = cc
 
 -- a step that stops at an arrival goes forwards
 pub into_door : (s : Site) (r : PathStep) (k : ℕ) → stop_of s r ≡ Door k → (r.back ≡ false) × (head_of s r.place ≡ Door k)
-into_door s r k e = elim (cases_Bool r.back) [
-  | inl b ↦ absurd (no_tail s r.place k (rw b at e))
-  | inr b ↦ (b, rw b at e)
-]
+into_door s r k e = grind (arith, cases_Bool, no_tail)
 
 -- a step with room isn't barred
 pub open_step : (w : Network) (r : PathStep) (x : ℕ) → IsNet w → IsPlace w.site r.place → 1 ≤ x → x ≤ residual_room w r → is_barred w.site r.place ≡ false
@@ -47,35 +44,24 @@ open_step w r x n i one room = elim (cases_Bool (is_barred w.site r.place)) [
 
 -- a step that starts from an arrival goes backwards
 from_door : (s : Site) (r : PathStep) (k : ℕ) → start_of s r ≡ Door k → (r.back ≡ true) × (head_of s r.place ≡ Door k)
-from_door s r k e = elim (cases_Bool r.back) [
-  | inl b ↦ (b, rw b at e)
-  | inr b ↦ absurd (no_tail s r.place k (rw b at e))
-]
+from_door s r k e = grind (arith, cases_Bool, no_tail)
 
 -- ---- an arrival at the end of a step
 
 -- an arrival that is told belongs to a place, and counts the people of the place
 pub told_door : (w : Network) (arrivals : List ℕ) → IsStored w arrivals → (r : PathStep) (x : ℕ) → IsPlace w.site r.place → 1 ≤ x → x ≤ residual_room w r
     → (j : ℕ) → head_of w.site r.place ≡ Door j → j < length arrivals
-told_door w arrivals s r x i one room j h =
-    omega (arith, rank_in w.site r.place i (open_step w r x s.net i one room), ap rank h, s.moments)
+told_door w arrivals s r x i one room j h = grind (arith, rank_in, open_step)
 
 pub told_people : (w : Network) (arrivals : List ℕ) → IsStored w arrivals → (p : Place) (x : ℕ) → IsPlace w.site p → x ≤ flow_at w p
     → (j : ℕ) → head_of w.site p ≡ Door j → j < length arrivals → x ≤ get_or arrivals j 0
-told_people w arrivals s p x i few j h l =
-    omega (arith, part_into w p i (Door j) h, s.totals j (omega (arith, l, s.moments)))
+told_people w arrivals s p x i few j h l = grind (arith, part_into)
 
 -- the arrivals that are kept stay those of the flow
 pub stored_counted : (w v : Network) (arrivals mid new : List ℕ) (from to : End) (x : ℕ) → IsStored w arrivals → IsNet v → v.site ≡ w.site
     → IsFewerBy mid arrivals from x → IsFewerBy mid new to x
     → ((j : ℕ) → flow_into v (at (Door j)) + cond (at (Door j) from) x 0 ≡ flow_into w (at (Door j)) + cond (at (Door j) to) x 0) → IsStored v new
-stored_counted w v arrivals mid new from to x s net site a b moved =
-    let horizon = ap (λ (z : Site). z.shape.horizon) site in
-    record {
-      net = net;
-      moments = omega (arith, a.length_same, b.length_same, s.moments, horizon);
-      totals = λ j l. omega (arith, a.each j, b.each j, moved j, s.totals j (omega (arith, horizon, l)));
-    }
+stored_counted w v arrivals mid new from to x s net site a b moved = grind (arith, net, moved)
 
 -- ---- the arrivals of a push
 
@@ -100,8 +86,7 @@ module _ {v : Network} {arrivals : List ℕ} {first last : PathStep} {x : ℕ} (
   last_is = sym (b ∙ ap (λ z. head_of z last.place) u.pushed.site)
 
   from_is : from ≡ u.pushable.0
-  from_is = sym first_is ∙ ap (start_of w.site) (sym (h.first_step first))
-      ∙ first_start w.site u.pushable.0 (Door u.pushable.1) h.path first u.pushable.2.leads some
+  from_is = grind (arith, first_is, first_start, some)
 
   to_is : to ≡ Door u.pushable.1
   to_is =
@@ -109,25 +94,13 @@ module _ {v : Network} {arrivals : List ℕ} {first last : PathStep} {x : ℕ} (
       sym last_is ∙ (into_door w.site last u.pushable.1 (ap (stop_of w.site) (sym (h.last_step last)) ∙ stops)).1
 
   moved : (j : ℕ) → flow_into v (at (Door j)) + cond (at (Door j) from) x 0 ≡ flow_into w (at (Door j)) + cond (at (Door j) to) x 0
-  moved j =
-      omega (
-        arith,
-        arrivals_moved w v h.path x u.pushed u.pushable.2.places u.pushable.0 u.pushable.1 u.pushable.2.origin u.pushable.2.leads j,
-        ap (λ z. cond (at (Door j) z) x 0) from_is,
-        ap (λ z. cond (at (Door j) z) x 0) to_is,
-      )
+  moved j = grind (arith, arrivals_moved, from_is, to_is)
 
   net : IsNet v
   net = net_pushed w v h.path x u.stored.net u.within u.pushable u.pushed u.grid
 
   pub can_lower : (j : ℕ) → from ≡ Door j → (j < length arrivals) × (x ≤ get_or arrivals j 0)
-  can_lower j e =
-      let back = from_door w.site first j (first_is ∙ e) in
-      let place = subst (λ (y : PathStep). IsPlace w.site y.place) (h.first_step first) (u.pushable.2.places 0 first some) in
-      let room = subst (λ (y : PathStep). x ≤ residual_room w y) (h.first_step first) (u.pushable.2.room 0 first some) in
-      let inside = told_door w arrivals u.stored first x place one room j back.1 in
-      let enough = subst (λ (b : Bool). x ≤ cond b (flow_at w first.place) (limit_at w first.place - flow_at w first.place)) back.0 room in
-      (inside, told_people w arrivals u.stored first.place x place enough j back.1 inside)
+  can_lower j e = grind (arith, from_door, first_is, some, told_door, told_people)
 
   pub can_raise : {mid : List ℕ} → IsFewerBy mid arrivals from x → (j : ℕ) → to ≡ Door j → (j < length mid) × (get_or mid j 0 + x ≤ supply_limit)
   can_raise m j e =

@@ -1,19 +1,18 @@
 -- A net of a model begins with no flow and the model's limits.
-use Rattle.std.proofs.Common.{◌≡◌, ℕ, zero, suc, ◌+◌, ◌-◌, ◌*◌, ◌<◌, ◌≤◌, Bool, true, false, cond, ◌&&◌, ◌||◌, eqb, ltb, List, [], ◌∷◌, ◌++◌, length, length-append, map, get_or, replicate, append_assoc, add-one, refl, ap, ap₂, sym, ◌∙◌, arith, inl, inr, subst}
+use Rattle.std.proofs.Common.{◌≡◌, ℕ, zero, suc, ◌+◌, ◌-◌, ◌*◌, ◌<◌, ◌≤◌, Bool, true, cond, ◌&&◌, ◌||◌, eqb, ltb, List, [], ◌∷◌, ◌++◌, length, length-append, map, get_or, replicate, append_assoc, add-one, refl, ap, ap₂, sym, ◌∙◌, arith, inl, inr, subst}
 use Rattle.std.specs.List.{range_with_len}
 use Rattle.std.proofs.lemmas.List.{get_or-append-add, get_or_append_left, get_or-map, get_or-replicate, length-map, length-replicate, map-append}
 use Rattle.std.proofs.lemmas.List.FromFn.{get_or-range_with_len, length-map-range_with_len, length-range_with_len, map-range_with_len_more}
 use Rattle.std.proofs.lemmas.Nat.{mul-add-lt}
 use Rattle.std.proofs.Math.Nat.{mul_comm}
-use Rattle.std.proofs.lemmas.Bool.{cases_lt, eq-eqb, le-ltb, lt-ltb, ne_eqb}
+use Rattle.std.proofs.lemmas.Bool.{cases_lt, ne_eqb}
 use Rattle.evac_law.specs.Entrants.{entering}
-use Rattle.evac_law.specs.Windows.{is_closed_at}
 use Rattle.std.proofs.lemmas.Bool.Decides.{nat_tests}
 use Rattle.evac_law.specs.declared.model.Model.{Model}
 use Rattle.evac_law.specs.declared.model.NodeRow.{NodeRow}
 use Rattle.evac_law.specs.declared.model.ArcRow.{ArcRow}
 use Rattle.evac_law.specs.Limits as evac
-use Rattle.evac_law.specs.Building.{IsValid, arc_at, head, node_at, no_arc, no_node, arrival, capacity, rate, tail, entered_by, entry, people}
+use Rattle.evac_law.specs.Building.{IsValid, no_arc, no_node, arrival, capacity, rate, tail, entered_by, entry, people}
 use Rattle.evac_law.specs.Names.{is_exit}
 use Rattle.evac_law.specs.Sums.{below}
 use Rattle.evac_law.proofs.Entries.{entered_all, exit_entry}
@@ -77,16 +76,12 @@ valid_site m valid =
 
 pub shape_made : (m : Model) (shape : Expansion) (n : ℕ) (ends : List Ends) → shape ≡ expanded n ends m.horizon → n ≡ length m.nodes
     → ends ≡ map (λ (a : ArcRow). joined a) m.arcs → shape ≡ (site_of m).shape
-shape_made m shape n ends e f g =
-    e ∙ ap (λ (z : ℕ). expanded z ends m.horizon) f ∙ ap (λ (z : List Ends). expanded (length m.nodes) z m.horizon) g
+shape_made m shape n ends e f g = grind (arith, ends)
 
 pub site_made : (m : Model) (shape : Expansion) (exits : List Bool) (travels : List ℕ) → shape ≡ (site_of m).shape
     → exits ≡ map (λ (r : NodeRow). is_exit r.name.kind) m.nodes → travels ≡ map (λ (a : ArcRow). a.travel) m.arcs
     → site_with shape exits travels ≡ site_of m
-site_made m shape exits travels e f g =
-    ap (λ (z : Expansion). site_with z exits travels) e
-    ∙ ap (λ (z : List Bool). site_with (site_of m).shape z travels) f
-    ∙ ap (λ (z : List ℕ). site_with (site_of m).shape (site_of m).exits z) g
+site_made m shape exits travels e f g = grind arith
 
 -- ---- the places of a row at the moments so far
 
@@ -149,38 +144,9 @@ row_opened xs ys zs m k n o is first later =
     ∙ ap (λ i. xs ++ (map f (range_with_len 0 o.moments) ++ map f (range_with_len i rest))) from
     ∙ ap (λ (l : List Cell). xs ++ l) (sym (row_split f o.moments rest 0) ∙ ap (λ i. map f (range_with_len 0 i)) whole)
 
--- which rows open with one limit
-pub arc_opening : (m : Model) (n moments limit : ℕ) → (arc_at m n).windows.items ≡ [] → moments ≡ (m.horizon + 1) - (arc_at m n).travel → limit ≡ rate m n 0
-    → IsOpening m kinds.Arc n (record { moments = moments; limit = limit })
-arc_opening m n moments limit none count same = record {
-  moments = omega (arith, count);
-  first = λ t l.
-      let early : ltb m.horizon (arrival m n t) ≡ false = le-ltb _ _ (omega (arith, l, count)) in
-      rw early (always t ∙ sym same);
-  later = λ t l h.
-      let late : ltb m.horizon (arrival m n t) ≡ true = lt-ltb _ _ (omega (arith, l, count)) in
-      rw late refl;
-}
-  where
-    always : (t : ℕ) → rate m n t ≡ rate m n 0
-    always t =
-        ap (λ ws. cond ((arc_at m n).shut || (node_at m (head m n)).shut || is_closed_at ws t) 0 (arc_at m n).rate) none
-        ∙ sym (ap (λ ws. cond ((arc_at m n).shut || (node_at m (head m n)).shut || is_closed_at ws 0) 0 (arc_at m n).rate) none)
-
-pub hold_opening : (m : Model) (n limit : ℕ) → limit ≡ capacity m n → IsOpening m kinds.Hold n (record { moments = m.horizon; limit = limit })
-hold_opening m n limit same = record {
-  moments = omega arith;
-  first = λ t l. let before : eqb t m.horizon ≡ false = ne_eqb _ _ (omega (arith, l)) in rw before (sym same);
-  later = λ t l h. let last : eqb t m.horizon ≡ true = eq-eqb _ _ (omega (arith, l, h)) in rw last refl;
-}
-
 pub supply_opening : (m : Model) (n limit : ℕ) → m.entrants ≡ [] → limit ≡ entry m n 0 → IsOpening m kinds.Supply n (record { moments = 1; limit = limit })
 unfolding entering
-supply_opening m n limit none same = record {
-  moments = omega arith;
-  first = λ t l. let here : t ≡ 0 = omega (arith, l) in ap (λ i. entry m n i) here ∙ sym same;
-  later = λ t l h. let some : eqb t 0 ≡ false = ne_eqb _ _ (omega (arith, l)) in rw (some, none) refl;
-}
+supply_opening m n limit none same = grind (arith, ne_eqb)
 
 pub rows_more : (xs : List Cell) (m : Model) (k : Kind) (n : ℕ) → (xs ++ rows_cells m k n) ++ row_cells m k n ≡ xs ++ rows_cells m k (n + 1)
 rows_more xs m k n = append_assoc xs (rows_cells m k n) (row_cells m k n) ∙ ap (λ z. xs ++ rows_cells m k z) (sym (add-one n))
@@ -262,13 +228,7 @@ cell_is m p i = by_place p i
         (omega (arith, inside, mul_comm (m.horizon + 1) (length m.nodes), length-append arcs holds, rows_count m kinds.Hold (length m.nodes)))
         ∙ get_or-append-add arcs holds (n * (m.horizon + 1) + t) no_cell
         ∙ at_row m kinds.Hold (length m.nodes) n t i.0 i.1
-    by_place (Supply n t) i =
-        let here : (length m.nodes + length (site_of m).shape.ends) * (m.horizon + 1) + (n * (m.horizon + 1) + t)
-        ≡ length (arcs ++ holds) + (n * (m.horizon + 1) + t) =
-        omega (arith, both, ap (λ z. (length m.nodes + z) * (m.horizon + 1)) ends) in
-        ap (λ z. get_or (start_cells m) z no_cell) here
-        ∙ get_or-append-add (arcs ++ holds) supplies (n * (m.horizon + 1) + t) no_cell
-        ∙ at_row m kinds.Supply (length m.nodes) n t i.0 i.1
+    by_place (Supply n t) i = grind (arith, arcs, holds, both, ends, get_or-append-add, supplies, at_row)
 
 emptied_row : (f : ℕ → ℕ) (ts : List ℕ) → emptied (map (λ t. record { flow = 0; limit = f t }) ts) ≡ map (λ t. record { flow = 0; limit = f t }) ts
 emptied_row f [] = refl
@@ -364,8 +324,7 @@ barred_limit m (Hold n t) valid i b =
   where
     by_last : (last exit : Bool) (c : ℕ) → (exit || last) ≡ true → (exit ≡ true → c ≡ 0) → cond last 0 c ≡ 0
     by_last last exit c e h = grind arith
-barred_limit m (Supply n t) valid i b =
-    exit_entry m n t valid i.0 (sym (exit_is m n i.0) ∙ b)
+barred_limit m (Supply n t) valid i b = grind (arith, exit_entry, exit_is)
 
 pub empty_stored : (m : Model) (w : Network) (arrivals : List ℕ) → IsValid m → StartsAs m w → arrivals ≡ replicate (m.horizon + 1) 0 → IsStored w arrivals
 empty_stored m w arrivals valid h e =

@@ -21,9 +21,7 @@ module _ (m : Model) (w : Network) (valid : IsValid m) (net : IsNet w) (of : IsN
   place_in n t i l = (omega (arith, nodes_same m w net of valid, i), omega (arith, horizon_same m w net of valid, l))
 
   entry_sent : (n t : ℕ) → n < length m.nodes → t ≤ m.horizon → entry m n t ≡ flow_at w (Supply n t)
-  entry_sent n t i l =
-      let p = place_in n t i l in
-      omega (arith, all n t p, within (Supply n t) p, of.limits (Supply n t) p)
+  entry_sent n t i l = grind (arith, place_in)
 
   held_is : (n t : ℕ) → n < length m.nodes → is_exit_at m n ≡ false → t ≤ m.horizon → held m (plan_of w) n t ≡ pos (flow_at w (Hold n t))
   unfolding held
@@ -32,14 +30,7 @@ module _ (m : Model) (w : Network) (valid : IsValid m) (net : IsNet w) (of : IsN
       omega (arith, ints, c)
 
   pub feasible : IsFeasible m (plan_of w) m.horizon
-  feasible = record {
-    arcs = arcs_in m w valid net of within;
-    rates = λ a t i j. omega (arith, moved_is m w valid net of within a t i j, flow_rate m w valid net of within a t i j);
-    holds = λ n t i e j.
-        let is = held_is n t i e j in
-        let few = hold_capacity m w valid net of within n t i j in
-        (omega (arith, ints, is), omega (arith, ints, is, few));
-  }
+  feasible = grind (arith, arcs_in, moved_is, flow_rate, held_is, hold_capacity, ints)
 
   same_last : (p : List Move) → All (λ (v : Move). v.arc < length m.arcs) p → last_move w.site p ≡ last_arrival m p
   unfolding last_move last_arrival

@@ -36,8 +36,7 @@ pub exit_is : (m : Model) (n : ℕ) → n < length m.nodes → exit_at (site_of 
 exit_is m n l = get_or-map (λ (r : Rattle.evac_law.specs.declared.model.NodeRow.NodeRow). is_exit r.name.kind) m.nodes n no_node false l
 
 pub same_in : (n k : ℕ) (f g : ℕ → ℕ → ℕ) → ((i j : ℕ) → i < n → j < k → f i j ≡ g i j) → sum2 n k f ≡ sum2 n k g
-same_in n k f g h =
-    omega (arith, sum2-le n k f g (λ i j a b. omega (arith, h i j a b)), sum2-le n k g f (λ i j a b. omega (arith, h i j a b)))
+same_in n k f g h = grind (arith, sum2-le)
 
 -- ---- conservation in the model's words
 
@@ -105,11 +104,7 @@ module _ (m : Model) (w : Network) (net : IsNet w) (of : IsNetOf m w) (valid : I
 
   into_arcs : (n t : ℕ) → is_exit_at m n ≡ false
       → sum2 (arc_count w.site) k (λ a s. cond (at (Pair n t) (head_of w.site (Arc a s))) (flow a s) 0) ≡ coming m plan n t
-  into_arcs n t e =
-      same_in (arc_count w.site) k _ _
-      (λ a s i j. ap (λ z. cond (at (Pair n t) z) (flow a s) 0) (head_is a s (omega (arith, arcs_same, i)))
-      ∙ arc_term (is_exit_at m (head m a)) (head m a) n (arrival m a s) t (flow a s) (no_exit n a e))
-      ∙ sym (coming_is n t)
+  into_arcs n t e = grind (arith, same_in, head_is, arcs_same, arc_term, no_exit, coming_is)
 
   out_arcs : (n t : ℕ) → sum2 (arc_count w.site) k (λ a s. cond (at (Pair n t) (tail_of w.site (Arc a s))) (flow a s) 0) ≡ leaving m plan n t
   out_arcs n t =

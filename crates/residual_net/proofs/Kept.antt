@@ -6,7 +6,7 @@ use Rattle.residual_net.specs.declared.place.Place.{Place}
 use Rattle.residual_net.specs.declared.place.Place.TheVariants.{Supply}
 use Rattle.residual_net.specs.declared.place.Cell.{Cell}
 use Rattle.residual_net.specs.Limits.{supply_limit}
-use Rattle.residual_net.specs.Site.{Site, IsPlace, End_test, at, head_of, is_barred, is_door, is_source, same_place, sum_places, tail_of}
+use Rattle.residual_net.specs.Site.{Site, IsPlace, End_test, at, is_barred, is_door, is_source, same_place, tail_of}
 use Rattle.residual_net.specs.declared.end.End.TheVariants.{Pair, Door}
 use Rattle.residual_net.specs.Network.{Network, IsGrid, IsKept, IsStored, flow_at, flow_into, flow_out, limit_at, saved_of, supply_limits, with_saved}
 use Rattle.residual_net.specs.Change.{IsLimitSet, supply_limits_with}
@@ -17,18 +17,7 @@ use Rattle.residual_net.proofs.Places.{same-place, sum_places-pick, sum_places-s
 
 pub stored_again : (w : Network) (saved : List Cell) (arrivals : List ℕ) → IsStored w arrivals → IsStored (record w { saved = saved }) arrivals
 unfolding flow_at limit_at flow_into flow_out supply_limits
-stored_again w saved arrivals h = record {
-  net = record {
-    site = h.net.site;
-    full = h.net.full;
-    conserved = record { pairs = h.net.conserved.pairs; sent = h.net.conserved.sent };
-    barred = h.net.barred;
-    supplies = h.net.supplies;
-    few_sent = h.net.few_sent;
-  };
-  moments = h.moments;
-  totals = h.totals;
-}
+stored_again w saved arrivals h = grind arith
 
 pub kept_saved : (w : Network) (arrivals : List ℕ) (supplies : ℕ) → IsStored w arrivals → supplies ≡ supply_limits w
     → IsKept (with_saved w) arrivals arrivals supplies supplies
@@ -48,8 +37,7 @@ pub refilled : {X : Type 0} (items xs ys : List X) (len : ℕ) → len ≡ lengt
 refilled items xs ys len e f g = take_at xs (drop (length xs) items) len (omega (arith, ap length f)) ∙ f
 
 pub same_saved : (w v : Network) → v.site ≡ w.site → v.saved ≡ w.saved → saved_of v ≡ saved_of w
-same_saved w v e f =
-    ap (λ (z : Site). record { site = z; cells = v.saved; saved = v.saved }) e ∙ ap (λ (z : List Cell). record { site = w.site; cells = z; saved = z }) f
+same_saved w v e f = grind arith
 
 -- what a net keeps, and its arrivals, as a caller sees the net
 pub kept_of : {w v : Network} {arrivals saved : List ℕ} {supplies saved_supplies : ℕ} → w ≡ v → IsKept w arrivals saved supplies saved_supplies
@@ -62,12 +50,7 @@ stored_of {w} {v} {arrivals} e same h = subst (λ (z : List ℕ). IsStored v z) 
 
 pub kept_changed : {w v : Network} {arrivals saved more : List ℕ} {supplies saved_supplies count : ℕ} → IsKept w arrivals saved supplies saved_supplies
     → v.site ≡ w.site → v.saved ≡ w.saved → IsStored v more → count ≡ supply_limits v → IsKept v more saved count saved_supplies
-kept_changed {w} {v} {arrivals} {saved} h e f g counted = record {
-  stored = g;
-  saved = subst (λ (z : Network). IsStored z saved) (sym (same_saved w v e f)) h.saved;
-  counted = counted;
-  saved_counted = h.saved_counted ∙ ap supply_limits (sym (same_saved w v e f));
-}
+kept_changed {w} {v} {arrivals} {saved} h e f g counted = grind (arith, same_saved)
 
 -- flow moves, and the limits stay
 pub kept_moved : {w v : Network} {arrivals saved now : List ℕ} {supplies saved_supplies len : ℕ} → IsKept w arrivals saved supplies saved_supplies → v.site ≡ w.site
@@ -82,21 +65,15 @@ kept_moved {w} {v} {arrivals} {saved} {now} {supplies} {saved_supplies} {len} h 
 
 pub into_same : (w v : Network) → v.site ≡ w.site → ((q : Place) → IsPlace w.site q → flow_at v q ≡ flow_at w q) → (t : End_test) → flow_into v t ≡ flow_into w t
 unfolding flow_into
-into_same w v e h t =
-    ap (λ s. sum_places s (λ p. cond (t (head_of s p)) (flow_at v p) 0)) e
-    ∙ sum_places-same w.site _ _ (λ p i. ap (λ z. cond (t (head_of w.site p)) z 0) (h p i))
+into_same w v e h t = grind (arith, sum_places-same)
 
 pub out_same : (w v : Network) → v.site ≡ w.site → ((q : Place) → IsPlace w.site q → flow_at v q ≡ flow_at w q) → (t : End_test) → flow_out v t ≡ flow_out w t
 unfolding flow_out
-out_same w v e h t =
-    ap (λ s. sum_places s (λ p. cond (t (tail_of s p)) (flow_at v p) 0)) e
-    ∙ sum_places-same w.site _ _ (λ p i. ap (λ z. cond (t (tail_of w.site p)) z 0) (h p i))
+out_same w v e h t = grind (arith, sum_places-same)
 
 pub supplies_set : (w v : Network) (p : Place) (people : ℕ) → IsLimitSet w v p people → supply_limits v ≡ supply_limits_with w p people
 unfolding supply_limits supply_limits_with
-supplies_set w v p people h =
-    ap (λ s. sum_places s (λ q. cond (is_source (tail_of s q)) (limit_at v q) 0)) h.site
-    ∙ sum_places-same w.site _ _ (λ q i. ap (λ z. cond (is_source (tail_of w.site q)) z 0) (h.limits q i))
+supplies_set w v p people h = grind (arith, sum_places-same)
 
 -- a place that is no supply changes no limit of a supply
 pub supplies_stay : (w : Network) (p : Place) (people : ℕ) → is_source (tail_of w.site p) ≡ false → supply_limits_with w p people ≡ supply_limits w

@@ -60,12 +60,7 @@ move_counted (v ∷ p) (suc i) d l =
 module _ (w : Network) (net : IsNet w) (last : ℕ) (quiet : (j : ℕ) → last < j → j ≤ w.site.shape.horizon → flow_into w (at (Door j)) ≡ 0) where
   stays : (p : Place) → IsPlace w.site p → 0 < flow_at w p → (n t : ℕ) → tail_of w.site p ≡ Pair n t → last ≤ t
       → (m : ℕ) × (u : ℕ) × (head_of w.site p ≡ Pair m u) × (last ≤ u)
-  stays p i some n t e later =
-      let up = rank_up w.site net.site p i in
-      elim (onward w net p i some) [
-        | inl d ↦ absurd (omega (arith, part_into w p i (Door d.0) d.1, some, quiet d.0 (omega (arith, later, up, ap rank e, ap rank d.1)) d.2))
-        | inr d ↦ (d.0, d.1, d.2, omega (arith, later, up, ap rank e, ap rank d.2))
-      ]
+  stays p i some n t e later = grind (arith, rank_up, onward, part_into)
 
   -- nobody is on the way to a moment later than the last arrival
   none_late : (p : Place) → IsPlace w.site p → last + 1 < rank (head_of w.site p) → flow_at w p ≡ 0

@@ -19,7 +19,7 @@ use Rattle.evac_law.specs.Names.{is_exit}
 use Rattle.evac_law.specs.Plans.{IsFeasible, moved, held, out_by}
 use Rattle.evac_law.specs.Parts.{IsPart}
 use Rattle.evac_law.specs.LabelTable.{LabelTable, label_at}
-use Rattle.evac_law.proofs.SumLemmas.{All-below, else_le, sum2, sum2-le, sum2-nothing, sum_by-same}
+use Rattle.evac_law.proofs.SumLemmas.{All-below, else_le, sum2-le, sum2-nothing, sum_by-same}
 use Rattle.evac_law.proofs.SumLemmas as sums
 use Rattle.evac_law.proofs.Entries.{entered_le, exit_entry, none_late}
 use Rattle.evac_law.proofs.EntrantTable.{all_of_table, entering-table_entrants, entrants_are_table}

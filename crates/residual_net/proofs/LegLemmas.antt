@@ -40,19 +40,6 @@ waits_none n t u l = let none : u - t ≡ 0 = omega (arith, l) in ap (waits_at n
 pub waits_first : (n t u : ℕ) → t < u → waits_at n t (u - t) ≡ wait_at n t ∷ waits_at n (t + 1) (u - (t + 1))
 waits_first n t u l = let some : u - t ≡ suc (u - (t + 1)) = omega (arith, l) in ap (waits_at n t) some
 
--- one more wait comes last
-pub waits_more : (n t c : ℕ) → waits_at n t (suc c) ≡ waits_at n t c ++ wait_at n (t + c) ∷ []
-waits_more n t zero = let same : t ≡ t + 0 = omega arith in ap (λ m. wait_at n m ∷ []) same
-waits_more n t (suc c) =
-    let same : (t + 1) + c ≡ t + suc c = omega arith in
-    ap (λ z. wait_at n t ∷ z) (waits_more n (t + 1) c) ∙ ap (λ m. wait_at n t ∷ (waits_at n (t + 1) c ++ wait_at n m ∷ [])) same
-
-pub waits_last : (n t m : ℕ) → t ≤ m → waits_at n t ((m + 1) - t) ≡ waits_at n t (m - t) ++ wait_at n m ∷ []
-waits_last n t m l =
-    let next : (m + 1) - t ≡ suc (m - t) = omega (arith, l) in
-    let here : t + (m - t) ≡ m = omega (arith, l) in
-    ap (waits_at n t) next ∙ waits_more n t (m - t) ∙ ap (λ z. waits_at n t (m - t) ++ wait_at n z ∷ []) here
-
 -- ---- steps that people may be sent over
 
 -- the steps before the last ones
@@ -185,9 +172,7 @@ between_places {v} {arrivals} {first} {last} {x} u = (placed 0 first (u.first_st
     some = path_some u.underway.before u.path x u.underway.pushable
 
     placed : (i : ℕ) (r : PathStep) → get_or u.path i r ≡ r → i < length u.path → IsPlace v.site r.place
-    placed i r same l =
-        subst (λ (s : Site). IsPlace s r.place) (sym u.underway.pushed.site)
-        (subst (λ (y : PathStep). IsPlace u.underway.before.site y.place) same (u.underway.pushable.2.places i r l))
+    placed i r same l = grind arith
 
 -- ---- legs
 
@@ -205,8 +190,7 @@ legs_more s (h ∷ gs) g =
 -- the legs from one on
 pub legs_from : (s : Site) (gs : List Leg) (i : ℕ) (d : Leg) → i < length gs
     → steps_of_legs s (drop i gs) ≡ steps_of_leg s (get_or gs i d) ++ steps_of_legs s (drop (i + 1) gs)
-legs_from s gs i d l =
-    ap (steps_of_legs s) (drop-cons gs i d l) ∙ ap (λ j. steps_of_leg s (get_or gs i d) ++ steps_of_legs s (drop j gs)) (sym (add-one i))
+legs_from s gs i d l = grind (arith, drop-cons, add-one)
 
 leg_some : (s : Site) (g : Leg) → 0 < length (steps_of_leg s g)
 leg_some s g = omega (arith, length-append (waits_to (start_of s g.step) g.since) (g.step ∷ []))
@@ -230,8 +214,7 @@ first_of s k since o (Door j) f y rest d origin leads = refl
 pub legs_first : (w : Network) (gs : List Leg) (x : ℕ) (b : Leg) (d : PathStep) → IsPushable w (steps_of_legs w.site gs) x
     → get_or (steps_of_legs w.site gs) 0 d ≡ (get_or gs 0 b).step
 legs_first w [] x b d p = absurd (omega (arith, path_some w [] x p))
-legs_first w (g ∷ gs) x b d p =
-    first_of w.site p.1 g.since p.0 (start_of w.site g.step) (Door p.1) g.step (steps_of_legs w.site gs) d p.2.origin p.2.leads
+legs_first w (g ∷ gs) x b d p = grind (arith, first_of)
 
 -- the last step of a leg is its step
 leg_last : (s : Site) (g : Leg) (d : PathStep) → get_or (steps_of_leg s g) (length (steps_of_leg s g) - 1) d ≡ g.step

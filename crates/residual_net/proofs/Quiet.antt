@@ -111,10 +111,7 @@ rank_in s (Hold n t) i b = not_last (exit_at s n) t s.shape.horizon i.1 b
 rank_in s (Supply n t) i b = omega (arith, i.1)
 
 pub open_flow : (w : Network) → IsNet w → (p : Place) → IsPlace w.site p → 0 < flow_at w p → is_barred w.site p ≡ false
-open_flow w net p i some = elim (cases_Bool (is_barred w.site p)) [
-  | inl b ↦ absurd (omega (arith, (net.barred p i b).0, some))
-  | inr b ↦ b
-]
+open_flow w net p i some = grind (arith, cases_Bool)
 
 pub in_time : (w : Network) → IsNet w → (p : Place) → IsPlace w.site p → 0 < flow_at w p → rank (head_of w.site p) ≤ w.site.shape.horizon + 1
 in_time w net p i some = rank_in w.site p i (open_flow w net p i some)

@@ -1,13 +1,13 @@
 -- What is saved of a grid, where a cell changes.
-use Rattle.std.proofs.Common.{◌≡◌, ℕ, zero, suc, ◌+◌, ◌<◌, ◌≤◌, Bool, true, false, List, ◌++◌, length, map, take, drop, set, get_or, refl, ap, sym, subst, ◌∙◌, arith, add-one, drop-cons, length-set, drop-set-lt}
+use Rattle.std.proofs.Common.{◌≡◌, ℕ, zero, suc, ◌+◌, ◌<◌, ◌≤◌, Bool, true, false, List, length, map, take, drop, set, get_or, refl, ap, sym, subst, ◌∙◌, arith, add-one, drop-cons, length-set, drop-set-lt}
 use Rattle.std.proofs.Math.Seq.{map-set_same, sets}
-use Rattle.std.proofs.lemmas.List.{append_assoc, drop-drop, get_or-append-add, length-append, length-drop, length-map, length-take}
+use Rattle.std.proofs.lemmas.List.{append_assoc, drop-drop, length-append, length-drop, length-map, length-take}
 use Rattle.std.proofs.lemmas.List.Edits.{sets-eq}
 use borrow.Rule.Slice.PartMut.{put_mid}
 use Rattle.residual_net.specs.declared.place.Place.{Place}
 use Rattle.residual_net.specs.declared.place.Cell.{Cell}
 use Rattle.residual_net.specs.Legs.{with_more}
-use Rattle.residual_net.specs.Site.{Site, IsPlace, cell_of}
+use Rattle.residual_net.specs.Site.{IsPlace, cell_of}
 use Rattle.residual_net.specs.Network.{Network, IsGrid, flow_at, no_cell}
 use Rattle.residual_net.specs.Change.{IsLimitSet}
 use Rattle.residual_net.specs.Start.{saved_cells}
@@ -22,46 +22,15 @@ same_limit_saved false cells saved i c h = map-set_same (λ (z : Cell). record {
 -- cells changed one after another from a place on, and those from the next place on
 pub sets_more : {X : Type 0} (f : X → X) (c i : ℕ) (l : List X) (d : X) → i < length l
     → sets (set l i (f (get_or l i d))) (i + 1) (map f (take c (drop (i + 1) (set l i (f (get_or l i d)))))) ≡ sets l i (map f (take (suc c) (drop i l)))
-sets_more f c i l d lt =
-    let changed = set l i (f (get_or l i d)) in
-    let behind : drop (i + 1) changed ≡ drop (i + 1) l = drop-set-lt (i + 1) l i (f (get_or l i d)) (omega arith) in
-    ap (λ z. sets changed (i + 1) (map f (take c z))) behind
-    ∙ ap (λ j. sets changed j (map f (take c (drop j l)))) (add-one i)
-    ∙ sym (ap (λ z. sets l i (map f (take (suc c) z))) (drop-cons l i d lt))
-
--- a cell that a change from the front on has yet to come to
-pub yet_to_come : (f : Cell → Cell) (xs : List Cell) (i : ℕ) (d : Cell) → i < length xs → get_or (map f (take i xs) ++ drop i xs) i d ≡ get_or xs i d
-yet_to_come f xs i d l =
-    let front = map f (take i xs) in
-    let count : length front ≡ i = omega (arith, length-map (take i xs) f, length-take i xs, l) in
-    let at : i ≡ length front + 0 = omega (arith, count) in
-    ap (λ j. get_or (front ++ drop i xs) j d) at ∙ get_or-append-add front (drop i xs) 0 d ∙ ap (λ (z : List Cell). get_or z 0 d) (drop-cons xs i d l)
+sets_more f c i l d lt = grind (arith, drop-set-lt, sets, add-one, drop-cons)
 
 -- a part of a list that was changed as a whole
 pub sets_put : (xs ys : List Cell) (a k x : ℕ) → a + k ≤ length xs → ys ≡ map (with_more x) (take k (drop a xs))
     → put_mid a k xs ys ≡ sets xs a (map (with_more x) (take k (drop a xs)))
-sets_put xs ys a k x fits same =
-    let vs = map (with_more x) (take k (drop a xs)) in
-    let count : length vs ≡ k = omega (arith, length-map (take k (drop a xs)) (λ (c : Cell). with_more x c), length-take k (drop a xs), length-drop a xs, fits) in
-    ap (λ (z : List Cell). take a xs ++ (z ++ drop k (drop a xs))) same
-    ∙ ap (λ (z : List Cell). take a xs ++ (vs ++ z)) (drop-drop k a xs ∙ ap (λ i. drop (a + i) xs) (sym count))
-    ∙ sym (append_assoc (take a xs) vs (drop (a + length vs) xs))
-    ∙ sym (sets-eq vs xs a (omega (arith, count, fits)))
+sets_put xs ys a k x fits same = grind (arith, length-map, length-take, length-drop, drop-drop, append_assoc, sets-eq)
 
 pub length_put : (xs ys : List Cell) (a k x : ℕ) → a + k ≤ length xs → ys ≡ map (with_more x) (take k (drop a xs)) → length (put_mid a k xs ys) ≡ length xs
-length_put xs ys a k x fits same =
-    let part = take k (drop a xs) in
-    let count : length ys ≡ k = omega (arith, ap length same, length-map part (with_more x), length-take k (drop a xs), length-drop a xs, fits) in
-    omega (
-      arith,
-      count,
-      fits,
-      length-append (take a xs) (ys ++ drop k (drop a xs)),
-      length-append ys (drop k (drop a xs)),
-      length-take a xs,
-      length-drop k (drop a xs),
-      length-drop a xs,
-    )
+length_put xs ys a k x fits same = grind (arith, length-map, length-take, length-drop, length-append)
 
 -- more people over cells one after another change nothing of what is saved
 pub more_saved : (b : Bool) (saved : List Cell) (x c i : ℕ) (cells : List Cell) → i + c ≤ length cells
@@ -75,10 +44,7 @@ more_saved b saved x (suc c) i cells fits =
 
 -- a net that differs from another in its cells alone
 pub other_cells : (v w : Network) (cells : List Cell) → v.site ≡ w.site → v.cells ≡ cells → v.saved ≡ w.saved → v ≡ record w { cells = cells }
-other_cells v w cells e f g =
-    ap (λ (z : Site). record v { site = z }) e
-    ∙ ap (λ (z : List Cell). record { site = w.site; cells = z; saved = v.saved }) f
-    ∙ ap (λ (z : List Cell). record { site = w.site; cells = cells; saved = z }) g
+other_cells v w cells e f g = grind arith
 
 -- another limit at a place, with what was saved kept
 pub limit_put : (v w : Network) (p : Place) (at : ℕ) (c : Cell) → IsGrid w → IsPlace w.site p → at ≡ cell_of w.site p → v.site ≡ w.site

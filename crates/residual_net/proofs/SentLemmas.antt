@@ -53,25 +53,18 @@ sent_arrive w net within all =
     at_place _ i = refl
 
 pub arrived_sent : (w : Network) → IsNet w → IsWithinLimits w → arrived_by w w.site.shape.horizon ≡ supply_limits w → IsAllSent w
-arrived_sent w net within e n t i = elim (cases_lt (flow_at w (Supply n t)) (limit_at w (Supply n t))) [
-  | inl less ↦ absurd (omega (arith, one_missing w within n t i less, arrived_is_sent w net, e))
-  | inr full ↦ omega (arith, full)
-]
+arrived_sent w net within e n t i = grind (arith, cases_lt, one_missing, arrived_is_sent)
 
 -- everybody is sent where the arrivals are as many as the supplies
 pub sent_counted : (w : Network) → IsNet w → IsWithinLimits w → (arrived supplies : ℕ) → arrived ≡ arrived_by w w.site.shape.horizon → supplies ≡ supply_limits w
     → IsTrue (nat_eq arrived supplies) ↔ IsAllSent w
-sent_counted w net within arrived supplies e f = (
-  λ same. arrived_sent w net within (omega (arith, eqb-true arrived supplies same, e, f)),
-  λ all. eq-eqb arrived supplies (omega (arith, sent_arrive w net within all, e, f)),
-)
+sent_counted w net within arrived supplies e f = grind (arith, arrived_sent, eqb-true, eq-eqb, sent_arrive)
 
 -- ---- of a model
 
 -- those who come in by the horizon arrive by then where everybody is sent, and only there
 pub sent_enter : (m : Model) (w : Network) → IsNet w → IsNetOf m w → IsWithinLimits w → IsAllSent w → arrived_by w m.horizon ≡ entered_by m m.horizon
-sent_enter m w net of within all =
-    ap (λ (s : Site). arrived_by w s.shape.horizon) (sym of.site) ∙ sent_arrive w net within all ∙ supplies_enter m w of
+sent_enter m w net of within all = grind (arith, sent_arrive, supplies_enter)
 
 pub entered_sent : (m : Model) (w : Network) → IsNet w → IsNetOf m w → IsWithinLimits w → arrived_by w m.horizon ≡ entered_by m m.horizon → IsAllSent w
 entered_sent m w net of within e =

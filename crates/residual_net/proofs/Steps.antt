@@ -12,8 +12,8 @@ use Rattle.residual_net.specs.declared.place.Cell.{Cell}
 use Rattle.residual_net.specs.Limits.{supply_limit}
 use Rattle.residual_net.specs.declared.end.End.{End}
 use Rattle.residual_net.specs.declared.end.End.TheVariants.{Door}
-use Rattle.residual_net.specs.Site.{Site, IsPlace, start_of, stop_of, head_of, tail_of, at, is_source, is_door, is_barred, sum_places, same_place, cell_of}
-use Rattle.residual_net.specs.Network.{Network, IsGrid, IsNet, IsWithinLimits, supply_limits, flow_into, flow_out, no_cell, flow_at, limit_at, residual_room, with_cell}
+use Rattle.residual_net.specs.Site.{Site, IsPlace, start_of, stop_of, head_of, tail_of, at, is_source, is_door, is_barred, same_place, cell_of}
+use Rattle.residual_net.specs.Network.{Network, IsGrid, IsNet, IsWithinLimits, supply_limits, flow_into, flow_out, flow_at, limit_at, residual_room, with_cell}
 use Rattle.residual_net.specs.Change.{IsLimitSet}
 use Rattle.residual_net.specs.Route.{IsPushed, IsPushable, IsOrigin, Leads, added, taken}
 use Rattle.residual_net.proofs.Places.{cell_below, cell_written, place-same, same-place, sum_places-le, sum_places-same}
@@ -30,14 +30,12 @@ at_cell f false x y = refl
 pub flow-with_cell : (w : Network) (p q : Place) (c : Cell) → IsGrid w → IsPlace w.site p → IsPlace w.site q
     → flow_at (with_cell w p c) q ≡ cond (same_place p q) c.flow (flow_at w q)
 unfolding flow_at
-flow-with_cell w p q c g i j =
-    ap (λ (z : Cell). z.flow) (cell_written w.site w.cells p q c no_cell g.full i j) ∙ at_cell (λ z. z.flow) (same_place p q) c _
+flow-with_cell w p q c g i j = grind (arith, cell_written, at_cell)
 
 pub limit-with_cell : (w : Network) (p q : Place) (c : Cell) → IsGrid w → IsPlace w.site p → IsPlace w.site q
     → limit_at (with_cell w p c) q ≡ cond (same_place p q) c.limit (limit_at w q)
 unfolding limit_at
-limit-with_cell w p q c g i j =
-    ap (λ (z : Cell). z.limit) (cell_written w.site w.cells p q c no_cell g.full i j) ∙ at_cell (λ z. z.limit) (same_place p q) c _
+limit-with_cell w p q c g i j = grind (arith, cell_written, at_cell)
 
 one_flow : (b back : Bool) (x flow was now : ℕ) → (b ≡ true → flow ≡ was) → (back ≡ false → now ≡ flow + x) → (back ≡ true → now + x ≡ flow)
     → cond b now was + cond (back && b) x 0 ≡ was + cond (not back && b) x 0
@@ -51,42 +49,16 @@ pub push_one : (w : Network) (r : PathStep) (x : ℕ) (c : Cell) → IsGrid w �
     → (r.back ≡ false → c.flow ≡ flow_at w r.place + x) → (r.back ≡ true → c.flow + x ≡ flow_at w r.place) → c.limit ≡ limit_at w r.place
     → IsPushed w (with_cell w r.place c) (r ∷ []) x
 unfolding added taken
-push_one w r x c g i on back limit = record {
-  site = refl;
-  saved = refl;
-  limits = λ p j.
-      limit-with_cell w r.place p c g i j
-      ∙ one_limit (same_place r.place p) (limit_at w r.place) (limit_at w p) c.limit (λ e. ap (limit_at w) (same-place r.place p e)) limit;
-  flows = λ p j.
-      let one = one_flow (same_place r.place p) r.back x (flow_at w r.place) (flow_at w p) c.flow (λ e. ap (flow_at w) (same-place r.place p e)) on back in
-      omega (arith, flow-with_cell w r.place p c g i j, one);
-}
+push_one w r x c g i on back limit = grind (arith, limit-with_cell, one_limit, same-place, one_flow, flow-with_cell)
 
 -- another limit at one place
 pub limit_set : (w : Network) (p : Place) (c : Cell) → IsGrid w → IsPlace w.site p → c.flow ≡ flow_at w p → IsLimitSet w (with_cell w p c) p c.limit
-limit_set w p c g i same = record {
-  site = refl;
-  saved = refl;
-  flows = λ q j. flow-with_cell w p q c g i j ∙ one_limit (same_place p q) (flow_at w p) (flow_at w q) c.flow (λ e. ap (flow_at w) (same-place p q e)) same;
-  limits = λ q j. limit-with_cell w p q c g i j;
-}
+limit_set w p c g i same = grind (arith, flow-with_cell, one_limit, same-place, limit-with_cell)
 
 -- one push and then another
 pub push_then : (w u v : Network) (p q : List PathStep) (x : ℕ) → IsPushed w u p x → IsPushed u v q x → IsPushed w v (p ++ q) x
 unfolding added taken
-push_then w u v p q x a b = record {
-  site = b.site ∙ a.site;
-  saved = b.saved ∙ a.saved;
-  limits = λ r i. b.limits r (subst (λ s. IsPlace s r) (sym a.site) i) ∙ a.limits r i;
-  flows = λ r i.
-      omega (
-        arith,
-        a.flows r i,
-        b.flows r (subst (λ s. IsPlace s r) (sym a.site) i),
-        sum_by-append (λ (y : PathStep). cond (y.back && same_place y.place r) x 0) p q,
-        sum_by-append (λ (y : PathStep). cond (not y.back && same_place y.place r) x 0) p q,
-      );
-}
+push_then w u v p q x a b = grind (arith, sum_by-append)
 
 pub push_none : (w : Network) (x : ℕ) → IsPushed w w [] x
 unfolding added taken
@@ -198,15 +170,7 @@ step_place w u path x i d p h l = subst (λ s. IsPlace s (get_or path i d).place
 
 pub step_room : (w u : Network) (path : List PathStep) (x i : ℕ) (d : PathStep) → IsPushable w path x → IsPushed w u (take i path) x → i < length path
     → x ≤ residual_room u (get_or path i d)
-step_room w u path x i d p h l =
-    let r = get_or path i d in
-    let before = apart_before path i d p.2.apart l in
-    let place = p.2.places i d l in
-    let room : x ≤ residual_room w r = p.2.room i d l in
-    let flow : flow_at u r.place ≡ flow_at w r.place =
-    omega (arith, h.flows r.place place, added_none (take i path) x r.place before, taken_none (take i path) x r.place before) in
-    let limit = h.limits r.place place in
-    rw (flow, limit) room
+step_room w u path x i d p h l = grind (arith, apart_before, added_none, taken_none)
 
 pub push_more : (w u v : Network) (path : List PathStep) (x i : ℕ) (d : PathStep) → IsPushed w u (take i path) x → IsPushed u v (get_or path i d ∷ []) x
     → i < length path → IsPushed w v (take (i + 1) path) x
@@ -215,15 +179,11 @@ push_more w u v path x i d a b l = rw (take_more path i d l) (push_then w u v (t
 -- ---- what a push keeps
 
 pub within_pushed : (w v : Network) (path : List PathStep) (x : ℕ) → IsWithinLimits w → IsPushable w path x → IsPushed w v path x → IsWithinLimits v
-within_pushed w v path x h p a q i =
-    let place : IsPlace w.site q = subst (λ s. IsPlace s q) a.site i in
-    omega (arith, a.flows q place, a.limits q place, added_fits w path x q (h q place) p.2.room p.2.apart)
+within_pushed w v path x h p a q i = grind (arith, added_fits)
 
 pub same_supplies : (w v : Network) → v.site ≡ w.site → ((p : Place) → IsPlace w.site p → limit_at v p ≡ limit_at w p) → supply_limits v ≡ supply_limits w
 unfolding supply_limits
-same_supplies w v e h =
-    ap (λ s. sum_places s (λ p. cond (is_source (tail_of s p)) (limit_at v p) 0)) e
-    ∙ sum_places-same w.site _ _ (λ p i. ap (λ z. cond (is_source (tail_of w.site p)) z 0) (h p i))
+same_supplies w v e h = grind (arith, sum_places-same)
 
 pub sent_fits : (w : Network) → IsWithinLimits w → flow_out w is_source ≤ supply_limits w
 unfolding flow_out supply_limits

@@ -25,9 +25,7 @@ taken_nothing w x = record { site = refl; saved = refl; limits = λ q i. refl; f
 
 pub take_room : (w u : Network) (path : List PathStep) (x i : ℕ) (d : PathStep) → IsTakeable w path x → IsTaken w u (take i path) x → i < length path
     → x ≤ flow_at u (get_or path i d).place
-take_room w u path x i d p h l =
-    let r = get_or path i d in
-    omega (arith, h.flows r.place (p.arrives.1.places i d l), added_none (take i path) x r.place (apart_before path i d p.arrives.1.apart l), p.enough i d l)
+take_room w u path x i d p h l = grind (arith, added_none, apart_before)
 
 pub take_step : (w u v : Network) (path : List PathStep) (x i : ℕ) (d : PathStep) → IsTakeable w path x → IsTaken w u (take i path) x
     → IsPushed u v (back_over (get_or path i d) ∷ []) x → i < length path → IsTaken w v (take (i + 1) path) x
@@ -59,12 +57,7 @@ taken_forward path x q a =
 
 -- a push along the path would give the old net back
 pub undone : (w v : Network) (path : List PathStep) (x : ℕ) → IsTaken w v path x → All (λ r. r.back ≡ false) path → IsPushed v w path x
-undone w v path x a on = record {
-  site = sym a.site;
-  saved = sym a.saved;
-  limits = λ q i. sym (a.limits q (subst (λ (s : Site). IsPlace s q) a.site i));
-  flows = λ q i. omega (arith, a.flows q (subst (λ (s : Site). IsPlace s q) a.site i), taken_forward path x q on);
-}
+undone w v path x a on = grind (arith, taken_forward)
 
 module _ (w v : Network) (path : List PathStep) (x k : ℕ) (a : IsTaken w v path x) (flow : IsFlowPath w.site path k) where
   back : IsPushed v w path x
@@ -125,10 +118,7 @@ module _ {v : Network} {arrivals : List ℕ} {path : List PathStep} {x : ℕ} (d
     last_is = sym (a ∙ ap (λ z. head_of z last.place) h.taken.site)
 
     pub can_lower : (j : ℕ) → from ≡ Door j → (j < length arrivals) × (x ≤ get_or arrivals j 0)
-    can_lower j e =
-        let enough : x ≤ flow_at h.before last.place = h.takeable.enough (length path - 1) d (omega (arith, some)) in
-        let inside = told_door h.before arrivals h.stored (back_over last) x place h.takeable.some enough j (last_is ∙ e) in
-        (inside, told_people h.before arrivals h.stored last.place x place enough j (last_is ∙ e) inside)
+    can_lower j e = grind (arith, some, told_door, place, last_is, told_people)
 
     stops : (j : ℕ) → eqb j h.takeable.arrives.0 ≡ at (Door j) from
     stops j = ap (at (Door j)) (sym last_head ∙ last_is)

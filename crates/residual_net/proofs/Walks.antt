@@ -2,7 +2,7 @@
 use Rattle.std.proofs.Common.{◌≡◌, ◌≢◌, ℕ, suc, ◌+◌, ◌<◌, ◌≤◌, Bool, true, false, cond, ◌||◌, eqb, List, [], ◌∷◌, ◌++◌, length-append, reverse, refl, ap, sym, ◌∙◌, arith, inl, inr, subst}
 use Rattle.std.specs.List.{All, AllPairs}
 use Rattle.std.proofs.lemmas.List.{get_or_append_left, reverse-append}
-use Rattle.std.proofs.lemmas.List.Elements.{All-head, All-tail, All-cons, All-nil, All-push, All-weaker}
+use Rattle.std.proofs.lemmas.List.Elements.{All-head, All-tail, All-cons, All-push, All-weaker}
 use Rattle.std.proofs.lemmas.List.Kept.{AllPairs-cons}
 use Rattle.std.proofs.lemmas.Bool.{cases_lt}
 use Rattle.time_expansion.specs.Expansion.{from_at, to_at, no_ends}
@@ -39,8 +39,7 @@ open_head s h (Arc a t) i b = by_exit (exit_at s (to_at s.shape a)) refl (rank_i
         → IsOpenEnd s (cond b (Door (arrival_at s a t)) (Pair (to_at s.shape a) (arrival_at s a t)))
     by_exit true e l = tt
     by_exit false e l = record { node = (h.shape.ends_in a no_ends i.0).1; moment = omega (arith, l); no_exit = e }
-open_head s h (Hold n t) i b =
-    record { node = i.0; moment = omega (arith, rank_in s (Hold n t) i b); no_exit = no_exit (exit_at s n) (eqb t s.shape.horizon) b }
+open_head s h (Hold n t) i b = grind (arith, rank_in, no_exit)
 open_head s h (Supply n t) i b = record { node = i.0; moment = i.1; no_exit = b }
 
 -- a step with room starts and stops where people can be
@@ -65,28 +64,13 @@ module _ (w : Network) (r : PathStep) (net : IsNet w) (i : IsPlace w.site r.plac
 -- what a place with flow leads from, and what it leads to
 pub behind_is : (w : Network) → IsNet w → (p : Place) → IsPlace w.site p → 0 < flow_at w p → (n t : ℕ) → tail_of w.site p ≡ Pair n t
     → IsOpenPair w.site n t × (0 < flow_into w (at (Pair n t)))
-behind_is w net p i some n t e = (
-  subst (IsOpenEnd w.site) e (open_tail w.site net.site p i (open_flow w net p i some)),
-  omega (arith, part_from w p i (Pair n t) e, some, net.conserved.pairs n t),
-)
+behind_is w net p i some n t e = grind (arith, open_tail, open_flow, some, part_from)
 
 pub ahead_is : (w : Network) → IsNet w → (p : Place) → IsPlace w.site p → 0 < flow_at w p → (n t : ℕ) → head_of w.site p ≡ Pair n t
     → IsOpenPair w.site n t × (0 < flow_out w (at (Pair n t)))
-ahead_is w net p i some n t e = (
-  subst (IsOpenEnd w.site) e (open_head w.site net.site p i (open_flow w net p i some)),
-  omega (arith, part_into w p i (Pair n t) e, some, net.conserved.pairs n t),
-)
+ahead_is w net p i some n t e = grind (arith, open_head, open_flow, some, part_into)
 
 -- ---- a walk of one step more
-
-pub walk_one : (w : Network) → IsNet w → (p : Place) → IsPlace w.site p → 0 < flow_at w p
-    → IsWalk w p (step_on p ∷ []) (tail_of w.site p) (head_of w.site p)
-walk_one w net p i some = record {
-  along = All-cons (IsAlong w) (step_on p) [] (refl, i, some) (All-nil (IsAlong w));
-  leads = (refl, refl);
-  through = (0, step_on p, omega arith, refl, refl);
-  short = omega (arith, rank_up w.site net.site p i);
-}
 
 pub walk_before : (w : Network) → IsNet w → (p q : Place) (path : List PathStep) (f : End) → IsWalk w p path (head_of w.site q) f → IsPlace w.site q
     → 0 < flow_at w q → IsWalk w p (step_on q ∷ path) (tail_of w.site q) f
@@ -170,13 +154,7 @@ ranks_rise s h (x ∷ path) e f a l =
     )
 
 pub flow_path : (w : Network) → IsNet w → (p : Place) (path : List PathStep) (k : ℕ) → IsWalk w p path Source (Door k) → IsFlowPath w.site path k
-flow_path w net p path k h = record {
-  forwards = All-weaker (IsAlong w) (λ (x : PathStep). x.back ≡ false) (λ x a. a.0) path h.along;
-  places = All-weaker (IsAlong w) (λ (x : PathStep). IsPlace w.site x.place) (λ x a. a.1) path h.along;
-  leads = h.leads;
-  apart = (ranks_rise w.site net.site path Source (Door k)
-      (All-weaker (IsAlong w) (λ (x : PathStep). (x.back ≡ false) × IsPlace w.site x.place) (λ x a. (a.0, a.1)) path h.along) h.leads).1;
-}
+flow_path w net p path k h = grind (arith, ranks_rise)
 
 -- ---- the place that has the flow
 

@@ -1,10 +1,10 @@
 -- Where nobody is left at the horizon, whoever enters an arc arrives by then.
-use Rattle.std.proofs.Common.{◌≡◌, ℕ, ◌+◌, ◌<◌, ◌≤◌, ◌⊎◌, inl, inr, true, false, cond, ◌&&◌, eqb, List, get_or, ap, arith}
+use Rattle.std.proofs.Common.{◌≡◌, ℕ, ◌+◌, ◌<◌, ◌≤◌, ◌⊎◌, inl, inr, true, false, cond, ◌&&◌, eqb, List, arith}
 use Rattle.std.specs.List.{All, sum_by}
 use Rattle.std.proofs.lemmas.Bool.{cases_Bool, cases_lt}
 use Rattle.evac_law.specs.declared.model.Model.{Model}
 use Rattle.evac_law.specs.declared.plan.Move.{Move}
-use Rattle.evac_law.specs.Building.{arc_at, arrival}
+use Rattle.evac_law.specs.Building.{arrival}
 use Rattle.evac_law.specs.Plans.{NobodyIsLeft, moved}
 use Rattle.evac_law.proofs.SumLemmas.{same_pair, sum_by-le_all, sum_by-nothing}
 
@@ -20,11 +20,7 @@ late_move b a s t k d r w e late way early = split (cases_Bool (eqb b a && eqb s
 module _ (m : Model) (p : List Move) (nobody : NobodyIsLeft m p m.horizon) (in_time : All (λ (v : Move). v.moment ≤ m.horizon) p) where
   nobody_late : (a t : ℕ) → m.horizon < arrival m a t → moved p a t ≤ sum_by {X = Move} (λ _. 0) p
   unfolding moved
-  nobody_late a t l =
-      sum_by-le_all (λ (v : Move). cond (eqb v.arc a && eqb v.moment t) v.people 0) (λ _. 0) p
-      (λ i d b. let v = get_or p i d in
-      late_move v.arc a v.moment t m.horizon (arc_at m a).travel (arrival m v.arc v.moment) v.people (λ e. ap (λ z. v.moment + (arc_at m z).travel) e) l
-      (nobody.nobody_on_way i d b) (in_time i d b))
+  nobody_late a t l = grind (arith, sum_by-le_all, late_move)
 
   pub arrives : (a t : ℕ) → 0 < moved p a t → arrival m a t ≤ m.horizon
   arrives a t some = grind (arith, some, nobody_late a t, sum_by-nothing p)

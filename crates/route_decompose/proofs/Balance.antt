@@ -54,8 +54,7 @@ module _ (s v : Stock) (a t p : ℕ) (same : v.model ≡ s.model) (less : IsLess
 -- the sums look at the model and the people on arcs alone
 pub coming_same : (s v : Stock) → v.model ≡ s.model → v.left ≡ s.left → (n u : ℕ) → left_coming v n u ≡ left_coming s n u
 unfolding left_coming
-coming_same s v e f n u =
-    ap₂ (λ (w : Model) (c : PeopleTable). sum_by (λ b. cond (eqb (head w b) n && leb (arc_at w b).travel u) (people_at c b (u - (arc_at w b).travel)) 0) (places w.arcs)) e f
+coming_same s v e f n u = grind arith
 
 pub going_same : (s v : Stock) → v.model ≡ s.model → v.left ≡ s.left → (n u : ℕ) → going v n u ≡ going s n u
 unfolding going
@@ -114,11 +113,7 @@ module _ (s v : Stock) (same : v.model ≡ s.model) where
       → before s n t + left_coming s n t ≡ people_at s.holds n t + going s n t + cond (eqb c n && eqb u t) p 0
       → before v n t + left_coming v n t ≡ people_at v.holds n t + going v n t + cond (eqb d n && eqb k t) q 0)
       → IsBalancedBut s c u p → IsBalancedBut v d k q
-  balanced_with c u p d k q f b n t l e h =
-      let l' : n < length s.model.nodes = subst (λ (w : Model). n < length w.nodes) same l in
-      let e' : is_exit_at s.model n ≡ false = subst (λ (w : Model). is_exit_at w n ≡ false) same e in
-      let h' : t ≤ s.model.horizon = subst (λ (w : Model). t ≤ w.horizon) same h in
-      f n t l' e' h' (b n t l' e' h')
+  balanced_with c u p d k q f b n t l e h = grind arith
 
 before_same : (s v : Stock) → v.holds ≡ s.holds → v.waiting ≡ s.waiting → (n t : ℕ) → before v n t ≡ before s n t
 before_same s v e f n t = ap₂ (λ (c d : PeopleTable). stayed c n t + people_at d n t) e f
@@ -126,10 +121,7 @@ before_same s v e f n t = ap₂ (λ (c d : PeopleTable). stayed c n t + people_a
 -- some people are taken off an arc: they are gone from its tail, and no more from its head
 module _ (s v : Stock) (a t p : ℕ) (same : v.model ≡ s.model) (less : IsLess s.left v.left a t p) (here : a < length s.model.arcs) (holds : v.holds ≡ s.holds) (waiting : v.waiting ≡ s.waiting) where
   pub move_step : IsBalancedBut s (head s.model a) (arrival s.model a t) p → IsBalancedBut v (tail s.model a) t p
-  move_step b =
-      balanced_with s v same (head s.model a) (arrival s.model a t) p (tail s.model a) t p
-      (λ n u l e h i. omega (arith, i, coming_less s v a t p same less here n u, going_less s v a t p same less here n u, before_same s v holds waiting n u, ap (λ (c : PeopleTable). people_at c n u) holds))
-      b
+  move_step b = grind (arith, balanced_with, coming_less, going_less, before_same)
 
 -- in an exit nobody has to go on
 pub exit_balanced : (s : Stock) (n t p : ℕ) → is_exit_at s.model n ≡ true → IsBalancedBut s 0 0 0 → IsBalancedBut s n t p
@@ -167,9 +159,7 @@ hold_step s v n t p same left waiting less b =
 
     step : (i u : ℕ) → before s i u + left_coming s i u ≡ people_at s.holds i u + going s i u + cond (eqb n i && eqb (t + 1) u) p 0
         → before v i u + left_coming s i u ≡ people_at v.holds i u + going s i u + cond (eqb n i && eqb t u) p 0
-    step i zero j =
-        let w : before v i 0 ≡ before s i 0 = ap (λ z. 0 + z) (wait i 0) in
-        rw w (first (before s i 0) (left_coming s i 0) (going s i 0) (people_at s.holds i 0) (people_at v.holds i 0) i (less.cells i 0) j)
+    step i zero j = grind (arith, wait, first)
     step i (suc u) j =
         later (before s i (suc u)) (before v i (suc u)) (left_coming s i (suc u)) (going s i (suc u)) (people_at s.holds i (suc u)) (people_at v.holds i (suc u)) i u
         (omega (arith, less.cells i u, wait i (suc u))) (less.cells i (suc u)) j
@@ -177,16 +167,4 @@ hold_step s v n t p same left waiting less b =
 -- some people who are gone from a node at a moment don't come there from nowhere
 pub wait_step : (s v : Stock) (n t p : ℕ) → v.model ≡ s.model → v.left ≡ s.left → v.holds ≡ s.holds → IsLess s.waiting v.waiting n t p
     → IsBalancedBut s n t p → IsBalancedBut v 0 0 0
-wait_step s v n t p same left holds less b =
-    balanced_with s v same n t p 0 0 0
-    (λ i u l e h j. omega (
-      arith,
-      j,
-      less.cells i u,
-      ap (λ (c : PeopleTable). stayed c i u) holds,
-      cond_nothing (eqb 0 i && eqb 0 u),
-      coming_same s v same left i u,
-      going_same s v same left i u,
-      ap (λ (c : PeopleTable). people_at c i u) holds,
-    ))
-    b
+wait_step s v n t p same left holds less b = grind (arith, balanced_with, cond_nothing, coming_same, going_same)

@@ -48,13 +48,6 @@ came_is : (m : Model) (p : List Move) (n t x : ℕ) → pos x ≡ held m p n t �
 unfolding held
 came_is m p n t x e = omega (arith, ints, e)
 
--- the contents of a node from moment to moment
-first_moment : (cm lv en co le x w : ℕ) → cm ≡ en + co → lv ≡ le → cm ≡ lv + x → w ≡ en → (0 + w) + co ≡ x + le
-first_moment cm lv en co le x w a b c d = omega (arith, a, b, c, d)
-
-next_moment : (cm lv cm' lv' en co le x y w : ℕ) → cm' ≡ cm + (en + co) → lv' ≡ lv + le → w ≡ en → cm ≡ lv + x → cm' ≡ lv' + y → (x + w) + co ≡ y + le
-next_moment cm lv cm' lv' en co le x y w a b c d e = omega (arith, a, b, c, d, e)
-
 -- what is known of a plan that is handed out, by a stand that fits
 pub record IsTaken (f : Stand) (s : Stock) : Type 0 where
   pub stands : Stands s.model f
@@ -117,8 +110,4 @@ module _ (f : Stand) (s : Stock) (h : IsTaken f s) where
       starts_inside n t l some (inr e) = e
 
   pub whole_of : IsStock s → IsOpen s
-  whole_of stock = record {
-    stock = stock;
-    balanced = λ n t l e k. omega (arith, at_node n t l e k, cond_nothing (eqb 0 n && eqb 0 t));
-    closing = closing_of;
-  }
+  whole_of stock = grind (arith, at_node, cond_nothing, closing_of)

@@ -4,7 +4,6 @@ use Rattle.std.proofs.lemmas.List.Elements.{All-get_or}
 use Rattle.evac_law.specs.Building.{IsArc, arc_at, arrival, head, is_exit_at, no_arc}
 use Rattle.route_decompose.specs.declared.route.RouteStep.{RouteStep}
 use Rattle.plan_layout.specs.Tables.{people_at}
-use Rattle.route_decompose.specs.Routes.{enters}
 use Rattle.route_decompose.specs.Stocks.{IsLeadable, IsLedOut, IsOpen, IsStock, Stock, before}
 use Rattle.route_decompose.proofs.Balance.{coming_some}
 use Rattle.route_decompose.proofs.Leading.{not_entered, takes_time}
@@ -12,9 +11,7 @@ use Rattle.route_decompose.proofs.Leading.{not_entered, takes_time}
 module _ (s : Stock) (n t : ℕ) (here : IsLeadable s n t) where
   -- whoever stays does so before the horizon
   stays_before : 0 < people_at s.holds n t → t + 1 ≤ s.model.horizon
-  stays_before some =
-      let last : t ≡ s.model.horizon → people_at s.holds n t ≡ people_at s.holds n s.model.horizon = ap (people_at s.holds n) in
-      grind (arith, here.moment_in, some, last, here.left.closing.none_stay n here.node_in here.inside)
+  stays_before some = grind arith
 
   pub stays : 0 < people_at s.holds n t → IsLeadable s n (t + 1)
   stays some =
@@ -27,13 +24,7 @@ module _ (s : Stock) (whole : IsOpen s) (a t : ℕ) (l : a < length s.model.arcs
   arc_of = All-get_or (IsArc s.model.nodes) s.model.arcs a no_arc l whole.stock.valid.arcs
 
   pub comes : is_exit_at s.model (head s.model a) ≡ false → IsLeadable s (head s.model a) (arrival s.model a t)
-  comes inside = record {
-    left = whole;
-    node_in = arc_of.to_in;
-    inside = inside;
-    moment_in = whole.closing.in_time a t l some;
-    someone = omega (arith, coming_some s a t l, some);
-  }
+  comes inside = grind (arith, coming_some)
 
 -- whoever is led out from the head of an arc doesn't enter it at that moment
 not_twice : (x y p : ℕ) (b : Bool) → b ≡ false → x + cond b p 0 ≡ y → x ≡ y
@@ -41,7 +32,4 @@ not_twice x y p b e f = grind arith
 
 pub still_left : (s v : Stock) (a t p : ℕ) (steps : List RouteStep) → IsStock s → a < length s.model.arcs
     → IsLedOut s v (head s.model a) (arrival s.model a t) p steps → people_at v.left a t ≡ people_at s.left a t
-still_left s v a t p steps stock l led =
-    let time = takes_time s.model a stock.valid l in
-    not_twice (people_at v.left a t) (people_at s.left a t) p (enters steps a t)
-    (not_entered s.model (head s.model a) (arrival s.model a t) steps a t led.leads (omega arith)) (led.left a t)
+still_left s v a t p steps stock l led = grind (arith, takes_time, not_twice, not_entered)

@@ -1,5 +1,5 @@
 -- Routes that are handed out until nothing is left cover the plan, and are no more than its places.
-use Rattle.std.proofs.Common.{List, [], ◌∷◌, ◌++◌, sym, subst, append-nil, append_assoc, arith}
+use Rattle.std.proofs.Common.{List, [], ◌∷◌, ◌++◌, subst, append-nil, append_assoc, arith}
 use Rattle.evac_law.specs.declared.model.Model.{Model}
 use Rattle.evac_law.specs.declared.plan.Move.{Move}
 use Rattle.route_decompose.specs.Laws.{HandsOutAll, RoutesAreFew, RoutesCover}
@@ -9,10 +9,7 @@ use Rattle.route_decompose.proofs.Given.{IsGiven, none_given, one_more, used_up_
 given_all : (m : Model) (p : List Move) (given routes : List RouteView) (w v : RoutesView) → IsGiven m p given w → HandsOutAll w routes v
     → IsGiven m p (given ++ routes) v
 unfolding HandsOutAll
-given_all m p given [] w v h e =
-    let P : RoutesView → Type 0 = λ x. IsGiven m p given x in
-    let Q : List RouteView → Type 0 = λ l. IsGiven m p l v in
-    subst Q (sym (append-nil given)) (subst P (sym e) h)
+given_all m p given [] w v h e = grind (arith, append-nil)
 given_all m p given (r ∷ routes) w v h g =
     let u = g.0 in
     let P : RouteView → Type 0 = λ x. IsGiven m p (given ++ x ∷ []) u in

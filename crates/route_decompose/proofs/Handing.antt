@@ -1,5 +1,5 @@
 -- The whole of a plan as routes see it, and the handing out of one route.
-use Rattle.std.proofs.Common.{refl, ◌≡◌, ℕ, zero, suc, ◌+◌, ◌<◌, ◌≤◌, ◌⊎◌, inl, inr, true, false, cond, ◌&&◌, eqb, List, [], ◌∷◌, length, get_or, ap, ap₂, sym, ◌∙◌, arith, subst}
+use Rattle.std.proofs.Common.{◌≡◌, ℕ, zero, suc, ◌+◌, ◌<◌, ◌≤◌, ◌⊎◌, inl, inr, true, false, cond, ◌&&◌, eqb, List, [], ◌∷◌, length, get_or, ap, sym, ◌∙◌, arith, subst}
 use Rattle.std.specs.List.{All}
 use Rattle.std.proofs.lemmas.Bool.{cases_Bool, true≢false}
 use Rattle.std.proofs.lemmas.Bool.Decides.{nat_tests}
@@ -14,7 +14,7 @@ use Rattle.evac_law.proofs.SumLemmas.{cond_nothing, sum_by-le_all, sum_by-nothin
 use Rattle.route_decompose.specs.declared.route.RouteStep.{RouteStep}
 use Rattle.route_decompose.specs.Routes.{HandsOut, IsAllLeft, LeadsOut, RouteView, places_of}
 use Rattle.plan_layout.specs.Tables.{PeopleTable, people_at}
-use Rattle.route_decompose.specs.Places.{IsLess, places_in, places_with}
+use Rattle.route_decompose.specs.Places.{IsLess}
 use Rattle.route_decompose.specs.Stocks.{Empties, IsEmpty, IsLedOut, IsOpen, IsRoutes, IsStock, IsStockOf, Stock, TrailView, before, used}
 use Rattle.route_decompose.proofs.Balance.{coming_all_none, going_none, wait_step}
 use Rattle.route_decompose.proofs.Begin.{whole_of}
@@ -74,17 +74,7 @@ module _ (m : Model) (f : Stand) (s : Stock) (stands : Stands m f) (same : s.mod
       grind (arith, item_at-past_rows 0 s.left a t, item_at-past_last 0 s.left a t, past, late, of.moves a t, stock.left_rows, stock.left_last, fits.arcs_same, fits.horizon_same)
 
   all_wait : (n t : ℕ) → people_at s.waiting n t ≡ entry model n t
-  all_wait n t =
-      grind (
-        arith,
-        item_at-past_rows 0 s.waiting n t,
-        item_at-past_last 0 s.waiting n t,
-        none_past model n t stands_on.valid,
-        none_late model n t stands_on.valid,
-        of.starts n t,
-        stock.wait_rows,
-        stock.wait_last,
-      )
+  all_wait n t = grind (arith, item_at-past_rows, item_at-past_last, none_past, none_late)
 
   all_stay : (n t : ℕ) → n < length model.nodes → t ≤ model.horizon → people_at s.holds n t ≡ f.contents n t
   all_stay n t l k = of.stays n t (omega (arith, l, stock.hold_rows)) (omega (arith, k, stock.hold_last))
@@ -100,29 +90,16 @@ module _ (m : Model) (f : Stand) (s : Stock) (stands : Stands m f) (same : s.mod
 
       split : (is_exit_at model n ≡ true) ⊎ (is_exit_at model n ≡ false) → f.contents n t ≡ staying model f.plan n t
       split (inl e) = fits.exits_hold_none n t l' k' e ∙ sym (ap (λ b. cond b 0 (above (held model f.plan n t) 0)) e)
-      split (inr e) =
-          sym (above_pos (f.contents n t) (held model f.plan n t) (fits.inside n t l' k' e)) ∙ sym (ap (λ b. cond b 0 (above (held model f.plan n t) 0)) e)
+      split (inr e) = grind (arith, above_pos, l', k')
 
   all_places : used s ≡ places_of model f.plan
-  all_places =
-      let lefts : places_in s.left ≡ places_with (length model.arcs) model.horizon (moved f.plan) =
-      ap₂ (λ n k. places_with n k (people_at s.left)) stock.left_rows stock.left_last
-      ∙ places-same (length model.arcs) model.horizon (people_at s.left) (moved f.plan) (λ a t l r. all_left a t) in
-      let stays : places_in s.holds ≡ places_with (length model.nodes) model.horizon (staying model f.plan) =
-      ap₂ (λ n k. places_with n k (people_at s.holds)) stock.hold_rows stock.hold_last
-      ∙ places-same (length model.nodes) model.horizon (people_at s.holds) (staying model f.plan) (λ n t l r. all_stay n t l r ∙ contents_are n t l r) in
-      let waits : places_in s.waiting ≡ places_with (length model.nodes) model.horizon (entry model) =
-      ap₂ (λ n k. places_with n k (people_at s.waiting)) stock.wait_rows stock.wait_last
-      ∙ places-same (length model.nodes) model.horizon (people_at s.waiting) (entry model) (λ n t l r. all_wait n t) in
-      omega (arith, lefts, stays, waits)
+  all_places = grind (arith, places-same, all_left, all_stay, contents_are, all_wait)
 
   pub opens : IsOpen s
   opens = whole_of f s (record { stands = stands_on; moves = all_left; stays = all_stay; starts = all_wait }) stock
 
   pub whole : (r : RouteView) → IsAllLeft m f.plan (record { model = s.model; left = s.left; waiting = s.waiting; places = used s; route = r })
-  whole r =
-      subst (λ x. IsAllLeft x f.plan (record { model = s.model; left = s.left; waiting = s.waiting; places = used s; route = r })) same
-      (record { same_model = refl; all_left = all_left; all_wait = all_wait; all_places = all_places })
+  whole r = grind (arith, all_left, all_wait, all_places)
 
 -- ---- one route
 
@@ -159,13 +136,7 @@ module _ {s z v : Stock} (w : Stock) {n k p most : ℕ} {t : TrailView} (u : Tra
 
   pub hands_out : (r : RouteView) → HandsOut (record { model = s.model; left = s.left; waiting = s.waiting; places = used s; route = r })
       (record { model = w.model; left = w.left; waiting = w.waiting; places = used w; route = record { people = p; start = n; entered = k; steps = u.steps } })
-  hands_out r = record {
-    same_model = same ∙ led.same_model;
-    right = record { somebody = one; some_step = some_step s.model n k u.steps led.leads inside; leads_out = led.leads };
-    fewer = λ a j. let e = ap (λ (c : PeopleTable). people_at c a j) left in omega (arith, e, led.left a j);
-    fewer_wait = fewer_wait;
-    fewer_places = fewer_places;
-  }
+  hands_out r = grind (arith, some_step, inside, fewer_wait, fewer_places)
 
   pub routes_on : IsRoutes w u
   routes_on =

@@ -1,5 +1,5 @@
 -- The way of people is laid step by step; then they are taken off it, the last step first.
-use Rattle.std.proofs.Common.{◌≡◌, ℕ, zero, suc, ◌+◌, ◌-◌, ◌<◌, ◌≤◌, ◌⊎◌, inl, inr, true, min, List, [], ◌∷◌, ◌++◌, length, drop, get_or, drop-cons, append_assoc, append-nil, refl, ap, sym, ◌∙◌, arith, subst}
+use Rattle.std.proofs.Common.{◌≡◌, ℕ, zero, suc, ◌+◌, ◌-◌, ◌<◌, ◌≤◌, ◌⊎◌, inl, inr, true, min, List, [], ◌∷◌, ◌++◌, length, drop, get_or, drop-cons, append_assoc, append-nil, ap, sym, ◌∙◌, arith, subst}
 use Rattle.std.proofs.Math.Seq.{drop-length}
 use Rattle.evac_law.specs.declared.model.Model.{Model}
 use Rattle.evac_law.specs.Building.{arrival, head, is_exit_at, tail}
@@ -18,9 +18,6 @@ pub record IsOnWay (s : Stock) (n t most : ℕ) (steps : List RouteStep) (here n
   pub on : (q : ℕ) (more : List RouteStep) → q ≤ p → CanGo s here now q more → CanGo s n t q (steps ++ more)
   pub all_on : (q : ℕ) (more : List RouteStep) → AllGo s here now q more → AllGo s n t q (steps ++ more)
   pub all : (p ≡ most) ⊎ ((more : List RouteStep) → AllGo s n t p (steps ++ more))
-
-pub way_begins : (s : Stock) (n t most : ℕ) → IsOnWay s n t most [] n t most
-way_begins s n t most = record { on = λ q more l h. h; all_on = λ q more h. h; all = inl refl }
 
 pub way_ends : {s : Stock} {n t most : ℕ} {steps : List RouteStep} {here now p : ℕ} → IsOnWay s n t most steps here now p → 1 ≤ p → p ≤ most
     → is_exit_at s.model here ≡ true → IsLaid s n t most p steps
@@ -155,9 +152,7 @@ module _ {s v : Stock} {n t p : ℕ} {steps : List RouteStep} {i : ℕ} (whole :
     same_from = ap (λ m. moment_before m t steps j) (sym led_on.same_model) ∙ sym moment
 
     at_step : (P : ℕ → ℕ → List RouteStep → Type 0) → P here from (x ∷ rest) → P (node_before s.model n steps j) (moment_before s.model t steps j) (drop j steps)
-    at_step P h =
-        subst (λ a. P a (moment_before s.model t steps j) (drop j steps)) (sym same_here)
-        (subst (λ b. P here b (drop j steps)) (sym same_from) (subst (λ z. P here from z) (sym steps_on) h))
+    at_step P h = grind (arith, same_here, same_from, steps_on)
 
     on : CanGo s here from p (x ∷ rest)
     on = at_step (λ a b z. CanGo s a b p z → CanGo s here from p (x ∷ rest)) (λ h. h) way_at
@@ -191,9 +186,7 @@ module _ {s v : Stock} {n t p : ℕ} {steps : List RouteStep} {i : ℕ} (whole :
             emptied-left v u x.arc x.moment p less (omega (arith, step_arc_in, led_on.stock.left_rows))
                 (omega (arith, step_moment_in, led_on.stock.left_last)) some (still ∙ e),
           )
-      emptied (inr (inr h)) =
-          let more = subst (λ k. AllGo s (node_before s.model n steps k) (moment_before s.model t steps k) p (drop k steps) → used v + 1 ≤ used s) is done.emptied h in
-          omega (arith, more, taken.fewer, fewer)
+      emptied (inr (inr h)) = grind (arith, is, fewer)
 
       pub taken_on : IsTakenFrom s w n t p steps j
       taken_on = record {

@@ -1,5 +1,5 @@
 -- A route grows from its end to its start.
-use Rattle.std.proofs.Common.{◌≡◌, ℕ, ◌+◌, ◌<◌, ◌≤◌, Bool, true, false, cond, ◌&&◌, ◌||◌, eqb, List, [], ◌∷◌, length, refl, ap, sym, ◌∙◌, arith, subst, ◌⊎◌, inl}
+use Rattle.std.proofs.Common.{◌≡◌, ℕ, ◌+◌, ◌<◌, ◌≤◌, Bool, true, false, cond, ◌&&◌, ◌||◌, eqb, List, [], ◌∷◌, length, refl, ap, sym, ◌∙◌, arith, subst, ◌⊎◌}
 use Rattle.std.proofs.lemmas.List.Elements.{All-get_or}
 use Rattle.std.proofs.lemmas.Bool.{true≢false}
 use Rattle.std.proofs.lemmas.Bool.Decides.{nat_tests}
@@ -41,34 +41,14 @@ takes_time m a valid l = (All-get_or (IsArc m.nodes) m.arcs a no_arc l valid.arc
 pub closing_less : (s v : Stock) → v.model ≡ s.model
     → ((a k : ℕ) → people_at v.left a k ≤ people_at s.left a k) → ((i k : ℕ) → people_at v.holds i k ≤ people_at s.holds i k)
     → ((i k : ℕ) → people_at v.waiting i k ≤ people_at s.waiting i k) → IsClosing s → IsClosing v
-closing_less s v same left holds waiting h =
-    let P : Model → Type 0 = λ w. (n : ℕ) → n < length w.nodes → is_exit_at w n ≡ false → people_at v.holds n w.horizon ≡ 0 in
-    let Q : Model → Type 0 = λ w. (a t : ℕ) → a < length w.arcs → 0 < people_at v.left a t → arrival w a t ≤ w.horizon in
-    let R : Model → Type 0 = λ w. (n t : ℕ) → n < length w.nodes → 0 < people_at v.waiting n t → is_exit_at w n ≡ false in
-    record {
-      none_stay = subst P (sym same) (λ n l e. omega (arith, holds n s.model.horizon, h.none_stay n l e));
-      in_time = subst Q (sym same) (λ a t l e. h.in_time a t l (omega (arith, e, left a t)));
-      from_inside = subst R (sym same) (λ n t l e. h.from_inside n t l (omega (arith, e, waiting n t)));
-    }
+closing_less s v same left holds waiting h = grind arith
 
 pub led_closing : (s v : Stock) (n t p : ℕ) (steps : List RouteStep) → IsLedOut s v n t p steps → IsClosing s → IsClosing v
 led_closing s v n t p steps h c = closing_less s v h.same_model (λ a k. omega (arith, h.left a k)) h.holds (λ i k. omega (arith, ap (λ (x : PeopleTable). people_at x i k) h.same_waiting)) c
 
 pub stock_on : (s v : Stock) → v.model ≡ s.model → v.left.rows ≡ s.left.rows → v.left.last ≡ s.left.last → v.holds.rows ≡ s.holds.rows → v.holds.last ≡ s.holds.last
     → v.waiting.rows ≡ s.waiting.rows → v.waiting.last ≡ s.waiting.last → IsStock s → IsStock v
-stock_on s v same a b c d e f h =
-    let horizon = ap (λ (w : Model). w.horizon) same in
-    let nodes = ap (λ (w : Model). length w.nodes) same in
-    let arcs = ap (λ (w : Model). length w.arcs) same in
-    record {
-      valid = subst IsValid (sym same) h.valid;
-      left_rows = omega (arith, a, h.left_rows, arcs);
-      left_last = omega (arith, b, h.left_last, horizon);
-      hold_rows = omega (arith, c, h.hold_rows, nodes);
-      hold_last = omega (arith, d, h.hold_last, horizon);
-      wait_rows = omega (arith, e, h.wait_rows, nodes);
-      wait_last = omega (arith, f, h.wait_last, horizon);
-    }
+stock_on s v same a b c d e f h = grind arith
 
 less_le : (c d : PeopleTable) (n t p : ℕ) → IsLess c d n t p → (i k : ℕ) → people_at d i k ≤ people_at c i k
 less_le c d n t p h i k = omega (arith, h.cells i k)
@@ -81,8 +61,7 @@ other_cell x y n t p i k d e = grind (arith, nat_tests)
 module _ (s v w : Stock) (n t p : ℕ) (steps : List RouteStep) (led : IsLedOut s v n (t + 1) p steps)
     (kept : IsLessHeld v w n t p) where
   stay_earlier : (i k : ℕ) → k < t → people_at w.holds i k ≡ people_at s.holds i k
-  stay_earlier i k l =
-      other_cell (people_at w.holds i k) (people_at v.holds i k) n t p i k (inl l) (kept.less.cells i k) ∙ led.earlier_holds i k (omega (arith, l))
+  stay_earlier i k l = grind (arith, other_cell)
 
   pub led_by_hold : IsLedOut s w n t p steps
   led_by_hold = record {
@@ -138,13 +117,4 @@ module _ (s v w : Stock) (a t p : ℕ) (here : a < length s.model.arcs) (steps :
 -- ---- people who are in an exit
 
 pub led_in_exit : (s : Stock) (n t p : ℕ) → IsOpen s → is_exit_at s.model n ≡ true → IsLedOut s s n t p []
-led_in_exit s n t p whole exit = record {
-  same_model = refl;
-  same_waiting = refl;
-  leads = exit;
-  left = λ a k. omega arith;
-  holds = λ i k. omega arith;
-  earlier_holds = λ i k l. refl;
-  stock = whole.stock;
-  balanced = exit_balanced s n t p exit whole.balanced;
-}
+led_in_exit s n t p whole exit = grind (arith, exit_balanced)

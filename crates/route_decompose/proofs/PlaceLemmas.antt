@@ -23,18 +23,12 @@ places-le n k f g h =
     some-le x y l = grind (arith, nat_tests)
 
 pub places-same : (n k : ℕ) (f g : ℕ → ℕ → ℕ) → ((i j : ℕ) → i < n → j ≤ k → f i j ≡ g i j) → places_with n k f ≡ places_with n k g
-places-same n k f g h =
-    let le = places-le n k f g (λ i j l r. omega (arith, h i j l r)) in
-    let ge = places-le n k g f (λ i j l r. omega (arith, h i j l r)) in
-    omega (arith, le, ge)
+places-same n k f g h = grind (arith, places-le)
 
 -- ---- one table
 
 no-more : (c d : PeopleTable) → d.rows ≡ c.rows → d.last ≡ c.last → ((i k : ℕ) → people_at d i k ≤ people_at c i k) → places_in d ≤ places_in c
-no-more c d rows last fewer =
-    let at : ℕ → ℕ → ℕ = λ n k. places_with n k (people_at d) in
-    let le = places-le c.rows c.last (people_at d) (people_at c) (λ i k l r. fewer i k) in
-    omega (arith, ap₂ at rows last, le)
+no-more c d rows last fewer = grind (arith, places-le)
 
 pub less-places : (c d : PeopleTable) (n t p : ℕ) → IsLess c d n t p → places_in d ≤ places_in c
 less-places c d n t p h = no-more c d h.rows h.last (λ i k. omega (arith, h.cells i k))
@@ -69,10 +63,7 @@ pub less-held : (v w : Stock) (n t p : ℕ) → IsLessHeld v w n t p → used w 
 less-held v w n t p h = omega (arith, less-places v.holds w.holds n t p h.less, ap places_in h.left, ap places_in h.waiting)
 
 pub least-is : (a b c : ℕ) → c ≡ min a b → (c ≡ a) ⊎ (c ≡ b)
-least-is a b c e = elim (cases_lt a b) [
-  | inl l ↦ inl (omega arith)
-  | inr l ↦ inr (omega arith)
-]
+least-is a b c e = grind (arith, cases_lt)
 
 -- people are taken off where they stay at a moment: if they are all who stay there, somebody is left in fewer places
 pub emptied-hold : (v w : Stock) (n t p : ℕ) → IsLessHeld v w n t p → n < v.holds.rows → t ≤ v.holds.last → 1 ≤ p → people_at v.holds n t ≡ p

@@ -1,5 +1,5 @@
 -- People who stay are taken off, the latest moment first.
-use Rattle.std.proofs.Common.{◌≡◌, ℕ, ◌+◌, ◌<◌, ◌≤◌, ◌⊎◌, inl, inr, min, ap, ◌∙◌, subst, sym, arith}
+use Rattle.std.proofs.Common.{◌≡◌, ℕ, ◌+◌, ◌<◌, ◌≤◌, ◌⊎◌, inl, inr, min, ◌∙◌, subst, sym, arith}
 use Rattle.std.proofs.lemmas.Bool.{cases_lt}
 use Rattle.route_decompose.specs.Stocks.{AllStay, IsLessHeld, LedEarlier, Stay, Stock, used}
 use Rattle.plan_layout.specs.Tables.{people_at}
@@ -36,10 +36,7 @@ module _ (u v w : Stock) (n from t p : ℕ) (less : IsLessHeld v w n t p) where
 -- some stay at a moment u too, up to which p may stay; the fewer of these two may stay one moment longer
 module _ (s : Stock) (n from u p held most least : ℕ) (here : people_at s.holds n u ≡ held) (is : least ≡ min p held) where
   pub stay-longer : Stay s n from u p → Stay s n from (u + 1) least
-  stay-longer h k from_in l =
-      let last : k ≡ u → people_at s.holds n k ≡ people_at s.holds n u = ap (people_at s.holds n) in
-      let earlier : k < u → p ≤ people_at s.holds n k = h k from_in in
-      grind (arith, l, is, here, last, earlier)
+  stay-longer h k from_in l = grind arith
 
   pub all-longer : from ≤ u → (p ≡ most) ⊎ AllStay s n from u p → (least ≡ most) ⊎ AllStay s n from (u + 1) least
   all-longer later h = by (least-is p held least is) h

@@ -38,8 +38,7 @@ module _ (s : Stock) (whole : IsOpen s) (none : (n t : ℕ) → people_at s.wait
 
   nobody_here : (n t : ℕ) → n < length s.model.nodes → is_exit_at s.model n ≡ false → t ≤ s.model.horizon → ((u : ℕ) → u < t → IsEmptyAt u)
       → people_at s.holds n t + going s n t ≡ 0
-  nobody_here n t l e k h =
-      omega (arith, whole.balanced n t l e k, cond_nothing (eqb 0 n && eqb 0 t), nobody_comes n t h, nobody_before n t l e h)
+  nobody_here n t l e k h = grind (arith, cond_nothing, nobody_comes, nobody_before)
 
   here : (t : ℕ) → t ≤ s.model.horizon → ((u : ℕ) → u < t → IsEmptyAt u) → IsEmptyAt t
   here t k h = record {

@@ -14,19 +14,12 @@ use Rattle.terminal_augment.specs.Spots.{has}
 
 pub at_same : (e : End) (p : Spot) → is_at e p ≡ true → e ≡ Pair p.node p.moment
 at_same Source p h = absurd (cc)
-at_same (Pair n t) p h =
-    let both = and_parts _ _ h in
-    let node : p.node ≡ n = eqb-true _ _ both.0 in
-    let moment : p.moment ≡ t = eqb-true _ _ both.1 in
-    rw (node, moment)
+at_same (Pair n t) p h = grind (arith, and_parts, eqb-true)
 at_same (Door j) p h = absurd (cc)
 
 -- an end that isn't the first of some pairs is among the rest
 among_rest : (k : ℕ) (e : End) (m : Met) (ms : List Met) → is_at e m.spot ≡ false → IsAmong k (spots (m ∷ ms)) e → IsAmong k (spots ms) e
-among_rest k (Pair n t) m ms off h = elim (or_cases (eqb m.spot.node n && eqb m.spot.moment t) (has (spots ms) n t) h) [
-  | inl here ↦ absurd (true≢false (sym here ∙ off))
-  | inr later ↦ later
-]
+among_rest k (Pair n t) m ms off h = grind (arith, or_cases)
 among_rest k _ m ms off h = h
 
 -- the way on goes over some of the pairs

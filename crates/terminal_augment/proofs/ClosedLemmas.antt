@@ -1,21 +1,21 @@
 -- What a flood that came to nobody shows: the pairs labelled at most its moment are closed.
 use Rattle.std.proofs.Common.{◌≡◌, ℕ, ◌+◌, ◌-◌, ◌*◌, ◌<◌, ◌≤◌, Bool, true, false, leb, length, drop, ap, sym, subst, ◌∙◌, ◌⊎◌, refl, arith, inl, inr}
 use Rattle.std.specs.List.{All}
-use Rattle.std.proofs.lemmas.Bool.{cases_eq, cases_lt, eq-eqb, le-leb, le-ltb, leb-true, lt-leb, lt-ltb}
+use Rattle.std.proofs.lemmas.Bool.{cases_lt, eq-eqb, le-leb, le-ltb, leb-true, lt-leb, lt-ltb}
 use Rattle.evac_law.proofs.LabelLemmas.{unset_at}
 use Rattle.evac_law.specs.LabelTable.{LabelTable, below_or_unset, label_at, unset, unset_from}
 use Rattle.residual_net.specs.Closed.{IsClosed, reached}
 use Rattle.residual_net.specs.Labelled.{IsClosedBelow}
 use Rattle.residual_net.specs.Network.{Network, IsNet, residual_room}
 use Rattle.residual_net.specs.NetLaws.{labelled}
-use Rattle.residual_net.specs.Site.{IsOpenEnd, IsOpenPair, IsPlace, arc_count, head_of, start_of, stop_of}
+use Rattle.residual_net.specs.Site.{IsOpenEnd, IsOpenPair, IsPlace, arc_count, start_of, stop_of}
 use Rattle.residual_net.specs.declared.end.End.{End}
 use Rattle.residual_net.specs.declared.end.End.TheVariants.{Source, Pair, Door}
 use Rattle.residual_net.specs.declared.place.Place.{Place}
 use Rattle.residual_net.specs.declared.place.Place.TheVariants.{Arc, Hold, Supply}
 use Rattle.residual_net.proofs.Walks.{start_open, stop_open}
 use Rattle.terminal_augment.specs.declared.spot.Met.{Met}
-use Rattle.terminal_augment.specs.Floods.{HaveSameLabels, IsSeededBelow, AreExpanded, IsDone, IsExpanded, IsFlooding, IsGrown, IsFloodOver}
+use Rattle.terminal_augment.specs.Floods.{HaveSameLabels, IsSeededBelow, AreExpanded, IsExpanded, IsFlooding, IsGrown, IsFloodOver}
 use Rattle.terminal_augment.specs.Queues.{Queue}
 use Rattle.terminal_augment.specs.Settled.{IsLabelled, IsSettledBelow, IsUnsetFrom}
 use Rattle.terminal_augment.proofs.SpotLemmas.{all_has}
@@ -171,15 +171,3 @@ alike_then a b = record {
 }
 
 -- ---- arcs into exits
-
--- one more arc into an exit is done
-pub seeded_more : (w : Network) (m : LabelTable) (k a : ℕ) → IsSeededBelow w m k a
-    → ((t : ℕ) → IsPlace w.site (Arc a t) → head_of w.site (Arc a t) ≡ Door k → IsDone w m k (record { place = Arc a t; back = false }))
-    → IsSeededBelow w m k (a + 1)
-seeded_more w m k a seeded here b t q place stop = elim (cases_eq b a) [
-  | inl same ↦
-      let place_a : IsPlace w.site (Arc a t) = subst (λ z. IsPlace w.site (Arc z t)) same place in
-      let stop_a : head_of w.site (Arc a t) ≡ Door k = subst (λ z. head_of w.site (Arc z t) ≡ Door k) same stop in
-      subst (λ z. IsDone w m k (record { place = Arc z t; back = false })) (sym same) (here t place_a stop_a)
-  | inr other ↦ seeded b t (omega (arith, q, other)) place stop
-]

@@ -5,12 +5,12 @@ use Rattle.std.proofs.lemmas.Bool.{and_from, cases_eq, cases_lt, eq-eqb, le-leb,
 use Rattle.std.proofs.lemmas.List.{drop-drop, get_or-set_other, get_or-set_same, length-set}
 use Rattle.evac_law.proofs.LabelLemmas.{label_within}
 use Rattle.evac_law.specs.LabelTable.{LabelTable, label_at, label_place, with_label}
-use Rattle.time_expansion.specs.Expansion.{from_at, no_ends, to_at}
+use Rattle.time_expansion.specs.Expansion.{from_at, no_ends}
 use Rattle.time_expansion.proofs.Cells.{sizes}
 use Rattle.residual_net.specs.Closed.{reached}
 use Rattle.residual_net.specs.NetLaws.{labelled}
 use Rattle.residual_net.specs.Network.{Network, IsNet, residual_room}
-use Rattle.residual_net.specs.Site.{Site, IsOpenPair, IsPlace, IsSite, arc_count, arrival_at, exit_at, start_of, stop_of}
+use Rattle.residual_net.specs.Site.{Site, IsOpenPair, IsPlace, IsSite, arc_count, start_of, stop_of}
 use Rattle.residual_net.specs.declared.end.End.{End}
 use Rattle.residual_net.specs.declared.end.End.TheVariants.{Door, Pair, Source}
 use Rattle.residual_net.specs.declared.place.PathStep.{PathStep}
@@ -21,29 +21,14 @@ use Rattle.terminal_augment.specs.Floods.{IsSeededBelow, AreExpanded, IsDone, Is
 use Rattle.terminal_augment.specs.Queues.{Queue}
 use Rattle.terminal_augment.specs.Settled.{IsSettledBelow}
 use Rattle.terminal_augment.specs.Spots.{has}
-use Rattle.terminal_augment.specs.Ways.{way_before, way_in}
-use Rattle.terminal_augment.proofs.ClosedLemmas.{seeded_more}
+use Rattle.terminal_augment.specs.Ways.{way_before}
 use Rattle.terminal_augment.proofs.LabelLemmas.{label_set, open_few, open_labelled}
 use Rattle.terminal_augment.proofs.SpotLemmas.{all_cons, has_drop}
 
 -- ---- what was met grows
 
-pub grown_none : (k : ℕ) (l : LabelTable) (x : Queue Met) → IsGrown k l l x x
-grown_none k l x = record {
-  nodes = refl;
-  horizon = refl;
-  labels = λ n t. inl refl;
-  room = refl;
-  more = omega arith;
-  below = ap (λ i. drop i x.list) (let none : length x.list - length x.list ≡ 0 = omega arith in none);
-}
-
 below_grown : {k : ℕ} {l m : LabelTable} {x y : Queue Met} (j : ℕ) → IsGrown k l m x y → j ≤ length x.list → drop (length y.list - j) y.list ≡ drop (length x.list - j) x.list
-below_grown {x} {y} j g few =
-    let sum : length y.list - j ≡ (length y.list - length x.list) + (length x.list - j) = omega (arith, g.more, few) in
-    ap (λ i. drop i y.list) sum
-    ∙ sym (drop-drop (length x.list - j) (length y.list - length x.list) y.list)
-    ∙ ap (λ (z : List Met). drop (length x.list - j) z) g.below
+below_grown {x} {y} j g few = grind (arith, drop-drop)
 
 pub grown_then : {k : ℕ} {l m v : LabelTable} {x y z : Queue Met} → IsGrown k l m x y → IsGrown k m v y z → IsGrown k l v x z
 grown_then {k} {l} {m} {v} {x} g h = record {
@@ -115,9 +100,7 @@ flooding_begins {w} {l} {k} x y net settled full room same = subst (λ (p : Queu
     size = rw (settled.labels.nodes, settled.labels.horizon)
 
     other : (n t : ℕ) → IsOpenPair w.site n t → label_at l n t ≢ k
-    other n t i e =
-        let none = settled.unset n t (omega (arith, i.node, settled.labels.nodes)) (omega (arith, i.moment, settled.labels.horizon)) (omega (arith, e)) in
-        omega (arith, e, none, settled.moment, (sizes w.site.shape net.site.shape).horizon)
+    other n t i e = grind (arith, sizes)
 
 -- ---- a pair is met
 
@@ -137,8 +120,7 @@ abbrev pub met_too : Queue Met → Met → Queue Met
 met_too p m = record { list = m ∷ p.list; room = p.room }
 
 one_less : {w : Network} {l : LabelTable} {k : ℕ} {p : Queue Met} {m : Met} → IsFlooding w l k p → IsNew w l k p m → open_count (labelled_too l k m) k + 1 ≡ open_count l k
-one_less {l} {k} {m} h e =
-    open_labelled l m.spot.node m.spot.moment k h.full (omega (arith, e.inside.node, h.labels.nodes)) (omega (arith, e.inside.moment, h.labels.horizon)) (omega (arith, e.above))
+one_less {l} {k} {m} h e = grind (arith, open_labelled)
 
 pub met_room : {w : Network} {l : LabelTable} {k : ℕ} {p : Queue Met} {m : Met} → IsFlooding w l k p → IsNew w l k p m → length p.list < p.room
 met_room h e = omega (arith, one_less h e, h.room)
@@ -192,43 +174,16 @@ grown_noted {l} v {k} {p} q {m} h e a b =
     subst (λ (z : LabelTable). IsGrown k l z p q) (sym a) (subst (λ (z : Queue Met). IsGrown k l (labelled_too l k m) p z) (sym b) (grown_here k l p m e.above within))
 
 pub done_noted : {w : Network} {l : LabelTable} (v : LabelTable) {k : ℕ} {p : Queue Met} {m : Met} → IsFlooding w l k p → IsNew w l k p m → v ≡ labelled_too l k m → IsDone w v k m.step
-done_noted {l} v {k} {m} h e a room =
-    let within = label_within l m.spot.node m.spot.moment h.full (omega (arith, e.inside.node, h.labels.nodes)) (omega (arith, e.inside.moment, h.labels.horizon)) in
-    let here : label_at v m.spot.node m.spot.moment ≡ k = ap (λ (z : LabelTable). label_at z m.spot.node m.spot.moment) a ∙ get_or-set_same l.list _ k 0 within in
-    ap (reached (labelled v k) k) e.start ∙ le-leb _ _ (omega (arith, here))
+done_noted {l} v {k} {m} h e a room = grind (arith, label_within, get_or-set_same, le-leb)
 
 pub has_noted : (p q : Queue Met) (m : Met) → q ≡ met_too p m → has (spots q.list) m.spot.node m.spot.moment ≡ true
-has_noted p q m same =
-    ap (λ (z : Queue Met). has (spots z.list) m.spot.node m.spot.moment) same
-    ∙ or_left _ _ (and_from _ _ (eq-eqb m.spot.node m.spot.node refl) (eq-eqb m.spot.moment m.spot.moment refl))
-
--- a step that begins at a pair with a label of at most k is done
-pub done_passed : (w : Network) (l : LabelTable) (k n t : ℕ) (y : PathStep) → start_of w.site y ≡ Pair n t → label_at l n t ≤ k → IsDone w l k y
-done_passed w l k n t y start few room = ap (reached (labelled l k) k) start ∙ le-leb _ _ few
+has_noted p q m same = grind (arith, same, or_left, and_from, eq-eqb)
 
 -- ---- arcs
 
 -- an arc leads from a pair that people can be at
 pub arc_inside : {s : Site} (a t : ℕ) → IsSite s → a < arc_count s → t ≤ s.shape.horizon → IsOpenPair s (from_at s.shape a) t
 arc_inside a t h i j = record { node = (h.shape.ends_in a no_ends i).0; moment = j; no_exit = h.from_no_exit a i }
-
--- the step over an arc that arrives at moment k is done where the way over the arc is
-by_way : (w : Network) (m : LabelTable) (k a t : ℕ) → IsWayDone w m k (way_in w.site a k) → arrival_at w.site a t ≡ k → IsDone w m k (record { place = Arc a t; back = false })
-by_way w m k a t done when =
-    let early : leb (arrival_at w.site a 0) k ≡ true = le-leb _ _ (omega (arith, when)) in
-    let same : k - arrival_at w.site a 0 ≡ t = omega (arith, when) in
-    subst (λ i. IsDone w m k (record { place = Arc a i; back = false })) same (rw early at done)
-
--- one more arc is done, where it leads into an exit
-pub seeded_next : (w : Network) {k : ℕ} (a : ℕ) {l m : LabelTable} {x y : Queue Met} → IsGrown k l m x y
-    → (exit_at w.site (to_at w.site.shape a) ≡ true → IsWayDone w m k (way_in w.site a k)) → IsSeededBelow w l k a → IsSeededBelow w m k (a + 1)
-seeded_next w {k} a {m} g here old = seeded_more w m k a (seeded_later w a g old) (λ t place stop. by_exit t (exit_at w.site (to_at w.site.shape a)) refl stop)
-  where
-    by_exit : (t : ℕ) (e : Bool) → exit_at w.site (to_at w.site.shape a) ≡ e
-        → cond e (Door (arrival_at w.site a t)) (Pair (to_at w.site.shape a) (arrival_at w.site a t)) ≡ Door k
-        → IsDone w m k (record { place = Arc a t; back = false })
-    by_exit t true e h = let when : arrival_at w.site a t ≡ k = cc in by_way w m k a t (here e) when
-    by_exit t false e h = absurd (cc)
 
 -- ---- all that was met
 
@@ -244,8 +199,7 @@ open_each w k (m ∷ ms) (suc i) d met q = open_each w k ms i d met.1 (omega (ar
 
 -- a pair that was met as the one after so many others
 pub has_each : (ms : List Met) {i : ℕ} {m : Met} → m ≡ get_or ms (length ms - i - 1) m → i < length ms → has (spots ms) m.spot.node m.spot.moment ≡ true
-has_each ms {i} {m} is q =
-    subst (λ (z : Met). has (spots ms) z.spot.node z.spot.moment ≡ true) (sym is) (met_each ms (length ms - i - 1) m (omega (arith, q)))
+has_each ms {i} {m} is q = grind (arith, met_each)
 
 pub inside_each : (w : Network) (k : ℕ) (ms : List Met) {i : ℕ} {m : Met} → AreMet w k ms → m ≡ get_or ms (length ms - i - 1) m → i < length ms
     → IsOpenPair w.site m.spot.node m.spot.moment

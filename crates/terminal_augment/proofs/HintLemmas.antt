@@ -4,7 +4,7 @@ use Rattle.std.specs.List.{All, between}
 use Rattle.std.proofs.lemmas.List.{append_assoc, get_or_default, length-take}
 use Rattle.std.proofs.lemmas.List.Edits.{get_or-between, length-between}
 use Rattle.std.proofs.lemmas.Bool.{cases_Bool, cases_lt, or_cases}
-use Rattle.time_expansion.specs.Expansion.{Expansion, hold_cell, to_at}
+use Rattle.time_expansion.specs.Expansion.{Expansion, hold_cell}
 use Rattle.residual_net.specs.declared.legs.Leg.{Leg}
 use Rattle.residual_net.specs.declared.place.Cell.{Cell}
 use Rattle.residual_net.specs.declared.place.Place.{Place}
@@ -16,7 +16,7 @@ use Rattle.residual_net.specs.Network.{Network, IsNet, IsWithinLimits, no_cell, 
 use Rattle.residual_net.specs.Route.{IsAugmentingPath, IsOrigin, IsPushed}
 use Rattle.residual_net.specs.declared.end.End.{End}
 use Rattle.residual_net.specs.declared.end.End.TheVariants.{Source, Pair, Door}
-use Rattle.residual_net.specs.Site.{Site, IsOpenEnd, IsOpenPair, IsPlace, IsSite, arrival_at, cell_of, exit_at, head_of, start_of, tail_of}
+use Rattle.residual_net.specs.Site.{Site, IsOpenEnd, IsOpenPair, IsPlace, IsSite, cell_of, head_of, start_of, tail_of}
 use Rattle.residual_net.proofs.Places.{cell_below}
 use Rattle.terminal_augment.specs.declared.hint.Checked.{Checked}
 use Rattle.terminal_augment.specs.declared.spot.Met.{Met}
@@ -156,10 +156,7 @@ legs_back s gs left blank some fits =
 pub legs_whole : (s : Site) (k : ℕ) (gs : List Leg) (left : ℕ) (blank : Leg) → 0 < left → left ≤ length gs → left - 1 ≡ 0
     → IsOrigin k (start_of s (get_or gs (left - 1) blank).step)
     → steps_of_legs s gs ≡ (get_or gs (left - 1) blank).step ∷ steps_of_legs s (drop left gs)
-legs_whole s k gs left blank some fits first origin =
-    let g = get_or gs (left - 1) blank in
-    ap (λ i. steps_of_legs s (drop i gs)) (sym first) ∙ legs_back s gs left blank some fits
-    ∙ ap (λ z. z ++ g.step ∷ steps_of_legs s (drop left gs)) (waits_no k (start_of s g.step) g.since origin)
+legs_whole s k gs left blank some fits first origin = grind (arith, legs_back, some, waits_no)
 
 -- ---- waits
 
@@ -175,17 +172,11 @@ wait_cell {w} n t first net node moment here =
 pub wait_among : {w : Network} (n from to first i : ℕ) (d : Cell) → IsNet w → n < w.site.shape.nodes → to ≤ w.site.shape.horizon
     → first ≡ hold_cell w.site.shape n 0 → from + i < to
     → get_or (between (first + from) (first + to) w.cells) i d ≡ get_or w.cells (cell_of w.site (Hold n (from + i))) no_cell
-wait_among {w} n from to first i d net node moment here lt =
-    let cell = wait_cell n (from + i) first net node (omega (arith, lt, moment)) here in
-    let at : (first + from) + i ≡ first + (from + i) = omega arith in
-    get_or-between w.cells (first + from) (first + to) i d (omega (arith, lt))
-    ∙ get_or_default w.cells ((first + from) + i) d no_cell (omega (arith, at, cell.0))
-    ∙ ap (λ j. get_or w.cells j no_cell) (at ∙ cell.1)
+wait_among {w} n from to first i d net node moment here lt = grind (arith, wait_cell, here, get_or-between, get_or_default)
 
 -- how many cells some waits one after another have
 pub wait_count : (w : Network) (first from to i : ℕ) → i < length (between (first + from) (first + to) w.cells) → from + i < to
-wait_count w first from to i l =
-    omega (arith, l, length-take ((first + to) - (first + from)) (drop (first + from) w.cells))
+wait_count w first from to i l = grind (arith, length-take)
 
 pub wait_counted : (w : Network) (first from to i : ℕ) → first + to ≤ length w.cells → from + i < to → i < length (between (first + from) (first + to) w.cells)
 wait_counted w first from to i fits l = omega (arith, l, length-between w.cells (first + from) (first + to) fits)
@@ -270,19 +261,13 @@ exit_moment false n t = refl
 
 -- a place leads to a later moment
 rises : (s : Site) (p : Place) (n t : ℕ) → IsSite s → IsPlace s p → tail_of s p ≡ Pair n t → t < moment_of (head_of s p)
-rises s (Arc a u) n t site place tail =
-    let same : u ≡ t = cc in
-    let takes = site.times a 0 (omega (arith, site.travels, place.0)) in
-    omega (arith, same, takes.0, exit_moment (exit_at s (to_at s.shape a)) (to_at s.shape a) (arrival_at s a u))
+rises s (Arc a u) n t site place tail = grind (arith, exit_moment)
 rises s (Hold m u) n t site place tail = let same : u ≡ t = cc in omega (arith, same)
 rises s (Supply m u) n t site place tail = absurd (cc)
 
 -- a step forwards begins before it stops
 pub begins_before : {w : Network} {y : PathStep} (n t : ℕ) {e : End} → IsSite w.site → IsStep w y (Pair n t) e → y.back ≡ false → t < moment_of e
-begins_before {w} {y} n t {e} site step forwards =
-    let tail : tail_of w.site y.place ≡ Pair n t = rw forwards at step.start in
-    let head : head_of w.site y.place ≡ e = rw forwards at step.stop in
-    omega (arith, rises w.site y.place n t site step.place tail, ap moment_of head)
+begins_before {w} {y} n t {e} site step forwards = grind (arith, rises)
 
 -- a check that has gone back over a leg
 pub leg_over : (turns : Bool) {w : Network} {k : ℕ} (m v : MarkTable) {e : End} (g : Leg) {x y : Checked} {people : ℕ} {path : List PathStep}
@@ -334,18 +319,10 @@ marked_more {m} {v} u {n} {t} marks inside old off same = record {
 
 -- marks on the same nodes and moments with one more
 pub marked_on : {m v u : MarkTable} (n t : ℕ) → IsMarkedOn m v → u ≡ with_stamp v n t v.stamp → IsMarks u → IsMarkedOn m u
-marked_on n t on same marks = record {
-  nodes = ap (λ (z : MarkTable). z.nodes) same ∙ on.nodes;
-  horizon = ap (λ (z : MarkTable). z.horizon) same ∙ on.horizon;
-  marks = λ _. marks;
-}
+marked_on n t on same marks = grind arith
 
 pub marked_on_then : {m v u : MarkTable} → IsMarkedOn m v → IsMarkedOn v u → IsMarkedOn m u
-marked_on_then a b = record {
-  nodes = b.nodes ∙ a.nodes;
-  horizon = b.horizon ∙ a.horizon;
-  marks = λ h. b.marks (a.marks h);
-}
+marked_on_then a b = grind arith
 
 -- a push along a path that was checked
 pub carried_pushed : {w v : Network} (k : ℕ) {people : ℕ} {path : List PathStep} → IsNet v → IsWithinLimits v → 1 ≤ people → CarriesPeople w k path people

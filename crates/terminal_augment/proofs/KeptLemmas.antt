@@ -1,9 +1,8 @@
 -- Nets whose limits are those of another.
-use Rattle.std.proofs.Common.{◌≡◌, ℕ, ◌+◌, ◌-◌, ◌<◌, ◌≤◌, ap, sym, subst, ◌∙◌, cond, refl, arith}
+use Rattle.std.proofs.Common.{◌≡◌, ℕ, ◌+◌, ◌-◌, ◌<◌, ◌≤◌, sym, ◌∙◌, refl, arith}
 use Rattle.evac_law.specs.declared.model.Model.{Model}
-use Rattle.residual_net.specs.Network.{Network, IsAllSent, IsNet, IsWithinLimits, arrived_by, limit_at, supply_limits}
+use Rattle.residual_net.specs.Network.{Network, IsAllSent, IsNet, IsWithinLimits, arrived_by, supply_limits}
 use Rattle.residual_net.specs.OfModel.{IsNetOf, last_move, plan_of}
-use Rattle.residual_net.specs.Site.{Site, IsPlace, is_source, sum_places, tail_of}
 use Rattle.residual_net.proofs.LastArrival.{arrived_by_last, arrived_rises, last_by_arrived}
 use Rattle.residual_net.proofs.Places.{sum_places-same}
 use Rattle.residual_net.proofs.SentLemmas.{arrived_sent, few_arrive, sent_arrive}
@@ -13,23 +12,14 @@ pub limits_stay : (w : Network) → KeepsLimits w w
 limits_stay w = record { site = refl; saved = refl; limits = λ p i. refl }
 
 pub limits_then : (w v u : Network) → KeepsLimits w v → KeepsLimits v u → KeepsLimits w u
-limits_then w v u p q = record {
-  site = q.site ∙ p.site;
-  saved = q.saved ∙ p.saved;
-  limits = λ z i. q.limits z (subst (λ (s : Site). IsPlace s z) (sym p.site) i) ∙ p.limits z i;
-}
+limits_then w v u p q = grind arith
 
 pub net_of_kept : (m : Model) (w v : Network) → KeepsLimits w v → IsNetOf m w → IsNetOf m v
-net_of_kept m w v kept of = record {
-  site = kept.site ∙ of.site;
-  limits = λ p i. let there : IsPlace w.site p = subst (λ (s : Site). IsPlace s p) kept.site i in kept.limits p there ∙ of.limits p there;
-}
+net_of_kept m w v kept of = grind arith
 
 pub supplies_kept : {w v : Network} → KeepsLimits w v → supply_limits v ≡ supply_limits w
 unfolding supply_limits
-supplies_kept {w} {v} kept =
-    ap (λ s. sum_places s (λ q. cond (is_source (tail_of s q)) (limit_at v q) 0)) kept.site
-    ∙ sum_places-same w.site _ _ (λ q i. ap (λ z. cond (is_source (tail_of w.site q)) z 0) (kept.limits q i))
+supplies_kept {w} {v} kept = grind (arith, sum_places-same)
 
 -- where the arrivals before a moment are the same, and everybody is sent and arrives before it in the later net, so it is in the earlier one
 pub over_before : (w v : Network) (k : ℕ) → KeepsLimits w v → IsNet w → IsWithinLimits w → IsNet v → IsWithinLimits v

@@ -1,5 +1,5 @@
 -- A label that is set.
-use Rattle.std.proofs.Common.{◌≡◌, ◌≢◌, ℕ, ◌+◌, ◌*◌, ◌<◌, ◌≤◌, Bool, true, false, cond, not, ◌&&◌, eqb, length, get_or, set, ap, sym, ◌∙◌, ◌⊎◌, refl, arith, inl, inr}
+use Rattle.std.proofs.Common.{◌≡◌, ◌≢◌, ℕ, ◌+◌, ◌*◌, ◌<◌, ◌≤◌, Bool, true, false, cond, not, ◌&&◌, eqb, length, sym, ◌⊎◌, arith, inl, inr}
 use Rattle.std.proofs.lemmas.Bool.{cases_eq, eq-eqb, ne_eqb, and_left, and_right}
 use Rattle.std.proofs.lemmas.List.{get_or-set_same, get_or-set_other}
 use Rattle.std.proofs.lemmas.List.Sums.{count_by-le-length, sum_by-set}
@@ -30,9 +30,7 @@ label_set l n t u v k full a b c d = by (cases_eq n u) (cases_eq t v)
         f (sym both.0) (sym both.1)
 
     by : (n ≡ u) ⊎ (n ≡ u → ⊥) → (t ≡ v) ⊎ (t ≡ v → ⊥) → label_at (with_label l n t k) u v ≡ cond (eqb n u && eqb t v) k (label_at l u v)
-    by (inl p) (inl q) =
-        here (eqb n u) (eqb t v) (eq-eqb n u p) (eq-eqb t v q)
-        (ap (λ z. get_or (set l.list (label_place l n t) k) z 0) (sym (same p q)) ∙ get_or-set_same l.list (label_place l n t) k 0 (label_within l n t full a b))
+    by (inl p) (inl q) = grind (arith, here, eq-eqb, same, get_or-set_same, label_within)
     by (inl p) (inr q) = other (eqb n u && eqb t v) (and_right _ _ (ne_eqb t v q)) (differ (λ _ z. q z))
     by (inr p) q = other (eqb n u && eqb t v) (and_left _ _ (ne_eqb n u p)) (differ (λ z _. p z))
 
@@ -44,11 +42,7 @@ one_if b = cond b 1 0
 pub open_labelled : (l : LabelTable) (n t k : ℕ) → length l.list ≡ l.nodes * (l.horizon + 1) → n < l.nodes → t ≤ l.horizon → (label_at l n t ≢ k)
     → open_count (with_label l n t k) k + 1 ≡ open_count l k
 unfolding open_count
-open_labelled l n t k full node moment other =
-    let set_it = sum_by-set (λ x. cond (not (eqb x k)) 1 0) l.list (label_place l n t) k 0 (label_within l n t full node moment) in
-    let was : not (eqb (label_at l n t) k) ≡ true = rw (ne_eqb _ _ other) in
-    let now : not (eqb k k) ≡ false = rw (eq-eqb k k refl) in
-    omega (arith, set_it, ap one_if was, ap one_if now)
+open_labelled l n t k full node moment other = grind (arith, sum_by-set, label_within, ne_eqb, other, eq-eqb)
 
 pub open_few : (l : LabelTable) (k : ℕ) → open_count l k ≤ length l.list
 unfolding open_count

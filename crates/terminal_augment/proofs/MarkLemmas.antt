@@ -1,5 +1,5 @@
 -- What a mark that is set changes.
-use Rattle.std.proofs.Common.{◌≡◌, ◌+◌, ◌<◌, ◌≤◌, ℕ, true, length, arith, inl, inr}
+use Rattle.std.proofs.Common.{◌≡◌, ◌<◌, ◌≤◌, ℕ, true, length, arith, inl, inr}
 use Rattle.std.proofs.Math.Nat.{mul_comm}
 use Rattle.std.proofs.lemmas.Bool.{cases_eq, eq-eqb}
 use Rattle.std.proofs.lemmas.List.{get_or-set_same, get_or-set_other}
@@ -12,9 +12,7 @@ pub record IsIn (m : MarkTable) (n t : ℕ) : Type 0 where
   pub moment : t ≤ m.horizon
 
 pub place_in : {m : MarkTable} {n t : ℕ} → IsMarks m → IsIn m n t → mark_place m n t < length m.list
-place_in {m} {n} {t} h i =
-    let below = mul-add-lt n (m.horizon + 1) t m.nodes (omega (arith, i.node)) (omega (arith, i.moment)) in
-    omega (arith, below, h.full, mul_comm (m.horizon + 1) m.nodes)
+place_in {m} {n} {t} h i = grind (arith, mul-add-lt, mul_comm)
 
 -- a mark that is set stands
 pub marked_here : {m : MarkTable} {n t : ℕ} → IsMarks m → IsIn m n t → is_marked (with_stamp m n t m.stamp) n t ≡ true

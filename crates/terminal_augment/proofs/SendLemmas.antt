@@ -6,7 +6,6 @@ use Rattle.std.proofs.lemmas.List.Kept.{AllPairs-cons}
 use Rattle.residual_net.specs.declared.place.PathStep.{PathStep}
 use Rattle.evac_law.specs.LabelTable.{LabelTable}
 use Rattle.residual_net.specs.Closed.{reached}
-use Rattle.residual_net.specs.NetLaws.{labelled}
 use Rattle.residual_net.specs.Network.{Network, IsNet, IsWithinLimits, arrived_by, residual_room}
 use Rattle.residual_net.specs.Route.{IsAugmentingPath, IsOrigin, IsPushed, Leads}
 use Rattle.residual_net.specs.declared.end.End.{End}
@@ -21,7 +20,7 @@ use Rattle.residual_net.proofs.Effects.{push_moves}
 use Rattle.residual_net.proofs.Survive.{closed_survives}
 use Rattle.terminal_augment.specs.declared.spot.Met.{Met}
 use Rattle.terminal_augment.specs.Chains.{AreMet, IsChain, IsFound, spots, steps_of, top_end, way_on}
-use Rattle.terminal_augment.specs.Settled.{IsCountedOn, IsLabelsOf, IsPushedOn, IsSettledBelow}
+use Rattle.terminal_augment.specs.Settled.{IsCountedOn, IsPushedOn, IsSettledBelow}
 use Rattle.terminal_augment.specs.Spots.{has}
 use Rattle.terminal_augment.proofs.ChainLemmas.{leads_on}
 use Rattle.terminal_augment.proofs.KeptLemmas.{limits_stay, limits_then}
@@ -63,10 +62,7 @@ same_ends s y z e = by (cases_Bool y.back) (cases_Bool z.back)
 
 off_places : (s : Site) (k : ℕ) (ms : List Met) (y : PathStep) → IsChain s k ms → IsOff k ms (start_of s y) → All (λ (z : PathStep). y.place ≢ z.place) (steps_of ms)
 off_places s k [] y c o j d l e = absurd (omega (arith, l))
-off_places s k (m ∷ ms) y c o zero d l e = elim (same_ends s y m.step e) [
-  | inl a ↦ o.0 (a ∙ c.0.start)
-  | inr a ↦ off_top k ms (start_of s y) o.1 (a ∙ c.0.stop)
-]
+off_places s k (m ∷ ms) y c o zero d l e = grind (arith, same_ends, off_top)
 off_places s k (m ∷ ms) y c o (suc j) d l e = off_places s k ms y c.1 o.1 j d (omega (arith, l)) e
 
 pair_off : (k : ℕ) (ms : List Met) (n t : ℕ) → has (spots ms) n t ≡ false → IsOff k ms (Pair n t)
@@ -168,13 +164,7 @@ pushed_on {w} {v} {path} {x} {e} {k} net within one p a = record {
     by i (inr l) = omega (arith, moves i, cond_le (door_by i e) x, cond_all (leb k i) x (le-leb k i l))
 
 pub pushed_none : {w : Network} (k : ℕ) → IsNet w → IsWithinLimits w → IsPushedOn w w k 0
-pushed_none {w} k net within = record {
-  limits = limits_stay w;
-  within = within;
-  net = net;
-  sent = record { earlier = λ i l. refl; later = λ i. omega arith; risen = omega arith; idle = λ q. refl };
-  closed = λ s i l closed. closed;
-}
+pushed_none {w} k net within = grind (arith, limits_stay)
 
 pub pushed_more : {w v u : Network} {k a b : ℕ} (c : ℕ) → IsPushedOn w v k a → IsPushedOn v u k b → a + b ≡ c → IsPushedOn w u k c
 pushed_more {w} {v} {u} c p q e = record {
@@ -210,10 +200,4 @@ horizon_small w n = (sizes w.site.shape n.site.shape).horizon
 
 -- what is settled stays so by pushes to the moment after
 pub settled_pushed : {w v : Network} {l : LabelTable} {k pushes : ℕ} → IsPushedOn w v k pushes → IsSettledBelow w l k → IsSettledBelow v l k
-settled_pushed {l} {k} p old = record {
-  within = p.within;
-  labels = subst (λ (s : Site). IsLabelsOf s l) (sym p.limits.site) old.labels;
-  moment = subst (λ (s : Site). k ≤ s.shape.horizon) (sym p.limits.site) old.moment;
-  closed = λ i q. p.closed (labelled l i) i q (old.closed i q);
-  unset = old.unset;
-}
+settled_pushed {l} {k} p old = grind arith

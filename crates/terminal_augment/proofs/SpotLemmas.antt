@@ -1,5 +1,5 @@
 -- Lists, and pairs in them.
-use Rattle.std.proofs.Common.{◌≡◌, ℕ, zero, suc, true, ◌&&◌, eqb, List, [], ◌∷◌, drop, subst, arith, inl, inr}
+use Rattle.std.proofs.Common.{◌≡◌, ℕ, zero, suc, true, ◌&&◌, eqb, List, [], ◌∷◌, drop, arith, inl, inr}
 use Rattle.std.specs.List.{All}
 use Rattle.std.proofs.lemmas.Bool.{eqb-true, and_parts, or_cases, or_right}
 use Rattle.terminal_augment.specs.declared.spot.Met.{Met}
@@ -14,12 +14,7 @@ all_cons P x xs h hs zero d l = h
 all_cons P x xs h hs (suc j) d l = hs j d (omega (arith, l))
 
 pub at_spot : (n t u v : ℕ) (P : ℕ → ℕ → Type 0) → (eqb n u && eqb t v) ≡ true → P n t → P u v
-at_spot n t u v P e h =
-    let both = and_parts _ _ e in
-    let node : n ≡ u = eqb-true _ _ both.0 in
-    let moment : t ≡ v = eqb-true _ _ both.1 in
-    let there : P u t = subst (λ z. P z t) node h in
-    subst (λ z. P u z) moment there
+at_spot n t u v P e h = grind (arith, and_parts, eqb-true)
 
 pub all_has : (P : ℕ → ℕ → Type 0) (ms : List Met) → All (λ m. P m.spot.node m.spot.moment) ms → (n t : ℕ) → has (spots ms) n t ≡ true → P n t
 all_has P [] all n t e = absurd (cc)

@@ -1,5 +1,5 @@
 -- The steps that lead into a pair, and when all of them are done.
-use Rattle.std.proofs.Common.{◌≡◌, ℕ, ◌+◌, ◌-◌, ◌<◌, ◌≤◌, Bool, true, false, cond, eqb, leb, get_or, MatchOption, if◌then◌else◌, subst, sym, arith, inl, inr}
+use Rattle.std.proofs.Common.{◌≡◌, ℕ, ◌+◌, ◌-◌, ◌<◌, Bool, true, false, cond, eqb, leb, get_or, MatchOption, if◌then◌else◌, subst, arith}
 use Rattle.std.proofs.lemmas.Bool.{cases_Bool, ne_eqb, leb-true, le-leb}
 use Rattle.time_expansion.specs.Expansion.{arcs_from, arcs_to, from_at, to_at}
 use Rattle.time_expansion.proofs.Lists as lists
@@ -20,13 +20,7 @@ abbrev pub arc_end : Site → ℕ → ℕ → End
 arc_end s a t = if exit_at s (to_at s.shape a) then Door t else Pair (to_at s.shape a) t
 
 pub in_stops : (s : Site) (a t : ℕ) (P : End → Type 0) → P (arc_end s a t) → MatchOption (way_in s a t) (Unit {0}) (λ y. P (stop_of s y))
-in_stops s a t P h = elim (cases_Bool (leb (arrival_at s a 0) t)) [
-  | inl early ↦
-      let le : arrival_at s a 0 ≤ t = leb-true _ _ early in
-      let when : arrival_at s a (t - arrival_at s a 0) ≡ t = omega arith in
-      rw early (subst (λ (u : ℕ). P (cond (exit_at s (to_at s.shape a)) (Door u) (Pair (to_at s.shape a) u))) (sym when) h)
-  | inr late ↦ rw late tt
-]
+in_stops s a t P h = grind (arith, cases_Bool, leb-true)
 
 -- ---- all steps into a pair
 

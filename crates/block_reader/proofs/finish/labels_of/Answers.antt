@@ -1,28 +1,17 @@
-use Rattle.std.proofs.Common.{◌≡◌, ◌≤◌, List, length, get_or, Some, sym, ap, ◌∙◌, subst, arith}
+use Rattle.std.proofs.Common.{◌≡◌, ◌≤◌, List, get_or, Some, ap, ◌∙◌, arith}
 use Rattle.std.specs.List.{slice_get}
 use Rattle.std.proofs.lemmas.List.{take_all}
 use Rattle.std.proofs.lemmas.Option.{slice_get-get_or, slice_get_within}
-use Rattle.evac_law.specs.LabelTable.{LabelTable, label_at}
+use Rattle.evac_law.specs.LabelTable.{LabelTable}
 use Rattle.block_reader.specs.declared.run.Run.{Run}
-use Rattle.block_reader.specs.Drafts.{filled, no_run, run_label}
-use Rattle.block_reader.proofs.LabelLemmas.{IsFull, filled-else, outside-behind}
+use Rattle.block_reader.specs.Drafts.{filled, no_run}
+use Rattle.block_reader.proofs.LabelLemmas.{filled-else, outside-behind}
 use Rattle.block_reader.proofs.RunLabels.{filled-run, fresh, fresh-label, fresh-full, label-none, stop-in}
 use Rattle.block_reader.proofs.finish.labels_of.Goals as goal
 
 pub loop-place-init : goal.loop-place-init
 unfolding fresh
-loop-place-init c =
-    let m = c.args.model.now in
-    let nodes = c.node_count.result in
-    let is : c.in_ok-labels.labels ≡ fresh nodes m.horizon = c.in_ok-labels.ensures in
-    let count : nodes ≡ length m.nodes = c.node_count.ensures.count in
-    record {
-      nodes = ap (λ (x : LabelTable). x.nodes) is ∙ count;
-      horizon = ap (λ (x : LabelTable). x.horizon) is;
-      full = subst IsFull (sym is) (fresh-full nodes m.horizon);
-      early = λ n t a b o. ap (λ (x : LabelTable). label_at x n t) is ∙ fresh-label nodes m.horizon n t (omega arith) (omega arith) ∙ sym (label-none n t);
-      late = λ n t a b d. ap (λ (x : LabelTable). label_at x n t) is ∙ fresh-label nodes m.horizon n t (omega arith) (omega arith);
-    }
+loop-place-init c = grind (arith, fresh, fresh-full, fresh-label, label-none)
 
 pub fill-requires-clause-stop_in : goal.fill-requires-clause-stop_in
 fill-requires-clause-stop_in c =
@@ -51,16 +40,4 @@ loop-place-preserved c =
     }
 
 pub returns : goal.returns
-returns c =
-    let runs : List Run = c.args.runs.now in
-    let i = c.loop-place.place in
-    let inv = c.loop-place.invariant in
-    let over : length runs ≤ i = omega arith in
-    record {
-      table = record { nodes = inv.nodes; horizon = inv.horizon };
-      full = inv.full.full;
-      early = λ n t a b.
-          inv.early n t a b (record { open_cell = λ r d p k. let w = slice_get_within runs i r d in absurd (omega (arith, w, over)) })
-          ∙ ap (λ rs. run_label rs n t) (take_all i runs over);
-      late = λ n t a b d. inv.late n t a b d;
-    }
+returns c = grind (arith, slice_get_within, take_all)

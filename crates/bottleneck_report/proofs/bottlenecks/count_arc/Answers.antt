@@ -1,4 +1,4 @@
-use Rattle.std.proofs.Common.{◌≡◌, ◌∙◌, ◌+◌, ◌||◌, ap, ap₂, sym, arith, add-one}
+use Rattle.std.proofs.Common.{◌∙◌, ◌||◌, ap, ap₂, sym, arith, add-one}
 use Rattle.std.specs.List.{list_any}
 use Rattle.evac_law.specs.Certificates.{label_cut}
 use Rattle.evac_law.specs.Cuts.{leaves_cut}
@@ -22,10 +22,4 @@ loop-moment-preserved c =
     }
 
 pub returns-clause-count : goal.returns-clause-count
-returns-clause-count c =
-    let m = c.args.model.now in
-    let l = c.args.labels.now in
-    let last : c.loop-moment.moment ≡ m.horizon + 1 = omega (arith, c.loop-moment-test.false, c.loop-moment.auto.moment-end) in
-    c.count.ensures
-    ∙ arc_counted m l c.args.cleared c.args.arc c.loop-moment.ends c.requires.arc_in c.requires.reportable.in_time
-    (λ k h. c.loop-moment.invariant.covered k h ∙ ap (λ i. list_any (λ j. leaves_cut m (label_cut m l k) k j c.args.arc) (below i)) last)
+returns-clause-count c = grind (arith, arc_counted)

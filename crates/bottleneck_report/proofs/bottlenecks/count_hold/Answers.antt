@@ -1,29 +1,10 @@
-use Rattle.std.proofs.Common.{◌≡◌, ◌∙◌, ◌||◌, ap, ap₂, sym, arith, add-one}
-use Rattle.std.specs.List.{list_any}
-use Rattle.evac_law.specs.Sums.{below}
+use Rattle.std.proofs.Common.{arith, add-one}
 use Rattle.evac_law.proofs.PartLemmas.{any-below}
 use Rattle.bottleneck_report.proofs.ItemLemmas.{hold_counted, is_held_out}
 use Rattle.bottleneck_report.proofs.bottlenecks.count_hold.Goals as goal
 
 pub loop-moment-preserved : goal.loop-moment-preserved
-loop-moment-preserved c =
-    let m = c.args.model.now in
-    let l = c.args.labels.now in
-    let t = c.loop-moment.moment in
-    record {
-      size = c.add.ensures.size ∙ c.loop-moment.invariant.size;
-      covered = λ k h.
-          c.add.ensures.covered k (omega (arith, h, c.loop-moment.invariant.size, c.requires.reportable.room))
-          ∙ ap₂ (λ x y. x || y) (c.loop-moment.invariant.covered k h) (c.hold_span.ensures k h)
-          ∙ sym (any-below (is_held_out m l k c.args.node) t)
-          ∙ ap (λ i. list_any (is_held_out m l k c.args.node) (below i)) (sym (add-one t));
-    }
+loop-moment-preserved c = grind (arith, any-below, is_held_out, add-one)
 
 pub returns-clause-count : goal.returns-clause-count
-returns-clause-count c =
-    let m = c.args.model.now in
-    let l = c.args.labels.now in
-    let last : c.loop-moment.moment ≡ m.horizon = omega (arith, c.loop-moment-test.false, c.loop-moment.auto.moment-end) in
-    c.count.ensures
-    ∙ hold_counted m l c.args.cleared c.args.node c.loop-moment.ends c.requires.node_in c.requires.reportable.in_time
-    (λ k h. c.loop-moment.invariant.covered k h ∙ ap (λ i. list_any (is_held_out m l k c.args.node) (below i)) last)
+returns-clause-count c = grind (arith, hold_counted, is_held_out)

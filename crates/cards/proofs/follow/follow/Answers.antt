@@ -9,11 +9,7 @@ use Rattle.cards.proofs.Following.{before_last, comes_later, follows_on}
 use Rattle.cards.proofs.follow.follow.Goals as goal
 
 pub add-requires : goal.add-requires
-add-requires c =
-    let w = c.args.counts.now in
-    let here = c.loop-comer.invariant in
-    let less = before_last w.plan.model w.plan.moves c.requires.counts.takes c.loop-comer.comer c.leaver_of-leaver.result here.comer c.leaver_of-leaver.ensures in
-    omega (arith, here.few, here.room, c.requires.room, less)
+add-requires c = grind (arith, before_last)
 
 pub loop-comer-smaller : goal.loop-comer-smaller
 loop-comer-smaller c =

@@ -8,11 +8,7 @@ use Rattle.cards.proofs.Numbers.{left_is}
 use Rattle.cards.proofs.follow.leaver_of.Goals as goal
 
 pub moved-requires-clause-arc_in : goal.moved-requires-clause-arc_in
-moved-requires-clause-arc_in c =
-    let p = c.args.counts.now.plan in
-    let same = c.loop-arc.invariant.arcs in
-    let here = listed_arc p.model c.args.comer.node c.loop-arc.arc-index (omega (arith, ap length same, c.loop-arc-test.true)) in
-    rw same here.0
+moved-requires-clause-arc_in c = grind (arith, listed_arc)
 
 pub returns-then-behind-people : goal.returns-then-behind-people
 returns-then-behind-people c =
@@ -32,18 +28,4 @@ returns-then-behind-people c =
     }
 
 pub unreachable-requires : goal.unreachable-requires
-unreachable-requires c =
-    let p = c.args.counts.now.plan in
-    let n = c.args.comer.node in
-    let t = c.leaves_at-moment.result in
-    let people : ℕ → ℕ = λ a. moved p.moves a t in
-    let all = take_all c.loop-arc.arc-index c.arcs_from-arc-items.result.now c.loop-arc-test.false in
-    omega (
-      arith,
-      c.loop-arc.invariant.number,
-      ap (sum_by people) all,
-      ap (sum_by people) c.loop-arc.invariant.arcs,
-      leaving_listed p.model p.moves c.requires.counts.takes.plan.feasible.arcs n t,
-      left_is p.model p.moves n t,
-      c.leaves_at-moment.ensures.at.by_then,
-    )
+unreachable-requires c = grind (arith, take_all, leaving_listed, left_is)

@@ -12,12 +12,7 @@ use Rattle.cards.proofs.Moments.{count_before-more}
 use Rattle.cards.proofs.follow.leaves_at.Goals as goal
 
 pub loop-comer-init : goal.loop-comer-init
-loop-comer-init c =
-    let p = c.args.counts.now.plan in
-    record {
-      in_time = c.requires.comer.in_time;
-      not_before = none_left_before p.model p.moves c.requires.counts.takes c.args.comer c.requires.comer c.requires.inside;
-    }
+loop-comer-init c = grind (arith, none_left_before)
 
 -- whoever hasn't left by a moment leaves later, since by the horizon everybody has left
 leaves_later : (w : Counts) → AreTrueCounts w → (k : Comer) → IsComer w.plan.model w.plan.moves k → is_exit_at w.plan.model k.node ≡ false
@@ -32,21 +27,10 @@ leaves_later w h k comer inside t x l e stays =
     not_yet = omega (arith, h.leaves k.node t comer.node_in l, e, stays)
 
 pub loop-comer-preserved : goal.loop-comer-preserved
-loop-comer-preserved c =
-    let p = c.args.counts.now.plan in
-    let t = c.loop-comer.moment in
-    let on = leaves_later c.args.counts.now c.requires.counts c.args.comer c.requires.comer c.requires.inside t c.get.result c.loop-comer.invariant.in_time c.get.ensures.number
-    c.loop-comer-test.true in
-    record { in_time = omega (arith, on.1); not_before = omega (arith, count_before-more (left p.model p.moves c.args.comer.node) t, on.0) }
+loop-comer-preserved c = grind (arith, leaves_later, count_before-more)
 
 pub overflow_add-moment : goal.overflow_add-moment
-overflow_add-moment c =
-    let on = leaves_later c.args.counts.now c.requires.counts c.args.comer c.requires.comer c.requires.inside c.loop-comer.moment c.get.result c.loop-comer.invariant.in_time
-    c.get.ensures.number c.loop-comer-test.true in
-    omega (arith, on.1, horizon_small c.args.counts.now.plan.model c.requires.counts.takes.valid)
+overflow_add-moment c = grind (arith, leaves_later, horizon_small)
 
 pub loop-comer-smaller : goal.loop-comer-smaller
-loop-comer-smaller c =
-    let on = leaves_later c.args.counts.now c.requires.counts c.args.comer c.requires.comer c.requires.inside c.loop-comer.moment c.get.result c.loop-comer.invariant.in_time
-    c.get.ensures.number c.loop-comer-test.true in
-    omega (arith, on.1)
+loop-comer-smaller c = grind (arith, leaves_later)

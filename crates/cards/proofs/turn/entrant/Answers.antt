@@ -1,4 +1,4 @@
-use Rattle.std.proofs.Common.{refl, arith}
+use Rattle.std.proofs.Common.{arith}
 use Rattle.cards.specs.Numbers.{entrants_before}
 use Rattle.cards.proofs.Counted.{came_before_is}
 use Rattle.cards.proofs.Numbers.{enters_then}
@@ -6,11 +6,7 @@ use Rattle.cards.proofs.turn.entrant.Goals as goal
 
 pub returns-clause-number : goal.returns-clause-number
 unfolding entrants_before
-returns-clause-number c =
-    let t = c.args.turn in
-    let here = c.requires.turn in
-    let earlier = came_before_is c.args.counts.now c.requires.counts t.node t.moment here.node_in here.turn.moment_in in
-    record { node = refl; moment = refl; number = omega (arith, c.before-earlier.ensures.number, earlier, c.coming-along_arcs.ensures.coming, c.from.ensures) }
+returns-clause-number c = grind (arith, came_before_is)
 
 pub returns-clause-comer : goal.returns-clause-comer
 unfolding entrants_before

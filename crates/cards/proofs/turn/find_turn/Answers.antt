@@ -1,29 +1,15 @@
-use Rattle.std.proofs.Common.{◌≤◌, arith}
+use Rattle.std.proofs.Common.{arith}
 use Rattle.cards.proofs.Turning.{dealt_small, falls, turn_in}
 use Rattle.cards.proofs.turn.find_turn.Goals as goal
 
 pub loop-turn-init : goal.loop-turn-init
-loop-turn-init c = record {
-  turn = c.requires.turn;
-  not_past = c.requires.not_past;
-  node_in = turn_in c.args.model.now c.args.from c.args.person c.requires.valid c.requires.turn c.requires.not_past c.requires.somebody;
-}
+loop-turn-init c = grind (arith, turn_in)
 
 pub overflow_add-turn : goal.overflow_add-turn
-overflow_add-turn c =
-    let t = c.loop-turn.turn in
-    let here = c.loop-turn.invariant in
-    omega (arith, c.entry.ensures, here.turn.before, dealt_small c.args.model.now t.node t.moment c.requires.valid here.node_in here.turn.moment_in)
+overflow_add-turn c = grind (arith, dealt_small)
 
 pub loop-turn-preserved : goal.loop-turn-preserved
-loop-turn-preserved c =
-    let next = c.turn_after-turn.ensures in
-    let not_past : c.turn_after-turn.result.before ≤ c.args.person = omega (arith, next.before, c.entry.ensures, c.loop-turn-test.true) in
-    record {
-      turn = next.turn;
-      not_past = not_past;
-      node_in = turn_in c.args.model.now c.turn_after-turn.result c.args.person c.requires.valid next.turn not_past c.requires.somebody;
-    }
+loop-turn-preserved c = grind (arith, turn_in)
 
 pub loop-turn-smaller : goal.loop-turn-smaller
 loop-turn-smaller c =

@@ -1,5 +1,5 @@
-use Rattle.std.proofs.Common.{ap, sym, ◌∙◌}
-use Rattle.line_io.proofs.WriterLemmas.{writes_is, writes_omitted, writes_part}
+use Rattle.std.proofs.Common.{sym, ◌∙◌}
+use Rattle.line_io.proofs.WriterLemmas.{writes_omitted, writes_part}
 use Rattle.evac_law.specs.Certificates.{label_cut}
 use Rattle.certificate_text.specs.BlockText.{in_part}
 use Rattle.certificate_text.proofs.short.put_runs.Goals as goal

@@ -5,11 +5,7 @@ use Rattle.cut_witness.proofs.CrossingLemmas.{at_end, at_more, at_turn}
 use Rattle.cut_witness.proofs.position.step.Goals as goal
 
 pub returns-then-place-rows-clause-rest : goal.returns-then-place-rows-clause-rest
-returns-then-place-rows-clause-rest c =
-    let p = c.args.place.now in
-    let last = c.if-place-rows.true ∙ c.size_of-rows.ensures.rows in
-    rw c.next.ensures
-    (at_end c.args.model.now (label_cut c.args.model.now c.args.labels.now c.args.k) c.args.k p last (c.requires.crossing.position.end_first last) c.requires.more).0
+returns-then-place-rows-clause-rest c = grind (arith, at_end)
 
 pub returns-then-place-rows-clause-fewer : goal.returns-then-place-rows-clause-fewer
 returns-then-place-rows-clause-fewer c =
@@ -19,11 +15,7 @@ returns-then-place-rows-clause-fewer c =
     (at_end c.args.model.now (label_cut c.args.model.now c.args.labels.now c.args.k) c.args.k p last (c.requires.crossing.position.end_first last) c.requires.more).1
 
 pub returns-then-place-columns-clause-rest : goal.returns-then-place-columns-clause-rest
-returns-then-place-columns-clause-rest c =
-    let p = c.args.place.now in
-    let in_rows : p.row < rows_of c.args.model.now c.args.k p.part = omega (arith, c.size_of-rows.ensures.rows, c.requires.crossing.position.row_in) in
-    (at_turn c.args.model.now (label_cut c.args.model.now c.args.labels.now c.args.k) c.args.k p in_rows
-    (c.if-place-columns.true ∙ c.size_of-rows.ensures.columns)).0
+returns-then-place-columns-clause-rest c = grind (arith, at_turn)
 
 pub returns-then-place-columns-clause-fewer : goal.returns-then-place-columns-clause-fewer
 returns-then-place-columns-clause-fewer c =
@@ -33,12 +25,7 @@ returns-then-place-columns-clause-fewer c =
     (c.if-place-columns.true ∙ c.size_of-rows.ensures.columns)).1
 
 pub returns-else-place-columns-clause-rest : goal.returns-else-place-columns-clause-rest
-returns-else-place-columns-clause-rest c =
-    let p = c.args.place.now in
-    let in_rows : p.row < rows_of c.args.model.now c.args.k p.part = omega (arith, c.size_of-rows.ensures.rows, c.requires.crossing.position.row_in) in
-    let in_columns : p.column < width_of c.args.model.now c.args.k p.part = omega (arith, c.size_of-rows.ensures.columns, c.requires.crossing.position.column_in) in
-    rw c.item_at-item.ensures
-    (at_more c.args.model.now (label_cut c.args.model.now c.args.labels.now c.args.k) c.args.k p in_rows in_columns).0
+returns-else-place-columns-clause-rest c = grind (arith, at_more)
 
 pub returns-else-place-columns-clause-fewer : goal.returns-else-place-columns-clause-fewer
 returns-else-place-columns-clause-fewer c =

@@ -5,17 +5,13 @@ use Rattle.model_text.proofs.NumberLemmas.{digits-bad, digits-good, digits-end, 
 use Rattle.model_text.proofs.number.read_number.Goals as goal
 
 pub returns-then-not-is_ascii_digit : goal.returns-then-not-is_ascii_digit
-returns-then-not-is_ascii_digit c =
-    let h = digits-bad c.loop-b.value c.args.field.now c.loop-b.b-index c.loop-b-test.true (sym c.if-not-is_ascii_digit.ensures.value) in
-    sym (number-within c.args.field.now (omega arith) (omega arith) ∙ sym c.loop-b.invariant.digits ∙ h)
+returns-then-not-is_ascii_digit c = grind (arith, digits-bad, number-within)
 
 pub overflow_mul-value : goal.overflow_mul-value
 overflow_mul-value c = let h = c.loop-b.invariant.small in let g = ten-small c.loop-b.b-index (omega arith) in omega arith
 
 pub overflow_add-value : goal.overflow_add-value
-overflow_add-value c =
-    let h = c.loop-b.invariant.small in let g = ten-small c.loop-b.b-index (omega arith) in
-    omega (arith, c.from.ensures, c.if-not-is_ascii_digit.ensures.cases)
+overflow_add-value c = grind (arith, ten-small)
 
 pub loop-b-preserved : goal.loop-b-preserved
 loop-b-preserved c =

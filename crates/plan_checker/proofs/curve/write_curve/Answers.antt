@@ -1,4 +1,4 @@
-use Rattle.std.proofs.Common.{arith, ◌∙◌}
+use Rattle.std.proofs.Common.{arith}
 use Rattle.plan_checker.proofs.CountLemmas.{curve_counted, out_fits}
 use Rattle.plan_checker.proofs.curve.write_curve.Goals as goal
 
@@ -9,6 +9,4 @@ sum_up-requires c k l =
     omega (arith, same, out_fits c.args.model.now c.args.moves.now k, c.requires.moves.few)
 
 pub returns : goal.returns
-returns c k l =
-    c.sum_up.ensures k (omega (arith, l, c.count_arriving.auto.numbers))
-    ∙ curve_counted c.args.model.now c.args.moves.now c.count_arriving.new.numbers k (λ t h. c.count_arriving.ensures t (omega (arith, h, l)))
+returns c k l = grind (arith, curve_counted)

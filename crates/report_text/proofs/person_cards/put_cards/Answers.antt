@@ -1,7 +1,6 @@
 use Rattle.std.proofs.Common.{◌≡◌, ◌+◌, ◌∙◌, ◌++◌, [], ◌∷◌, ap, append_assoc, append-nil, arith, codes, length, refl, subst, sym}
 use Rattle.line_io.proofs.WriterLemmas.{writes_is, writes_then}
 use Rattle.cards.specs.Cards.{CardView}
-use Rattle.cards.specs.Dealing.{CardsView}
 use Rattle.cards.proofs.Given.{all_given_fair, none_given, one_more}
 use Rattle.report_text.specs.Parts.{IsCardIn}
 use Rattle.report_text.specs.ReportText.{card_lines, cards_from, cards_text, number_line}
@@ -64,6 +63,4 @@ returns-clause-text g c =
     )
 
 pub returns-clause-model : goal.returns-clause-model
-returns-clause-model g c =
-    let h = c.loop-number.invariant in
-    ap (λ (w : CardsView). w.model) (c.next.ensures.same c.loop-number-test.false) ∙ h.1.same_model
+returns-clause-model g c = grind arith

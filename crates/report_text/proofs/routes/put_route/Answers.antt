@@ -1,13 +1,9 @@
-use Rattle.std.proofs.Common.{◌<◌, ◌∙◌, ap, arith, length, subst, sym}
-use Rattle.std.specs.List.{All, flat_map}
+use Rattle.std.proofs.Common.{ap, arith}
+use Rattle.std.specs.List.{flat_map}
 use Rattle.line_io.proofs.WriterLemmas.{writes_is, writes_then}
-use Rattle.evac_law.specs.declared.model.NodeRow.{NodeRow}
-use Rattle.evac_law.specs.Building.{node_at}
-use Rattle.evac_law.specs.Names.{IsName}
 use Rattle.evac_law.proofs.ValidLemmas.{name_is}
 use Rattle.certificate_text.specs.BlockText.{name_of_node}
 use Rattle.report_text.specs.ReportText.{route_line, step_part}
-use Rattle.route_decompose.specs.declared.route.RouteStep.{RouteStep}
 use Rattle.report_text.proofs.Given.{start_in, steps_are}
 use Rattle.report_text.proofs.routes.put_route.Goals as goal
 
@@ -21,13 +17,7 @@ pub node-requires : goal.node-requires
 node-requires g c = let inside = start_in c.args.model.now c.args.route.now c.requires.valid c.requires.route in omega (arith, inside, c.start.ensures)
 
 pub put_route_line-requires : goal.put_route_line-requires
-put_route_line-requires g c =
-    let m = c.args.model.now in
-    let r = c.args.route.now in
-    subst (λ (row : NodeRow). IsName row.name) (sym (c.node.ensures ∙ ap (node_at m) c.start.ensures)) (name_is m r.start c.requires.valid (start_in m r c.requires.valid c.requires.route))
+put_route_line-requires g c = grind (arith, name_is, start_in)
 
 pub put_steps-requires-clause-steps : goal.put_steps-requires-clause-steps
-put_steps-requires-clause-steps g c =
-    let m = c.args.model.now in
-    let r = c.args.route.now in
-    subst (All (λ (s : RouteStep). s.arc < length m.arcs)) (sym c.steps.ensures) (steps_are m r.start r.entered r.steps c.requires.route.leads_out)
+put_steps-requires-clause-steps g c = grind (arith, steps_are)

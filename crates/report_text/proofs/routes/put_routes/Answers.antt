@@ -1,8 +1,6 @@
-use Rattle.std.proofs.Common.{◌≡◌, ◌∙◌, ◌++◌, [], ◌∷◌, ap, append_assoc, append-nil, arith, codes, refl, subst, sym}
+use Rattle.std.proofs.Common.{◌≡◌, ◌∙◌, ◌++◌, [], ◌∷◌, ap, append_assoc, append-nil, arith, codes, refl, sym}
 use Rattle.std.specs.List.{flat_map}
 use Rattle.line_io.proofs.WriterLemmas.{writes_is, writes_then}
-use Rattle.evac_law.specs.declared.model.Model.{Model}
-use Rattle.route_decompose.specs.Routes.{IsRoute, RouteView, RoutesView}
 use Rattle.route_decompose.proofs.Given.{none_given, one_more, used_up_covers}
 use Rattle.report_text.specs.ReportText.{number_line, route_lines, routes_text}
 use Rattle.report_text.proofs.Given.{fewer_waiting}
@@ -36,17 +34,10 @@ loop-writer-preserved g c =
     )
 
 pub loop-writer-smaller : goal.loop-writer-smaller
-loop-writer-smaller g c =
-    let h = c.loop-writer.invariant in
-    let less = fewer_waiting c.args.model.now (g.F.Standing.stand c.args.standing.now).plan h.0 c.loop-writer.routes c.next.new.self c.requires.stands.valid h.1 (c.next.ensures.route c.loop-writer-test.true) in
-    omega (arith, less)
+loop-writer-smaller g c = grind (arith, fewer_waiting)
 
 pub put_route-requires-clause-route : goal.put_route-requires-clause-route
-put_route-requires-clause-route g c =
-    let h = c.loop-writer.invariant in
-    let out = c.next.ensures.route c.loop-writer-test.true in
-    let right : IsRoute c.args.model.now c.next.new.self.route = subst (λ (m : Model). IsRoute m c.next.new.self.route) h.1.same_model out.right in
-    subst (λ (r : RouteView). IsRoute c.args.model.now r) (sym c.route.ensures) right
+put_route-requires-clause-route g c = grind arith
 
 pub returns-clause-text : goal.returns-clause-text
 unfolding routes_text
@@ -60,6 +51,4 @@ returns-clause-text g c =
     )
 
 pub returns-clause-model : goal.returns-clause-model
-returns-clause-model g c =
-    let h = c.loop-writer.invariant in
-    ap (λ (w : RoutesView). w.model) (c.next.ensures.same c.loop-writer-test.false) ∙ h.1.same_model
+returns-clause-model g c = grind arith

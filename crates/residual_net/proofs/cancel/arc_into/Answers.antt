@@ -1,4 +1,4 @@
-use Rattle.std.proofs.Common.{◌≡◌, ◌<◌, ◌-◌, ◌∙◌, length, get_or, ap, sym, arith, refl}
+use Rattle.std.proofs.Common.{◌≡◌, ◌∙◌, length, get_or, ap, sym, arith}
 use Rattle.time_expansion.specs.Expansion.{arcs_to}
 use Rattle.time_expansion.proofs.Lists as lists
 use Rattle.residual_net.specs.declared.place.Place.TheVariants.{Arc}
@@ -14,13 +14,7 @@ loop-arc-init c = record {
 }
 
 pub returns-then-get-gt0 : goal.returns-then-get-gt0
-returns-then-get-gt0 c =
-    let arc = get_or c.entering-arcs.result.now c.loop-arc.arc-index 0 in
-    let when = c.args.moment - c.travel-travel.result in
-    let here = c.loop-arc.invariant.listed c.loop-arc.arc-index 0 c.loop-arc-test.true in
-    let arrives : arrival_at c.args.grid.now.site arc when ≡ c.args.moment = omega (arith, c.travel-travel.ensures.travel, c.if-travel-moment.true) in
-    let some : 0 < flow_at c.args.grid.now (Arc arc when) = omega (arith, c.get.ensures.flow, c.if-get-gt0.true) in
-    (arc, when, refl, (here.0, omega (arith, c.requires.pair.moment)), here.1, arrives, some)
+returns-then-get-gt0 c = grind arith
 
 pub returns : goal.returns
 returns c a s place leads arrives =

@@ -1,4 +1,4 @@
-use Rattle.std.proofs.Common.{◌∷◌, [], ◌∙◌, sym, false, length, ap, arith}
+use Rattle.std.proofs.Common.{◌∷◌, [], ◌∙◌, sym, length, ap, arith}
 use Rattle.std.proofs.lemmas.List.{length-append}
 use Rattle.evac_law.specs.Limits.{horizon_limit, travel_limit}
 use Rattle.route_decompose.specs.Stocks.{TrailView}
@@ -9,10 +9,7 @@ use Rattle.route_decompose.proofs.lead.lay.Goals as goal
 
 pub overflow_add-now : goal.overflow_add-now
 unfolding horizon_limit travel_limit
-overflow_add-now c =
-    let some = c.in-Some.ensures.some in
-    let arc = arc_of c.args.store.now c.requires.leadable.left c.in-Some.arc c.stay-until.result.0 some.0 some.2 in
-    omega (arith, c.stay-until.ensures.leadable.moment_in, c.requires.leadable.left.stock.valid.horizon, arc.travel_fits.1, c.travel.ensures)
+overflow_add-now c = grind (arith, arc_of)
 
 pub loop-now-preserved : goal.loop-now-preserved
 loop-now-preserved c =

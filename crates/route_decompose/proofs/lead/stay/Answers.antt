@@ -7,15 +7,10 @@ use Rattle.route_decompose.proofs.lead.stay.Goals as goal
 
 pub overflow_add-until : goal.overflow_add-until
 unfolding horizon_limit
-overflow_add-until c =
-    let h = c.loop-held.invariant.leadable in
-    omega (arith, h.moment_in, h.left.stock.valid.horizon)
+overflow_add-until c = grind arith
 
 pub hold-held-requires-in-loop-held : goal.hold-held-requires-in-loop-held
-hold-held-requires-in-loop-held c =
-    let h = c.loop-held.invariant in
-    let next = stays c.args.store.now c.args.node c.loop-held.until h.leadable (omega (arith, h.here, c.loop-held-test.true)) in
-    record { node_in = next.node_in; moment_in = next.moment_in }
+hold-held-requires-in-loop-held c = grind (arith, stays)
 
 pub loop-held-preserved : goal.loop-held-preserved
 loop-held-preserved c =

@@ -1,6 +1,5 @@
-use Rattle.std.proofs.Common.{◌≡◌, ◌-◌, ◌≤◌, suc, arith, subst}
+use Rattle.std.proofs.Common.{◌-◌, arith}
 use Rattle.evac_law.specs.Limits.{horizon_limit}
-use Rattle.route_decompose.specs.Stocks.{moment_before}
 use Rattle.route_decompose.proofs.Laying.{step_in}
 use Rattle.route_decompose.proofs.lead.stop_before.Goals as goal
 
@@ -12,7 +11,4 @@ travel-requires c = step_in c.args.store.now.model c.args.node c.args.moment c.a
 
 pub overflow_add-result : goal.overflow_add-result
 unfolding horizon_limit
-overflow_add-result c =
-    let after : c.args.index ≡ suc (c.args.index - 1) = omega (arith, c.if-index-eq0.false) in
-    let in_time = subst (λ i. moment_before c.args.store.now.model c.args.moment c.args.steps.now i ≤ horizon_limit) after c.requires.in_time in
-    omega (arith, c.travel.ensures, in_time)
+overflow_add-result c = grind arith

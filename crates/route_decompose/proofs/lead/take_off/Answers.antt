@@ -30,5 +30,4 @@ loop-index-preserved c =
 
 pub stop_before-here-requires-clause-in_time : goal.stop_before-here-requires-clause-in_time
 unfolding horizon_limit
-stop_before-here-requires-clause-in_time c =
-    omega (arith, came_in_time c.requires.left c.requires.way c.loop-index.invariant c.loop-index-test.true, c.requires.left.stock.valid.horizon)
+stop_before-here-requires-clause-in_time c = grind (arith, came_in_time)

@@ -13,15 +13,10 @@ pub meet_before-requires-clause-met : goal.meet_before-requires-clause-met
 meet_before-requires-clause-met c = has_later c.args.spot.node c.args.spot.moment c.expand_in.ensures.grown c.requires.met
 
 pub meet_after-requires-clause-met : goal.meet_after-requires-clause-met
-meet_after-requires-clause-met c =
-    let both = grown_then c.expand_in.ensures.grown c.meet_before.ensures.grown in
-    has_later c.args.spot.node c.args.spot.moment both c.requires.met
+meet_after-requires-clause-met c = grind (arith, grown_then, has_later)
 
 pub expand_out-requires-clause-met : goal.expand_out-requires-clause-met
-expand_out-requires-clause-met c =
-    let both = grown_then c.expand_in.ensures.grown c.meet_before.ensures.grown in
-    let three = grown_then both c.meet_after.ensures.grown in
-    has_later c.args.spot.node c.args.spot.moment three c.requires.met
+expand_out-requires-clause-met c = grind (arith, grown_then, has_later)
 
 pub returns-clause-grown : goal.returns-clause-grown
 returns-clause-grown c =

@@ -3,15 +3,7 @@ use Rattle.terminal_augment.proofs.FloodLemmas.{IsNew, done_noted, flooding_note
 use Rattle.terminal_augment.proofs.flood.meet.Goals as goal
 
 pub push-requires : goal.push-requires
-push-requires c =
-    let new : IsNew c.args.net.now c.args.labels.now c.args.k c.args.queue.now c.args.met = record {
-      inside = c.requires.inside;
-      place = c.requires.place;
-      start = c.requires.start;
-      stop = c.requires.stop;
-      above = omega (arith, c.get.ensures, c.if-get-k.false);
-    } in
-    met_room c.requires.flooding new
+push-requires c = grind (arith, met_room)
 
 pub returns : goal.returns
 returns c =

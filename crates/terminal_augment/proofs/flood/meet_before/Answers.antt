@@ -5,9 +5,7 @@ use Rattle.terminal_augment.proofs.FloodLemmas.{before_later, grown_then}
 use Rattle.terminal_augment.proofs.flood.meet_before.Goals as goal
 
 pub meet-requires-clause-inside : goal.meet-requires-clause-inside
-meet-requires-clause-inside c =
-    let inside = c.requires.inside in
-    record { node = inside.node; moment = omega (arith, inside.moment); no_exit = inside.no_exit }
+meet-requires-clause-inside c = grind arith
 
 pub returns-then-not-meet-clause-done : goal.returns-then-not-meet-clause-done
 returns-then-not-meet-clause-done c =

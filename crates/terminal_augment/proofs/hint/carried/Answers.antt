@@ -5,7 +5,7 @@ use Rattle.residual_net.specs.declared.place.PathStep.{PathStep}
 use Rattle.residual_net.specs.Legs.{steps_of_legs}
 use Rattle.residual_net.specs.Route.{IsOrigin}
 use Rattle.residual_net.specs.declared.end.End.TheVariants.{Pair}
-use Rattle.residual_net.specs.Site.{IsOpenEnd, IsOpenPair}
+use Rattle.residual_net.specs.Site.{IsOpenEnd}
 use Rattle.terminal_augment.specs.Hints.{IsStep}
 use Rattle.terminal_augment.proofs.HintLemmas.{IsOver, IsTail, all_carried, begins_before, blank, leg_over, legs_back, legs_whole, marked_on_then, tail_open}
 use Rattle.terminal_augment.proofs.hint.carried.Goals as goal
@@ -17,9 +17,7 @@ pub over_waits-requires-clause-inside : goal.over_waits-requires-clause-inside
 over_waits-requires-clause-inside c = subst (IsOpenEnd c.args.net.now.site) c.in-Pair.is c.in-Some.ensures.step.inside
 
 pub overflow_add-moment : goal.overflow_add-moment
-overflow_add-moment c =
-    let inside : IsOpenPair c.args.net.now.site c.in-Pair.node c.in-Pair.moment = subst (IsOpenEnd c.args.net.now.site) c.in-Pair.is c.in-Some.ensures.step.inside in
-    omega (arith, inside.moment, (sizes c.args.net.now.site.shape c.requires.net.site.shape).horizon)
+overflow_add-moment c = grind (arith, sizes)
 
 pub loop-left-preserved : goal.loop-left-preserved
 loop-left-preserved c =

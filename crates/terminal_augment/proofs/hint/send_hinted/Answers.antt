@@ -1,6 +1,5 @@
-use Rattle.std.proofs.Common.{◌+◌, ◌<◌, ap, sym, refl, arith, ◌∙◌}
+use Rattle.std.proofs.Common.{◌+◌, ◌<◌, refl, arith, ◌∙◌}
 use Rattle.residual_net.specs.Legs.{steps_of_legs}
-use Rattle.residual_net.specs.Site.{Site}
 use Rattle.residual_net.specs.Limits.{supply_limit}
 use Rattle.terminal_augment.specs.Settled.{IsCountedOn}
 use Rattle.terminal_augment.proofs.HintLemmas.{carried_pushed}
@@ -8,10 +7,7 @@ use Rattle.terminal_augment.proofs.SendLemmas.{counted_more, counted_none, few_b
 use Rattle.terminal_augment.proofs.hint.send_hinted.Goals as goal
 
 pub loop-buffers-init : goal.loop-buffers-init
-loop-buffers-init g c = record {
-  buffers = λ n h x. x;
-  counted = counted_none c.args.k c.args.steps.now c.requires.net c.requires.within;
-}
+loop-buffers-init g c = grind (arith, counted_none)
 
 pub overflow_add-pushes : goal.overflow_add-pushes
 unfolding supply_limit
@@ -42,15 +38,7 @@ loop-buffers-preserved g c =
     }
 
 pub carried-people-requires-clause-marks : goal.carried-people-requires-clause-marks
-carried-people-requires-clause-marks g c =
-    let old = c.loop-buffers.invariant in
-    let x = old.buffers _ _ c.requires.buffers in
-    let site = sym old.counted.pushed.limits.site in
-    record {
-      marks = c.clear.ensures.marks;
-      nodes = c.clear.ensures.nodes ∙ x.nodes ∙ ap (λ (s : Site). s.shape.nodes) site;
-      horizon = c.clear.ensures.horizon ∙ x.horizon ∙ ap (λ (s : Site). s.shape.horizon) site;
-    }
+carried-people-requires-clause-marks g c = grind arith
 
 pub loop-buffers-smaller : goal.loop-buffers-smaller
 loop-buffers-smaller g c =

@@ -17,9 +17,7 @@ loop-found-init g c =
     }
 
 pub send_hinted-requires-clause-buffers : goal.send_hinted-requires-clause-buffers
-send_hinted-requires-clause-buffers g c =
-    buffers_kept c.send_found.ensures.counted.pushed
-    (λ n h x. buffers_with c.miss.new.self (c.send_found.ensures.buffers n h (queue_with c.flood.ensures.room x))) c.loop-found.invariant.buffers
+send_hinted-requires-clause-buffers g c = grind (arith, buffers_kept, buffers_with, queue_with)
 
 pub loop-found-preserved : goal.loop-found-preserved
 loop-found-preserved g c =

@@ -1,27 +1,10 @@
-use Rattle.std.proofs.Common.{length, arith, ◌∙◌, ap}
+use Rattle.std.proofs.Common.{arith, ◌∙◌}
 use Rattle.evac_law.specs.Names.{name_text}
 use Rattle.evac_law.proofs.NameLemmas.{IsFront, behind_front, length-kind_text, name_short, named_front, short_floor, short_number, taken_front}
 use Rattle.evac_law.proofs.name.NodeName.print.Goals as goal
 
 pub put-requires : goal.put-requires
-put-requires c =
-    let name = c.args.self.now in
-    omega (
-      arith,
-      c.put-at-3.ensures.end,
-      c.put-at-2.ensures.end,
-      c.put-at.ensures.end,
-      ap length c.letters.ensures,
-      length-kind_text name.kind,
-      c.as_bytes.ensures.len,
-      ap length c.format.ensures.text,
-      short_number name.number c.requires.name.number.1,
-      c.as_bytes-2.ensures.len,
-      ap length c.format-2.ensures.text,
-      short_floor name.floor c.requires.name.floor,
-      c.requires.room,
-      c.put-at-3.auto.into,
-    )
+put-requires c = grind (arith, length-kind_text, short_number, short_floor)
 
 -- the name stands in front
 front : (c : goal.After-digits-4-1) → IsFront c.args.into.now (name_text c.args.self.now) c.put.new.into c.put.result

@@ -1,5 +1,5 @@
 -- The lines of settled bytes are those of the first piece and of what follows it.
-use Rattle.std.proofs.Common.{◌<◌, ◌≤◌, ◌+◌, [], refl, ap, ◌∙◌, sym, arith, length, take}
+use Rattle.std.proofs.Common.{◌<◌, ◌≤◌, ◌+◌, [], refl, ap, ◌∙◌, arith, length, take}
 use Rattle.std.proofs.lemmas.List.{length-take-le}
 use Rattle.line_io.specs.Line.{content, input_limit, line_limit}
 use Rattle.line_io.proofs.Pieces.{first_size-le, content-size}
@@ -18,8 +18,7 @@ returns-then-size-eq0-clause-answer c =
     answer-at c.args.self.now _ (front-end c.args.self.now c.args.size [] c.requires.size c.requires.settled (λ _. refl) c.if-size-eq0.true).1
 
 pub slice_bounds-content_size-end : goal.slice_bounds-content_size-end
-slice_bounds-content_size-end c =
-    sym (length-take-le c.args.size c.pending.result.now (omega (arith, first_size-le c.args.self.now.pending, c.requires.size, ap length c.pending.ensures.bytes)))
+slice_bounds-content_size-end c = grind (arith, length-take-le, first_size-le)
 
 pub returns-then-kept-gt-LINE_LIMIT-clause-line : goal.returns-then-kept-gt-LINE_LIMIT-clause-line
 unfolding line_limit
@@ -63,9 +62,7 @@ keep-requires-clause-pending c = omega (arith, first_size-le c.args.self.now.pen
 
 pub keep-requires-clause-kept : goal.keep-requires-clause-kept
 unfolding line_limit
-keep-requires-clause-kept c =
-    let fits : c.args.size ≤ length c.pending.result.now = omega (arith, first_size-le c.args.self.now.pending, c.requires.size, ap length c.pending.ensures.bytes) in
-    (omega (arith, c.content_size-kept.ensures, content-size (take c.args.size c.pending.result.now), length-take-le c.args.size c.pending.result.now fits), c.if-kept-gt-LINE_LIMIT.false)
+keep-requires-clause-kept c = grind (arith, first_size-le, content-size, length-take-le)
 
 pub keep-requires-clause-limit : goal.keep-requires-clause-limit
 unfolding input_limit

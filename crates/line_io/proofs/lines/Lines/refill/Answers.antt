@@ -12,16 +12,7 @@ use Rattle.line_io.proofs.lines.Lines.refill.Goals.{then-count-eq0, else-count-e
 
 pub refill-requires : goal.refill-requires
 unfolding line_limit
-refill-requires g c =
-    let b = c.self.inside in
-    let few = unsettled-few c.args.self.now c.requires in
-    let is : length (take (b.end - b.start) (drop b.start b.buffer.items)) ≡ length c.args.self.now.pending = ap (λ r. length r.pending) c.self.view_is in
-    let room = ap length c.as_mut_slice.ensures.value ∙ c.self.invariant.room in
-    record {
-      order = c.self.invariant.in_order;
-      within = omega (arith, room, c.self.invariant.in_buffer);
-      room = omega (arith, length-take (b.end - b.start) (drop b.start b.buffer.items), length-drop b.start b.buffer.items, room, c.self.invariant.room, c.self.invariant.in_buffer);
-    }
+refill-requires g c = grind (arith, unsettled-few, length-take, length-drop)
 
 pub returns-clause-bytes : goal.returns-clause-bytes
 returns-clause-bytes g c =
@@ -40,19 +31,7 @@ returns-clause-bytes g c =
     ]
 
 pub returns-clause-taken : goal.returns-clause-taken
-returns-clause-taken g c =
-    let b = c.self.inside in
-    let e = b.end - b.start in
-    let n = c.in_ok-count.count in
-    let now = c.refill.new.buffer in
-    let there : (with_items b.buffer now).items ≡ now = with_items_is b.buffer now (omega (arith, c.as_mut_slice.ensures.len, c.refill.auto.buffer)) in
-    let pending : take (e + n - 0) (with_items b.buffer now).items ≡ take e (drop b.start b.buffer.items) ++ take n (drop e now) =
-    ap (take (e + n - 0)) there ∙ refilled _ now b.start e n (c.refill.ensures.front ∙ ap (λ l. take e (drop b.start l)) c.as_mut_slice.ensures.value) in
-    let grown = pending ∙ ap (λ r. r.pending ++ take n (drop e now)) c.self.view_is in
-    elim c.if-count-eq0.branch [
-      | then-count-eq0 w ↦ record { taken = take n (drop e now); consumed = c.in_ok-count.ensures.bytes.0; behind = rw w.self-inside-is grown }
-      | else-count-eq0 w ↦ record { taken = take n (drop e now); consumed = c.in_ok-count.ensures.bytes.0; behind = rw w.self-inside-is grown }
-    ]
+returns-clause-taken g c = grind (arith, with_items_is, refilled, then-count-eq0, else-count-eq0)
 
 pub returns-in_err-count-clause-asks : goal.returns-in_err-count-clause-asks
 returns-in_err-count-clause-asks g c =

@@ -3,33 +3,13 @@ use Rattle.residual_net.proofs.Kept.{kept_moved}
 use Rattle.residual_net.proofs.net.Net.cancel.Goals as goal
 
 pub take_all-requires-clause-path : goal.take_all-requires-clause-path
-take_all-requires-clause-path g c = record {
-  some = c.least-people.ensures.some;
-  arrives = rw c.steps-list.ensures c.find_path.ensures.arrives;
-  enough = c.least-people.ensures.flows;
-}
+take_all-requires-clause-path g c = grind arith
 
 pub lower_arrivals-requires : goal.lower_arrivals-requires
-lower_arrivals-requires g c = record {
-  before = c.self.inside.grid;
-  stored = rw c.as_mut_slice.ensures.value c.self.invariant.stored;
-  takeable = record {
-    some = c.least-people.ensures.some;
-    arrives = rw c.steps-list.ensures c.find_path.ensures.arrives;
-    enough = c.least-people.ensures.flows;
-  };
-  taken = c.take_all.ensures.taken;
-  grid = c.take_all.ensures.grid;
-}
+lower_arrivals-requires g c = grind arith
 
 pub returns-clause-cancelled : goal.returns-clause-cancelled
-returns-clause-cancelled g c = record {
-  some = c.least-people.ensures.some;
-  most = omega (arith, c.least-people.ensures.most, c.excess-excess.ensures);
-  arrives = rw c.self.view_is at c.find_path.ensures.arrives;
-  through = c.find_path.ensures.through;
-  taken = rw (c.steps-list.ensures, c.self.view_is) at c.take_all.ensures.taken;
-}
+returns-clause-cancelled g c = grind arith
 
 pub returns-clause-net : goal.returns-clause-net
 returns-clause-net g c = c.lower_arrivals.ensures.net

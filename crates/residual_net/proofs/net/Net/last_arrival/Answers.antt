@@ -5,10 +5,7 @@ use Rattle.residual_net.proofs.Last.{last_in, last_is}
 use Rattle.residual_net.proofs.net.Net.last_arrival.Goals as goal
 
 pub overflow_cast-result : goal.overflow_cast-result
-overflow_cast-result c =
-    let w = c.args.self.now in
-    let stored = stored_of c.self.view_is c.as_slice.ensures.value c.self.invariant in
-    omega (arith, last_in w _ c.last_some.result stored c.last_some.ensures.some, (sizes w.site.shape stored.net.site.shape).horizon)
+overflow_cast-result c = grind (arith, stored_of, last_in, sizes)
 
 pub returns-clause-last : goal.returns-clause-last
 returns-clause-last c =

@@ -15,15 +15,7 @@ returns-clause-none c =
     ∙ c.loop-arc.invariant.none listed.0 (omega (arith, listed.1, ap length same, c.loop-arc-test.false)))
 
 pub left-requires-clause-arc_in : goal.left-requires-clause-arc_in
-left-requires-clause-arc_in c =
-    let s = c.args.self.now in
-    let same = c.loop-arc.invariant.arcs in
-    let here = listed_arc s.model c.args.node c.loop-arc.arc-index (omega (arith, ap length same, c.loop-arc-test.true)) in
-    rw same here.0
+left-requires-clause-arc_in c = grind (arith, listed_arc)
 
 pub returns-then-left-gt0-clause-some : goal.returns-then-left-gt0-clause-some
-returns-then-left-gt0-clause-some c =
-    let s = c.args.self.now in
-    let same = c.loop-arc.invariant.arcs in
-    let here = listed_arc s.model c.args.node c.loop-arc.arc-index (omega (arith, ap length same, c.loop-arc-test.true)) in
-    (rw same here.0, rw same here.1, omega (arith, c.left.ensures, c.if-left-gt0.true))
+returns-then-left-gt0-clause-some c = grind (arith, listed_arc)
