@@ -11,6 +11,10 @@ import tempfile
 
 import buildings
 
+# valgrind counts an instruction that copies or fills memory once for each byte. With these thresholds the C library takes vectors in its place.
+VECTORS = "GLIBC_TUNABLES=glibc.cpu.x86_rep_movsb_threshold=1000000000:glibc.cpu.x86_rep_stosb_threshold=1000000000"
+COUNTER = ("env", VECTORS, "valgrind", "--tool=callgrind")
+
 
 @dataclasses.dataclass
 class Edit:
@@ -120,7 +124,7 @@ def are_accepted(program, text, commands):
 def spent_on(program, text, commands):
     """Returns how many millions of instructions a session takes on each command, its reply included."""
     with tempfile.TemporaryDirectory() as folder:
-        counter = ["valgrind", "--tool=callgrind", "--dump-before=*read_command*", f"--callgrind-out-file={folder}/counts"]
+        counter = [*COUNTER, "--dump-before=*read_command*", f"--callgrind-out-file={folder}/counts"]
         given = "\n".join([text.rstrip("\n"), *commands, "quit", ""])
         subprocess.run([*counter, program, "session"], input=given.encode(), capture_output=True, check=True)
         # the first dump has what comes before the first command

@@ -27,7 +27,7 @@ import edits
 
 TOP = pathlib.Path(__file__).resolve().parent.parent
 KINDS = ("--path --block", "--block")
-COUNTER = ("valgrind", "--tool=callgrind", "--callgrind-out-file=/dev/null", "--log-fd=1")
+COUNTER = (*edits.COUNTER, "--callgrind-out-file=/dev/null", "--log-fd=1")
 
 
 def run(command, text):
