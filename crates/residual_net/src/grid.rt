@@ -252,7 +252,7 @@ impl Grid {
     pub fn save(&mut self)
         ensures { self.new ≡ with_saved self.old }
     {
-        save_cells(&mut self.saved, &self.cells, self.is_saved);
+        save_cells(&mut self.saved, &self.cells);
         self.is_saved = true;
     }
 

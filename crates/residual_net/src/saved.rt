@@ -1,7 +1,7 @@
 //! What is saved of the cells of a net.
 //!
 //! Until cells are saved or a limit changes, that is the limits with no flow, and the memory for it isn't touched.
-ghost use Rattle.std.specs.Prelude.{◌≡◌, ◌≤◌, IsTrue, length, vec_capacity};
+ghost use Rattle.std.specs.Prelude.{◌≡◌, ◌≤◌, length, vec_capacity};
 ghost use Rattle.residual_net.specs.Start.{saved_cells};
 
 use crate::place::Cell;
@@ -23,18 +23,13 @@ pub fn write_saved(saved: &mut Vec<Cell>, cells: &[Cell], is_saved: bool)
 }
 
 /// Saves cells in place of those that were saved, if any were.
-pub fn save_cells(saved: &mut Vec<Cell>, cells: &[Cell], is_saved: bool)
+pub fn save_cells(saved: &mut Vec<Cell>, cells: &[Cell])
     requires room { length cells.now ≤ vec_capacity saved.old }
-    requires written { IsTrue is_saved → length saved.old.items ≡ length cells.now }
     ensures saved { saved.new.items ≡ cells.now }
-    ensures capacity { vec_capacity saved.new ≡ vec_capacity saved.old }
+    ensures capacity { vec_capacity saved.old ≤ vec_capacity saved.new }
 {
-    if is_saved {
-        saved.as_mut_slice().copy_from_slice(cells);
-        return;
-    }
     saved.clear();
-    for cell in cells {
-        saved.push_reserved(*cell);
+    if saved.extend_from_slice(cells).is_err() {
+        unreachable!()
     }
 }

@@ -9,13 +9,7 @@ pub fn last_some(people: &[u32]) -> usize
     ensures some { 0 < result → (result < length people.now) × (0 < slice_index people.now result) }
     ensures none_later { (j : ℕ) → result < j → j < length people.now → slice_index people.now j ≡ 0 }
 {
-    let mut last = 0;
-    for (moment, here) in people.iter().enumerate() {
-        if *here > 0 {
-            last = moment;
-        }
-    }
-    last
+    people.iter().rposition(|here| *here > 0).unwrap_or(0)
 }
 
 impl Standing for Net {
