@@ -1,8 +1,8 @@
 -- Walks along flow, back to a supply and on to an arrival.
-use Rattle.std.proofs.Common.{◌≡◌, ◌≢◌, ℕ, suc, ◌+◌, ◌<◌, ◌≤◌, Bool, true, false, cond, ◌||◌, eqb, List, [], ◌∷◌, ◌++◌, length-append, reverse, refl, ap, sym, ◌∙◌, arith, inl, inr, subst}
+use Rattle.std.proofs.Common.{◌≡◌, ◌≢◌, ℕ, suc, ◌+◌, ◌<◌, ◌≤◌, Bool, true, false, cond, ◌||◌, eqb, List, [], ◌∷◌, ◌++◌, length-append, reverse, refl, ap, sym, ◌∙◌, arith, inl, inr, subst, min}
 use Rattle.std.specs.List.{All, AllPairs}
 use Rattle.std.proofs.lemmas.List.{get_or_append_left, reverse-append}
-use Rattle.std.proofs.lemmas.List.Elements.{All-head, All-tail, All-cons, All-push, All-weaker}
+use Rattle.std.proofs.lemmas.List.Elements.{All-head, All-tail, All-nil, All-cons, All-push, All-weaker}
 use Rattle.std.proofs.lemmas.List.Kept.{AllPairs-cons}
 use Rattle.std.proofs.lemmas.Bool.{cases_lt}
 use Rattle.time_expansion.specs.Expansion.{from_at, to_at, no_ends}
@@ -14,7 +14,7 @@ use Rattle.residual_net.specs.declared.end.End.TheVariants.{Source, Pair, Door}
 use Rattle.residual_net.specs.Site.{Site, IsOpenEnd, IsOpenPair, IsSite, IsPlace, arrival_at, at, exit_at, head_of, is_barred, start_of, stop_of, tail_of}
 use Rattle.residual_net.specs.Network.{Network, IsNet, flow_at, flow_into, flow_out, residual_room}
 use Rattle.residual_net.specs.Route.{Leads}
-use Rattle.residual_net.specs.Change.{IsAlong, IsFlowPath, IsWalk, rank}
+use Rattle.residual_net.specs.Change.{IsAlong, IsFlowPath, IsLeft, IsWalk, rank}
 use Rattle.residual_net.proofs.Arrivals.{open_step}
 use Rattle.residual_net.proofs.Quiet.{none_from, none_into, open_flow, part_from, part_into, rank_in, rank_up}
 
@@ -108,6 +108,18 @@ pub record BackSoFar (w : Network) (p here : Place) (steps : List PathStep) : Ty
   pub place : IsPlace w.site here
   pub some : 0 < flow_at w here
 
+pub back_none : (w : Network) → IsNet w → (p : Place) → IsPlace w.site p → 0 < flow_at w p → BackSoFar w p p (step_on p ∷ [])
+back_none w net p i some = record {
+  walk = record {
+    along = All-cons (IsAlong w) (step_on p) [] (refl, i, some) (All-nil (IsAlong w));
+    leads = (refl, refl);
+    through = (0, step_on p, omega arith, refl, refl);
+    short = omega (arith, rank_up w.site net.site p i);
+  };
+  place = i;
+  some = some;
+}
+
 pub back_more : (w : Network) → IsNet w → (p here q : Place) (steps : List PathStep) (n t : ℕ) → BackSoFar w p here steps → tail_of w.site here ≡ Pair n t
     → IsPlace w.site q → head_of w.site q ≡ Pair n t → 0 < flow_at w q → BackSoFar w p q (steps ++ step_on q ∷ [])
 back_more w net p here q steps n t h e i f some =
@@ -132,6 +144,30 @@ on_more w net p here q steps n t h e i f some = record {
   place = i;
   some = some;
 }
+
+-- ---- whom the steps of a walk have
+
+pub left_none : (w : Network) (most : ℕ) → 1 ≤ most → IsLeft w [] most most
+left_none w most some = record { some = some; within = omega arith; enough = All-nil (λ (r : PathStep). most ≤ flow_at w r.place) }
+
+-- the people of some steps, or fewer if another step has fewer
+module _ (w : Network) (q : Place) (steps : List PathStep) (most x y : ℕ) (h : IsLeft w steps most x) (some : 0 < flow_at w q) (e : y ≡ min x (flow_at w q)) where
+  fewer : All (λ (r : PathStep). y ≤ flow_at w r.place) steps
+  fewer = All-weaker (λ (r : PathStep). x ≤ flow_at w r.place) (λ (r : PathStep). y ≤ flow_at w r.place) (λ r l. omega (arith, e, l)) steps h.enough
+
+  pub left_before : IsLeft w (step_on q ∷ steps) most y
+  left_before = record {
+    some = omega (arith, e, h.some, some);
+    within = omega (arith, e, h.within);
+    enough = All-cons (λ (r : PathStep). y ≤ flow_at w r.place) (step_on q) steps (omega (arith, e)) fewer;
+  }
+
+  pub left_after : IsLeft w (steps ++ step_on q ∷ []) most y
+  left_after = record {
+    some = omega (arith, e, h.some, some);
+    within = omega (arith, e, h.within);
+    enough = All-push (λ (r : PathStep). y ≤ flow_at w r.place) steps (step_on q) fewer (omega (arith, e));
+  }
 
 -- ---- no place twice
 

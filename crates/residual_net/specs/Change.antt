@@ -67,6 +67,12 @@ pub record IsTakeable (w : Network) (path : List PathStep) (people : ℕ) : Type
   pub arrives : (k : ℕ) × IsFlowPath w.site path k
   pub enough : All (λ x. people ≤ flow_at w x.place) path
 
+-- some people, at most a number, whom each place of a path has
+pub record IsLeft (w : Network) (path : List PathStep) (most people : ℕ) : Type 0 where
+  pub some : 1 ≤ people
+  pub within : people ≤ most
+  pub enough : All (λ x. people ≤ flow_at w x.place) path
+
 -- some people, at most the excess of a place, are taken off each place of one flow path through it, and nothing else changes
 pub record IsCancelled (w v : Network) (p : Place) (path : List PathStep) (people : ℕ) : Type 0 where
   pub some : 1 ≤ people

@@ -1,10 +1,10 @@
 //! A flow path through a place: back to its supply, and on to its arrival.
 ghost use Rattle.std.specs.Prelude.{◌≡◌, ℕ, ◌+◌, ◌<◌, ◌≤◌};
-ghost use Rattle.std.specs.List.{All, Any};
+ghost use Rattle.std.specs.List.{Any};
 ghost use Rattle.residual_net.specs.Site.{IsOpenPair, IsPlace, at, head_of, tail_of};
 ghost use Rattle.residual_net.specs.declared.end.End.TheVariants.{Door, Pair, Source};
 ghost use Rattle.residual_net.specs.Network.{IsGrid, IsNet, flow_at, flow_into, flow_out};
-ghost use Rattle.residual_net.specs.Change.{IsArcInto, IsFlowPath, IsTakeable, IsTaken, IsWalk};
+ghost use Rattle.residual_net.specs.Change.{IsArcInto, IsLeft, IsTakeable, IsTaken, IsWalk};
 
 use crate::end::End;
 use crate::grid::Grid;
@@ -89,77 +89,72 @@ fn place_out(grid: &Grid, node: u32, moment: u16) -> Place
     hold
 }
 
-// Fills a path with the steps from a supply to a place, along flow.
-fn walk_back(grid: &Grid, place: Place, path: &mut Path)
+// Fills a path with the steps from a supply to a place, along flow. The least of a number and the flows along it is the answer.
+fn walk_back(grid: &Grid, place: Place, most: u32, path: &mut Path) -> u32
     requires net { IsNet grid.now }
     requires place { IsPlace grid.now.site place }
-    requires some { 0 < flow_at grid.now place }
+    requires flow { 0 < flow_at grid.now place }
+    requires some { 0 < most }
     requires room { grid.now.site.shape.horizon + 2 ≤ path.old.room }
     ensures walk { IsWalk grid.now place path.new.steps Source (head_of grid.now.site place) }
+    ensures people { IsLeft grid.now path.new.steps most result }
     ensures room { path.new.room ≡ path.old.room }
 {
     path.clear();
     path.add(PathStep { place, back: false });
+    let mut people = most.min(grid.get(place).flow);
     let mut here = place;
     while let End::Pair { node, moment } = grid.tail(here) {
         here = place_into(grid, node, moment);
+        people = people.min(grid.get(here).flow);
         path.add(PathStep {
             place: here,
             back: false,
         });
     }
     path.turn();
+    people
 }
 
-// Adds to a path the steps from a place to an arrival, along flow.
-fn walk_on(grid: &Grid, place: Place, path: &mut Path)
+// Adds to a path the steps from a place to an arrival, along flow. The least of a number and the flows along these is the answer.
+fn walk_on(grid: &Grid, place: Place, most: u32, path: &mut Path) -> u32
     requires net { IsNet grid.now }
     requires place { IsPlace grid.now.site place }
-    requires some { 0 < flow_at grid.now place }
+    requires flow { 0 < flow_at grid.now place }
     requires walk { IsWalk grid.now place path.old.steps Source (head_of grid.now.site place) }
+    requires people { IsLeft grid.now path.old.steps most most }
     requires room { grid.now.site.shape.horizon + 2 ≤ path.old.room }
     ensures walk { (k : ℕ) × IsWalk grid.now place path.new.steps Source (Door k) }
+    ensures people { IsLeft grid.now path.new.steps most result }
     ensures room { path.new.room ≡ path.old.room }
 {
+    let mut people = most;
     let mut here = place;
     while let End::Pair { node, moment } = grid.head(here) {
         here = place_out(grid, node, moment);
+        people = people.min(grid.get(here).flow);
         path.add(PathStep {
             place: here,
             back: false,
         });
     }
+    people
 }
 
-/// Fills a path with a flow path through a place.
-pub fn find_path(grid: &Grid, place: Place, path: &mut Path)
+/// Fills a path with a flow path through a place, and finds the least of a number and the flows along it.
+pub fn find_path(grid: &Grid, place: Place, most: u32, path: &mut Path) -> u32
     requires net { IsNet grid.now }
     requires place { IsPlace grid.now.site place }
-    requires some { 0 < flow_at grid.now place }
+    requires flow { 0 < flow_at grid.now place }
+    requires some { 0 < most }
     requires room { grid.now.site.shape.horizon + 2 ≤ path.old.room }
-    ensures arrives { (k : ℕ) × IsFlowPath grid.now.site path.new.steps k }
+    ensures takeable { IsTakeable grid.now path.new.steps result }
+    ensures most { result ≤ most }
     ensures through { Any (λ x. x.place ≡ place) path.new.steps }
-    ensures flows { All (λ x. 0 < flow_at grid.now x.place) path.new.steps }
     ensures room { path.new.room ≡ path.old.room }
 {
-    walk_back(grid, place, path);
-    walk_on(grid, place, path);
-}
-
-/// The least of a number and the flows along a path.
-pub fn least(grid: &Grid, path: &[PathStep], most: u32) -> u32
-    requires places { All (λ x. IsPlace grid.now.site x.place) path.now }
-    requires flows { All (λ x. 0 < flow_at grid.now x.place) path.now }
-    requires some { 0 < most }
-    ensures some { 1 ≤ result }
-    ensures most { result ≤ most }
-    ensures flows { All (λ x. result ≤ flow_at grid.now x.place) path.now }
-{
-    let mut people = most;
-    for step in path {
-        people = people.min(grid.get(step.place).flow);
-    }
-    people
+    let people = walk_back(grid, place, most, path);
+    walk_on(grid, place, people, path)
 }
 
 /// Takes people off each place of a path.

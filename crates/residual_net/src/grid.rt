@@ -151,15 +151,14 @@ impl Grid {
         self.cells[self.cell_number(place)]
     }
 
-    // Puts a cell with the same limit in that of a place.
-    fn put(&mut self, place: Place, cell: Cell)
-        requires place { IsPlace self.old.site place }
-        requires limit { cell.limit ≡ limit_at self.old place }
-        ensures put { self.new ≡ with_cell self.old place cell }
+    // Gives a place another flow.
+    fn put(&mut self, place: Place, flow: u32)
+        requires { IsPlace self.old.site place }
+        ensures put { self.new ≡ with_cell self.old place (record { flow = flow; limit = limit_at self.old place }) }
         ensures grid { IsGrid self.new }
     {
         let at = self.cell_number(place);
-        self.cells[at] = cell;
+        self.cells[at].flow = flow;
     }
 
     /// Sends people over a step.
@@ -169,14 +168,13 @@ impl Grid {
         ensures pushed { IsPushed self.old self.new (step ∷ []) people }
         ensures grid { IsGrid self.new }
     {
-        let cell = self.get(step.place);
+        let old = self.get(step.place).flow;
         let flow = if step.back {
-            cell.flow - people
+            old - people
         } else {
-            cell.flow + people
+            old + people
         };
-        let limit = cell.limit;
-        self.put(step.place, Cell { flow, limit });
+        self.put(step.place, flow);
     }
 
     // Lets more people wait in a node, at each moment from one up to another.
@@ -202,10 +200,8 @@ impl Grid {
         ensures pushed { IsPushed self.old self.new (step_over place ∷ []) people }
         ensures grid { IsGrid self.new }
     {
-        let cell = self.get(place);
-        let flow = cell.flow + people;
-        let limit = cell.limit;
-        self.put(place, Cell { flow, limit });
+        let flow = self.get(place).flow + people;
+        self.put(place, flow);
     }
 
     /// Sends people over an arc, and lets them wait before in the node at which it begins, at each moment since one.

@@ -12,7 +12,7 @@ ghost use Rattle.residual_net.specs.declared.end.End.TheVariants.{Door};
 ghost use Rattle.residual_net.specs.declared.place.Place.{Place};
 ghost use Rattle.residual_net.specs.declared.place.Place.TheVariants.{Arc, Hold, Supply};
 
-use crate::cancel::{find_path, least, take_all};
+use crate::cancel::{find_path, take_all};
 use crate::end::End;
 use crate::grid::Grid;
 use crate::leads::leads;
@@ -440,9 +440,8 @@ impl Net {
         ensures ticked { steps.new ≡ steps.old + 1 }
     {
         let excess = self.excess(place);
-        find_path(&self.grid, place, path);
+        let people = find_path(&self.grid, place, excess, path);
         let list = path.steps();
-        let people = least(&self.grid, list, excess);
         take_all(&mut self.grid, list, people);
         lower_arrivals(self.arrivals.as_mut_slice(), &self.grid, list, people);
         steps.tick();

@@ -1,20 +1,24 @@
-use Rattle.std.proofs.Common.{◌<◌}
-use Rattle.std.proofs.lemmas.List.Elements.{All-weaker}
-use Rattle.residual_net.specs.declared.place.PathStep.{PathStep}
-use Rattle.residual_net.specs.Network.{flow_at}
-use Rattle.residual_net.specs.Change.{IsAlong}
+use Rattle.std.proofs.Common.{arith}
 use Rattle.residual_net.proofs.Walks.{flow_path}
 use Rattle.residual_net.proofs.cancel.find_path.Goals as goal
 
-pub returns-clause-arrives : goal.returns-clause-arrives
-returns-clause-arrives c =
+pub walk_on-requires-clause-people : goal.walk_on-requires-clause-people
+walk_on-requires-clause-people c =
+    let people = c.walk_back-people.ensures.people in
+    record { some = people.some; within = omega arith; enough = people.enough }
+
+pub returns-clause-takeable : goal.returns-clause-takeable
+returns-clause-takeable c =
     let walk = c.walk_on.ensures.walk in
-    (walk.0, flow_path c.args.grid.now c.requires.net c.args.place c.walk_on.new.path.steps walk.0 walk.1)
+    let people = c.walk_on.ensures.people in
+    record {
+      some = people.some;
+      arrives = (walk.0, flow_path c.args.grid.now c.requires.net c.args.place c.walk_on.new.path.steps walk.0 walk.1);
+      enough = people.enough;
+    }
+
+pub returns-clause-most : goal.returns-clause-most
+returns-clause-most c = omega (arith, c.walk_on.ensures.people.within, c.walk_back-people.ensures.people.within)
 
 pub returns-clause-through : goal.returns-clause-through
 returns-clause-through c = c.walk_on.ensures.walk.1.through
-
-pub returns-clause-flows : goal.returns-clause-flows
-returns-clause-flows c =
-    All-weaker (IsAlong c.args.grid.now) (λ (x : PathStep). 0 < flow_at c.args.grid.now x.place) (λ x a. a.2) c.walk_on.new.path.steps
-    c.walk_on.ensures.walk.1.along
