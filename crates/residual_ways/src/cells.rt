@@ -1,5 +1,6 @@
 //! Cells by their numbers.
 ghost use Rattle.std.specs.Prelude.{◌≡◌, ◌-◌, ◌<◌, ◌≤◌, ◌↔◌, not, false, IsTrue, drop, length, slice_index_or, take};
+ghost use Rattle.std.specs.List.{All};
 ghost use Rattle.residual_net.specs.Network.{no_cell};
 ghost use Rattle.residual_net.specs.Site.{Site, cell_of};
 ghost use Rattle.residual_net.specs.declared.place.Place.TheVariants.{Supply};
@@ -98,21 +99,37 @@ fn supplies(cells: &[Cell], sizes: Sizes) -> &[Cell]
     &cells[sizes.supply(0) as usize..]
 }
 
-/// How many people are sent.
+/// How many people are sent. The people of a building fit into a `u32`, so the sum doesn't wrap.
 pub fn count_sent(cells: &[Cell], sizes: Sizes) -> u32
     requires { length cells.now ≡ sizes.cells }
 {
     supplies(cells, sizes)
         .iter()
-        .fold(0u32, |people, cell| people.saturating_add(cell.flow))
+        .fold(0u32, |people, cell| people.wrapping_add(cell.flow))
 }
 
-/// Whether people come in and all of them are sent.
+// Whether all who come in over some cells are sent. Nothing is skipped after a first that isn't full, so that a processor compares several
+// at once.
+fn are_sent(cells: &[Cell]) -> bool
+    ensures { IsTrue result ↔ All (λ cell. cell.limit ≤ cell.flow) cells.now }
+{
+    let mut sent = true;
+    for cell in cells {
+        sent &= cell.flow >= cell.limit;
+    }
+    sent
+}
+
+/// Whether people come in and all of them are sent. It is looked at node by node, up to the first that still has people.
 pub fn is_all_sent(cells: &[Cell], sizes: Sizes) -> bool
     requires { length cells.now ≡ sizes.cells }
     ensures { IsTrue result ↔ AreAllSent (drop (sizes.cells - sizes.pairs) cells.now) }
 {
     let supplies = supplies(cells, sizes);
+    for row in supplies.chunks(sizes.moments as usize) {
+        if !are_sent(row) {
+            return false;
+        }
+    }
     supplies.iter().any(|cell| cell.limit > 0)
-        && supplies.iter().all(|cell| cell.flow >= cell.limit)
 }
