@@ -5,6 +5,7 @@
 //! answers when everybody would be out after an edit, and leaves all as it was.
 #![tactic(auto)]
 
+mod course;
 mod faults;
 mod laws;
 mod limits;

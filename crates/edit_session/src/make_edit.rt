@@ -5,6 +5,7 @@ ghost use Rattle.residual_net.specs.Labelled.{IsLabelsOf};
 ghost use Rattle.edit_session.specs.Making.{IsMade};
 ghost use Rattle.edit_session.specs.Mended.{IsScratchOf, IsStanding};
 
+use crate::course::Course;
 use crate::faults::EditRefusal;
 use crate::planned::Planned;
 use crate::repair::Repaired;
@@ -26,7 +27,7 @@ impl Planned {
     pub fn make_edit<L: Ledger>(
         &mut self,
         edit: Edit,
-        leads_back: bool,
+        course: Course,
         steps: &mut Steps<L>,
     ) -> Result<Made, EditRefusal>
         requires standing { IsStanding self.old.model self.old.net self.old.labels }
@@ -43,7 +44,7 @@ impl Planned {
             Ok(inverse) => inverse,
             Err(fault) => return Err(EditRefusal::Fault(fault)),
         };
-        match self.repair(edit, leads_back, steps) {
+        match self.repair(edit, course, steps) {
             Repaired::Cleared { work } => Ok(Made { inverse, work }),
             Repaired::Short { most } => {
                 let people = self.model.people();

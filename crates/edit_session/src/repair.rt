@@ -2,6 +2,7 @@
 ghost use Rattle.std.specs.Prelude.{◌≡◌};
 ghost use Rattle.edit_session.specs.Mended.{IsMended, IsRepairable, IsScratchOf, IsWithinWork};
 
+use crate::course::Course;
 use crate::planned::Planned;
 use crate::work::Work;
 use evac_law::{Edit, Steps};
@@ -18,12 +19,12 @@ pub enum Repaired {
 
 impl Planned {
     /// Brings the net to the model, which an edit made of the one before; the scratch gets the labels of the new plan, and what is saved is
-    /// the net before. Where not everybody can get out, the net is left as it was, and the scratch has the labels that show it. An edit
-    /// that leads back to the net that was saved last is best said to do so: then its flow isn't sought.
+    /// the net before. Where not everybody can get out, the net is left as it was, and the scratch has the labels that show it. The course
+    /// is a hint: where an edit leads back, the flow that is known isn't sought again.
     pub fn repair<L: Ledger>(
         &mut self,
         edit: Edit,
-        leads_back: bool,
+        course: Course,
         steps: &mut Steps<L>,
     ) -> Repaired
         requires repairable { IsRepairable self.old.model edit self.old.net self.old.labels }
@@ -35,7 +36,7 @@ impl Planned {
         ensures labels { self.new.labels ≡ self.old.labels }
         ensures refused { self.new.refused ≡ self.old.refused }
     {
-        self.scratch.recall(&self.net, leads_back);
+        self.scratch.recall(&self.net, course);
         self.net.save();
         let taken = reshape(
             &mut self.net,

@@ -4,6 +4,7 @@ ghost use Rattle.evac_law.specs.Building.{IsValid};
 ghost use Rattle.residual_net.specs.OfModel.{site_of};
 ghost use Rattle.edit_session.specs.Mended.{IsScratchOf};
 
+use crate::course::Course;
 use evac_law::{Labels, Model};
 use residual_net::{Net, Path};
 use std::alloc::{AllocError, Global};
@@ -31,10 +32,10 @@ impl Scratch {
     }
 
     /// Where an edit leads back, the net comes to the flow that it saved last: the search recalls it.
-    pub fn recall(&mut self, net: &Net, leads_back: bool)
+    pub fn recall(&mut self, net: &Net, course: Course)
         ensures { self.new ≡ self.old }
     {
-        if leads_back {
+        if let Course::Back = course {
             self.search.recall(net);
         }
     }

@@ -6,6 +6,7 @@ ghost use Rattle.evac_law.specs.Edits.{IsEditOf};
 ghost use Rattle.evac_law.specs.Stands.{Fits};
 ghost use Rattle.edit_session.specs.Sessions.{BeginEnds, EditEnds, IsNetOfState, IsSolved, TrialEnds, UndoEnds, stand_of_state};
 
+use crate::course::Course;
 use crate::faults::{BeginFault, EditRefusal, UndoRefusal};
 use crate::limits::KEPT_LIMIT;
 use crate::planned::Planned;
@@ -76,9 +77,13 @@ impl Session {
         }
     }
 
-    // Whether an edit is the one that an undo would make.
-    fn leads_back(&self, edit: Edit) -> bool {
-        self.ring.front().copied() == Some(edit)
+    // An edit leads back where it is the one that an undo would make.
+    fn course_of(&self, edit: Edit) -> Course {
+        if self.ring.front().copied() == Some(edit) {
+            Course::Back
+        } else {
+            Course::Onward
+        }
     }
 
     /// Makes an edit and repairs the plan. Where it is refused, all stays as it was but the refused cut.
@@ -87,8 +92,8 @@ impl Session {
         ensures ends { (n : ℕ) × (steps.new ≡ steps.old + n) × EditEnds self.old edit result self.new n }
         ensures unchanged { OnErr result (self.new.state ≡ self.old.state) }
     {
-        let leads_back = self.leads_back(edit);
-        let made = self.planned.make_edit(edit, leads_back, steps)?;
+        let course = self.course_of(edit);
+        let made = self.planned.make_edit(edit, course, steps)?;
         swap(&mut self.planned.labels, &mut self.planned.scratch.labels);
         self.ring.push_front(made.inverse);
         self.work = made.work;
@@ -101,7 +106,7 @@ impl Session {
         ensures ends { (n : ℕ) × (steps.new ≡ steps.old + n) × TrialEnds self.old edit result self.new n }
         ensures unchanged { self.new.state ≡ self.old.state }
     {
-        let made = self.planned.make_edit(edit, false, steps)?;
+        let made = self.planned.make_edit(edit, Course::Onward, steps)?;
         let last = self.planned.net.last_arrival();
         self.planned.net.restore();
         // the inverse of an edit that was just made is accepted
@@ -119,7 +124,7 @@ impl Session {
         };
         // a kept edit is accepted by the model that it is kept for
         let _ = apply(&mut self.planned.model, back);
-        match self.planned.repair(back, true, steps) {
+        match self.planned.repair(back, Course::Back, steps) {
             Repaired::Cleared { work } => {
                 swap(&mut self.planned.labels, &mut self.planned.scratch.labels);
                 self.work = work;
