@@ -9,13 +9,13 @@ ghost use Rattle.evac_law.specs.Sums.{below};
 ghost use Rattle.line_io.specs.Causes.{HasCause};
 ghost use Rattle.line_io.specs.Writer.{PutsText, Writes};
 ghost use Rattle.certificate_text.specs.ExitArcs.{arcs_out, leads_out};
-ghost use Rattle.certificate_text.specs.NameTexts.{name_texts, run_line, entering_line};
+ghost use Rattle.certificate_text.specs.NameTexts.{ends_texts, entering_line, run_line};
 ghost use Rattle.certificate_text.specs.Block.{number_field_limit};
 ghost use Rattle.certificate_text.specs.BlockLaws.{ReadsBack};
 ghost use Rattle.certificate_text.specs.BlockText.{answer_text, begins_run, label_lines, move_lines, move_part, moment_moves, node_labels, out_lines, shown_label};
 
 use crate::lines::{put_cleared, put_end, put_index, put_label, put_move, put_out, put_people};
-use crate::names::{NameText, name_texts};
+use crate::names::{EndsText, NameText, ends_texts};
 use arrayvec::ArrayVec;
 use evac_law::limits::ARC_LIMIT;
 use evac_law::{Labels, Model, Move, Standing};
@@ -162,31 +162,28 @@ fn put_labels<K: Sink>(writer: &mut Writer<'_, K>, model: &Model, labels: &Label
 }
 
 // The line of a move, where anybody moves.
-fn put_step<K: Sink>(writer: &mut Writer<'_, K>, model: &Model, names: &[NameText], step: Move)
+fn put_step<K: Sink>(writer: &mut Writer<'_, K>, model: &Model, ends: &[EndsText], step: Move)
     requires valid { IsValid model.now }
-    requires names { names.now ≡ name_texts model.now }
+    requires ends { ends.now ≡ ends_texts model.now }
     requires arc_in { step.arc < length model.now.arcs }
     ensures { Writes K.held K.faults writer.old (entering_line model.now step) writer.new }
 {
     if step.people == 0 {
         return;
     }
-    let row = model.arc(step.arc);
-    let from = &names[row.from as usize];
-    let to = &names[row.to as usize];
-    put_move(writer, step.moment, from, to, step.people);
+    put_move(writer, step.moment, &ends[step.arc as usize], step.people);
 }
 
 // The moves of a moment.
 fn put_moment<K: Sink, F: Standing>(
     writer: &mut Writer<'_, K>,
     model: &Model,
-    names: &[NameText],
+    ends: &[EndsText],
     standing: &F,
     moment: u16,
 )
     requires valid { IsValid model.now }
-    requires names { names.now ≡ name_texts model.now }
+    requires ends { ends.now ≡ ends_texts model.now }
     requires fits { Fits model.now (F.stand standing.now) }
     requires moment_in { moment ≤ model.now.horizon }
     ensures { Writes K.held K.faults writer.old (moment_moves model.now (F.stand standing.now).plan moment) writer.new }
@@ -198,7 +195,7 @@ fn put_moment<K: Sink, F: Standing>(
             arc,
             people,
         };
-        put_step(writer, model, names, step);
+        put_step(writer, model, ends, step);
     }
 }
 
@@ -207,18 +204,18 @@ fn put_moment<K: Sink, F: Standing>(
 fn put_named_moves<K: Sink, F: Standing>(
     writer: &mut Writer<'_, K>,
     model: &Model,
-    names: &[NameText],
+    ends: &[EndsText],
     standing: &F,
 )
     requires valid { IsValid model.now }
-    requires names { names.now ≡ name_texts model.now }
+    requires ends { ends.now ≡ ends_texts model.now }
     requires fits { Fits model.now (F.stand standing.now) }
     ensures { Writes K.held K.faults writer.old (move_lines model.now (F.stand standing.now).plan) writer.new }
 {
     // nobody moves after the last arrival
     let last = standing.cleared().min(model.horizon);
     for moment in 0..last + 1 {
-        put_moment(writer, model, names, standing, moment);
+        put_moment(writer, model, ends, standing, moment);
     }
 }
 
@@ -228,8 +225,8 @@ pub fn put_moves<K: Sink, F: Standing>(writer: &mut Writer<'_, K>, model: &Model
     requires fits { Fits model.now (F.stand standing.now) }
     ensures { Writes K.held K.faults writer.old (move_lines model.now (F.stand standing.now).plan) writer.new }
 {
-    let names = name_texts(model);
-    put_named_moves(writer, model, &names, standing);
+    let ends = ends_texts(model);
+    put_named_moves(writer, model, &ends, standing);
 }
 
 /// Puts the answer block of a standing plan with its labels. The index is 0 for the opening of a model and counts edits from there.
@@ -251,13 +248,13 @@ pub fn put_answer<K: Sink, F: Standing>(
 {
     let people = model.people();
     let cleared = standing.cleared();
-    let names = name_texts(model);
+    let ends = ends_texts(model);
     put_index(writer, index);
     put_people(writer, people);
     put_cleared(writer, cleared);
     put_outs(writer, model, standing, cleared);
     put_labels(writer, model, labels, cleared);
-    put_named_moves(writer, model, &names, standing);
+    put_named_moves(writer, model, &ends, standing);
     put_end(writer);
 }
 

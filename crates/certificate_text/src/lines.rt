@@ -1,10 +1,10 @@
 //! The lines of a block.
-ghost use Rattle.std.specs.Prelude.{◌≡◌, ◌+◌, ◌++◌, ◌≤◌, ◌<◌, ◌^◌, ◌∷◌, length};
+ghost use Rattle.std.specs.Prelude.{◌≡◌, ℕ, List, ◌+◌, ◌++◌, ◌≤◌, ◌<◌, ◌^◌, ◌∷◌, length};
 ghost use Rattle.evac_law.specs.Names.{IsName, name_text};
 ghost use Rattle.line_io.specs.Writer.{Writes};
 ghost use Rattle.certificate_text.specs.BlockText.{answer_line, cleared_line, end_line, in_line, label_line, most_line, move_line, out_line, people_line, refusal_line};
 
-use crate::names::NameText;
+use crate::names::{EndsText, NameText};
 use evac_law::{Code, NodeName};
 use line_io::{Sink, TextLine, Writer};
 
@@ -75,16 +75,14 @@ pub(crate) fn put_label<K: Sink>(
 pub(crate) fn put_move<K: Sink>(
     writer: &mut Writer<'_, K>,
     moment: u16,
-    from: &NameText,
-    to: &NameText,
+    ends: &EndsText,
     people: u32,
 )
-    ensures { Writes K.held K.faults writer.old (move_line moment from.now to.now people) writer.new }
+    ensures { (from to : List ℕ) → ends.now ≡ from ++ (32 ∷ to) → Writes K.held K.faults writer.old (move_line moment from to people) writer.new }
 {
     let mut line = TextLine::new(b"move");
     line.number(u64::from(moment));
-    line.field(from.bytes());
-    line.field(to.bytes());
+    line.field(ends.bytes());
     line.number(u64::from(people));
     writer.put(line);
 }

@@ -224,6 +224,20 @@ impl Distances {
     }
 }
 
+// Whether the flow of each of some cells is its limit. Nothing is skipped after a first where it isn't, so that a processor compares several
+// at once.
+fn are_full(cells: &[Cell]) -> bool {
+    cells
+        .iter()
+        .fold(0u32, |differ, cell| differ | (cell.flow ^ cell.limit))
+        == 0
+}
+
+// Whether some of some cells let people in.
+fn do_come_in(supplies: &[Cell]) -> bool {
+    supplies.iter().fold(0u32, |some, cell| some | cell.limit) > 0
+}
+
 // How many unsent people come into a node, and the moment after the last at which they do.
 fn count_in(cells: &[Cell], sizes: Sizes, node: u32) -> (u32, u32)
     requires cells { length cells.now ≡ sizes.cells }
@@ -232,6 +246,9 @@ fn count_in(cells: &[Cell], sizes: Sizes, node: u32) -> (u32, u32)
     let supplies = supplies_of(cells, sizes, node);
     let mut people = 0u32;
     let mut until = 0;
+    if are_full(supplies) {
+        return (people, until);
+    }
     for moment in 0..sizes.moments {
         let cell = supplies[moment as usize];
         if cell.flow < cell.limit {
@@ -249,7 +266,11 @@ fn enter(earliest: &mut [u16], cells: &[Cell], sizes: Sizes)
 {
     for node in 0..sizes.nodes {
         let supplies = supplies_of(cells, sizes, node);
-        let first = supplies.iter().position(|cell| cell.limit > 0);
+        let first = if do_come_in(supplies) {
+            supplies.iter().position(|cell| cell.limit > 0)
+        } else {
+            None
+        };
         earliest[node as usize] = first.map_or(FAR as u16, |moment| moment as u16);
     }
 }

@@ -99,11 +99,11 @@ impl TargetFlow {
     /// Whether its limits are those of a net: then it is known, and needn't be sought.
     pub fn has_limits_of(&self, cells: &[Cell]) -> bool {
         let own = self.cells.as_slice();
+        let both = own.iter().zip(cells);
         own.len() == cells.len()
-            && own
-                .iter()
-                .zip(cells)
-                .all(|(cell, now)| cell.limit == now.limit)
+            && both.fold(0u32, |differ, (cell, now)| {
+                differ | (cell.limit ^ now.limit)
+            }) == 0
     }
 
     /// Forgets how far searches came. Whether there is memory for one.

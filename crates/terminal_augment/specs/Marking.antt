@@ -13,7 +13,7 @@ pub record MarkTable : Type 0 where
 pub record IsMarks (m : MarkTable) : Type 0 where
   pub full : length m.list ≡ m.nodes * (m.horizon + 1)
   pub some : 1 ≤ m.stamp
-  pub fits : m.stamp < 2 ^ 32
+  pub fits : m.stamp < 2 ^ 16
   pub old : All (λ x. x ≤ m.stamp) m.list
 
 -- the place of a node and moment in the list

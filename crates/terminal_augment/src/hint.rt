@@ -105,11 +105,15 @@ fn is_new(marks: &mut Marks, turns: bool, node: u32, from: u16, past: u16) -> bo
     }
 }
 
-// Whether one of some legs goes over its step backwards.
+// Whether one of some legs goes over its step backwards. None is skipped, as most paths have none.
 fn turn_back(legs: &[Leg]) -> bool
     ensures { IsFalse result → All (λ g. IsFalse g.step.back) legs.now }
 {
-    legs.iter().any(|leg| leg.step.back)
+    let mut turns = false;
+    for leg in legs {
+        turns |= leg.step.back;
+    }
+    turns
 }
 
 // Where a step starts and its room, if it is one of the net's, has room and stops at an end.

@@ -11,8 +11,8 @@ use std::marker::Model;
 pub struct Marks {
     nodes: u32,
     horizon: u16,
-    stamp: u32,
-    stamps: Vec<u32>,
+    stamp: u16,
+    stamps: Vec<u16>,
 }
 
 impl Model for Marks {
@@ -31,7 +31,7 @@ impl Marks {
         ensures { IfOk result (λ m. m ≡ record { nodes = nodes; horizon = horizon; stamp = 1; list = replicate (nodes * (horizon + 1)) 0 }) }
     {
         let count = nodes as usize * (horizon as usize + 1);
-        let stamps = vec![in alloc; 0u32; count]?;
+        let stamps = vec![in alloc; 0u16; count]?;
         Ok(Marks {
             nodes,
             horizon,
@@ -78,7 +78,7 @@ impl Marks {
         ensures none { (n t : ℕ) → IsFalse (is_marked self.new n t) }
         ensures marks { IsMarks self.new }
     {
-        if self.stamp == u32::MAX {
+        if self.stamp == u16::MAX {
             self.stamps.as_mut_slice().fill(0);
             self.stamp = 0;
         }
