@@ -1,5 +1,5 @@
 //! All arrival moments, settled one after another.
-ghost use Rattle.std.specs.Prelude.{◌≡◌, ◌+◌, ◌↔◌, IsTrue};
+ghost use Rattle.std.specs.Prelude.{◌≡◌, ◌≤◌, ◌+◌, ◌↔◌, IsTrue};
 ghost use Rattle.evac_law.specs.declared.model.Model.{Model};
 ghost use Rattle.evac_law.specs.Building.{IsValid};
 ghost use Rattle.residual_net.specs.Network.{IsWithinLimits};
@@ -15,10 +15,12 @@ use terminal_augment::{Search, settle};
 
 // Whether everybody is sent and arrives before a moment.
 fn is_over(net: &Net, k: u16) -> bool
-    requires { IsWithinLimits net.now }
+    requires within { IsWithinLimits net.now }
+    requires moment { k ≤ net.now.site.shape.horizon }
     ensures { IsTrue result ↔ IsOver net.now k }
 {
-    net.last_arrival() < k && net.is_all_sent()
+    let horizon = net.shape().horizon();
+    k > 0 && net.is_all_sent() && net.arrived(k - 1) == net.arrived(horizon)
 }
 
 // How far a net is settled, and after how many pushes.
