@@ -14,7 +14,7 @@ use Rattle.residual_net.specs.declared.end.End.TheVariants.{Source, Pair, Door}
 use Rattle.residual_net.specs.Site.{Site, IsOpenEnd, IsOpenPair, IsSite, IsPlace, arrival_at, at, exit_at, head_of, is_barred, start_of, stop_of, tail_of}
 use Rattle.residual_net.specs.Network.{Network, IsNet, flow_at, flow_into, flow_out, residual_room}
 use Rattle.residual_net.specs.Route.{Leads}
-use Rattle.residual_net.specs.Change.{IsAlong, IsFlowPath, IsLeft, IsWalk, rank}
+use Rattle.residual_net.specs.Change.{IsAlong, IsFlowPath, IsLeastAlong, IsWalk, rank}
 use Rattle.residual_net.proofs.Arrivals.{open_step}
 use Rattle.residual_net.proofs.Quiet.{none_from, none_into, open_flow, part_from, part_into, rank_in, rank_up}
 
@@ -147,23 +147,23 @@ on_more w net p here q steps n t h e i f some = record {
 
 -- ---- whom the steps of a walk have
 
-pub left_none : (w : Network) (most : ℕ) → 1 ≤ most → IsLeft w [] most most
-left_none w most some = record { some = some; within = omega arith; enough = All-nil (λ (r : PathStep). most ≤ flow_at w r.place) }
+pub least_along_none : (w : Network) (most : ℕ) → 1 ≤ most → IsLeastAlong w [] most most
+least_along_none w most some = record { some = some; within = omega arith; enough = All-nil (λ (r : PathStep). most ≤ flow_at w r.place) }
 
 -- the people of some steps, or fewer if another step has fewer
-module _ (w : Network) (q : Place) (steps : List PathStep) (most x y : ℕ) (h : IsLeft w steps most x) (some : 0 < flow_at w q) (e : y ≡ min x (flow_at w q)) where
+module _ (w : Network) (q : Place) (steps : List PathStep) (most x y : ℕ) (h : IsLeastAlong w steps most x) (some : 0 < flow_at w q) (e : y ≡ min x (flow_at w q)) where
   fewer : All (λ (r : PathStep). y ≤ flow_at w r.place) steps
   fewer = All-weaker (λ (r : PathStep). x ≤ flow_at w r.place) (λ (r : PathStep). y ≤ flow_at w r.place) (λ r l. omega (arith, e, l)) steps h.enough
 
-  pub left_before : IsLeft w (step_on q ∷ steps) most y
-  left_before = record {
+  pub least_along_before : IsLeastAlong w (step_on q ∷ steps) most y
+  least_along_before = record {
     some = omega (arith, e, h.some, some);
     within = omega (arith, e, h.within);
     enough = All-cons (λ (r : PathStep). y ≤ flow_at w r.place) (step_on q) steps (omega (arith, e)) fewer;
   }
 
-  pub left_after : IsLeft w (steps ++ step_on q ∷ []) most y
-  left_after = record {
+  pub least_along_after : IsLeastAlong w (steps ++ step_on q ∷ []) most y
+  least_along_after = record {
     some = omega (arith, e, h.some, some);
     within = omega (arith, e, h.within);
     enough = All-push (λ (r : PathStep). y ≤ flow_at w r.place) steps (step_on q) fewer (omega (arith, e));

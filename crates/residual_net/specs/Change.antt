@@ -68,7 +68,7 @@ pub record IsTakeable (w : Network) (path : List PathStep) (people : ℕ) : Type
   pub enough : All (λ x. people ≤ flow_at w x.place) path
 
 -- some people, at most a number, whom each place of a path has
-pub record IsLeft (w : Network) (path : List PathStep) (most people : ℕ) : Type 0 where
+pub record IsLeastAlong (w : Network) (path : List PathStep) (most people : ℕ) : Type 0 where
   pub some : 1 ≤ people
   pub within : people ≤ most
   pub enough : All (λ x. people ≤ flow_at w x.place) path

@@ -4,7 +4,7 @@ ghost use Rattle.std.specs.List.{Any};
 ghost use Rattle.residual_net.specs.Site.{IsOpenPair, IsPlace, at, head_of, tail_of};
 ghost use Rattle.residual_net.specs.declared.end.End.TheVariants.{Door, Pair, Source};
 ghost use Rattle.residual_net.specs.Network.{IsGrid, IsNet, flow_at, flow_into, flow_out};
-ghost use Rattle.residual_net.specs.Change.{IsArcInto, IsLeft, IsTakeable, IsTaken, IsWalk};
+ghost use Rattle.residual_net.specs.Change.{IsArcInto, IsLeastAlong, IsTakeable, IsTaken, IsWalk};
 
 use crate::end::End;
 use crate::grid::Grid;
@@ -97,7 +97,7 @@ fn walk_back(grid: &Grid, place: Place, most: u32, path: &mut Path) -> u32
     requires some { 0 < most }
     requires room { grid.now.site.shape.horizon + 2 ≤ path.old.room }
     ensures walk { IsWalk grid.now place path.new.steps Source (head_of grid.now.site place) }
-    ensures people { IsLeft grid.now path.new.steps most result }
+    ensures people { IsLeastAlong grid.now path.new.steps most result }
     ensures room { path.new.room ≡ path.old.room }
 {
     path.clear();
@@ -122,10 +122,10 @@ fn walk_on(grid: &Grid, place: Place, most: u32, path: &mut Path) -> u32
     requires place { IsPlace grid.now.site place }
     requires flow { 0 < flow_at grid.now place }
     requires walk { IsWalk grid.now place path.old.steps Source (head_of grid.now.site place) }
-    requires people { IsLeft grid.now path.old.steps most most }
+    requires people { IsLeastAlong grid.now path.old.steps most most }
     requires room { grid.now.site.shape.horizon + 2 ≤ path.old.room }
     ensures walk { (k : ℕ) × IsWalk grid.now place path.new.steps Source (Door k) }
-    ensures people { IsLeft grid.now path.new.steps most result }
+    ensures people { IsLeastAlong grid.now path.new.steps most result }
     ensures room { path.new.room ≡ path.old.room }
 {
     let mut people = most;
