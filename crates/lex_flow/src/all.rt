@@ -11,7 +11,7 @@ use crate::outcome::Outcome;
 use evac_law::{Labels, Steps};
 use residual_net::Net;
 use std::sync::ledger::Ledger;
-use terminal_augment::{Search, settle};
+use terminal_augment::{Search, are_all_out, settle};
 
 // Whether everybody is sent and arrives before a moment.
 fn is_over(net: &Net, k: u16) -> bool
@@ -19,8 +19,7 @@ fn is_over(net: &Net, k: u16) -> bool
     requires moment { k ≤ net.now.site.shape.horizon }
     ensures { IsTrue result ↔ IsOver net.now k }
 {
-    let horizon = net.shape().horizon();
-    k > 0 && net.is_all_sent() && net.arrived(k - 1) == net.arrived(horizon)
+    k > 0 && are_all_out(net, k - 1)
 }
 
 // How far a net is settled, and after how many pushes.

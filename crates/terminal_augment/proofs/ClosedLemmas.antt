@@ -55,7 +55,7 @@ labelled_after g free = record {
 }
 
 -- what is reached before k is so at k
-earlier_reached : (l : LabelTable) (k i : ℕ) (e : End) → i < k → reached (labelled l i) i e ≡ true → reached (labelled l k) k e ≡ true
+pub earlier_reached : (l : LabelTable) (k i : ℕ) (e : End) → i < k → reached (labelled l i) i e ≡ true → reached (labelled l k) k e ≡ true
 earlier_reached l k i Source q h = absurd (cc)
 earlier_reached l k i (Pair n t) q h = le-leb _ _ (omega (arith, leb-true _ _ h, q))
 earlier_reached l k i (Door j) q h = le-leb _ _ (omega (arith, leb-true _ _ h, q))

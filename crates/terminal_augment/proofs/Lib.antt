@@ -5,6 +5,7 @@ pub mod ChainLemmas
 pub mod SendLemmas
 pub mod LabelLemmas
 pub mod ClosedLemmas
+pub mod AllOutLemmas
 pub mod HintLemmas
 pub mod FloodLemmas
 pub mod KeptLemmas

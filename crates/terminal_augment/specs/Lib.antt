@@ -11,5 +11,6 @@ pub mod Ways
 pub mod Chains
 pub mod Settled
 pub mod Floods
+pub mod AllOut
 pub mod Hints
 pub mod Searches

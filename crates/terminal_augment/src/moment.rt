@@ -1,21 +1,40 @@
 //! One arrival moment, settled.
-ghost use Rattle.std.specs.Prelude.{◌≡◌, ◌+◌, ◌*◌, ◌≤◌, IfOk, IsFalse, IsTrue};
+ghost use Rattle.std.specs.Prelude.{◌≡◌, ◌+◌, ◌*◌, ◌≤◌, IfOk, IfSome, IsFalse, IsTrue, length};
 ghost use Rattle.evac_law.specs.Building.{IsValid};
 ghost use Rattle.residual_net.specs.Network.{IsNet};
 ghost use Rattle.residual_net.specs.OfModel.{site_of};
-ghost use Rattle.terminal_augment.specs.Floods.{HaveSameLabels, IsFloodOver};
+ghost use Rattle.terminal_augment.specs.Floods.{HaveSameLabels, IsFloodOver, IsFlooded};
 ghost use Rattle.terminal_augment.specs.Searches.{AreBuffers, KeepsBuffers};
 ghost use Rattle.terminal_augment.specs.Settled.{IsClosedBelow, IsCountedOn, IsLabelled, IsSearchOf, IsSettledBelow};
 
+use crate::all_out::{are_all_out, label_all};
 use crate::buffers::Buffers;
 use crate::flood::flood;
 use crate::hint::send_hinted;
 use crate::path::send_found;
+use crate::queue::Queue;
+use crate::spot::Met;
 use evac_law::{Labels, Steps};
-use residual_net::Net;
+use residual_net::{Net, PathStep};
 use std::alloc::{AllocError, Global};
 use std::marker::Model;
 use std::sync::ledger::Ledger;
+
+// Labels the pairs that reach an arrival by a moment; or, where somebody can still be sent there, answers with a step by which.
+fn close(net: &Net, labels: &mut Labels, queue: &mut Queue<Met>, k: u16) -> Option<PathStep>
+    requires net { IsNet net.now }
+    requires settled { IsSettledBelow net.now labels.old k }
+    requires room { net.now.site.shape.nodes * (net.now.site.shape.horizon + 1) ≤ queue.old.room }
+    ensures flooded { IsFlooded net.now labels.old labels.new k queue.new.list result }
+    ensures room { queue.new.room ≡ queue.old.room }
+    ensures few { IfSome result (λ _. length queue.new.list ≤ queue.new.room) }
+{
+    if are_all_out(net, k) {
+        label_all(labels, k);
+        return None;
+    }
+    flood(net, labels, queue, k)
+}
 
 // Whether everybody is sent and nobody can arrive sooner, where that is worth a flood of its own.
 fn is_over(net: &Net, labels: &mut Labels, buffers: &mut Buffers, k: u16) -> bool
@@ -26,7 +45,7 @@ fn is_over(net: &Net, labels: &mut Labels, buffers: &mut Buffers, k: u16) -> boo
     ensures alike { IsFalse result → HaveSameLabels labels.old labels.new }
     ensures buffers { KeepsBuffers buffers.old buffers.new }
 {
-    buffers.finder.floods_first(net, k) && flood(net, labels, &mut buffers.queue, k).is_none()
+    buffers.finder.floods_first(net, k) && close(net, labels, &mut buffers.queue, k).is_none()
 }
 
 // Settles a moment with the scratch of a search: along hinted paths, and where a flood still comes to somebody, along its path, until it
@@ -51,7 +70,7 @@ fn settle_with<L: Ledger>(
     }
     buffers.finder.begin(net, labels, k);
     let mut pushes = send_hinted(net, buffers, k, steps);
-    while let Some(found) = flood(net, labels, &mut buffers.queue, k) {
+    while let Some(found) = close(net, labels, &mut buffers.queue, k) {
         send_found(net, buffers, found, k, steps);
         buffers.finder.miss(net);
         pushes += 1 + send_hinted(net, buffers, k, steps);

@@ -28,7 +28,7 @@ loop-found-preserved g c =
       settled = settled_pushed both.pushed (settled_alike old.counted.pushed.net meeting.alike old.settled);
       alike = alike_then old.alike meeting.alike;
       buffers = buffers_kept both.pushed
-          (λ n h x. c.send_hinted.ensures.buffers n h (buffers_with c.miss.new.self (c.send_found.ensures.buffers n h (queue_with c.flood.ensures.room x)))) old.buffers;
+          (λ n h x. c.send_hinted.ensures.buffers n h (buffers_with c.miss.new.self (c.send_found.ensures.buffers n h (queue_with c.close.ensures.room x)))) old.buffers;
       counted = counted_more (c.loop-found.pushes + (1 + c.send_hinted.result)) old.counted both refl;
     }
 
