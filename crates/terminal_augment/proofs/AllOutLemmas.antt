@@ -1,5 +1,5 @@
 -- Once everybody is out by a moment, the pairs before it are closed.
-use Rattle.std.proofs.Common.{◌≡◌, ℕ, ◌+◌, ◌-◌, ◌<◌, ◌≤◌, Bool, true, false, cond, ◌&&◌, eqb, leb, length, ap, sym, subst, ◌∙◌, ◌⊎◌, refl, arith, inl, inr}
+use Rattle.std.proofs.Common.{◌≡◌, ℕ, ◌+◌, ◌<◌, ◌≤◌, Bool, true, false, cond, ◌&&◌, eqb, leb, ap, sym, subst, ◌∙◌, ◌⊎◌, refl, arith, inl, inr}
 use Rattle.std.proofs.lemmas.Bool.{cases_Bool, cases_lt, and_parts, and_from, eq-eqb, eqb-true, le-leb, leb-true, lt-leb}
 use Rattle.std.proofs.lemmas.List.{length-set}
 use Rattle.evac_law.specs.LabelTable.{LabelTable, label_at, label_place, unset, with_label}
@@ -20,7 +20,7 @@ use Rattle.residual_net.proofs.Quiet.{drained, onward, part_into, rank_up}
 use Rattle.residual_net.proofs.Walks.{start_open, stop_open}
 use Rattle.terminal_augment.specs.AllOut.{AreAllOut, AreLowered, IsFull}
 use Rattle.terminal_augment.specs.Floods.{IsFloodOver}
-use Rattle.terminal_augment.specs.Settled.{IsLabelled, IsSettledBelow, IsUnsetFrom}
+use Rattle.terminal_augment.specs.Settled.{IsSettledBelow}
 use Rattle.terminal_augment.proofs.ClosedLemmas.{closed_same, earlier_reached}
 use Rattle.terminal_augment.proofs.LabelLemmas.{label_set}
 

@@ -4,11 +4,12 @@ use Rattle.std.specs.List.{All}
 use Rattle.std.proofs.lemmas.Bool.{cases_lt, eq-eqb, le-leb, le-ltb, leb-true, lt-leb, lt-ltb}
 use Rattle.evac_law.proofs.LabelLemmas.{unset_at}
 use Rattle.evac_law.specs.LabelTable.{LabelTable, below_or_unset, label_at, unset, unset_from}
+use Rattle.time_expansion.specs.Expansion.{no_ends}
 use Rattle.residual_net.specs.Closed.{IsClosed, reached}
 use Rattle.residual_net.specs.Labelled.{IsClosedBelow}
 use Rattle.residual_net.specs.Network.{Network, IsNet, residual_room}
 use Rattle.residual_net.specs.NetLaws.{labelled}
-use Rattle.residual_net.specs.Site.{IsOpenEnd, IsOpenPair, IsPlace, arc_count, start_of, stop_of}
+use Rattle.residual_net.specs.Site.{IsOpenEnd, IsOpenPair, IsPlace, start_of, stop_of}
 use Rattle.residual_net.specs.declared.end.End.{End}
 use Rattle.residual_net.specs.declared.end.End.TheVariants.{Source, Pair, Door}
 use Rattle.residual_net.specs.declared.place.Place.{Place}
@@ -62,7 +63,7 @@ earlier_reached l k i (Door j) q h = le-leb _ _ (omega (arith, leb-true _ _ h, q
 
 -- where each step is done into the pairs labelled k and into the arrivals at k, the pairs labelled at most k are closed
 now_closed : {w : Network} (m : LabelTable) (k : ℕ) → IsNet w → IsClosedBelow w m k → ((n t : ℕ) → IsOpenPair w.site n t → label_at m n t ≡ k → IsExpanded w m k n t)
-    → IsSeededBelow w m k (arc_count w.site) → IsClosed w (labelled m k) k
+    → IsSeededBelow w m k w.site.shape.nodes → IsClosed w (labelled m k) k
 now_closed {w} m k net closed expanded seeded y place room inside = by (stop_of w.site y) refl inside
   where
     old : (i : ℕ) → i < k → reached (labelled m i) i (stop_of w.site y) ≡ true → reached (labelled m k) k (start_of w.site y) ≡ true
@@ -70,7 +71,7 @@ now_closed {w} m k net closed expanded seeded y place room inside = by (stop_of 
 
     at_door : (p : Place) (b : Bool) → IsPlace w.site p → 0 < residual_room w (record { place = p; back = b }) → stop_of w.site (record { place = p; back = b }) ≡ Door k
         → reached (labelled m k) k (start_of w.site (record { place = p; back = b })) ≡ true
-    at_door (Arc a t) false at some q = seeded a t at.0 at q some
+    at_door (Arc a t) false at some q = seeded a t (net.site.shape.ends_in a no_ends at.0).1 at q some
     at_door (Arc a t) true at some q = absurd (cc)
     at_door (Hold n t) true at some q = absurd (cc)
     at_door (Hold n t) false at some q = absurd (cc)
@@ -94,7 +95,7 @@ now_closed {w} m k net closed expanded seeded y place room inside = by (stop_of 
 
 -- a flood that came to nobody is over
 pub over_after : {w : Network} {l m : LabelTable} {k : ℕ} {x y : Queue Met} → IsSettledBelow w l k → IsGrown k l m x y → IsFlooding w m k y
-    → AreExpanded w m k (length y.list) y.list → IsSeededBelow w m k (arc_count w.site) → IsFloodOver w l m k
+    → AreExpanded w m k (length y.list) y.list → IsSeededBelow w m k w.site.shape.nodes → IsFloodOver w l m k
 over_after {w} {l} {m} {k} {y} settled g flooding all seeded = record {
   labels = labelled_after g settled.unset;
   closed = λ i q. elim (cases_lt i k) [
@@ -169,5 +170,3 @@ alike_then a b = record {
   horizon = b.horizon ∙ a.horizon;
   labels = λ n t p q. b.labels n t (omega (arith, p, a.nodes)) (omega (arith, q, a.horizon)) ∙ a.labels n t p q;
 }
-
--- ---- arcs into exits

@@ -5,12 +5,13 @@ use Rattle.std.proofs.lemmas.Bool.{and_from, cases_eq, cases_lt, eq-eqb, le-leb,
 use Rattle.std.proofs.lemmas.List.{drop-drop, get_or-set_other, get_or-set_same, length-set}
 use Rattle.evac_law.proofs.LabelLemmas.{label_within}
 use Rattle.evac_law.specs.LabelTable.{LabelTable, label_at, label_place, with_label}
-use Rattle.time_expansion.specs.Expansion.{from_at, no_ends}
+use Rattle.time_expansion.specs.Expansion.{arcs_to, from_at, no_ends, to_at}
 use Rattle.time_expansion.proofs.Cells.{sizes}
+use Rattle.time_expansion.proofs.Lists as lists
 use Rattle.residual_net.specs.Closed.{reached}
 use Rattle.residual_net.specs.NetLaws.{labelled}
 use Rattle.residual_net.specs.Network.{Network, IsNet, residual_room}
-use Rattle.residual_net.specs.Site.{Site, IsOpenPair, IsPlace, IsSite, arc_count, start_of, stop_of}
+use Rattle.residual_net.specs.Site.{Site, IsOpenPair, IsPlace, IsSite, arc_count, arrival_at, exit_at, start_of, stop_of}
 use Rattle.residual_net.specs.declared.end.End.{End}
 use Rattle.residual_net.specs.declared.end.End.TheVariants.{Door, Pair, Source}
 use Rattle.residual_net.specs.declared.place.PathStep.{PathStep}
@@ -21,7 +22,7 @@ use Rattle.terminal_augment.specs.Floods.{IsSeededBelow, AreExpanded, IsDone, Is
 use Rattle.terminal_augment.specs.Queues.{Queue}
 use Rattle.terminal_augment.specs.Settled.{IsSettledBelow}
 use Rattle.terminal_augment.specs.Spots.{has}
-use Rattle.terminal_augment.specs.Ways.{way_before}
+use Rattle.terminal_augment.specs.Ways.{in_count, way_before, way_in}
 use Rattle.terminal_augment.proofs.LabelLemmas.{label_set, open_few, open_labelled}
 use Rattle.terminal_augment.proofs.SpotLemmas.{all_cons, has_drop}
 
@@ -49,6 +50,11 @@ grown_then {k} {l} {m} {v} {x} g h = record {
 
 pub has_later : {k : ℕ} {l m : LabelTable} {x y : Queue Met} (n t : ℕ) → IsGrown k l m x y → has (spots x.list) n t ≡ true → has (spots y.list) n t ≡ true
 has_later {x} {y} n t g h = has_drop (length y.list - length x.list) y.list n t (subst (λ (z : List Met). has (spots z) n t ≡ true) (sym g.below) h)
+
+pub among_later : {k : ℕ} {l m : LabelTable} {x y : Queue Met} (e : End) → IsGrown k l m x y → IsAmong k (spots x.list) e → IsAmong k (spots y.list) e
+among_later Source g h = absurd h
+among_later (Pair n t) g h = has_later n t g h
+among_later (Door j) g h = h
 
 -- what is done stays so while labels are set
 pub done_later : (w : Network) {k : ℕ} {l m : LabelTable} {x y : Queue Met} (z : PathStep) → IsGrown k l m x y → IsDone w l k z → IsDone w m k z
@@ -80,6 +86,21 @@ before_later w {k} n t u {m} g some few old here = elim (cases_lt u t) [
 
 pub seeded_later : (w : Network) {k : ℕ} (n : ℕ) {l m : LabelTable} {x y : Queue Met} → IsGrown k l m x y → IsSeededBelow w l k n → IsSeededBelow w m k n
 seeded_later w n g h a t q place stop = done_later w (record { place = Arc a t; back = false }) g (h a t q place stop)
+
+-- at an exit the flood has begun once each way into it is done
+pub seeded_more : (w : Network) (l : LabelTable) (k n : ℕ) → exit_at w.site n ≡ true
+    → ((i : ℕ) → i < in_count w.site n → IsWayDone w l k (way_in w.site (get_or (arcs_to w.site.shape n) i 0) k)) → IsSeededBelow w l k n → IsSeededBelow w l k (n + 1)
+seeded_more w l k n exit entering old a t few place stop = elim (cases_lt (to_at w.site.shape a) n) [
+  | inl before ↦ old a t before place stop
+  | inr after ↦
+      let here : to_at w.site.shape a ≡ n = omega (arith, few, after) in
+      let listed = lists.into_listed w.site.shape n a place.0 here in
+      let way : IsWayDone w l k (way_in w.site a k) = subst (λ z. IsWayDone w l k (way_in w.site z k)) listed.2 (entering listed.0 listed.1) in
+      let moment : arrival_at w.site a t ≡ k = cc (stop, ap (exit_at w.site) here, exit) in
+      let early : leb (arrival_at w.site a 0) k ≡ true = le-leb _ _ (omega (arith, moment)) in
+      let when : k - arrival_at w.site a 0 ≡ t = omega (arith, moment) in
+      subst (λ z. IsDone w l k (record { place = Arc a z; back = false })) when (rw early at way)
+]
 
 -- ---- a search begins
 

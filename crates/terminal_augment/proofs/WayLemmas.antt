@@ -1,5 +1,5 @@
 -- The steps that lead into a pair, and when all of them are done.
-use Rattle.std.proofs.Common.{◌≡◌, ℕ, ◌+◌, ◌-◌, ◌<◌, Bool, true, false, cond, eqb, leb, get_or, MatchOption, if◌then◌else◌, subst, arith}
+use Rattle.std.proofs.Common.{◌≡◌, ℕ, ◌+◌, ◌-◌, ◌<◌, Bool, true, false, cond, eqb, leb, get_or, MatchOption, subst, arith}
 use Rattle.std.proofs.lemmas.Bool.{cases_Bool, ne_eqb, leb-true, le-leb}
 use Rattle.time_expansion.specs.Expansion.{arcs_from, arcs_to, from_at, to_at}
 use Rattle.time_expansion.proofs.Lists as lists
@@ -11,15 +11,11 @@ use Rattle.residual_net.specs.declared.end.End.TheVariants.{Pair, Door}
 use Rattle.residual_net.specs.Network.{Network}
 use Rattle.residual_net.specs.Site.{Site, IsOpenPair, IsPlace, arrival_at, exit_at, stop_of}
 use Rattle.terminal_augment.specs.Floods.{IsDone, IsExpanded, IsWayDone}
-use Rattle.terminal_augment.specs.Ways.{in_count, out_count, way_before, way_in}
+use Rattle.terminal_augment.specs.Ways.{end_at, in_count, out_count, way_before, way_in}
 
 -- ---- the way over an arc leads where the arc does
 
--- where those come who arrive over an arc at a moment
-abbrev pub arc_end : Site → ℕ → ℕ → End
-arc_end s a t = if exit_at s (to_at s.shape a) then Door t else Pair (to_at s.shape a) t
-
-pub in_stops : (s : Site) (a t : ℕ) (P : End → Type 0) → P (arc_end s a t) → MatchOption (way_in s a t) (Unit {0}) (λ y. P (stop_of s y))
+pub in_stops : (s : Site) (a t : ℕ) (P : End → Type 0) → P (end_at s (to_at s.shape a) t) → MatchOption (way_in s a t) (Unit {0}) (λ y. P (stop_of s y))
 in_stops s a t P h = grind (arith, cases_Bool, leb-true)
 
 -- ---- all steps into a pair

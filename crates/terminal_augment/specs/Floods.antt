@@ -2,6 +2,7 @@
 use Rattle.std.specs.Prelude.{◌≡◌, ℕ, ◌+◌, ◌-◌, ◌*◌, ◌<◌, ◌≤◌, ◌⊎◌, not, false, ◌==◌, List, Option, Some, None, MatchOption, count_by, length, drop, IsTrue}
 use Rattle.std.specs.List.{All}
 use Rattle.evac_law.specs.LabelTable.{LabelTable, label_at}
+use Rattle.time_expansion.specs.Expansion.{to_at}
 use Rattle.residual_net.specs.declared.place.PathStep.{PathStep}
 use Rattle.residual_net.specs.declared.place.Place.TheVariants.{Arc}
 use Rattle.residual_net.specs.Closed.{reached}
@@ -56,9 +57,9 @@ IsExpanded w l k n t = (y : PathStep) → IsPlace w.site y.place → stop_of w.s
 abbrev pub AreExpanded : Network → LabelTable → ℕ → ℕ → List Met → Type 0
 AreExpanded w l k front ms = All (λ m. IsExpanded w l k m.spot.node m.spot.moment) (drop (length ms - front) ms)
 
--- the flood has begun at the arcs of smaller numbers: each step over one of them into an arrival at k is done
+-- the flood has begun at the arcs into nodes of smaller numbers: each step over one of them into an arrival at k is done
 abbrev pub IsSeededBelow : Network → LabelTable → ℕ → ℕ → Type 0
-IsSeededBelow w l k n = (a t : ℕ) → a < n → IsPlace w.site (Arc a t) → stop_of w.site (record { place = Arc a t; back = false }) ≡ Door k
+IsSeededBelow w l k n = (a t : ℕ) → to_at w.site.shape a < n → IsPlace w.site (Arc a t) → stop_of w.site (record { place = Arc a t; back = false }) ≡ Door k
     → IsDone w l k (record { place = Arc a t; back = false })
 
 -- the same labels

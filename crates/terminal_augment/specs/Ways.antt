@@ -3,12 +3,18 @@ use Rattle.std.specs.Prelude.{ℕ, ◌-◌, ◌<◌, ◌≤◌, false, if◌then
 use Rattle.time_expansion.specs.Expansion.{arcs_from, arcs_to}
 use Rattle.residual_net.specs.declared.place.Place.TheVariants.{Arc, Hold}
 use Rattle.residual_net.specs.declared.place.PathStep.{PathStep}
-use Rattle.residual_net.specs.Site.{Site, arc_count, arrival_at}
+use Rattle.residual_net.specs.declared.end.End.{End}
+use Rattle.residual_net.specs.declared.end.End.TheVariants.{Door, Pair}
+use Rattle.residual_net.specs.Site.{Site, arc_count, arrival_at, exit_at}
 
 -- an arc and a moment are the network's
 pub record IsArcAt (s : Site) (a t : ℕ) : Type 0 where
   pub arc : a < arc_count s
   pub moment : t ≤ s.shape.horizon
+
+-- where those are who come to a node at a moment: there, or out where it is an exit
+abbrev pub end_at : Site → ℕ → ℕ → End
+end_at s n t = if exit_at s n then Door t else Pair n t
 
 -- how many arcs enter a node, and how many leave it
 abbrev pub in_count : Site → ℕ → ℕ

@@ -4,12 +4,12 @@ ghost use Rattle.time_expansion.specs.Expansion.{arcs_from, arcs_to};
 ghost use Rattle.residual_net.specs.declared.place.Place.TheVariants.{Arc, Hold};
 ghost use Rattle.residual_net.specs.declared.end.End.TheVariants.{Pair};
 ghost use Rattle.residual_net.specs.Network.{IsNet};
-ghost use Rattle.residual_net.specs.Site.{IsOpenPair, IsPlace, arc_count, start_of, stop_of, tail_of};
+ghost use Rattle.residual_net.specs.Site.{IsOpenPair, IsPlace, start_of, stop_of, tail_of};
 ghost use Rattle.terminal_augment.specs.Chains.{IsAmong, IsFound, spots};
 ghost use Rattle.terminal_augment.specs.Floods.{IsSeededBelow, AreExpanded, IsDone, IsExpanded, IsFlooded, IsFlooding, IsGrown, IsWayDone};
 ghost use Rattle.terminal_augment.specs.Settled.{IsSettledBelow};
 ghost use Rattle.terminal_augment.specs.Spots.{has};
-ghost use Rattle.terminal_augment.specs.Ways.{IsArcAt, in_count, out_count, way_before, way_in};
+ghost use Rattle.terminal_augment.specs.Ways.{IsArcAt, end_at, in_count, out_count, way_before, way_in};
 
 use crate::queue::Queue;
 use crate::spot::{ArcAt, Met, Spot};
@@ -62,10 +62,11 @@ fn meet_in(net: &Net, labels: &mut Labels, queue: &mut Queue<Met>, at: ArcAt, k:
     meet(net, labels, queue, Met { spot, step }, k);
 }
 
-// Meets the pairs at which the arcs begin by which people come to a pair.
+// Meets the pairs at which the arcs begin by which people come to a node at a moment.
 fn expand_in(net: &Net, labels: &mut Labels, queue: &mut Queue<Met>, spot: Spot, k: u16)
-    requires inside { IsOpenPair net.now.site spot.node spot.moment }
-    requires met { IsTrue (has (spots queue.old.list) spot.node spot.moment) }
+    requires node { spot.node < net.now.site.shape.nodes }
+    requires moment { spot.moment ≤ net.now.site.shape.horizon }
+    requires stop { IsAmong k (spots queue.old.list) (end_at net.now.site spot.node spot.moment) }
     requires flooding { IsFlooding net.now labels.old k queue.old }
     ensures flooding { IsFlooding net.now labels.new k queue.new }
     ensures grown { IsGrown k labels.old labels.new queue.old queue.new }
@@ -208,17 +209,16 @@ fn expand(
     expand_out(net, labels, queue, spot, k)
 }
 
-// Meets the pair at which an arc begins by which people arrive at a moment.
-fn seed(net: &Net, labels: &mut Labels, queue: &mut Queue<Met>, arc: u32, k: u16)
-    requires arc { IsArcAt net.now.site arc k }
+// Meets the pairs at which the arcs into a node begin by which people arrive there at a moment, where it is an exit.
+fn seed(net: &Net, labels: &mut Labels, queue: &mut Queue<Met>, node: u32, k: u16)
+    requires node { node < net.now.site.shape.nodes }
     requires flooding { IsFlooding net.now labels.old k queue.old }
     ensures flooding { IsFlooding net.now labels.new k queue.new }
     ensures grown { IsGrown k labels.old labels.new queue.old queue.new }
-    ensures seeded { IsSeededBelow net.now labels.old k arc → IsSeededBelow net.now labels.new k (arc + 1) }
+    ensures seeded { IsSeededBelow net.now labels.old k node → IsSeededBelow net.now labels.new k (node + 1) }
 {
-    let node = net.shape().ends()[arc as usize].to;
     if net.is_exit(node) {
-        meet_in(net, labels, queue, ArcAt { arc, moment: k }, k);
+        expand_in(net, labels, queue, Spot { node, moment: k }, k);
     }
 }
 
@@ -227,11 +227,10 @@ fn seed_all(net: &Net, labels: &mut Labels, queue: &mut Queue<Met>, k: u16)
     requires flooding { IsFlooding net.now labels.old k queue.old }
     ensures flooding { IsFlooding net.now labels.new k queue.new }
     ensures grown { IsGrown k labels.old labels.new queue.old queue.new }
-    ensures seeded { IsSeededBelow net.now labels.new k (arc_count net.now.site) }
+    ensures seeded { IsSeededBelow net.now labels.new k net.now.site.shape.nodes }
 {
-    let arcs = net.shape().ends().len() as u32;
-    for arc in 0..arcs {
-        seed(net, labels, queue, arc, k);
+    for node in 0..net.nodes() {
+        seed(net, labels, queue, node, k);
     }
 }
 

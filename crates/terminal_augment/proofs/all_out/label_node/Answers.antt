@@ -1,4 +1,4 @@
-use Rattle.std.proofs.Common.{◌≡◌, ◌<◌, ◌+◌, ◌∙◌, subst, sym, arith}
+use Rattle.std.proofs.Common.{◌+◌, ◌∙◌, subst, sym, arith}
 use Rattle.evac_law.specs.LabelTable.{LabelTable}
 use Rattle.terminal_augment.specs.AllOut.{AreLowered}
 use Rattle.terminal_augment.proofs.AllOutLemmas.{in_node, lowered_kept, lowered_set}

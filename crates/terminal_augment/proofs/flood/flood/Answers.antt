@@ -1,4 +1,3 @@
-use Rattle.residual_net.specs.Site.{arc_count}
 use Rattle.terminal_augment.proofs.ClosedLemmas.{alike_after, over_after}
 use Rattle.terminal_augment.proofs.FloodLemmas.{seeded_later, flooding_begins, grown_then}
 use Rattle.terminal_augment.proofs.flood.flood.Goals as goal
@@ -13,7 +12,7 @@ pub returns-in-None-clause-flooded : goal.returns-in-None-clause-flooded
 returns-in-None-clause-flooded c =
     let w = c.args.net.now in
     over_after c.requires.settled (grown_then c.seed_all.ensures.grown c.expand_all.ensures.grown) c.expand_all.ensures.flooding
-    c.in-None.ensures.found (seeded_later w (arc_count w.site) c.expand_all.ensures.grown c.seed_all.ensures.seeded)
+    c.in-None.ensures.found (seeded_later w w.site.shape.nodes c.expand_all.ensures.grown c.seed_all.ensures.seeded)
 
 pub returns-in-Some-clause-flooded : goal.returns-in-Some-clause-flooded
 returns-in-Some-clause-flooded c =
