@@ -18,7 +18,7 @@ use Rattle.residual_net.specs.declared.place.Place.TheVariants.{Arc, Hold, Suppl
 use Rattle.residual_net.proofs.Last.{arrival_moves}
 use Rattle.residual_net.proofs.Quiet.{drained, onward, part_into, rank_up}
 use Rattle.residual_net.proofs.Walks.{start_open, stop_open}
-use Rattle.terminal_augment.specs.AllOut.{AreAllOut, AreLowered, IsFull}
+use Rattle.terminal_augment.specs.AllOut.{AreAllOut, AreLowered, IsWholeTable}
 use Rattle.terminal_augment.specs.Floods.{IsFloodOver}
 use Rattle.terminal_augment.specs.Settled.{IsSettledBelow}
 use Rattle.terminal_augment.proofs.ClosedLemmas.{closed_same, earlier_reached}
@@ -34,7 +34,7 @@ in_node node past n t = (n ≡ node) × (t < past)
 abbrev pub in_first : ℕ → ℕ → ℕ → ℕ → Type 0
 in_first count past n t = (n < count) × (t < past)
 
-pub none_lowered : (l : LabelTable) (k : ℕ) (kind : ℕ → ℕ → Type 0) → IsFull l → ((n t : ℕ) → kind n t → ⊥) → AreLowered k kind l l
+pub none_lowered : (l : LabelTable) (k : ℕ) (kind : ℕ → ℕ → Type 0) → IsWholeTable l → ((n t : ℕ) → kind n t → ⊥) → AreLowered k kind l l
 none_lowered l k kind full none = record { nodes = refl; horizon = refl; full = full; low = λ n t h. absurd (none n t h); others = λ n t a b. inl refl }
 
 -- a label that isn't above k stays

@@ -1,7 +1,7 @@
 //! The labels of a moment by which everybody is out: they are found without a flood.
 ghost use Rattle.std.specs.Prelude.{◌≡◌, ◌<◌, ◌≤◌, ◌↔◌, IsTrue};
 ghost use Rattle.residual_net.specs.Network.{IsWithinLimits};
-ghost use Rattle.terminal_augment.specs.AllOut.{AreAllOut, AreLowered, IsFull};
+ghost use Rattle.terminal_augment.specs.AllOut.{AreAllOut, AreLowered, IsWholeTable};
 
 use evac_law::Labels;
 use residual_net::Net;
@@ -20,7 +20,7 @@ pub fn are_all_out(net: &Net, k: u16) -> bool
 fn label_node(labels: &mut Labels, node: u32, k: u16)
     requires node { node < labels.old.nodes }
     requires moment { k ≤ labels.old.horizon }
-    requires full { IsFull labels.old }
+    requires full { IsWholeTable labels.old }
     ensures { AreLowered k (λ n t. (n ≡ node) × (t < k)) labels.old labels.new }
 {
     for moment in 0..k {
