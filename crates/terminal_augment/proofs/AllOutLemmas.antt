@@ -1,6 +1,6 @@
 -- Once everybody is out by a moment, the pairs before it are closed.
 use Rattle.std.proofs.Common.{◌≡◌, ℕ, ◌+◌, ◌<◌, ◌≤◌, Bool, true, false, cond, ◌&&◌, eqb, leb, ap, sym, subst, ◌∙◌, ◌⊎◌, refl, arith, inl, inr}
-use Rattle.std.proofs.lemmas.Bool.{cases_Bool, cases_lt, and_parts, and_from, eq-eqb, eqb-true, le-leb, leb-true, lt-leb}
+use Rattle.std.proofs.lemmas.Bool.{cases_Bool, cases_lt, and_parts, and_from, eq-eqb, eqb-true, le-leb, lt-leb}
 use Rattle.std.proofs.lemmas.List.{length-set}
 use Rattle.evac_law.specs.LabelTable.{LabelTable, label_at, label_place, unset, with_label}
 use Rattle.time_expansion.specs.Expansion.{from_at}
@@ -11,17 +11,16 @@ use Rattle.residual_net.specs.Labelled.{IsClosedBelow}
 use Rattle.residual_net.specs.Network.{Network, IsNet, flow_at, flow_into, residual_room}
 use Rattle.residual_net.specs.NetLaws.{labelled}
 use Rattle.residual_net.specs.Site.{IsOpenEnd, IsOpenPair, IsPlace, at, head_of, start_of, stop_of, tail_of}
-use Rattle.residual_net.specs.declared.end.End.{End}
-use Rattle.residual_net.specs.declared.end.End.TheVariants.{Source, Pair, Door}
+use Rattle.residual_net.specs.declared.end.End.TheVariants.{Pair, Door}
 use Rattle.residual_net.specs.declared.place.Place.{Place}
 use Rattle.residual_net.specs.declared.place.Place.TheVariants.{Arc, Hold, Supply}
 use Rattle.residual_net.proofs.Last.{arrival_moves}
 use Rattle.residual_net.proofs.Quiet.{drained, onward, part_into, rank_up}
-use Rattle.residual_net.proofs.Walks.{start_open, stop_open}
+use Rattle.residual_net.proofs.Walks.{start_open}
 use Rattle.terminal_augment.specs.AllOut.{AreAllOut, AreLowered, IsWholeTable}
 use Rattle.terminal_augment.specs.Floods.{IsFloodOver}
 use Rattle.terminal_augment.specs.Settled.{IsSettledBelow}
-use Rattle.terminal_augment.proofs.ClosedLemmas.{closed_same, earlier_reached}
+use Rattle.terminal_augment.proofs.ClosedLemmas.{closed_same, closed_with}
 use Rattle.terminal_augment.proofs.LabelLemmas.{label_set}
 
 -- ---- labels that are lowered
@@ -174,21 +173,10 @@ module _ (w : Network) (k : ℕ) (net : IsNet w) (out : AreAllOut w k) where
 
     -- so the pairs before it, with those closed earlier, are closed
     out_closed : IsClosedBelow w m k → ((n t : ℕ) → IsOpenPair w.site n t → label_at m n t ≡ k → t < k) → IsClosed w (labelled m k) k
-    out_closed closed early y place room inside = by (stop_of w.site y) refl inside
-      where
-        old : (i : ℕ) → i < k → reached (labelled m i) i (stop_of w.site y) ≡ true → reached (labelled m k) k (start_of w.site y) ≡ true
-        old i q h = earlier_reached m k i (start_of w.site y) q (closed i q y place room h)
-
-        by : (e : End) → stop_of w.site y ≡ e → reached (labelled m k) k e ≡ true → reached (labelled m k) k (start_of w.site y) ≡ true
-        by Source q h = absurd (cc)
-        by (Pair n t) q h = elim (cases_lt (label_at m n t) k) [
-          | inl before ↦ old (label_at m n t) before (ap (reached (labelled m (label_at m n t)) (label_at m n t)) q ∙ le-leb _ _ (omega arith))
-          | inr after ↦
-              let same : label_at m n t ≡ k = omega (arith, after, leb-true _ _ h) in
-              let moment = early n t (subst (IsOpenEnd w.site) q (stop_open w y net place room)) same in
-              starts_inside y.place y.back place room (omega (arith, moment, ap rank q))
-        ]
-        by (Door j) q h = starts_inside y.place y.back place room (omega (arith, leb-true _ _ h, ap rank q))
+    out_closed closed early =
+        closed_with m k net closed
+        (λ y place room n t q inside same. starts_inside y.place y.back place room (omega (arith, early n t inside same, ap rank q)))
+        (λ y place room q. starts_inside y.place y.back place room (omega (arith, ap rank q)))
 
 -- the labels of the pairs before that moment are right
 pub over_out : {w : Network} {l m : LabelTable} {k : ℕ} → IsNet w → AreAllOut w k → IsSettledBelow w l k → AreLowered k (in_first l.nodes k) l m → IsFloodOver w l m k

@@ -12,6 +12,7 @@ use Rattle.residual_net.specs.NetLaws.{labelled}
 use Rattle.residual_net.specs.Site.{IsOpenEnd, IsOpenPair, IsPlace, start_of, stop_of}
 use Rattle.residual_net.specs.declared.end.End.{End}
 use Rattle.residual_net.specs.declared.end.End.TheVariants.{Source, Pair, Door}
+use Rattle.residual_net.specs.declared.place.PathStep.{PathStep}
 use Rattle.residual_net.specs.declared.place.Place.{Place}
 use Rattle.residual_net.specs.declared.place.Place.TheVariants.{Arc, Hold, Supply}
 use Rattle.residual_net.proofs.Walks.{start_open, stop_open}
@@ -56,19 +57,39 @@ labelled_after g free = record {
 }
 
 -- what is reached before k is so at k
-pub earlier_reached : (l : LabelTable) (k i : ℕ) (e : End) → i < k → reached (labelled l i) i e ≡ true → reached (labelled l k) k e ≡ true
+earlier_reached : (l : LabelTable) (k i : ℕ) (e : End) → i < k → reached (labelled l i) i e ≡ true → reached (labelled l k) k e ≡ true
 earlier_reached l k i Source q h = absurd (cc)
 earlier_reached l k i (Pair n t) q h = le-leb _ _ (omega (arith, leb-true _ _ h, q))
 earlier_reached l k i (Door j) q h = le-leb _ _ (omega (arith, leb-true _ _ h, q))
 
--- where each step is done into the pairs labelled k and into the arrivals at k, the pairs labelled at most k are closed
-now_closed : {w : Network} (m : LabelTable) (k : ℕ) → IsNet w → IsClosedBelow w m k → ((n t : ℕ) → IsOpenPair w.site n t → label_at m n t ≡ k → IsExpanded w m k n t)
-    → IsSeededBelow w m k w.site.shape.nodes → IsClosed w (labelled m k) k
-now_closed {w} m k net closed expanded seeded y place room inside = by (stop_of w.site y) refl inside
+-- the pairs labelled at most k are closed where those labelled less are, and each step with room into a pair labelled k or an arrival at k starts within
+pub closed_with : {w : Network} (m : LabelTable) (k : ℕ) → IsNet w → IsClosedBelow w m k
+    → ((y : PathStep) → IsPlace w.site y.place → 0 < residual_room w y → (n t : ℕ) → stop_of w.site y ≡ Pair n t → IsOpenPair w.site n t → label_at m n t ≡ k
+    → reached (labelled m k) k (start_of w.site y) ≡ true)
+    → ((y : PathStep) → IsPlace w.site y.place → 0 < residual_room w y → stop_of w.site y ≡ Door k → reached (labelled m k) k (start_of w.site y) ≡ true)
+    → IsClosed w (labelled m k) k
+closed_with {w} m k net closed at_pair at_door y place room inside = by (stop_of w.site y) refl inside
   where
     old : (i : ℕ) → i < k → reached (labelled m i) i (stop_of w.site y) ≡ true → reached (labelled m k) k (start_of w.site y) ≡ true
     old i q h = earlier_reached m k i (start_of w.site y) q (closed i q y place room h)
 
+    by : (e : End) → stop_of w.site y ≡ e → reached (labelled m k) k e ≡ true → reached (labelled m k) k (start_of w.site y) ≡ true
+    by Source q h = absurd (cc)
+    by (Pair n t) q h = elim (cases_lt (label_at m n t) k) [
+      | inl before ↦ old (label_at m n t) before (ap (reached (labelled m (label_at m n t)) (label_at m n t)) q ∙ le-leb _ _ (omega arith))
+      | inr after ↦ at_pair y place room n t q (subst (IsOpenEnd w.site) q (stop_open w y net place room)) (omega (arith, after, leb-true _ _ h))
+    ]
+    by (Door j) q h = elim (cases_lt j k) [
+      | inl before ↦ old j before (ap (reached (labelled m j) j) q ∙ le-leb _ _ (omega arith))
+      | inr after ↦ at_door y place room (q ∙ ap (λ z. Door z) (let same : j ≡ k = omega (arith, after, leb-true _ _ h) in same))
+    ]
+
+-- where each step is done into the pairs labelled k and into the arrivals at k, the pairs labelled at most k are closed
+now_closed : {w : Network} (m : LabelTable) (k : ℕ) → IsNet w → IsClosedBelow w m k → ((n t : ℕ) → IsOpenPair w.site n t → label_at m n t ≡ k → IsExpanded w m k n t)
+    → IsSeededBelow w m k w.site.shape.nodes → IsClosed w (labelled m k) k
+now_closed {w} m k net closed expanded seeded =
+    closed_with m k net closed (λ y place room n t q inside same. expanded n t inside same y place q room) (λ y place room q. at_door y.place y.back place room q)
+  where
     at_door : (p : Place) (b : Bool) → IsPlace w.site p → 0 < residual_room w (record { place = p; back = b }) → stop_of w.site (record { place = p; back = b }) ≡ Door k
         → reached (labelled m k) k (start_of w.site (record { place = p; back = b })) ≡ true
     at_door (Arc a t) false at some q = seeded a t (net.site.shape.ends_in a no_ends at.0).1 at q some
@@ -77,21 +98,6 @@ now_closed {w} m k net closed expanded seeded y place room inside = by (stop_of 
     at_door (Hold n t) false at some q = absurd (cc)
     at_door (Supply n t) true at some q = absurd (cc)
     at_door (Supply n t) false at some q = absurd (cc)
-
-    by : (e : End) → stop_of w.site y ≡ e → reached (labelled m k) k e ≡ true → reached (labelled m k) k (start_of w.site y) ≡ true
-    by Source q h = absurd (cc)
-    by (Pair n t) q h = elim (cases_lt (label_at m n t) k) [
-      | inl before ↦ old (label_at m n t) before (ap (reached (labelled m (label_at m n t)) (label_at m n t)) q ∙ le-leb _ _ (omega arith))
-      | inr after ↦
-          let same : label_at m n t ≡ k = omega (arith, after, leb-true _ _ h) in
-          expanded n t (subst (IsOpenEnd w.site) q (stop_open w y net place room)) same y place q room
-    ]
-    by (Door j) q h = elim (cases_lt j k) [
-      | inl before ↦ old j before (ap (reached (labelled m j) j) q ∙ le-leb _ _ (omega arith))
-      | inr after ↦
-          let same : j ≡ k = omega (arith, after, leb-true _ _ h) in
-          at_door y.place y.back place room (q ∙ ap (λ z. Door z) same)
-    ]
 
 -- a flood that came to nobody is over
 pub over_after : {w : Network} {l m : LabelTable} {k : ℕ} {x y : Queue Met} → IsSettledBelow w l k → IsGrown k l m x y → IsFlooding w m k y
