@@ -16,12 +16,27 @@ use evac_law::Steps;
 use residual_net::{Cell, End, Leg, Net, PathStep, Transit};
 use std::sync::ledger::Ledger;
 
+// Whether each of some cells has room for some more people. It is quicker to find than the least room.
+fn have_room(cells: &[Cell], people: u32) -> bool
+    requires { All (λ c. c.flow ≤ c.limit) cells.now }
+    ensures { IsTrue result → All (λ c. people ≤ c.limit - c.flow) cells.now }
+{
+    let mut full = false;
+    for cell in cells {
+        full |= cell.limit - cell.flow < people;
+    }
+    !full
+}
+
 // The least room of some cells for more people, or the most people where that is less.
 fn least_room(cells: &[Cell], most: u32) -> u32
     requires { All (λ c. c.flow ≤ c.limit) cells.now }
     ensures most { result ≤ most }
     ensures room { All (λ c. result ≤ c.limit - c.flow) cells.now }
 {
+    if have_room(cells, most) {
+        return most;
+    }
     let mut least = most;
     for cell in cells {
         least = least.min(cell.limit - cell.flow);
