@@ -1,5 +1,5 @@
 //! The cells of a net, with no rule on its flow.
-ghost use Rattle.std.specs.Prelude.{◌≡◌, ◌∷◌, [], ◌≤◌, ◌<◌, ◌+◌, ◌-◌, ◌↔◌, IfOk, IsTrue, length, map, vec_capacity};
+ghost use Rattle.std.specs.Prelude.{◌≡◌, ◌∷◌, [], ◌≤◌, ◌<◌, ◌+◌, ◌-◌, ◌↔◌, IfOk, IsTrue, length, map, true, vec_capacity};
 ghost use Rattle.std.specs.List.{All};
 ghost use Rattle.residual_net.specs.Site.{IsSite, IsPlace, all_cells, arrival_at, cell_of, exit_at, head_of, start_of, stop_of, tail_of};
 ghost use Rattle.residual_net.specs.Network.{IsGrid, flow_at, limit_at, residual_room, saved_of, step_over, with_cell, with_saved};
@@ -7,7 +7,7 @@ ghost use Rattle.residual_net.specs.Legs.{IsShiftable, steps_of_leg, waits_at, w
 ghost use Rattle.residual_net.specs.Route.{IsPushed};
 ghost use Rattle.residual_net.specs.Change.{IsLimitSet};
 ghost use Rattle.residual_net.specs.Start.{emptied};
-ghost use Rattle.residual_net.specs.declared.place.Place.TheVariants.{Arc};
+ghost use Rattle.residual_net.specs.declared.place.Place.TheVariants.{Arc, Hold};
 
 use crate::end::End;
 use crate::place::{Cell, PathStep, Place, Transit};
@@ -214,6 +214,18 @@ impl Grid {
         let node = self.shape().ends()[arc as usize].from;
         self.shift_waits(node, since, moment, people);
         self.raise(Place::Arc { arc, moment }, people);
+    }
+
+    /// Sends people back over a wait, and lets them wait before in its node, at each moment since one.
+    pub fn shift_wait_back(&mut self, node: u32, moment: u16, since: u16, people: u32)
+        requires grid { IsGrid self.old }
+        requires shiftable { IsShiftable self.old (steps_of_leg self.old.site (record { since = since; step = record { place = Hold node moment; back = true } })) people }
+        ensures pushed { IsPushed self.old self.new (steps_of_leg self.old.site (record { since = since; step = record { place = Hold node moment; back = true } })) people }
+        ensures grid { IsGrid self.new }
+    {
+        self.shift_waits(node, since, moment + 1, people);
+        let place = Place::Hold { node, moment };
+        self.shift(PathStep { place, back: true }, people);
     }
 
     /// Lets more people wait in the node at which a step starts, at each moment since one up to that of the step.

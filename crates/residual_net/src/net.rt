@@ -64,14 +64,19 @@ fn shift_all(grid: &mut Grid, path: &[PathStep], people: u32)
     }
 }
 
-// Sends people over a leg.
+// Sends people over a leg. Most legs end with a move, or with a wait that is taken back: these have calls of their own, which is quicker.
 fn shift_leg(grid: &mut Grid, leg: Leg, people: u32)
     requires grid { IsGrid grid.old }
     requires shiftable { IsShiftable grid.old (steps_of_leg grid.old.site leg) people }
     ensures pushed { IsPushed grid.old grid.new (steps_of_leg grid.old.site leg) people }
     ensures grid { IsGrid grid.new }
 {
-    if !leg.step.back {
+    if leg.step.back {
+        if let Place::Hold { node, moment } = leg.step.place {
+            grid.shift_wait_back(node, moment, leg.since, people);
+            return;
+        }
+    } else {
         if let Place::Arc { arc, moment } = leg.step.place {
             grid.shift_arc(arc, moment, leg.since, people);
             return;
