@@ -62,7 +62,8 @@ impl Surplus<'_> {
     pub fn wanted(&self, ways: &[Way], from: usize, moment: u32) -> Option<(usize, Step)>
         requires ways { All (IsWayWithin self.now.net.ways.now.sizes) ways.now }
         requires moment { moment < self.now.net.ways.now.sizes.moments }
-        ensures { IfSome result (λ found. IsStepWithin self.now.net.ways.now.sizes found.1) }
+        ensures index { IfSome result (λ found. found.0 < length ways.now) }
+        ensures step { IfSome result (λ found. IsStepWithin self.now.net.ways.now.sizes found.1) }
     {
         let sizes = self.net.sizes();
         for index in from..ways.len() {

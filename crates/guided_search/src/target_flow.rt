@@ -7,13 +7,14 @@
 ghost use Rattle.std.specs.Prelude.{◌≡◌, ◌<◌, ◌≤◌, IfOk, IfSome, IsTrue, length, vec_capacity, vec_len};
 ghost use Rattle.std.specs.List.{All};
 ghost use Rattle.residual_ways.specs.Steps.{IsStepWithin};
+ghost use Rattle.residual_ways.specs.Ways.{IsWayWithin};
 
 use crate::lists::add;
 use crate::search::Progress;
 use crate::shortest_paths::ShortestPaths;
 use crate::surplus::{Surplus, lower, lower_all};
 use residual_net::{Cell, Leg};
-use residual_ways::{Residual, Sizes, Step};
+use residual_ways::{Residual, Sizes, Step, Way};
 use std::alloc::{AllocError, Global};
 
 // How far a search has come at a pair.
@@ -178,8 +179,45 @@ impl TargetFlow {
             self.retreat(net, last);
             return Progress::Going;
         };
-        self.visits[last.pair as usize].current_arc = ((index % 256 + 1) % 256) as u8;
-        self.advance(net, step)
+        let current_arc = ((index % 256 + 1) % 256) as u8;
+        self.visits[last.pair as usize].current_arc = current_arc;
+        let progress = self.advance(net, step);
+        if step.node == last.node {
+            self.wait_on(net, ways[index], current_arc);
+        }
+        progress
+    }
+
+    // Goes on by a wait, as long as it is the current arc of the last pair too, and more people are to go over it.
+    fn wait_on(&mut self, net: Residual<'_>, wait: Way, current_arc: u8)
+        requires sought { IsReady net.ways.now.sizes self.old }
+        requires wait { IsWayWithin net.ways.now.sizes wait }
+        ensures { IsReady net.entry.ways.now.sizes self.new }
+    {
+        let Some(mut last) = self.steps.as_slice().last().copied() else {
+            return;
+        };
+        // Where a circle was taken out, the path may end in another node.
+        if last.node != wait.node {
+            return;
+        }
+        for _ in 0..self.sizes.moments {
+            if self.visits[last.pair as usize].current_arc != current_arc {
+                return;
+            }
+            let Some(step) = wait.step(self.sizes, last.moment) else {
+                return;
+            };
+            let target = self.cells.as_slice();
+            let is_on_path = self.visits[step.pair as usize].height > 0;
+            if is_on_path || (Surplus { target, net }).over(step) == 0 {
+                return;
+            }
+            if let Progress::Full = self.push(step) {
+                return;
+            }
+            last = step;
+        }
     }
 
     // Begins a path at the next exit way by which more people are to arrive at the moment.
@@ -301,17 +339,18 @@ impl TargetFlow {
         ensures { vec_capacity legs.new ≡ vec_capacity legs.old }
     {
         legs.clear();
+        let sizes = self.sizes;
         if let Some(origin) = self.origin {
-            let step = origin.path_step(self.sizes);
+            let step = origin.path_step(sizes);
             add(legs, Leg { since: 0, step });
         }
         let mut waited = None;
         for step in self.steps.as_slice().iter().rev() {
             let since = waited.unwrap_or(step.moment);
-            if step.waits(self.sizes) {
+            if step.waits(sizes) {
                 waited = Some(since);
             } else {
-                add(legs, step.leg_since(self.sizes, since));
+                add(legs, step.leg_since(sizes, since));
                 waited = None;
             }
         }
