@@ -9,7 +9,7 @@ ghost use Rattle.std.specs.Prelude.{◌≡◌, ◌<◌, ◌≤◌};
 use crate::look::least_label;
 use crate::search::BackwardSearch;
 use crate::tuning::FAR;
-use residual_ways::{Residual, is_open, is_open_back, unsent};
+use residual_ways::{Residual, is_open, room_in, unsent};
 
 impl BackwardSearch {
     /// Computes the labels of the relabelled pairs anew, leaves those of them that aren't dead, and lets the search begin anew.
@@ -191,16 +191,21 @@ impl BackwardSearch {
     {
         let incoming = residual.incoming_at(pair);
         for way in incoming.ways {
-            let Some(step) = incoming.step(*way) else {
+            let Some(begun) = way.begun(incoming.sizes, incoming.moment) else {
                 continue;
             };
-            let other = step.pair;
-            let label = level + !step.back as u32;
-            if label < self.distances.get(other) && is_open_back(residual.cells, step) {
-                self.distances.set(other, label, 0);
-                if step.back {
+            let other = way.first_pair + begun;
+            let label = self.distances.get(other);
+            if way.back {
+                let ahead = residual.cells[(way.first_cell + incoming.moment) as usize];
+                if level < label && room_in(ahead) > 0 {
+                    self.distances.set(other, level, 0);
                     self.levels.frontier.add(other);
-                } else {
+                }
+            } else {
+                let before = residual.cells[(way.first_cell + begun) as usize];
+                if level + 1 < label && before.flow > 0 {
+                    self.distances.set(other, level + 1, 0);
                     self.levels.next.add(other);
                 }
             }

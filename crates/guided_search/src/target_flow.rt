@@ -339,18 +339,17 @@ impl TargetFlow {
         ensures { vec_capacity legs.new ≡ vec_capacity legs.old }
     {
         legs.clear();
-        let sizes = self.sizes;
         if let Some(origin) = self.origin {
-            let step = origin.path_step(sizes);
+            let step = origin.path_step(self.sizes);
             add(legs, Leg { since: 0, step });
         }
         let mut waited = None;
         for step in self.steps.as_slice().iter().rev() {
             let since = waited.unwrap_or(step.moment);
-            if step.waits(sizes) {
+            if step.waits(self.sizes) {
                 waited = Some(since);
             } else {
-                add(legs, step.leg_since(sizes, since));
+                add(legs, step.leg_since(self.sizes, since));
                 waited = None;
             }
         }
