@@ -6,7 +6,7 @@ ghost use Rattle.guided_search.specs.Looks.{IsLookWithin};
 
 use crate::distances::Distances;
 use crate::tuning::FAR;
-use residual_ways::{Incoming, Step, Way, is_open};
+use residual_ways::{Incoming, Step, Way, room_in};
 
 /// What a look at the ways into a pair finds.
 #[derive(Clone, Copy)]
@@ -17,6 +17,21 @@ pub enum Look {
     Least { label: u32, index: usize },
 }
 
+// How many people a way backwards takes off.
+fn flow_into(incoming: &Incoming<'_>, way: Way) -> u32
+    requires { IsWayWithin incoming.now.sizes way }
+{
+    incoming.cells[(way.first_cell + incoming.moment) as usize].flow
+}
+
+// How many more people may go over a way forwards from a moment on.
+fn room_since(incoming: &Incoming<'_>, way: Way, begun: u32) -> u32
+    requires way { IsWayWithin incoming.now.sizes way }
+    requires begun { begun < incoming.now.sizes.moments }
+{
+    room_in(incoming.cells[(way.first_cell + begun) as usize])
+}
+
 // The step of a way, if it is admissible: the distance label falls over it by just its weight, and it has room.
 fn admissible(incoming: &Incoming<'_>, distances: &Distances, way: Way, label: u32) -> Option<Step>
     requires sizes { distances.now.sizes ≡ incoming.now.sizes }
@@ -24,11 +39,15 @@ fn admissible(incoming: &Incoming<'_>, distances: &Distances, way: Way, label: u
     ensures { IfSome result (λ step. IsStepWithin incoming.now.sizes step × (IsFalse step.back → step.moment ≤ incoming.now.moment)) }
 {
     let begun = way.begun(incoming.sizes, incoming.moment)?;
-    if distances.get(way.first_pair + begun) + way.weight() != label {
+    let before = distances.get(way.first_pair + begun);
+    if way.back {
+        if before + 1 != label || flow_into(incoming, way) == 0 {
+            return None;
+        }
+    } else if before != label || room_since(incoming, way, begun) == 0 {
         return None;
     }
-    let step = way.step_between(begun, incoming.moment);
-    is_open(incoming.cells, step).then_some(step)
+    Some(way.step_between(begun, incoming.moment))
 }
 
 // The distance label that a way allows a pair, if it has room and the label is below another.
@@ -43,12 +62,12 @@ fn allowed_below(
     ensures { IfSome result (λ allowed. allowed < label) }
 {
     let begun = way.begun(incoming.sizes, incoming.moment)?;
-    let allowed = distances.get(way.first_pair + begun) + way.weight();
-    if allowed >= label {
-        return None;
+    let before = distances.get(way.first_pair + begun);
+    if way.back {
+        (before + 1 < label && flow_into(incoming, way) > 0).then_some(before + 1)
+    } else {
+        (before < label && room_since(incoming, way, begun) > 0).then_some(before)
     }
-    let step = way.step_between(begun, incoming.moment);
-    is_open(incoming.cells, step).then_some(allowed)
 }
 
 /// Looks for an admissible way from an index on. Where there is none, the least label is sought among all ways.
