@@ -32,7 +32,7 @@ fn room_since(incoming: &Incoming<'_>, way: Way, begun: u32) -> u32
     room_in(incoming.cells[(way.first_cell + begun) as usize])
 }
 
-// The step of a way, if it is admissible: the distance label falls over it by just its weight, and it has room.
+// The step of a way, if it is admissible: it has room, and over it the distance label falls by 1 backwards, and stays the same forwards.
 fn admissible(incoming: &Incoming<'_>, distances: &Distances, way: Way, label: u32) -> Option<Step>
     requires sizes { distances.now.sizes ≡ incoming.now.sizes }
     requires way { IsWayWithin incoming.now.sizes way }

@@ -1,4 +1,5 @@
-//! A search back from an arrival along admissible steps: those over which the distance label falls by just the step's weight.
+//! A search back from an arrival along admissible steps: backward ones over which the distance label falls by 1, and others over which it
+//! stays the same.
 //!
 //! It advances while there is one. Where there is none it relabels the pair, and retreats a step.
 ghost use Rattle.std.specs.Prelude.{◌≡◌, ◌<◌, ◌≤◌, IfOk};

@@ -1,11 +1,11 @@
 //! Cells by their numbers.
-ghost use Rattle.std.specs.Prelude.{◌≡◌, ◌-◌, ◌<◌, ◌≤◌, ◌↔◌, not, false, IsTrue, drop, length, slice_index_or, take};
+ghost use Rattle.std.specs.Prelude.{◌≡◌, ◌-◌, ◌<◌, ◌≤◌, ◌↔◌, false, IsTrue, drop, length, slice_index_or, take};
 ghost use Rattle.std.specs.List.{All};
 ghost use Rattle.residual_net.specs.Network.{no_cell};
 ghost use Rattle.residual_net.specs.Site.{Site, cell_of};
 ghost use Rattle.residual_net.specs.declared.place.Place.TheVariants.{Supply};
 ghost use Rattle.residual_ways.specs.Layout.{AreSizesOf};
-ghost use Rattle.residual_ways.specs.Rooms.{AreAllSent, cell_of_step, flow_with, room_of, room_over, with_sent};
+ghost use Rattle.residual_ways.specs.Rooms.{AreAllSent, flow_with, room_of, room_over, with_sent};
 ghost use Rattle.residual_ways.specs.Steps.{IsPair};
 
 use crate::sizes::Sizes;
@@ -40,14 +40,6 @@ pub fn is_open(cells: &[Cell], step: Step) -> bool
     ensures { IsTrue result ↔ (0 < room_of cells.now step) }
 {
     room(cells, step) > 0
-}
-
-/// Whether somebody may go over a step back again: from where it leads to where it begins.
-pub fn is_open_back(cells: &[Cell], step: Step) -> bool
-    requires { step.cell < length cells.now }
-    ensures { IsTrue result ↔ (0 < room_over (cell_of_step cells.now step) (not step.back)) }
-{
-    room_over(cells[step.cell as usize], !step.back) > 0
 }
 
 // The flow over a cell once so many more people go over it.

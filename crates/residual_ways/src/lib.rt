@@ -18,9 +18,7 @@ mod step;
 mod way;
 mod ways;
 
-pub use cells::{
-    count_sent, is_all_sent, is_open, is_open_back, room, room_in, send, supplies_of, unsent,
-};
+pub use cells::{count_sent, is_all_sent, is_open, room, room_in, send, supplies_of, unsent};
 pub use residual::{Incoming, Residual};
 pub use sizes::Sizes;
 pub use step::{Stay, Step};

@@ -1,5 +1,5 @@
 //! The ways into the pairs of a node.
-ghost use Rattle.std.specs.Prelude.{◌≡◌, ◌+◌, ◌<◌, ◌≤◌, ◌^◌, ◌≤ℤ◌, pos, unsigned_abs, if◌then◌else◌, IfSome, IsTrue, max};
+ghost use Rattle.std.specs.Prelude.{◌≡◌, ◌+◌, ◌<◌, ◌≤◌, ◌^◌, ◌≤ℤ◌, pos, unsigned_abs, IfSome, IsTrue, max};
 ghost use Rattle.residual_ways.specs.Steps.{IsStepWithin};
 ghost use Rattle.residual_ways.specs.Ways.{IsBegun, IsStepInto, IsWayWithin, step_between};
 
@@ -72,13 +72,6 @@ impl Way {
             shift: travel as i32,
             ..Way::forwards(sizes, list, node, row, travel)
         }
-    }
-
-    /// What it weighs: 1 backwards, where it takes people off, and 0 forwards.
-    pub fn weight(&self) -> u32
-        ensures { result ≡ (if self.now.back then 1 else 0) }
-    {
-        self.back as u32
     }
 
     /// Whether it leads over an arc forwards.
