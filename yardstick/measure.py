@@ -1,7 +1,7 @@
 #!/usr/bin/env python3
 """Times the built program on large buildings, whole runs of it, and beside it another solver where one is given.
 
-    yardstick/measure.py [--program PATH] [--ssp PATH] [--rounds N] [--only NAME,..] [--instructions] [--edits] [FILE.evac ..]
+    yardstick/measure.py [--program PATH] [--ssp PATH] [--rounds N] [--only NAME,..] [--instructions] [--edits] [--routes] [FILE.evac ..]
 
 Without files the buildings of `buildings.py` are measured, each by its name; files are measured beside them. A round runs
 every command once, and a ratio is the median over the rounds of two times of one round, so that a busy machine slows
@@ -9,8 +9,9 @@ both alike. `--ssp PATH` is a program that solves the same model: `PATH runs --p
 step, and `PATH runs --block` need not. It knows no windows and no entrants, so a building that has some gets a dash in
 place of its numbers. `--instructions` counts instructions with valgrind in place of these times, once each: they don't
 depend on how busy a machine is. `--edits` makes edits of every kind in a session in place of all that, each undone again, and
-divides the instructions of each by those of a fresh solve: of the building before it or after it, whichever is dearer. It is no part of
-any test: it prints a table in Markdown and fails for nothing but a run that fails, or two solvers that differ.
+divides the instructions of each by those of a fresh solve: of the building before it or after it, whichever is dearer. `--routes` counts
+the instructions of `solve`, `solve --routes` and `cards`. It is no part of any test: it prints a table in Markdown and fails for nothing
+but a run that fails, or two solvers that differ.
 """
 import argparse
 import os
@@ -144,6 +145,14 @@ def counting(given, texts):
         print_row(given, name, [own], [(it, own / it) for it in others])
 
 
+def routing(given, texts):
+    """Prints how many millions of instructions a plan takes, the plan with its routes, and the plan with its cards."""
+    print("| building | solve, M | solve --routes, M | cards, M | routes to cards |\n|---|--:|--:|--:|--:|")
+    for name, text in texts.items():
+        plan, routes, cards = [instructions_of([given.program, *words], text) for words in (["solve"], ["solve", "--routes"], ["cards"])]
+        print(f"| {name} | {plan:.1f} | {routes:.1f} | {cards:.1f} | {routes / cards:.2f} |", flush=True)
+
+
 def possible_edits(given, text):
     """Returns edits of a building that a session can make after those before them, each with whether it accepts them."""
     tried = []
@@ -198,6 +207,7 @@ def main():
     parser.add_argument("--only")
     parser.add_argument("--instructions", action="store_true")
     parser.add_argument("--edits", action="store_true")
+    parser.add_argument("--routes", action="store_true")
     parser.add_argument("files", nargs="*", type=pathlib.Path)
     given = parser.parse_args()
     names = given.only.split(",") if given.only else list(buildings.ALL)
@@ -205,6 +215,8 @@ def main():
     texts |= {file.stem: file.read_bytes() for file in given.files}
     if given.edits:
         editing(given, texts)
+    elif given.routes:
+        routing(given, texts)
     elif given.instructions:
         counting(given, texts)
     else:
