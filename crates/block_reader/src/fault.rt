@@ -1,7 +1,7 @@
 //! Why a block isn't read.
 
 /// Why lines give no block.
-#[derive(Clone, Copy, PartialEq, Eq, Debug)]
+#[derive(Clone, Copy)]
 pub enum BlockFault {
     /// The first line that no block has there; where the input ends first, the line after its last.
     Bad { line: u32 },
@@ -16,7 +16,7 @@ pub enum BlockFault {
 }
 
 /// Why a line isn't taken.
-#[derive(Clone, Copy, PartialEq, Eq, Debug)]
+#[derive(Clone, Copy)]
 pub(crate) enum TakeFault {
     Bad,
     Memory,

@@ -1,7 +1,7 @@
 //! Runs of labels.
 
 /// A node's label from a moment on.
-#[derive(Clone, Copy, PartialEq, Eq, Debug)]
+#[derive(Clone, Copy)]
 pub(crate) struct Run {
     pub node: u32,
     pub moment: u16,

@@ -6,7 +6,7 @@ use evac_law::Code;
 use thiserror::Error;
 
 /// Why a part is refused among those before it.
-#[derive(Clone, Copy, PartialEq, Eq, Debug, Error)]
+#[derive(Clone, Copy, Debug, Error)]
 pub enum BuildFault {
     #[error("it was given before")]
     RepeatedSetting,
@@ -43,7 +43,7 @@ pub enum BuildFault {
 }
 
 /// Why a model can't end.
-#[derive(Clone, Copy, PartialEq, Eq, Debug, Error)]
+#[derive(Clone, Copy, Debug, Error)]
 pub enum EndFault {
     #[error("the period or the horizon is missing")]
     MissingSetting,
@@ -58,7 +58,7 @@ pub enum EndFault {
 }
 
 /// Why lines give no building.
-#[derive(Clone, Copy, PartialEq, Eq, Debug)]
+#[derive(Clone, Copy, Debug)]
 pub enum ModelFault {
     /// The first fault of the lines, by its code and its line.
     Named { code: Code, line: u32 },

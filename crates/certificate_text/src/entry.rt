@@ -6,7 +6,7 @@ use evac_law::NodeName;
 
 /// What a line of a block says: nothing, the number of the block, its people, the moment at which the last one is out, the people out by a
 /// period, the label of a node from a moment on, the people who enter the arc between two nodes at a moment, or the end.
-#[derive(Clone, Copy, PartialEq, Eq, Debug)]
+#[derive(Clone, Copy)]
 pub enum Entry {
     Blank,
     Index {

@@ -10,7 +10,7 @@ use report_text::put_number;
 
 /// The figures of a plan that has everybody out: the period by which they are, the longest way of those who would meet nobody, and
 /// people times arrival moment.
-#[derive(Clone, Copy, PartialEq, Eq, Debug)]
+#[derive(Clone, Copy)]
 pub struct Figures {
     pub cleared: u16,
     pub uncongested: u32,

@@ -1,7 +1,7 @@
 //! The items of a cut's value.
 
 /// A part of a cut's value: people who come in outside the cut, people who may wait out of it, or people who may move out of it.
-#[derive(Clone, Copy, PartialEq, Eq, Debug)]
+#[derive(Clone, Copy, PartialEq, Eq)]
 pub enum CutItem {
     Entry {
         node: u32,

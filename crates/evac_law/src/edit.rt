@@ -11,7 +11,7 @@ use crate::window::{Window, place_of};
 use thiserror::Error;
 
 /// A change of a model.
-#[derive(Clone, Copy, PartialEq, Eq, Debug)]
+#[derive(Clone, Copy, PartialEq, Eq)]
 pub enum Edit {
     Shut { arc: u32 },
     Reopen { arc: u32 },

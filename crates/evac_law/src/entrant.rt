@@ -5,7 +5,7 @@ ghost use Rattle.evac_law.specs.Entrants.{ComesBefore, entering};
 ghost use Rattle.evac_law.specs.Limits.{people_limit};
 
 /// People who come into a node from nowhere at a moment.
-#[derive(Clone, Copy, PartialEq, Eq, Debug)]
+#[derive(Clone, Copy)]
 pub struct Entrant {
     pub node: u32,
     pub moment: u16,

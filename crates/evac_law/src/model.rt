@@ -14,7 +14,7 @@ use crate::window::{Window, is_closed, overlap, place_for};
 use arrayvec::ArrayVec;
 
 /// A node: its name, the most people who may be in it, and the people in it at moment 0.
-#[derive(Clone, Copy, PartialEq, Eq, Debug)]
+#[derive(Clone, Copy)]
 pub struct NodeRow {
     pub name: NodeName,
     pub capacity: u32,
@@ -24,7 +24,7 @@ pub struct NodeRow {
 
 /// An arc from one node to another, each named by its place. The traversal time is in periods, the rate in people per period,
 /// and nobody may enter it in its windows.
-#[derive(Drop, PartialEq, Eq, Debug)]
+#[derive(Drop)]
 pub struct ArcRow {
     pub from: u32,
     pub to: u32,

@@ -5,7 +5,7 @@ ghost use Rattle.evac_law.specs.Names.{IsName, is_exit, kind_text, name_text};
 use itoa::Buffer;
 
 /// The kind of a node: a work place, a hall, a stairwell, a lobby or an exit.
-#[derive(Clone, Copy, PartialEq, Eq, Hash, Debug)]
+#[derive(Clone, Copy, PartialEq, Eq, Hash)]
 pub enum Kind {
     Work,
     Hall,
@@ -37,7 +37,7 @@ impl Kind {
 }
 
 /// A node's name: its kind, a number and its floor, as in `WP1.2`.
-#[derive(Clone, Copy, PartialEq, Eq, Hash, Debug)]
+#[derive(Clone, Copy, PartialEq, Eq, Hash)]
 pub struct NodeName {
     pub kind: Kind,
     pub number: u16,

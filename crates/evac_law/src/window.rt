@@ -4,7 +4,7 @@ ghost use Rattle.std.specs.List.{list_any, position};
 ghost use Rattle.evac_law.specs.Windows.{is_closed_at, is_same_window, overlaps, window_of, with_window};
 
 /// The moments from one on and before another, at which nobody may enter an arc.
-#[derive(Clone, Copy, PartialEq, Eq, Debug, Default)]
+#[derive(Clone, Copy, Default)]
 pub struct Window {
     pub from: u16,
     pub until: u16,

@@ -7,7 +7,7 @@ use evac_law::{Edit, Steps};
 use std::sync::ledger::Ledger;
 
 /// What a model comes to without an exit: everybody is out by a moment, or at most so many of the people get out by the horizon.
-#[derive(Clone, Copy, PartialEq, Eq)]
+#[derive(Clone, Copy)]
 pub enum ExitRow {
     Clears { moment: u16 },
     Short { people: u32, most: u32 },

@@ -60,7 +60,7 @@ impl Source for CleanSource {
 }
 
 /// Drops the bytes that it takes, and tells none.
-#[derive(Clone, Copy, PartialEq, Eq, Debug, Default)]
+#[derive(Clone, Copy, Default)]
 pub struct CleanSink;
 
 impl CleanSink {

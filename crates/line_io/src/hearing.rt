@@ -10,7 +10,7 @@ use crate::outside::Source;
 use evac_law::Code;
 
 /// What a listener answers to a line.
-#[derive(Clone, Copy, PartialEq, Eq, Debug)]
+#[derive(Clone, Copy)]
 pub enum Heard {
     /// It goes on.
     More,
@@ -19,7 +19,7 @@ pub enum Heard {
 }
 
 /// Why a listener refuses a line: by a code, or for want of memory.
-#[derive(Clone, Copy, PartialEq, Eq, Debug)]
+#[derive(Clone, Copy)]
 pub enum Refusal {
     Code(Code),
     Memory,

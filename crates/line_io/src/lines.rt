@@ -16,14 +16,14 @@ use std::alloc::{AllocError, Global};
 use std::marker::Model;
 
 /// What `next` found.
-#[derive(Clone, Copy, PartialEq, Eq, Debug)]
+#[derive(Clone, Copy)]
 pub enum Found {
     Text,
     End,
 }
 
 /// Why no line was found.
-#[derive(Clone, Copy, PartialEq, Eq, Debug)]
+#[derive(Clone, Copy)]
 pub enum LineFault {
     ReadFault,
     LineTooLong,

@@ -12,7 +12,7 @@ use std::alloc::{AllocError, Global};
 use std::marker::Model;
 
 /// The sink failed.
-#[derive(Clone, Copy, PartialEq, Eq, Debug)]
+#[derive(Clone, Copy, Debug)]
 pub struct WriteFault;
 
 /// A buffer of bytes that the sink doesn't hold yet. Contracts see it as these bytes.

@@ -6,7 +6,7 @@ ghost use Rattle.line_io.specs.Calls.{Putting, Taking};
 ghost use Rattle.line_io.specs.Causes.{Count, HasCause};
 
 /// A source or a sink failed: nothing was taken.
-#[derive(Clone, Copy, PartialEq, Eq, Debug)]
+#[derive(Clone, Copy)]
 pub struct Failed;
 
 /// Where bytes come from. A source that gave 0 bytes has ended.

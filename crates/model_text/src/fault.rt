@@ -6,7 +6,7 @@ use evac_law::Code;
 use thiserror::Error;
 
 /// Why a line by itself is refused.
-#[derive(Clone, Copy, PartialEq, Eq, Debug, Error)]
+#[derive(Clone, Copy, Debug, Error)]
 pub enum TextFault {
     #[error("the first word is unknown")]
     UnknownWord,

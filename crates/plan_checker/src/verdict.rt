@@ -1,7 +1,7 @@
 //! What the checker says of a block.
 
 /// The first part of a block that fails, in the order of the variants but the first, or that none does.
-#[derive(Clone, Copy, PartialEq, Eq, Debug)]
+#[derive(Clone, Copy, PartialEq, Eq)]
 pub enum Verdict {
     Yes,
     /// The stated people aren't the model's.

@@ -5,7 +5,7 @@ ghost use Rattle.talk.specs.declared.fault.AnswerFault.TheVariants.{Write};
 use line_io::WriteFault;
 
 /// Why a line isn't answered.
-#[derive(Clone, Copy, PartialEq, Eq, Debug)]
+#[derive(Clone, Copy)]
 pub enum AnswerFault {
     /// The sink failed.
     Write(WriteFault),

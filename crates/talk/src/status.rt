@@ -6,7 +6,7 @@ ghost use Rattle.talk.specs.Statuses.{status_number};
 use line_io::WriteFault;
 
 /// How a run ends. A talk ends so too, but for `WordsRefused` and `NoWords`.
-#[derive(Clone, Copy, PartialEq, Eq, Debug)]
+#[derive(Clone, Copy)]
 pub enum Status {
     /// The answer was written, the input ended, or a line quit.
     Done,
