@@ -27,7 +27,7 @@ begin() {
     echo "of $crate" >"$here/repo/crates/$crate/proofs/One.antt"
   done
   export PATH="$here/bin:$path" TMPDIR=$here/tmp RT_ROOM=$here
-  unset RT_KIT RT_LOGIC RT_ENDS RT_FAILS RT_SLOW
+  unset RT_LOGIC RT_ENDS RT_FAILS RT_SLOW
 }
 path=$PATH
 
@@ -390,12 +390,22 @@ expect status=0 'out=built: solve, a building' lines=0
 
 # build
 
-begin 'build proves the crates of the program, names and counts them, and builds it'
-run "$here/repo/build" 3
-expect status=0 'says=1 of 2: low' 'says=2 of 2: evacplan' 'says=proving the 2 crates of the program by rt ci' 'hides=logic=proved' \
-  'calls=version,ci probe,ci'
+# Begins a case with another library of the program.
+begin_build() {
+  begin "$1"
+  mkdir -p "$here/repo/crates/other/src" "$here/repo/crates/low/must-fail"
+  echo 'of other' >"$here/repo/crates/other/src/one.rt"
+  printf '# crates\nlow:\nother: arrayvec\nevacplan: low other # and no more\nworked: low\n' >"$here/repo/crates.txt"
+}
 
-begin 'evacplan then runs what was built'
+begin_build 'build proves the crates of the program, each once those below it are, counts them, and builds it'
+run "$here/repo/build" 1
+[ -e "$here/repo/crates/low/out/rlib/stamp" ] || echo 'nothing is kept' >>"$here/out"
+[ ! -e "$here/repo/out" ] || echo 'something is left' >>"$here/out"
+expect status=0 out= 'says=proving the 3 crates of the program' 'says=1 of 3: low' 'says=2 of 3: other' 'says=3 of 3: evacplan' 'hides=logic=proved' \
+  'calls=version,proves low,proves other,proves evacplan'
+
+begin_build 'evacplan then runs what was built'
 run "$here/repo/build"
 run "$here/repo/evacplan" solve <<<'a building'
 expect status=0 'out=built: solve, a building' lines=0
@@ -405,31 +415,44 @@ build_before
 run "$here/repo/build"
 expect status=0 lines=1 'says=no source is newer' calls=version
 
-for kit in ci 13b; do
-  begin "what changes while it is built is newer, by kit $kit"
-  RT_KIT=$kit RT_FAILS=edit run "$here/repo/build"
-  run "$here/repo/evacplan" solve <<<'a building'
-  expect status=0 'out=solve: a building' 'says=a source is newer'
-done
+begin_build 'what did not change is kept, and what is built on a change is proved'
+run "$here/repo/build" 1
+echo 'of other, edited' >"$here/repo/crates/other/src/one.rt"
+rm "$here/calls"
+run "$here/repo/build" 1
+expect status=0 'says=3 of 3: evacplan' 'calls=version,keeps low,proves other,proves evacplan'
 
-begin 'a crate that is not proved is named, and no program is left'
+begin 'what changes while it is built is newer'
+RT_FAILS=edit run "$here/repo/build"
+run "$here/repo/evacplan" solve <<<'a building'
+expect status=0 'out=solve: a building' 'says=a source is newer'
+
+begin_build 'crates that are not built on one another are proved side by side'
+RT_SLOW=1 "$here/repo/build" 2 >"$here/out" 2>"$here/err" &
+await grep -qsx 'proves low' "$here/calls"
+await grep -qsx 'proves other' "$here/calls"
+touch "$here/go"
+wait $!
+status=$?
+expect status=0 out= 'says=3 of 3: evacplan'
+
+begin_build 'what is not proved is named, the rest is kept, and no program is left'
 build_before
 touch -d '1 minute' "$here/repo/crates/low/src/one.rt"
-RT_FAILS=proof run "$here/repo/build"
+RT_FAILS='proof of other' run "$here/repo/build" 1
 [ ! -e "$here/repo/crates/evacplan/out/evacplan" ] || echo 'the program is there' >>"$here/out"
-expect status=70 out= 'says=1 of 2: low' 'says=Answers.antt:8' 'says=rt: evacplan NOT PROVED' 'hides=2 of 2' 'hides=: proved'
+[ -e "$here/repo/crates/low/out/rlib/stamp" ] || echo 'nothing is kept' >>"$here/out"
+[ ! -e "$here/repo/out" ] || echo 'something is left' >>"$here/out"
+expect status=70 out= 'says=1 of 3: low' 'says=Answers.antt:8' 'says=other is not proved: rt ended with 1' 'says=was not built' 'hides=: proved' \
+  'calls=version,proves low,proves other'
 
-begin 'a build whose rt is killed says so'
-RT_FAILS=killed run "$here/repo/build"
-expect status=70 'says=rt ci ended with 137'
+begin_build 'a build whose rt is killed says so'
+RT_FAILS='killed at other' run "$here/repo/build" 1
+expect status=70 out= 'says=other is not proved: rt ended with 137'
 
-begin 'what stops rt before the first crate is shown'
-RT_FAILS=front run "$here/repo/build"
-expect status=70 'says=rt: low NOT PROVED' 'says=was not built'
-
-begin 'a program that is not there is status 70'
-RT_FAILS=program run "$here/repo/build" 3
-expect status=70 'says=was not built' 'calls=version,ci probe,ci'
+begin_build 'a program that is not linked is status 70'
+RT_FAILS=program run "$here/repo/build"
+expect status=70 out= 'says=was not built'
 
 begin 'where nothing can be written, it is said before anything is proved, and nothing is left'
 run_as_nobody "$here/repo/build"
@@ -440,30 +463,26 @@ begin 'without room for temporary files nothing is built, and it is said why'
 TMPDIR=$here/none run "$here/repo/build"
 expect status=70 lines=1 'says=no room for temporary files' calls=version
 
-begin 'after a while without a line it is said that rt goes on'
+begin_build 'a check by hand that is at work in a crate is waited for'
+exec {held}<"$here/repo/crates/low"
+flock "$held"
+"$here/repo/build" 2 >"$here/out" 2>"$here/err" {held}<&- &
+await grep -qs '1 of 3: other' "$here/err"
+flock -u "$held"
+exec {held}<&-
+wait $!
+status=$?
+expect status=0 out= 'says=waiting for another rt to finish in crates/low' 'says=1 of 3: other' 'says=3 of 3: evacplan' lines=6 \
+  'calls=version,proves other,proves low,proves evacplan'
+
+begin_build 'after a while without a line it is said what rt is at work on'
 sed -i 's/^silence=.*/silence=1/' "$here/repo/build"
-RT_SLOW=1 "$here/repo/build" 2 >"$here/out" 2>"$here/err" &
-await grep -qs '0 of 2 are done' "$here/err"
+RT_SLOW=1 "$here/repo/build" 1 >"$here/out" 2>"$here/err" &
+await grep -qs 'at work on low' "$here/err"
 touch "$here/go"
 wait $!
 status=$?
-expect status=0 out= 'says=0 of 2 are done' 'says=2 of 2: evacplan'
-
-for processors in 4 2; do
-  begin "with $processors processors the longest row of crates has $((processors / 4)) runs of its own"
-  printf 'low:\nlex_flow: low\nevacplan: lex_flow\n' >"$here/repo/crates.txt"
-  mkdir -p "$here/repo/crates/lex_flow/src"
-  printf '#!/bin/sh\necho %s\n' "$processors" >"$here/bin/nproc"
-  chmod +x "$here/bin/nproc"
-  RT_SLOW=1 "$here/repo/build" >"$here/out" 2>"$here/err" &
-  await grep -qsx ci "$here/calls"
-  [ "$processors" -lt 4 ] || await grep -qx 'ci lex_flow' "$here/calls"
-  [ "$(grep -cx 'ci lex_flow' "$here/calls")" -eq $((processors / 4)) ] || echo 'another number of runs' >>"$here/out"
-  touch "$here/go"
-  wait $!
-  status=$?
-  expect status=0 out= 'says=program is built'
-done
+expect status=0 out= 'says=0 of 3 are done, and rt is at work on low'
 
 begin 'another kit builds nothing'
 RT_LOGIC=fedcba9876543210 run "$here/repo/build"
@@ -485,95 +504,18 @@ await grep -qs 'another build' "$here/err"
 touch "$here/go"
 wait "$second"
 status=$?
-expect status=0 'says=another build is at work' 'says=no source is newer' 'calls=version,ci probe,ci,version'
+expect status=0 'says=another build is at work' 'says=no source is newer' 'calls=version,proves low,version,proves evacplan'
 
-for kit in ci 13b; do
-  begin "a build that is ended leaves nothing, and the next one goes on, by kit $kit"
-  export RT_KIT=$kit
-  RT_SLOW=1 "$here/repo/build" 2>"$here/first" &
-  await test -e "$here/slow"
-  kill $!
-  wait $!
-  await has_ended "$(cat "$here/slow")" || echo 'rt goes on' >>"$here/out"
-  [ ! -e "$here/repo/out" ] || echo 'something is left' >>"$here/out"
-  run "$here/repo/build"
-  [ ! -e "$here/repo/out" ] || echo 'something is left' >>"$here/out"
-  expect status=0 out= 'says=2 of 2: evacplan' "says=program is built"
-done
-
-# build, with a kit whose rt ci takes no names
-
-# Begins a case with such a kit, and another library of the program.
-begin_by_lib() {
-  begin "$1"
-  export RT_KIT=13b
-  mkdir -p "$here/repo/crates/other/src" "$here/repo/crates/low/must-fail"
-  echo 'of other' >"$here/repo/crates/other/src/one.rt"
-  printf '# crates\nlow:\nother: arrayvec\nevacplan: low other # and no more\nworked: low\n' >"$here/repo/crates.txt"
-}
-
-begin_by_lib 'each crate is proved once those below it are, and counted'
-run "$here/repo/build" 1
-[ -e "$here/repo/crates/low/out/rlib/stamp" ] || echo 'nothing is kept' >>"$here/out"
+begin 'a build that is ended leaves nothing, and the next one goes on'
+RT_SLOW=1 "$here/repo/build" 2>"$here/first" &
+await test -e "$here/slow"
+kill $!
+wait $!
+await has_ended "$(cat "$here/slow")" || echo 'rt goes on' >>"$here/out"
 [ ! -e "$here/repo/out" ] || echo 'something is left' >>"$here/out"
-expect status=0 out= 'says=proving the 3 crates of the program by rt lib' 'says=1 of 3: low' 'says=2 of 3: other' 'says=3 of 3: evacplan' 'hides=logic=proved' \
-  'calls=version,ci probe,proves low,proves other,proves evacplan'
-
-begin_by_lib 'evacplan then runs what was built by rt lib'
 run "$here/repo/build"
-run "$here/repo/evacplan" solve <<<'a building'
-expect status=0 'out=built: solve, a building' lines=0
-
-begin_by_lib 'what did not change is kept, and what is built on a change is proved'
-run "$here/repo/build" 1
-echo 'of other, edited' >"$here/repo/crates/other/src/one.rt"
-rm "$here/calls"
-run "$here/repo/build" 1
-expect status=0 'says=3 of 3: evacplan' 'calls=version,ci probe,keeps low,proves other,proves evacplan'
-
-begin_by_lib 'crates that are not built on one another are proved side by side'
-RT_SLOW=1 "$here/repo/build" 2 >"$here/out" 2>"$here/err" &
-await grep -qsx 'proves low' "$here/calls"
-await grep -qsx 'proves other' "$here/calls"
-touch "$here/go"
-wait $!
-status=$?
-expect status=0 out= 'says=3 of 3: evacplan'
-
-begin_by_lib 'what is not proved is named, the rest is kept, and no program is left'
-build_before
-touch -d '1 minute' "$here/repo/crates/low/src/one.rt"
-RT_FAILS='proof of other' run "$here/repo/build" 1
-[ ! -e "$here/repo/crates/evacplan/out/evacplan" ] || echo 'the program is there' >>"$here/out"
-[ -e "$here/repo/crates/low/out/rlib/stamp" ] || echo 'nothing is kept' >>"$here/out"
 [ ! -e "$here/repo/out" ] || echo 'something is left' >>"$here/out"
-expect status=70 out= 'says=1 of 3: low' 'says=Answers.antt:8' 'says=other is not proved: rt ended with 1' 'says=was not built' 'hides=: proved' \
-  'calls=version,ci probe,proves low,proves other'
-
-begin_by_lib 'a program that is not linked is status 70'
-RT_FAILS=program run "$here/repo/build"
-expect status=70 out= 'says=was not built'
-
-begin_by_lib 'a check by hand that is at work in a crate is waited for'
-exec {held}<"$here/repo/crates/low"
-flock "$held"
-"$here/repo/build" 2 >"$here/out" 2>"$here/err" {held}<&- &
-await grep -qs '1 of 3: other' "$here/err"
-flock -u "$held"
-exec {held}<&-
-wait $!
-status=$?
-expect status=0 out= 'says=waiting for another rt to finish in crates/low' 'says=1 of 3: other' 'says=3 of 3: evacplan' lines=6 \
-  'calls=version,ci probe,proves other,proves low,proves evacplan'
-
-begin_by_lib 'after a while without a line it is said what rt is at work on'
-sed -i 's/^silence=.*/silence=1/' "$here/repo/build"
-RT_SLOW=1 "$here/repo/build" 1 >"$here/out" 2>"$here/err" &
-await grep -qs 'at work on low' "$here/err"
-touch "$here/go"
-wait $!
-status=$?
-expect status=0 out= 'says=0 of 3 are done, and rt is at work on low'
+expect status=0 out= 'says=2 of 2: evacplan' "says=program is built"
 
 # The gate
 
