@@ -114,8 +114,7 @@ pub fn put_bottlenecks<K: Sink>(
     ensures space { (names : NameTable) → IsSpace session.now.state.model names space.old → IsSpace session.now.state.model names space.new }
 {
     space.report_labels(session);
-    let model = session.model();
-    report_text::put_bottlenecks(writer, model, index, &space.bottlenecks);
+    report_text::put_bottlenecks(writer, session.model(), index, &space.bottlenecks);
 }
 
 /// Puts the summary of the plan. The index is that of the session's block.
