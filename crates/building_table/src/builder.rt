@@ -134,13 +134,13 @@ impl Builder {
         ensures memory { IfErr result (λ f. f ≡ BuildFault.Memory) }
         ensures same { OnErr result (self.new ≡ self.old) }
     {
-        if self.floors.push(floor).is_err() {
+        let Ok(()) = self.floors.push(floor) else {
             return Err(BuildFault::Memory);
-        }
-        if self.texts.push(text).is_err() {
+        };
+        let Ok(()) = self.texts.push(text) else {
             self.floors.pop();
             return Err(BuildFault::Memory);
-        }
+        };
         Ok(())
     }
 
@@ -264,13 +264,13 @@ impl Builder {
         ensures same { OnErr result (self.new ≡ self.old) }
     {
         let row = NodeRow::new(name, capacity, start);
-        if self.nodes.push(row).is_err() {
+        let Ok(()) = self.nodes.push(row) else {
             return Err(BuildFault::Memory);
-        }
-        if self.index.insert_node(name).is_err() {
+        };
+        let Ok(()) = self.index.insert_node(name) else {
             self.nodes.pop();
             return Err(BuildFault::Memory);
-        }
+        };
         self.people += start;
         Ok(())
     }
@@ -317,13 +317,13 @@ impl Builder {
         ensures same { OnErr result (self.new ≡ self.old) }
     {
         let (from, to) = (row.from, row.to);
-        if self.arcs.push(row).is_err() {
+        let Ok(()) = self.arcs.push(row) else {
             return Err(BuildFault::Memory);
-        }
-        if self.index.insert_ends(from, to).is_err() {
+        };
+        let Ok(()) = self.index.insert_ends(from, to) else {
             self.arcs.pop();
             return Err(BuildFault::Memory);
-        }
+        };
         Ok(())
     }
 
@@ -416,9 +416,9 @@ impl Builder {
         ensures memory { IfErr result (λ f. f ≡ BuildFault.Memory) }
         ensures same { OnErr result (self.new ≡ self.old) }
     {
-        if self.entrants.insert(node, moment, people).is_err() {
+        let Ok(()) = self.entrants.insert(node, moment, people) else {
             return Err(BuildFault::Memory);
-        }
+        };
         self.people += people;
         Ok(())
     }

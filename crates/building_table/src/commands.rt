@@ -10,8 +10,9 @@ use crate::names::Names;
 use evac_law::{Edit, NodeName};
 use model_text::NamedEdit;
 
-fn node(names: &Names, name: NodeName) -> Result<u32, NameFault>
-    ensures { result ≡ named_node names.now name }
+fn node_of(names: &Names, name: NodeName) -> Result<u32, NameFault>
+    ensures node { result ≡ named_node names.now name }
+    ensures within { IfOk result (λ node. (m : Model) → NamesFit names.now m → node < length m.nodes) }
 {
     match names.find_node(name) {
         Some(place) => Ok(place),
@@ -19,11 +20,12 @@ fn node(names: &Names, name: NodeName) -> Result<u32, NameFault>
     }
 }
 
-fn nodes(names: &Names, from: NodeName, to: NodeName) -> Result<(u32, u32), NameFault>
-    ensures { result ≡ named_nodes names.now from to }
+fn nodes_of(names: &Names, from: NodeName, to: NodeName) -> Result<(u32, u32), NameFault>
+    ensures nodes { result ≡ named_nodes names.now from to }
+    ensures within { IfOk result (λ nodes. (m : Model) → NamesFit names.now m → (nodes.0 < length m.nodes) × (nodes.1 < length m.nodes)) }
 {
-    let from = node(names, from)?;
-    let to = node(names, to)?;
+    let from = node_of(names, from)?;
+    let to = node_of(names, to)?;
     Ok((from, to))
 }
 
@@ -32,7 +34,7 @@ pub fn arc_of(names: &Names, from: NodeName, to: NodeName) -> Result<u32, NameFa
     ensures arc { result ≡ named_arc names.now from to }
     ensures within { IfOk result (λ arc. (m : Model) → NamesFit names.now m → arc < length m.arcs) }
 {
-    let (from, to) = nodes(names, from, to)?;
+    let (from, to) = nodes_of(names, from, to)?;
     match names.find_arc(from, to) {
         Some(place) => Ok(place),
         None => Err(NameFault::NoArc),
@@ -45,61 +47,59 @@ pub fn edit_of(names: &Names, named: NamedEdit) -> Result<Edit, NameFault>
     ensures edit { result ≡ edit_named names.now named }
     ensures within { IfOk result (λ edit. (m : Model) → NamesFit names.now m → IsEditOf m edit) }
 {
-    match named {
-        NamedEdit::Shut { from, to } => Ok(Edit::Shut {
+    let edit = match named {
+        NamedEdit::Shut { from, to } => Edit::Shut {
             arc: arc_of(names, from, to)?,
-        }),
-        NamedEdit::Reopen { from, to } => Ok(Edit::Reopen {
+        },
+        NamedEdit::Reopen { from, to } => Edit::Reopen {
             arc: arc_of(names, from, to)?,
-        }),
-        NamedEdit::ShutExit { node: name } => Ok(Edit::ShutExit {
-            node: node(names, name)?,
-        }),
-        NamedEdit::ReopenExit { node: name } => Ok(Edit::ReopenExit {
-            node: node(names, name)?,
-        }),
-        NamedEdit::Rate { from, to, rate } => Ok(Edit::Rate {
+        },
+        NamedEdit::ShutExit { node } => Edit::ShutExit {
+            node: node_of(names, node)?,
+        },
+        NamedEdit::ReopenExit { node } => Edit::ReopenExit {
+            node: node_of(names, node)?,
+        },
+        NamedEdit::Rate { from, to, rate } => Edit::Rate {
             arc: arc_of(names, from, to)?,
             rate,
-        }),
-        NamedEdit::Room {
-            node: name,
+        },
+        NamedEdit::Room { node, capacity } => Edit::Room {
+            node: node_of(names, node)?,
             capacity,
-        } => Ok(Edit::Room {
-            node: node(names, name)?,
-            capacity,
-        }),
+        },
         NamedEdit::Shift { from, to, people } => {
-            let (from, to) = nodes(names, from, to)?;
-            Ok(Edit::Shift { from, to, people })
+            let (from, to) = nodes_of(names, from, to)?;
+            Edit::Shift { from, to, people }
         }
-        NamedEdit::Enter { node: name, people } => Ok(Edit::Enter {
-            node: node(names, name)?,
+        NamedEdit::Enter { node, people } => Edit::Enter {
+            node: node_of(names, node)?,
             people,
-        }),
-        NamedEdit::Leave { node: name, people } => Ok(Edit::Leave {
-            node: node(names, name)?,
+        },
+        NamedEdit::Leave { node, people } => Edit::Leave {
+            node: node_of(names, node)?,
             people,
-        }),
+        },
         NamedEdit::Window {
             from,
             to,
             first,
             until,
-        } => Ok(Edit::Window {
+        } => Edit::Window {
             arc: arc_of(names, from, to)?,
             from: first,
             until,
-        }),
+        },
         NamedEdit::Unwindow {
             from,
             to,
             first,
             until,
-        } => Ok(Edit::Unwindow {
+        } => Edit::Unwindow {
             arc: arc_of(names, from, to)?,
             from: first,
             until,
-        }),
-    }
+        },
+    };
+    Ok(edit)
 }

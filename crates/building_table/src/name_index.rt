@@ -1,7 +1,7 @@
 //! The names of nodes and the ends of arcs, with their places.
 ghost use Rattle.std.specs.Prelude.{◌≡◌, ◌<◌, ◌≤◌, ◌==◌, ◌&&◌, [], length, map, position, OnErr, OnOk};
 ghost use Rattle.evac_law.specs.Limits.{arc_limit, node_limit};
-ghost use Rattle.building_table.specs.Names.{EndsDiffer, NamesDiffer, ends_with, names_with};
+ghost use Rattle.building_table.specs.Names.{EndsDiffer, NamesDiffer, arc_ends, ends_with, names_with, node_names};
 ghost use Rattle.model_text.specs.Taken.{same_name};
 
 use evac_law::{ArcRow, NodeName, NodeRow};
@@ -59,9 +59,9 @@ impl NameIndex {
         Ok(())
     }
 
-    /// Puts in the names of some nodes, where there are none yet.
+    // Puts in the names of some nodes, where there are none yet.
     #[tactic(auto, using(crate::proofs::IndexLemmas::few_names, crate::proofs::IndexLemmas::add_name))]
-    pub(crate) fn insert_nodes(&mut self, rows: &[NodeRow]) -> Result<(), AllocError>
+    fn insert_nodes(&mut self, rows: &[NodeRow]) -> Result<(), AllocError>
         requires empty { self.old.nodes ≡ [] }
         requires few { length rows.now ≤ node_limit }
         ensures nodes { OnOk result (NamesDiffer rows.now → self.new.nodes ≡ map (λ n. n.name) rows.now) }
@@ -73,9 +73,9 @@ impl NameIndex {
         Ok(())
     }
 
-    /// Puts in the ends of some arcs, where there are none yet.
+    // Puts in the ends of some arcs, where there are none yet.
     #[tactic(auto, using(crate::proofs::IndexLemmas::few_ends, crate::proofs::IndexLemmas::add_ends))]
-    pub(crate) fn insert_arcs(&mut self, rows: &[ArcRow]) -> Result<(), AllocError>
+    fn insert_arcs(&mut self, rows: &[ArcRow]) -> Result<(), AllocError>
         requires empty { self.old.ends ≡ [] }
         requires few { length rows.now ≤ arc_limit }
         ensures nodes { OnOk result (self.new.nodes ≡ self.old.nodes) }
@@ -85,6 +85,19 @@ impl NameIndex {
             self.insert_ends(row.from, row.to)?;
         }
         Ok(())
+    }
+
+    /// Puts in the names of a model's nodes and the ends of its arcs, where there are none yet.
+    pub(crate) fn insert_model(&mut self, model: &evac_law::Model) -> Result<(), AllocError>
+        requires no_nodes { self.old.nodes ≡ [] }
+        requires no_ends { self.old.ends ≡ [] }
+        requires few_nodes { length model.now.nodes ≤ node_limit }
+        requires few_arcs { length model.now.arcs ≤ arc_limit }
+        ensures nodes { OnOk result (NamesDiffer model.now.nodes → self.new.nodes ≡ node_names model.now) }
+        ensures ends { OnOk result (EndsDiffer model.now.arcs → self.new.ends ≡ arc_ends model.now) }
+    {
+        self.insert_nodes(model.nodes.as_slice())?;
+        self.insert_arcs(model.arcs.as_slice())
     }
 
     /// The place of a node's name.

@@ -54,8 +54,7 @@ impl Names {
         ensures title { IfOk result (λ n. n.title ≡ option_map (λ t. t.items) title) }
     {
         let mut index = NameIndex::new(alloc);
-        index.insert_nodes(model.nodes.as_slice())?;
-        index.insert_arcs(model.arcs.as_slice())?;
+        index.insert_model(model)?;
         Ok(Names::from_index(index, floors, texts, title))
     }
 
