@@ -23,8 +23,8 @@ pub(crate) fn one<'a>(mut fields: Fields<'a>) -> Result<&'a [u8], TextFault>
 pub(crate) fn two<'a>(mut fields: Fields<'a>) -> Result<(&'a [u8], &'a [u8]), TextFault>
     ensures { MatchResult result (λ f. two_fields (fields_of fields.entry) ≡ Ok (f.0.now, f.1.now)) (λ e. two_fields (fields_of fields.entry) ≡ Err e) }
 {
-    match (fields.next(), fields.next(), fields.next()) {
-        (Some(a), Some(b), None) => Ok((a, b)),
+    match (fields.next(), one(fields)) {
+        (Some(a), Ok(b)) => Ok((a, b)),
         _ => Err(TextFault::FieldCount),
     }
 }
@@ -33,9 +33,8 @@ pub(crate) fn two<'a>(mut fields: Fields<'a>) -> Result<(&'a [u8], &'a [u8]), Te
 pub(crate) fn three<'a>(mut fields: Fields<'a>) -> Result<(&'a [u8], &'a [u8], &'a [u8]), TextFault>
     ensures { MatchResult result (λ f. three_fields (fields_of fields.entry) ≡ Ok (f.0.now, f.1.now, f.2.now)) (λ e. three_fields (fields_of fields.entry) ≡ Err e) }
 {
-    let (a, b, c) = (fields.next(), fields.next(), fields.next());
-    match (a, b, c, fields.next()) {
-        (Some(a), Some(b), Some(c), None) => Ok((a, b, c)),
+    match (fields.next(), two(fields)) {
+        (Some(a), Ok((b, c))) => Ok((a, b, c)),
         _ => Err(TextFault::FieldCount),
     }
 }
@@ -46,9 +45,8 @@ pub(crate) fn four<'a>(
 ) -> Result<(&'a [u8], &'a [u8], &'a [u8], &'a [u8]), TextFault>
     ensures { MatchResult result (λ f. four_fields (fields_of fields.entry) ≡ Ok (f.0.now, f.1.now, f.2.now, f.3.now)) (λ e. four_fields (fields_of fields.entry) ≡ Err e) }
 {
-    let (a, b, c, d) = (fields.next(), fields.next(), fields.next(), fields.next());
-    match (a, b, c, d, fields.next()) {
-        (Some(a), Some(b), Some(c), Some(d), None) => Ok((a, b, c, d)),
+    match (fields.next(), three(fields)) {
+        (Some(a), Ok((b, c, d))) => Ok((a, b, c, d)),
         _ => Err(TextFault::FieldCount),
     }
 }
