@@ -1,7 +1,8 @@
 -- What a reader gives from settled bytes, and what a refill keeps.
-use Rattle.std.proofs.Common.{◌≡◌, ℕ, ◌+◌, ◌-◌, ◌<◌, ◌≤◌, true, List, [], ◌∷◌, ◌++◌, length, take, drop, Some, None, refl, sym, ap, ◌∙◌, arith, Ok, Err, append-nil, append_assoc}
+use Rattle.std.proofs.Common.{◌≡◌, ℕ, zero, suc, ◌+◌, ◌-◌, ◌<◌, ◌≤◌, true, if◌then◌else◌, ◌==◌, List, [], ◌∷◌, ◌++◌, length, take, drop, Some, None, refl, sym, ap, ◌∙◌, arith, Ok, Err, append-nil, append_assoc}
 use Rattle.std.specs.declared.option.Option.{Option}
 use Rattle.std.specs.Io.KnownBytes.{Keeps, Consumes, IsAtEnd, prepend_known}
+use Rattle.std.proofs.lemmas.Bool.{ne_eqb}
 use Rattle.std.proofs.lemmas.List.{drop-take, drop-drop, take_rest, take-append-drop, length-drop, length-take-le}
 use Rattle.std.proofs.Math.Seq.{take-append_seam, take-add}
 use Rattle.line_io.specs.Line.{Line, pieces, content, line_of, lines_after, then_lines, line_limit, input_limit}
@@ -79,15 +80,20 @@ take_at-front xs ys n e = ap (λ m. take m (xs ++ ys)) (sym e) ∙ take-append_s
 pub refilled : (bytes now : List ℕ) (start count n : ℕ) → take count now ≡ take count (drop start bytes) → take (count + n - 0) now ≡ take count (drop start bytes) ++ take n (drop count now)
 refilled bytes now start count n kept = ap (λ m. take m now) (let z : count + n - 0 ≡ count + n = omega arith in z) ∙ take-add count n now ∙ ap (λ l. l ++ take n (drop count now)) kept
 
-pub keeps-end : (p q got : List ℕ) (a b : Option (List ℕ)) → q ≡ p ++ got → Consumes a b got → IsAtEnd b → Keeps (prepend_known p a) (Some q)
+keeps-end : (p q got : List ℕ) (a b : Option (List ℕ)) → q ≡ p ++ got → Consumes a b got → IsAtEnd b → Keeps (prepend_known p a) (Some q)
 keeps-end p q got None b e took at_end = tt
 keeps-end p q got (Some x) None e took at_end = absurd took
 keeps-end p q got (Some x) (Some y) e took at_end = e ∙ ap (λ l. p ++ l) (sym (took ∙ ap (λ l. got ++ l) at_end ∙ append-nil got))
 
-pub keeps-more : (p q got : List ℕ) (a b : Option (List ℕ)) → q ≡ p ++ got → Consumes a b got → Keeps (prepend_known p a) (prepend_known q b)
+keeps-more : (p q got : List ℕ) (a b : Option (List ℕ)) → q ≡ p ++ got → Consumes a b got → Keeps (prepend_known p a) (prepend_known q b)
 keeps-more p q got None b e took = tt
 keeps-more p q got (Some x) None e took = absurd took
 keeps-more p q got (Some x) (Some y) e took = ap (λ l. l ++ y) e ∙ append_assoc p got y ∙ ap (λ l. p ++ l) (sym took)
+
+-- a source that gave no byte has ended
+pub keeps-taken : (p q got : List ℕ) (a b : Option (List ℕ)) (n : ℕ) → q ≡ p ++ got → Consumes a b got → (n ≡ 0 → IsAtEnd b) → Keeps (prepend_known p a) (if n == 0 then Some q else prepend_known q b)
+keeps-taken p q got a b zero e took at_end = keeps-end p q got a b e took (at_end refl)
+keeps-taken p q got a b (suc n) e took at_end = rw (ne_eqb (suc n) 0 (omega arith)) (keeps-more p q got a b e took)
 
 -- what two sends took, one after the other
 pub sent-more : (xs : List ℕ) (s n : ℕ) → take s xs ++ take n (take (length xs - s) (drop s xs)) ≡ take (s + n) xs

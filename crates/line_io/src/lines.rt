@@ -174,10 +174,8 @@ impl Lines {
         self.start = 0;
         self.end = end - start;
         let count = refill(source, self.buffer.as_mut_slice(), start, end)?;
-        if count == 0 {
-            self.ended = true;
-        }
         self.end += count;
+        self.ended = count == 0;
         Ok(())
     }
 

@@ -1,14 +1,13 @@
 -- A refill moves the pending bytes to the front and takes more after them.
-use Rattle.std.proofs.Common.{◌≡◌, Ok, ◌+◌, ◌-◌, ◌++◌, ◌∙◌, ap, sym, arith, length, take, drop}
+use Rattle.std.proofs.KnownBytes.{Consumes-kept, Consumes-nil}
+use Rattle.std.proofs.Common.{◌≡◌, [], append-nil, Ok, ◌+◌, ◌-◌, ◌++◌, ◌∙◌, refl, ap, sym, arith, length, take, drop}
 use Rattle.std.specs.Vec.{with_items}
-use Rattle.std.proofs.lemmas.Bool.{eq-eqb, ne_eqb}
 use Rattle.std.proofs.lemmas.List.{with_items_is, length-drop, length-take}
 use Rattle.line_io.specs.Line.{line_limit}
 use Rattle.line_io.proofs.CallLemmas.{asks-one}
 use Rattle.line_io.proofs.LineLemmas.{unsettled-open, unsettled-few}
-use Rattle.line_io.proofs.ReaderLemmas.{keeps-end, keeps-more, part-length, refilled}
+use Rattle.line_io.proofs.ReaderLemmas.{keeps-taken, part-length, refilled}
 use Rattle.line_io.proofs.lines.Lines.refill.Goals as goal
-use Rattle.line_io.proofs.lines.Lines.refill.Goals.{then-count-eq0, else-count-eq0}
 
 pub refill-requires : goal.refill-requires
 unfolding line_limit
@@ -24,14 +23,10 @@ returns-clause-bytes g c =
     let pending : take (e + n - 0) (with_items b.buffer now).items ≡ take e (drop b.start b.buffer.items) ++ take n (drop e now) =
     ap (take (e + n - 0)) there ∙ refilled _ now b.start e n (c.refill.ensures.front ∙ ap (λ l. take e (drop b.start l)) c.as_mut_slice.ensures.value) in
     let on = ap (λ r. r.ended) c.self.view_is ∙ (unsettled-open c.args.self.now c.requires).0 in
-    let bytes = c.in_ok-count.ensures.bytes.0 in
-    elim c.if-count-eq0.branch [
-      | then-count-eq0 w ↦ rw (w.self-inside-is, ← c.self.view_is, on) (keeps-end _ _ (take n (drop e now)) _ _ pending bytes (c.in_ok-count.ensures.end w.if-count-eq0.true))
-      | else-count-eq0 w ↦ rw (w.self-inside-is, ← c.self.view_is, on) (keeps-more _ _ (take n (drop e now)) _ _ pending bytes)
-    ]
+    rw (← c.self.view_is, on) (keeps-taken _ _ (take n (drop e now)) _ _ n pending c.in_ok-count.ensures.bytes.0 c.in_ok-count.ensures.end)
 
 pub returns-clause-taken : goal.returns-clause-taken
-returns-clause-taken g c = grind (arith, with_items_is, refilled, then-count-eq0, else-count-eq0)
+returns-clause-taken g c = grind (arith, with_items_is, refilled)
 
 pub returns-in_err-count-clause-asks : goal.returns-in_err-count-clause-asks
 returns-in_err-count-clause-asks g c =
@@ -58,9 +53,30 @@ returns-clause-asks g c =
     let left = part-length (with_items b.buffer now).items 0 (e + n) (omega (arith, ap length there, c.in_ok-count.ensures.bound)) in
     let given = ap (λ r. r.given) c.self.view_is in
     let grown : length (take (e + n - 0) (with_items b.buffer now).items) ≡ length c.args.self.now.pending + n = omega (arith, left, was) in
-    elim c.if-count-eq0.branch [
-      | then-count-eq0 w ↦ rw w.self-inside-is (asks-one g.S.Source.takes c.args.source.now c.refill.new.source c.args.self.now _ (Ok n) off c.in_ok-count.ensures.offered
-          (sym (eq-eqb n 0 w.if-count-eq0.true)) given grown)
-      | else-count-eq0 w ↦ rw w.self-inside-is (asks-one g.S.Source.takes c.args.source.now c.refill.new.source c.args.self.now _ (Ok n) off c.in_ok-count.ensures.offered
-          (ap (λ r. r.ended) c.self.view_is ∙ off ∙ sym (ne_eqb n 0 w.if-count-eq0.false)) given grown)
-    ]
+    asks-one g.S.Source.takes c.args.source.now c.refill.new.source c.args.self.now _ (Ok n) off c.in_ok-count.ensures.offered refl given grown
+
+pub returns-in_err-count-clause-bounds : goal.returns-in_err-count-clause-bounds
+returns-in_err-count-clause-bounds g c =
+    let b = c.self.inside in
+    let now = c.refill.new.buffer in
+    let there = with_items_is b.buffer now (omega (arith, c.as_mut_slice.ensures.len, c.refill.auto.buffer)) in
+    let room = ap length there ∙ c.refill.auto.buffer ∙ ap length c.as_mut_slice.ensures.value ∙ c.self.invariant.room in
+    omega (arith, length-take (b.end - b.start - 0) (with_items b.buffer now).items, room)
+
+pub returns-clause-bounds : goal.returns-clause-bounds
+returns-clause-bounds g c =
+    let b = c.self.inside in
+    let now = c.refill.new.buffer in
+    let there = with_items_is b.buffer now (omega (arith, c.as_mut_slice.ensures.len, c.refill.auto.buffer)) in
+    let room = ap length there ∙ c.refill.auto.buffer ∙ ap length c.as_mut_slice.ensures.value ∙ c.self.invariant.room in
+    omega (arith, length-take (b.end - b.start + c.in_ok-count.count - 0) (with_items b.buffer now).items, room)
+
+pub returns-in_err-count-clause-taken : goal.returns-in_err-count-clause-taken
+returns-in_err-count-clause-taken g c =
+    let b = c.self.inside in
+    let e = b.end - b.start in
+    let now = c.refill.new.buffer in
+    let there = with_items_is b.buffer now (omega (arith, c.as_mut_slice.ensures.len, c.refill.auto.buffer)) in
+    let front : e - 0 ≡ e = omega arith in
+    let kept = ap (λ k. take k (with_items b.buffer now).items) front ∙ ap (take e) there ∙ c.refill.ensures.front ∙ ap (λ l. take e (drop b.start l)) c.as_mut_slice.ensures.value ∙ ap (λ r. r.pending) c.self.view_is in
+    record { taken = []; consumed = Consumes-kept _ _ _ [] (Consumes-nil _) c.in_err-count.ensures.bytes; behind = kept ∙ sym (append-nil _) }
