@@ -54,7 +54,8 @@ module _ (s v : Stock) (a t p : ℕ) (same : v.model ≡ s.model) (less : IsLess
 -- the sums look at the model and the people on arcs alone
 pub coming_same : (s v : Stock) → v.model ≡ s.model → v.left ≡ s.left → (n u : ℕ) → left_coming v n u ≡ left_coming s n u
 unfolding left_coming
-coming_same s v e f n u = grind arith
+coming_same s v e f n u =
+    ap₂ (λ (w : Model) (c : PeopleTable). sum_by (λ b. cond (eqb (head w b) n && leb (arc_at w b).travel u) (people_at c b (u - (arc_at w b).travel)) 0) (places w.arcs)) e f
 
 pub going_same : (s v : Stock) → v.model ≡ s.model → v.left ≡ s.left → (n u : ℕ) → going v n u ≡ going s n u
 unfolding going
@@ -113,7 +114,11 @@ module _ (s v : Stock) (same : v.model ≡ s.model) where
       → before s n t + left_coming s n t ≡ people_at s.holds n t + going s n t + cond (eqb c n && eqb u t) p 0
       → before v n t + left_coming v n t ≡ people_at v.holds n t + going v n t + cond (eqb d n && eqb k t) q 0)
       → IsBalancedBut s c u p → IsBalancedBut v d k q
-  balanced_with c u p d k q f b n t l e h = grind arith
+  balanced_with c u p d k q f b n t l e h =
+      let l' = rw same at l in
+      let e' = rw same at e in
+      let h' = rw same at h in
+      f n t l' e' h' (b n t l' e' h')
 
 before_same : (s v : Stock) → v.holds ≡ s.holds → v.waiting ≡ s.waiting → (n t : ℕ) → before v n t ≡ before s n t
 before_same s v e f n t = ap₂ (λ (c d : PeopleTable). stayed c n t + people_at d n t) e f

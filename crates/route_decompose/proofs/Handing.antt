@@ -12,7 +12,7 @@ use Rattle.evac_law.proofs.Entries.{none_late, none_past}
 use Rattle.evac_law.proofs.WeakDuality.{above_pos}
 use Rattle.evac_law.proofs.SumLemmas.{cond_nothing, sum_by-le_all, sum_by-nothing}
 use Rattle.route_decompose.specs.declared.route.RouteStep.{RouteStep}
-use Rattle.route_decompose.specs.Routes.{HandsOut, IsAllLeft, LeadsOut, RouteView, places_of}
+use Rattle.route_decompose.specs.Routes.{HandsOut, IsAllLeft, LeadsOut, RouteView, enters, places_of}
 use Rattle.plan_layout.specs.Tables.{PeopleTable, people_at}
 use Rattle.route_decompose.specs.Places.{IsLess}
 use Rattle.route_decompose.specs.Stocks.{Empties, IsEmpty, IsLedOut, IsOpen, IsRoutes, IsStock, IsStockOf, Stock, TrailView, before, used}
@@ -99,7 +99,12 @@ module _ (m : Model) (f : Stand) (s : Stock) (stands : Stands m f) (same : s.mod
   opens = whole_of f s (record { stands = stands_on; moves = all_left; stays = all_stay; starts = all_wait }) stock
 
   pub whole : (r : RouteView) → IsAllLeft m f.plan (record { model = s.model; left = s.left; waiting = s.waiting; places = used s; route = r })
-  whole r = grind (arith, all_left, all_wait, all_places)
+  whole r = record {
+    same_model = same;
+    all_left = all_left;
+    all_wait = λ n t. all_wait n t ∙ ap (λ (x : Model). entry x n t) same;
+    all_places = all_places ∙ ap (λ (x : Model). places_of x f.plan) same;
+  }
 
 -- ---- one route
 
@@ -136,7 +141,13 @@ module _ {s z v : Stock} (w : Stock) {n k p most : ℕ} {t : TrailView} (u : Tra
 
   pub hands_out : (r : RouteView) → HandsOut (record { model = s.model; left = s.left; waiting = s.waiting; places = used s; route = r })
       (record { model = w.model; left = w.left; waiting = w.waiting; places = used w; route = record { people = p; start = n; entered = k; steps = u.steps } })
-  hands_out r = grind (arith, some_step, inside, fewer_wait, fewer_places)
+  hands_out r = record {
+    same_model = same ∙ led.same_model;
+    right = record { somebody = one; some_step = some_step s.model n k u.steps led.leads inside; leads_out = led.leads };
+    fewer = λ a j. ap (λ (c : PeopleTable). people_at c a j + cond (enters u.steps a j) p 0) left ∙ led.left a j;
+    fewer_wait = fewer_wait;
+    fewer_places = fewer_places;
+  }
 
   pub routes_on : IsRoutes w u
   routes_on =
