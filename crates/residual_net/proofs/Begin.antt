@@ -1,7 +1,7 @@
 -- A net of a model begins with no flow and the model's limits.
-use Rattle.std.proofs.Common.{◌≡◌, ℕ, zero, suc, ◌+◌, ◌-◌, ◌*◌, ◌<◌, ◌≤◌, Bool, true, cond, ◌&&◌, ◌||◌, eqb, ltb, List, [], ◌∷◌, ◌++◌, length, length-append, map, get_or, replicate, append_assoc, add-one, refl, ap, ap₂, sym, ◌∙◌, arith, inl, inr, subst}
+use Rattle.std.proofs.Common.{◌≡◌, ℕ, zero, suc, ◌+◌, ◌-◌, ◌*◌, ◌<◌, ◌≤◌, Bool, true, cond, ◌&&◌, ◌||◌, eqb, ltb, List, [], ◌∷◌, ◌++◌, length, length-append, map, get_or, replicate, take, take_all, append_assoc, add-one, refl, ap, ap₂, sym, ◌∙◌, arith, inl, inr, subst}
 use Rattle.std.specs.List.{range_with_len}
-use Rattle.std.proofs.lemmas.List.{get_or-append-add, get_or_append_left, get_or-map, get_or-replicate, length-map, length-replicate, map-append}
+use Rattle.std.proofs.lemmas.List.{get_or-append-add, get_or_append_left, get_or-map, get_or-replicate, length-map, length-replicate, map-append, map_more}
 use Rattle.std.proofs.lemmas.List.FromFn.{get_or-range_with_len, length-map-range_with_len, length-range_with_len, map-range_with_len_more}
 use Rattle.std.proofs.lemmas.Nat.{mul-add-lt}
 use Rattle.std.proofs.Math.Nat.{mul_comm}
@@ -357,3 +357,16 @@ empty_kept m w arrivals saved valid h e f = record {
   counted = sym (supplies_are_people m w valid h.of);
   saved_counted = sym (ap supply_limits h.saved ∙ supplies_are_people m w valid h.of);
 }
+
+-- once one more is added, a list has what one more of the first of some list are made into
+pub map_pushed : {X Y : Type 0} (f : X → Y) (xs : List X) (i : ℕ) (d : X) {y : Y} {made new : List Y} → y ≡ f (get_or xs i d) → made ≡ map f (take i xs)
+    → new ≡ made ++ y ∷ [] → i < length xs → new ≡ map f (take (i + 1) xs)
+map_pushed f xs i d here is pushed below =
+    let more = map_more f xs i d below in
+    cc
+
+-- and when it has those of all, it has what the whole list is made into
+pub map_ended : {X Y : Type 0} (f : X → Y) (xs ys : List X) (i : ℕ) {made : List Y} → made ≡ map f (take i xs) → xs ≡ ys → length xs ≤ i → made ≡ map f ys
+map_ended f xs ys i is same ended =
+    let all = take_all i xs ended in
+    cc
