@@ -144,11 +144,12 @@ impl Distances {
     {
         self.current_arcs.as_mut_slice().fill(0);
         for node in 0..self.sizes.nodes {
-            let first = self.sizes.first_pair(node);
-            let end = first + self.sizes.moments;
-            let early = (self.earliest[node as usize] as u32).min(self.sizes.moments);
-            self.labels[first as usize..(first + early) as usize].fill(FAR as u16);
-            self.labels[(first + early) as usize..end as usize].fill(0);
+            let first = self.sizes.first_pair(node) as usize;
+            let moments = self.sizes.moments as usize;
+            let early = (self.earliest[node as usize] as usize).min(moments);
+            let row = &mut self.labels[first..first + moments];
+            row[..early].fill(FAR as u16);
+            row[early..].fill(0);
         }
     }
 
