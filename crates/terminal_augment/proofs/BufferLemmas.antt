@@ -1,10 +1,12 @@
 -- The scratch of a search after pushes.
-use Rattle.std.proofs.Common.{◌≡◌, ℕ, subst, sym, arith}
+use Rattle.std.proofs.Common.{◌≡◌, ℕ, subst, sym, ◌∙◌, arith}
 use Rattle.guided_search.specs.declared.path_finder.PathFinder.{PathFinder}
 use Rattle.residual_net.specs.Network.{Network}
 use Rattle.residual_net.specs.Site.{Site}
 use Rattle.terminal_augment.specs.declared.spot.Met.{Met}
 use Rattle.terminal_augment.specs.declared.buffers.Buffers.{Buffers}
+use Rattle.terminal_augment.specs.Hints.{IsMarkedOn}
+use Rattle.terminal_augment.specs.Marking.{IsMarks, MarkTable}
 use Rattle.terminal_augment.specs.Queues.{Queue}
 use Rattle.terminal_augment.specs.Searches.{AreBuffers, KeepsBuffers}
 use Rattle.terminal_augment.specs.Settled.{IsPushedOn}
@@ -19,3 +21,14 @@ buffers_with f h = record { marks = h.marks; nodes = h.nodes; horizon = h.horizo
 
 pub queue_with : {n h : ℕ} {x : Buffers} {q : Queue Met} → q.room ≡ x.queue.room → AreBuffers n h x → AreBuffers n h (record x { queue = q })
 queue_with same h = record { marks = h.marks; nodes = h.nodes; horizon = h.horizon; queue = omega (arith, h.queue, same); path = omega (arith, h.path, same) }
+
+-- another finder, and marks that were taken off and set again
+pub marks_with : {n h : ℕ} {x : Buffers} {m v : MarkTable} (f : PathFinder) → IsMarks m → m.nodes ≡ x.marks.nodes → m.horizon ≡ x.marks.horizon → IsMarkedOn m v
+    → AreBuffers n h x → AreBuffers n h (record x { finder = f; marks = v })
+marks_with f marks nodes horizon on h = record {
+  marks = on.marks marks;
+  nodes = on.nodes ∙ nodes ∙ h.nodes;
+  horizon = on.horizon ∙ horizon ∙ h.horizon;
+  queue = h.queue;
+  path = h.path;
+}

@@ -1,5 +1,5 @@
 -- The way on from a pair that was met leads to an arrival, and comes to no pair twice.
-use Rattle.std.proofs.Common.{◌≡◌, ℕ, zero, suc, ◌<◌, true, false, true≢false, ◌&&◌, eqb, List, [], ◌∷◌, drop, ap, sym, ◌∙◌, ◌⊎◌, arith, inl, inr}
+use Rattle.std.proofs.Common.{◌≡◌, ℕ, zero, suc, ◌+◌, ◌<◌, true, false, true≢false, ◌&&◌, eqb, List, [], ◌∷◌, length, get_or, drop, drop-cons, add-one, ap, sym, ◌∙◌, ◌⊎◌, refl, arith, inl, inr}
 use Rattle.std.specs.List.{All}
 use Rattle.std.proofs.lemmas.Bool.{cases_Bool, and_parts, eqb-true, or_cases, or_left, or_right}
 use Rattle.residual_net.specs.declared.place.PathStep.{PathStep}
@@ -72,3 +72,10 @@ met_steps w k (m ∷ ms) met (suc j) d l = met_steps w k ms met.1 j d (omega (ar
 -- the way on from an end, over the pairs from a number on
 abbrev pub way_from : Site → End → List Met → ℕ → List PathStep
 way_from s e ms i = steps_of (way_on s e (drop i ms))
+
+-- the way on goes over the pair that it comes to, and past another one
+pub way_over : (s : Site) (e : End) (ms : List Met) (i : ℕ) {m : Met} → i < length ms → m ≡ get_or ms i m → is_at e m.spot ≡ true → way_from s e ms i ≡ m.step ∷ way_from s (stop_of s m.step) ms (i + 1)
+way_over s e ms i {m} few is here = rw (add-one, drop-cons ms i m few, sym is, here) refl
+
+pub way_past : (s : Site) (e : End) (ms : List Met) (i : ℕ) {m : Met} → i < length ms → m ≡ get_or ms i m → is_at e m.spot ≡ false → way_from s e ms i ≡ way_from s e ms (i + 1)
+way_past s e ms i {m} few is off = rw (add-one, drop-cons ms i m few, sym is, off) refl

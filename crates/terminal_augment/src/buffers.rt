@@ -11,13 +11,13 @@ use guided_search::PathFinder;
 use residual_net::Path;
 use std::alloc::{AllocError, Global};
 
-/// What a settling needs: what gives hints, marks for the check of one, the queue of a flood, and the path along which people are sent.
+/// What a settling needs: the path along which people are sent, the queue of a flood, what gives hints, and marks for the check of one.
 #[derive(Drop)]
 pub struct Buffers {
-    pub finder: PathFinder,
-    pub marks: Marks,
-    pub queue: Queue<Met>,
     pub path: Path,
+    pub queue: Queue<Met>,
+    pub marks: Marks,
+    pub finder: PathFinder,
 }
 
 impl Buffers {
@@ -30,10 +30,10 @@ impl Buffers {
         let horizon = model.horizon;
         let room = nodes as usize * (horizon as usize + 1);
         Ok(Buffers {
-            finder: PathFinder::new(alloc, model)?,
-            marks: Marks::new(alloc, nodes, horizon)?,
-            queue: Queue::new(alloc, room)?,
             path: Path::new(alloc, room + 1)?,
+            queue: Queue::new(alloc, room)?,
+            marks: Marks::new(alloc, nodes, horizon)?,
+            finder: PathFinder::new(alloc, model)?,
         })
     }
 }

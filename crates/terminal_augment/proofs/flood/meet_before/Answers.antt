@@ -27,3 +27,6 @@ loop-moment-preserved c =
       done = λ _. before_later w c.args.spot.node c.args.spot.moment c.loop-moment.moment c.meet.ensures.grown c.loop-moment-test.true old.within old.done
           (subst (λ (z : PathStep). IsDone w m c.args.k z) c.forth-step.ensures c.meet.ensures.done);
     }
+
+pub returns-then-not-meet-clause-grown : goal.returns-then-not-meet-clause-grown
+returns-then-not-meet-clause-grown c = grown_then c.loop-moment.invariant.grown c.meet.ensures.grown
