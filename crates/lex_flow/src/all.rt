@@ -31,7 +31,6 @@ struct Settled {
 
 // Unsets the labels that aren't below a moment, and settles moment after moment from that one on until everybody arrives before the
 // next one, or to the horizon.
-#[tactic(auto, using(crate::proofs::SettleLemmas::below_few, terminal_augment::proofs::SendLemmas::horizon_small), unfolding(residual_net::specs::Limits::supply_limit))]
 fn settle_on<L: Ledger>(
     net: &mut Net,
     labels: &mut Labels,

@@ -1,7 +1,9 @@
 use Rattle.std.proofs.Common.{arith, ap, sym, ◌∙◌}
+use Rattle.residual_net.specs.Limits.{supply_limit}
 use Rattle.residual_net.specs.Site.{Site}
 use Rattle.std.proofs.lemmas.Bool.{iff_false}
-use Rattle.lex_flow.proofs.SettleLemmas.{settled_begins, settled_more}
+use Rattle.lex_flow.proofs.SettleLemmas.{below_few, settled_begins, settled_more}
+use Rattle.terminal_augment.proofs.SendLemmas.{horizon_small}
 use Rattle.lex_flow.proofs.UnsetLemmas.{full_before}
 use Rattle.lex_flow.proofs.all.settle_on.Goals as goal
 
@@ -29,3 +31,15 @@ loop-next-preserved g c =
       search = here.search ∙ old.search;
       ticked = omega (arith, old.ticked, here.counted.ticked);
     }
+
+pub overflow_add-pushes : goal.overflow_add-pushes
+unfolding supply_limit
+overflow_add-pushes g c =
+    let w = c.loop-next.net in
+    let old = c.loop-next.invariant in
+    omega (arith, old.settled.bounded, below_few w c.loop-next.next old.settled.net, old.next, old.horizon, horizon_small w old.settled.net)
+
+pub overflow_add-next : goal.overflow_add-next
+overflow_add-next g c =
+    let old = c.loop-next.invariant in
+    omega (arith, c.loop-next-test.true, old.horizon, horizon_small c.loop-next.net old.settled.net)
