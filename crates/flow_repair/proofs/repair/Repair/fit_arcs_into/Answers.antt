@@ -1,22 +1,23 @@
-use Rattle.std.proofs.Common.{◌≡◌, ◌≢◌, ◌+◌, ◌<◌, ℕ, length, eqb, ltb, ◌&&◌, ap, sym, subst, arith, ◌∙◌}
+use Rattle.std.proofs.Common.{◌≡◌, ◌≢◌, ◌+◌, ◌<◌, ◌≤◌, ℕ, length, eqb, ltb, ◌&&◌, ap, sym, subst, arith, ◌∙◌}
+use Rattle.std.proofs.lemmas.Grind.{common_steps}
 use Rattle.evac_law.specs.declared.model.ArcRow.{ArcRow}
 use Rattle.evac_law.specs.declared.model.Model.{Model}
 use Rattle.evac_law.specs.Building.{head}
 use Rattle.time_expansion.specs.Expansion.{to_at}
 use Rattle.residual_net.specs.declared.place.Place.{Place}
-use Rattle.residual_net.specs.Site.{Site}
+use Rattle.residual_net.specs.Site.{Site, arc_count}
 use Rattle.residual_net.specs.Start.{is_kind, row_of}
 use Rattle.residual_net.specs.declared.start.Kind.TheVariants as kinds
 use Rattle.residual_net.proofs.Held.{to_is}
 use Rattle.flow_repair.specs.declared.repair.Repair.{Repair}
 use Rattle.flow_repair.specs.Repairing.{Refits}
-use Rattle.flow_repair.proofs.Arcs.{arcs_skip, arcs_step}
+use Rattle.flow_repair.proofs.Arcs.{arcs_done, arcs_skip, arcs_step}
 use Rattle.flow_repair.proofs.Repairing.{refits_by, refits_then, still_can_fit}
 use Rattle.flow_repair.proofs.repair.Repair.fit_arcs_into.Goals as goal
 use Rattle.flow_repair.proofs.repair.Repair.fit_arcs_into.Goals.{then-arc-node, else-arc-node}
 
 pub fit_row-requires-clause-fittable : goal.fit_row-requires-clause-fittable
-fit_row-requires-clause-fittable g c = grind (arith, still_can_fit)
+fit_row-requires-clause-fittable g c = still_can_fit c.loop-arc.invariant c.requires.fittable
 
 pub loop-arc-preserved : goal.loop-arc-preserved
 loop-arc-preserved g c =
@@ -41,3 +42,9 @@ loop-arc-preserved g c =
           subst (λ (t : Repair _). Refits (so_far (a + 1)) r t) (sym w.self-is)
           (refits_by (so_far (a + 1)) old (λ p _. arcs_skip f (is_kind kinds.Arc p) (row_of p) a n leads))
     ]
+
+pub returns : goal.returns
+returns g c =
+    let s = c.args.self.now.net.now.site in
+    let all : arc_count s ≤ c.loop-arc.arc = grind (arith, common_steps, c.requires.fittable.between.of_model) in
+    refits_by (λ p. is_kind kinds.Arc p && eqb (to_at s.shape (row_of p)) c.args.node) c.loop-arc.invariant (λ p i. arcs_done s (to_at s.shape) c.loop-arc.arc c.args.node p all i)
