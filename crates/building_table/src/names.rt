@@ -10,12 +10,23 @@ use std::alloc::{AllocError, Global};
 use std::marker::Model;
 
 /// The names of a building's nodes, the ends of its arcs, its floors and its title.
-#[derive(Drop)]
 pub struct Names {
     index: NameIndex,
     floors: Vec<u16>,
     texts: Vec<Vec<u8>>,
     title: Option<Vec<u8>>,
+}
+
+// Written out, since a derived drop is laid out part by part in each function that lets one go.
+impl Drop for Names {
+    fn drop(self) {
+        let Names {
+            index: _,
+            floors: _,
+            texts: _,
+            title: _,
+        } = self;
+    }
 }
 
 impl Model for Names {

@@ -15,13 +15,25 @@ use std::alloc::{AllocError, Global};
 use std::marker::Model;
 
 /// A plan and its counts, and the card handed out last. All memory that it needs is taken when it is made.
-#[derive(Drop)]
 pub struct Cards {
     counts: Counts,
     people: u32,
     given: u32,
     turn: Turn,
     trail: Trail,
+}
+
+// Written out, since a derived drop is laid out part by part in each function that lets one go.
+impl Drop for Cards {
+    fn drop(self) {
+        let Cards {
+            counts: _,
+            people: _,
+            given: _,
+            turn: _,
+            trail: _,
+        } = self;
+    }
 }
 
 impl Model for Cards {

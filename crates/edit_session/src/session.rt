@@ -21,11 +21,21 @@ use std::mem::swap;
 use std::sync::ledger::Ledger;
 
 /// A model with its best plan, which is repaired after each edit. All memory that a session needs is taken when it begins.
-#[derive(Drop)]
 pub struct Session {
     planned: Planned,
     ring: HeapCircularBuffer<Edit>,
     work: Work,
+}
+
+// Written out, since a derived drop is laid out part by part in each function that lets one go.
+impl Drop for Session {
+    fn drop(self) {
+        let Session {
+            planned: _,
+            ring: _,
+            work: _,
+        } = self;
+    }
 }
 
 impl std::marker::Model for Session {

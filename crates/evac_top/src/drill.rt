@@ -75,24 +75,6 @@ fn answer_drill<K: Sink>(
     status_after(send_drill(out, sink, number, model, figures), Status::Done)
 }
 
-// Sends the same, and ends the session.
-fn answer_begun<K: Sink>(
-    alloc: Global,
-    out: &mut Out,
-    sink: &mut K,
-    number: u32,
-    session: Session,
-) -> Status
-    requires fresh { out.old ≡ [] }
-    requires begins { Begins (drill_model number) session.state }
-    ensures { Tells (IsDrilled number) (status_number result) session.state.work.pushes
-        (side (K.held sink.old) (K.faults sink.old)) (side (K.held sink.new) (K.faults sink.new)) }
-{
-    let status = answer_drill(alloc, out, sink, number, &session);
-    drop(session);
-    status
-}
-
 // Sends the summary of what a session begins with. One does, but for want of memory.
 fn tell<K: Sink>(
     alloc: Global,
@@ -108,7 +90,7 @@ fn tell<K: Sink>(
         (side (K.held sink.old) (K.faults sink.old)) (side (K.held sink.new) (K.faults sink.new)) }
 {
     match begun {
-        Ok(session) => answer_begun(alloc, out, sink, number, session),
+        Ok(session) => answer_drill(alloc, out, sink, number, &session),
         Err(fault) => stop_short(out, sink, 0, fault),
     }
 }
@@ -133,9 +115,8 @@ fn take_building(alloc: Global, number: u32) -> Result<(Out, Building), AllocErr
     ensures model { IfOk result (λ made. made.1.model ≡ drill_model number) }
     ensures valid { IfOk result (λ made. IsValid made.1.model) }
 {
-    let (Ok(out), Ok(building)) = (Out::new(alloc), drill_model(alloc, number)) else {
-        return Err(AllocError);
-    };
+    let out = Out::new(alloc)?;
+    let building = drill_model(alloc, number)?;
     Ok((out, building))
 }
 

@@ -42,27 +42,10 @@ fn answer_plan<K: Sink>(
     let Ok(mut tables) = Tables::new(alloc, query, session) else {
         return Status::NoMemory;
     };
-    let sent = send_plan(out, sink, query, session, &mut tables);
-    drop(tables);
-    status_after(sent, Status::Done)
-}
-
-// Sends the plan with which a session begins, and ends the session.
-fn answer_begun<K: Sink>(
-    alloc: Global,
-    out: &mut Out,
-    sink: &mut K,
-    query: &Query,
-    session: Session,
-) -> Status
-    requires fresh { out.old ≡ [] }
-    requires begins { Begins session.state.model session.state }
-    ensures { Tells (IsPlanned query.now.flags query.now.names session.state.model) (status_number result) session.state.work.pushes
-        (side (K.held sink.old) (K.faults sink.old)) (side (K.held sink.new) (K.faults sink.new)) }
-{
-    let status = answer_plan(alloc, out, sink, query, &session);
-    drop(session);
-    status
+    status_after(
+        send_plan(out, sink, query, session, &mut tables),
+        Status::Done,
+    )
 }
 
 // Sends what a session begins with, or why there is none.
@@ -80,7 +63,7 @@ fn tell<K: Sink>(
         (side (K.held sink.old) (K.faults sink.old)) (side (K.held sink.new) (K.faults sink.new)) }
 {
     match begun {
-        Ok(session) => answer_begun(alloc, out, sink, query, session),
+        Ok(session) => answer_plan(alloc, out, sink, query, &session),
         Err(fault) => stop_short(out, sink, query.line, fault),
     }
 }

@@ -10,10 +10,16 @@ use std::marker::Model;
 use time_expansion::{Ends, Shape};
 
 /// A copy of a model, and the arcs at each of its nodes. All memory that it needs is taken when it is made.
-#[derive(Drop)]
 pub struct Layout {
     model: evac_law::Model,
     shape: Shape,
+}
+
+// Written out, since a derived drop is laid out part by part in each function that lets one go.
+impl Drop for Layout {
+    fn drop(self) {
+        let Layout { model: _, shape: _ } = self;
+    }
 }
 
 impl Model for Layout {

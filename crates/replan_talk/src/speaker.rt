@@ -198,20 +198,14 @@ impl Speaker for ReplanTalk {
     ) -> Result<ReplanTalk, BeginFault> {
         let Building { model, names } = building;
         let Ok(desk) = Desk::new(alloc, names, &model) else {
-            drop(model);
             return Err(BeginFault::Memory);
         };
-        match Replan::begin(alloc, model, steps) {
-            Ok(replan) => Ok(ReplanTalk {
-                alloc,
-                desk,
-                replan,
-            }),
-            Err(fault) => {
-                drop(desk);
-                Err(fault)
-            }
-        }
+        let replan = Replan::begin(alloc, model, steps)?;
+        Ok(ReplanTalk {
+            alloc,
+            desk,
+            replan,
+        })
     }
 
     fn open<K: Sink>(&self, writer: &mut Writer<'_, K>) {

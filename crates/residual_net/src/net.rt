@@ -30,13 +30,25 @@ use time_expansion::Shape;
 /// A flow over time with its limits, and what was saved of it.
 ///
 /// The arrivals at each moment and the limits of all supplies together are kept beside the cells.
-#[derive(Drop)]
 pub struct Net {
     grid: Grid,
     arrivals: Vec<u32>,
     saved_arrivals: Vec<u32>,
     supplies: u32,
     saved_supplies: u32,
+}
+
+// Written out, since a derived drop is laid out part by part in each function that lets one go.
+impl Drop for Net {
+    fn drop(self) {
+        let Net {
+            grid: _,
+            arrivals: _,
+            saved_arrivals: _,
+            supplies: _,
+            saved_supplies: _,
+        } = self;
+    }
 }
 
 impl Model for Net {

@@ -14,13 +14,25 @@ use std::alloc::{AllocError, Global};
 use std::marker::Model;
 
 /// What is left of a plan, and the route handed out last. All memory that it needs is taken when it is made.
-#[derive(Drop)]
 pub struct Routes {
     store: Store,
     people: u32,
     start: u32,
     entered: u16,
     trail: Trail,
+}
+
+// Written out, since a derived drop is laid out part by part in each function that lets one go.
+impl Drop for Routes {
+    fn drop(self) {
+        let Routes {
+            store: _,
+            people: _,
+            start: _,
+            entered: _,
+            trail: _,
+        } = self;
+    }
 }
 
 impl Model for Routes {

@@ -62,18 +62,13 @@ impl Desk {
         ensures first { IfOk result (λ d. d.index ≡ 0) }
         ensures tables { IfOk result (HasTables model.now) }
     {
-        match tables(alloc, model, &names) {
-            Ok((routes, space)) => Ok(Desk {
-                names,
-                index: 0,
-                routes,
-                space,
-            }),
-            Err(fault) => {
-                drop(names);
-                Err(fault)
-            }
-        }
+        let (routes, space) = tables(alloc, model, &names)?;
+        Ok(Desk {
+            names,
+            index: 0,
+            routes,
+            space,
+        })
     }
 
     /// Makes its tables anew, for another model.

@@ -103,16 +103,10 @@ impl Speaker for SessionTalk {
     ) -> Result<SessionTalk, BeginFault> {
         let Building { model, names } = building;
         let Ok(desk) = Desk::new(alloc, names, &model) else {
-            drop(model);
             return Err(BeginFault::Memory);
         };
-        match Session::begin(alloc, model, steps) {
-            Ok(session) => Ok(SessionTalk { desk, session }),
-            Err(fault) => {
-                drop(desk);
-                Err(fault)
-            }
-        }
+        let session = Session::begin(alloc, model, steps)?;
+        Ok(SessionTalk { desk, session })
     }
 
     fn open<K: Sink>(&self, writer: &mut Writer<'_, K>) {

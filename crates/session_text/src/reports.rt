@@ -20,11 +20,21 @@ use std::alloc::{AllocError, Global};
 use std::marker::Model;
 
 /// Tables that reports are made in. All memory that they need is taken when they are made.
-#[derive(Drop)]
 pub struct ReportSpace {
     clearing: Clearing,
     floors: FloorIndex,
     bottlenecks: Bottlenecks,
+}
+
+// Written out, since a derived drop is laid out part by part in each function that lets one go.
+impl Drop for ReportSpace {
+    fn drop(self) {
+        let ReportSpace {
+            clearing: _,
+            floors: _,
+            bottlenecks: _,
+        } = self;
+    }
 }
 
 impl Model for ReportSpace {

@@ -47,13 +47,8 @@ impl StudyDesk {
         ensures { (n : ℕ) × (steps.new ≡ steps.old + n) × StudyBegins building.names building.model result n }
     {
         let Building { model, names } = building;
-        match Session::begin(alloc, model, steps) {
-            Ok(session) => Ok(StudyDesk { names, session }),
-            Err(fault) => {
-                drop(names);
-                Err(fault)
-            }
-        }
+        let session = Session::begin(alloc, model, steps)?;
+        Ok(StudyDesk { names, session })
     }
 
     /// The last period of the model.

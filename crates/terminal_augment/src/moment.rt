@@ -79,9 +79,15 @@ fn settle_with<L: Ledger>(
 }
 
 /// The scratch of searches, in memory that is taken once.
-#[derive(Drop)]
 pub struct Search {
     buffers: Buffers,
+}
+
+// Written out, since a derived drop is laid out part by part in each function that lets one go.
+impl Drop for Search {
+    fn drop(self) {
+        let Search { buffers: _ } = self;
+    }
 }
 
 impl Model for Search {

@@ -5,8 +5,8 @@ use Rattle.evac_top.proofs.SolveLemmas.{begun-as, fault-as, told-drilled, told-s
 use Rattle.talk.specs.Statuses.{status_number}
 use Rattle.evac_top.proofs.drill.tell.Goals as goal
 
-pub answer_begun-requires-clause-begins : goal.answer_begun-requires-clause-begins
-answer_begun-requires-clause-begins g c =
+pub answer_drill-requires-clause-begins : goal.answer_drill-requires-clause-begins
+answer_drill-requires-clause-begins g c =
     let h = c.requires.begun in (begun-as (drill_model c.args.number) h.0 c.args.begun c.in-Ok.session c.in-Ok.is h.2).0
 
 pub stop_short-requires-clause-begun : goal.stop_short-requires-clause-begun
@@ -18,7 +18,7 @@ pub returns-in-Ok : goal.returns-in-Ok
 returns-in-Ok g c = λ steps ends.
     let v = c.in-Ok.session in
     let h = begun-as (drill_model c.args.number) steps c.args.begun v c.in-Ok.is ends in
-    told-drilled c.args.number v.state steps (status_number c.answer_begun.result) _ _ h.2 c.answer_begun.ensures
+    told-drilled c.args.number v.state steps (status_number c.answer_drill.result) _ _ h.2 c.answer_drill.ensures
 
 pub returns-in-Err : goal.returns-in-Err
 returns-in-Err g c = λ steps ends.

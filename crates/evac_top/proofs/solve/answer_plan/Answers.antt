@@ -14,6 +14,6 @@ returns g c =
     let flags = c.args.query.now.flags in
     let names = c.args.query.now.names in
     let s = c.args.session.now.state in
-    let sent = c.send_plan-sent.ensures in
-    tells-sent (IsPlanned flags names s.model) 0 s.work.pushes sent.0 c.send_plan-sent.result _ _ (status_number c.status_after.result) c.status_after.ensures (omega arith)
+    let sent = c.send_plan.ensures in
+    tells-sent (IsPlanned flags names s.model) 0 s.work.pushes sent.0 c.send_plan.result _ _ (status_number c.status_after.result) c.status_after.ensures (omega arith)
     c.requires.fresh sent.2 (λ taken. planned flags names s.model s sent.0 taken c.requires.begins sent.1)

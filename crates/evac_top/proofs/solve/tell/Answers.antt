@@ -4,8 +4,8 @@ use Rattle.evac_top.proofs.SolveLemmas.{begins-own, begun-as, fault-as, told-pla
 use Rattle.talk.specs.Statuses.{status_number}
 use Rattle.evac_top.proofs.solve.tell.Goals as goal
 
-pub answer_begun-requires-clause-begins : goal.answer_begun-requires-clause-begins
-answer_begun-requires-clause-begins g c =
+pub answer_plan-requires-clause-begins : goal.answer_plan-requires-clause-begins
+answer_plan-requires-clause-begins g c =
     let h = c.requires.begun in
     let v = c.in-Ok.session in
     begins-own h.0 v.state (begun-as h.0 h.1.0 c.args.begun v c.in-Ok.is h.1.2).0
@@ -18,7 +18,7 @@ pub returns-in-Ok : goal.returns-in-Ok
 returns-in-Ok g c = λ m steps ends.
     let v = c.in-Ok.session in
     let h = begun-as m steps c.args.begun v c.in-Ok.is ends in
-    told-planned c.args.query.now.flags c.args.query.now.names m c.args.query.now.line v.state steps (status_number c.answer_begun.result) _ _ h.0 h.2 c.answer_begun.ensures
+    told-planned c.args.query.now.flags c.args.query.now.names m c.args.query.now.line v.state steps (status_number c.answer_plan.result) _ _ h.0 h.2 c.answer_plan.ensures
 
 pub returns-in-Err : goal.returns-in-Err
 returns-in-Err g c = λ m steps ends.

@@ -4,16 +4,16 @@ use Rattle.session_talk.proofs.Bridge.{begin_opens}
 use Rattle.session_talk.proofs.DeskLemmas.{desk_opened}
 use Rattle.session_talk.proofs.speaker.SessionTalkSpeaker.begin.Goals as goal
 
-pub returns-in-Ok-begin-clause-begins : goal.returns-in-Ok-begin-clause-begins
-returns-in-Ok-begin-clause-begins g c =
+pub returns-clause-begins : goal.returns-clause-begins
+returns-clause-begins g c =
     let made = c.in-Ok.ensures in
-    let begun = c.in-Ok-begin.ensures in
-    (begun.0, begun.1, begin_opens back c.args.building.model c.in-Ok.desk c.in-Ok-begin.session begun.0 made.first begun.2)
+    let begun = c.in_ok-session.ensures in
+    (begun.0, begun.1, begin_opens back c.args.building.model c.in-Ok.desk c.in_ok-session.session begun.0 made.first begun.2)
 
-pub returns-in-Ok-begin-clause-reaches : goal.returns-in-Ok-begin-clause-reaches
-returns-in-Ok-begin-clause-reaches g c = let made = c.in-Ok.ensures in λ before. (made.names, omega (arith, made.first))
+pub returns-clause-reaches : goal.returns-clause-reaches
+returns-clause-reaches g c = let made = c.in-Ok.ensures in λ before. (made.names, omega (arith, made.first))
 
-pub returns-in-Ok-begin-clause-ready : goal.returns-in-Ok-begin-clause-ready
-returns-in-Ok-begin-clause-ready g c =
+pub returns-clause-ready : goal.returns-clause-ready
+returns-clause-ready g c =
     let made = c.in-Ok.ensures in
-    desk_opened c.args.building.names c.args.building.model c.in-Ok.desk c.in-Ok-begin.session c.requires.names made.names made.tables c.in-Ok-begin.ensures.2.0
+    desk_opened c.args.building.names c.args.building.model c.in-Ok.desk c.in_ok-session.session c.requires.names made.names made.tables c.in_ok-session.ensures.2.0
