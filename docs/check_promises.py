@@ -140,7 +140,7 @@ def missing_lemmas(document):
 
 def code_of(crate):
     """The source files and specifications of a crate, as texts."""
-    return [read(path) for part in ("src/*.rt", "specs/*.antt") for path in sorted((TOP / "crates" / crate).glob(part))]
+    return [read(path) for part in ("src/**/*.rt", "specs/*.antt") for path in sorted((TOP / "crates" / crate).glob(part))]
 
 
 def is_named(texts, name, before):
@@ -253,7 +253,7 @@ def names_of_two():
     for crate, file, text in sources("specs/*.antt"):
         for name in PUBLIC.findall(text):
             modules[name].add((crate, file))
-    for crate, _, text in sources("src/*.rt"):
+    for crate, _, text in sources("src/**/*.rt"):
         if not crate.startswith("worked_"):
             for name in re.findall(r"(?m)^(?:pub(?:\(crate\))? )?(?:struct|enum|trait|type) (\w+)", text):
                 types[name].add((crate, crate))
@@ -306,7 +306,7 @@ def bodies(text):
 def too_long():
     """Source files and bodies that are longer than the house allows, and what is listed as too long and isn't."""
     found = set()
-    for _, file, text in sources("src/*.rt"):
+    for _, file, text in sources("src/**/*.rt"):
         if len(text.splitlines()) > FILE_LIMIT:
             found.add(file)
         found.update(f"{file}: {name}" for name, length in bodies(text) if length > BODY_LIMIT)

@@ -77,7 +77,7 @@ def items(text):
 def named():
     """All definitions and public items: the file of each, its name, its words and its clauses."""
     for crate, _ in crates():
-        for part, read in (("specs/*.antt", definitions), ("src/*.rt", items)):
+        for part, read in (("specs/*.antt", definitions), ("src/**/*.rt", items)):
             for path in sorted((TOP / "crates" / crate).glob(part)):
                 for name, words, clauses in list(read(path.read_text())):
                     yield path.relative_to(TOP), name, words, clauses

@@ -22,9 +22,9 @@ use Rattle.evac_top.specs.declared.words.Flags.{Flags}
 use Rattle.evac_top.specs.declared.words.Mode.{Mode}
 use Rattle.evac_top.specs.declared.words.Mode.TheVariants.{Solve, Check, Session, Study, Replan, Upgrade, Drill}
 use Rattle.model_text.specs.Taken.{Description}
-use Rattle.replan_talk.specs.ReplanTalks.{replan}
-use Rattle.session_talk.specs.Sessions.{session}
-use Rattle.study_talk.specs.Studies.{study}
+use Rattle.talk.specs.ReplanTalks.{replan}
+use Rattle.talk.specs.Sessions.{session}
+use Rattle.talk.specs.Studies.{study}
 use Rattle.talk.specs.Short.{OpensShort}
 use Rattle.talk.specs.Talks.{EndsAt, Reply, Spoken, Talk}
 use Rattle.model_text.proofs.ReadingLemmas.{opening-valid}

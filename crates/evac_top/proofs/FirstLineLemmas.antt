@@ -24,12 +24,12 @@ use Rattle.certificate_text.specs.BlockText.{answer_text, end_line, refusal_line
 use Rattle.edit_session.specs.Sessions.{SessionState, kept_limit, with_former}
 use Rattle.replan.specs.Committed.{gone_by}
 use Rattle.replan.specs.Replans.{is_bad_moment, nobody_gone}
-use Rattle.replan_talk.specs.ReplanTalks.{AdvancesTo, AsksSession, CarriesOut, ReplanReplies, Replanned, RowOf, asked_moment, asks_advance, asks_of_people, carried_on, gone_text, is_advance_word, replan, request_by, request_of}
-use Rattle.replan_talk.specs.declared.request.Request.{Request}
-use Rattle.replan_talk.specs.declared.request.Request.TheVariants.{Advance, Session}
+use Rattle.talk.specs.ReplanTalks.{AdvancesTo, AsksSession, CarriesOut, ReplanReplies, Replanned, RowOf, asked_moment, asks_advance, asks_of_people, carried_on, gone_text, is_advance_word, replan, request_by, request_of}
+use Rattle.talk.specs.declared.replans.request.Request.{Request}
+use Rattle.talk.specs.declared.replans.request.Request.TheVariants.{Advance, Session}
 use Rattle.report_text.specs.ReportText.{work_text}
 use Rattle.session_text.specs.StateTexts.{block_text, work_of}
-use Rattle.session_talk.specs.Sessions.{Advances, AsksEdit, Edits, Replies, State, Undoes, session}
+use Rattle.talk.specs.Sessions.{Advances, AsksEdit, Edits, Replies, State, Undoes, session}
 use Rattle.talk.specs.Talks.{EndsAt, RepliesTo, Reply, Replying, Spoken, Talk, followed, refuses, says}
 use Rattle.evac_top.specs.Accounts.{Account}
 use Rattle.evac_top.specs.FirstLine.{FirstAdvanceIsCarriedOut, FirstEditGetsItsBlock, FirstReplanEditGetsItsBlock, FirstUndoIsRefused, FirstWorkIsOfTheOpening, GoesOnWith, IsAcceptedEdit, StoppingIsRefused}

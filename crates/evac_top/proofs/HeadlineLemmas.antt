@@ -28,15 +28,15 @@ use Rattle.building_table.specs.Names.{NameTable, names_of}
 use Rattle.certificate_text.proofs.AnswerBack.{reads_back}
 use Rattle.edit_session.specs.Sessions.{IsSolved, with_former}
 use Rattle.edit_session.specs.Thrift.{IsThrifty, IsThriftyOpening}
-use Rattle.replan_talk.specs.ReplanTalks.{AdvancesTo, AsksSession, CarriesOut, Replanned, RowOf, asks_of_people, bars_moment, replan, request_of}
-use Rattle.replan_talk.specs.declared.request.Request.{Request}
-use Rattle.replan_talk.specs.declared.request.Request.TheVariants as requests
-use Rattle.session_talk.specs.Sessions.{Advances, AsksEdit, Edits, IsAnswerText, Replies, Reports, State, Undoes, session}
+use Rattle.talk.specs.ReplanTalks.{AdvancesTo, AsksSession, CarriesOut, Replanned, RowOf, asks_of_people, bars_moment, replan, request_of}
+use Rattle.talk.specs.declared.replans.request.Request.{Request}
+use Rattle.talk.specs.declared.replans.request.Request.TheVariants as requests
+use Rattle.talk.specs.Sessions.{Advances, AsksEdit, Edits, IsAnswerText, Replies, Reports, State, Undoes, session}
 use Rattle.talk.specs.Short.{OpensShort}
 use Rattle.talk.specs.Talks.{EndsAt, Reply, Spoken, TalkRun, says}
 use Rattle.talk.proofs.TalkLemmas.{replies_keep}
-use Rattle.session_talk.proofs.Bridge.{answer_of}
-use Rattle.session_talk.proofs.Same.{cut_stays}
+use Rattle.talk.proofs.Bridge.{answer_of}
+use Rattle.talk.proofs.Same.{cut_stays}
 use Rattle.evac_top.specs.Accounts.{Account, Outside}
 use Rattle.evac_top.specs.Answers.{runs_of}
 use Rattle.evac_top.specs.Headline.{IsBestBlock, IsBestPlan, IsCarriedOut, KeepsAll, KeepsBlock, KeepsCarried, KeepsPlan, KeepsPromise, KeepsReplan, KeepsTalk, PlansKeepPromise, ReplansKeepPromise, SessionsKeepPromise}

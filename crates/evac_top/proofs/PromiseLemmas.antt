@@ -30,8 +30,8 @@ use Rattle.model_writer.specs.ModelText.{model_text, said_of}
 use Rattle.model_writer.proofs.AgainLemmas.{texts-again}
 use Rattle.plan_checker.specs.declared.verdict.Verdict.{Verdict}
 use Rattle.plan_checker.specs.declared.verdict.Verdict.TheVariants.{Yes}
-use Rattle.study_talk.specs.Studies.{StudyReplies, study}
-use Rattle.study_talk.specs.StudyTexts.{Row, SaysExits, exits_of}
+use Rattle.talk.specs.Studies.{StudyReplies, study}
+use Rattle.talk.specs.StudyTexts.{Row, SaysExits, exits_of}
 use Rattle.talk.specs.Talks.{EndsAt, Reply, TalkRun}
 use Rattle.talk.proofs.TalkLemmas.{replies_keep}
 use Rattle.evac_top.specs.Accounts.{Account}

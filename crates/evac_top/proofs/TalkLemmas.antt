@@ -19,9 +19,9 @@ use Rattle.building_table.specs.declared.faults.ModelFault.{ModelFault}
 use Rattle.building_table.specs.declared.faults.ModelFault.TheVariants.{Named, ReadFault, Memory}
 use Rattle.model_text.specs.Readings.{Described, Reading, Refused, model_of, opening_of}
 use Rattle.model_text.specs.Taken.{Description}
-use Rattle.replan_talk.specs.ReplanTalks.{replan}
-use Rattle.session_talk.specs.Sessions.{session}
-use Rattle.study_talk.specs.Studies.{study}
+use Rattle.talk.specs.ReplanTalks.{replan}
+use Rattle.talk.specs.Sessions.{session}
+use Rattle.talk.specs.Studies.{study}
 use Rattle.talk.specs.Held.{EndsByQuit, HoldsTalk, IsReadOut, OfLines, around}
 use Rattle.talk.specs.Talks.{Spoken, Talk, TalkAnswers, TalkFront, TalkGoesOn, TalkWants}
 use Rattle.evac_top.specs.Accounts.{Account, Outside, Side, Told}

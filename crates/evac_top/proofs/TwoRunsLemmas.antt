@@ -27,7 +27,7 @@ use Rattle.edit_session.specs.Sessions.{Begins, SessionState}
 use Rattle.model_writer.specs.ModelText.{model_text, said_of}
 use Rattle.report_text.specs.ReportText.{number_line, outcome_lines, summary_text, title_line}
 use Rattle.session_text.specs.StateTexts.{SaysReports, SaysSummary, block_text, bottlenecks_of, clearing_of}
-use Rattle.session_talk.specs.Sessions.{Opens, Replies, State, session}
+use Rattle.talk.specs.Sessions.{Opens, Replies, State, session}
 use Rattle.talk.specs.Talks.{EndsAt, RepliesTo, Reply, Spoken, TalkAnswers, TalkRun, followed, over_with, says}
 use Rattle.evac_top.specs.Accounts.{Account}
 use Rattle.evac_top.specs.Answers.{runs_of}

@@ -6,9 +6,9 @@ use Rattle.evac_law.specs.declared.code.Code.TheVariants.{UnknownWords}
 use Rattle.line_io.specs.Line.{Line, lines_of}
 use Rattle.model_text.specs.Readings.{model_of}
 use Rattle.certificate_text.specs.BlockText.{refusal_line}
-use Rattle.replan_talk.specs.ReplanTalks.{replan}
-use Rattle.session_talk.specs.Sessions.{session}
-use Rattle.study_talk.specs.Studies.{study}
+use Rattle.talk.specs.ReplanTalks.{replan}
+use Rattle.talk.specs.Sessions.{session}
+use Rattle.talk.specs.Studies.{study}
 use Rattle.evac_top.specs.Accounts.{Account, Ends, IsFront}
 use Rattle.evac_top.specs.Check.{Checks}
 use Rattle.evac_top.specs.Complete.{ChecksLines, SolvesAll, TalksAll, UpgradesAll}

@@ -17,9 +17,9 @@ use Rattle.building_table.specs.Names.{names_of}
 use Rattle.certificate_text.specs.BlockText.{refusal_line}
 use Rattle.edit_session.specs.Thrift.{IsThrifty}
 use Rattle.replan.specs.Committed.{gone_by}
-use Rattle.replan_talk.specs.ReplanTalks.{IsLastGone, asked_moment, asks_advance, gone_text}
+use Rattle.talk.specs.ReplanTalks.{IsLastGone, asked_moment, asks_advance, gone_text}
 use Rattle.report_text.specs.ReportText.{work_text}
-use Rattle.session_talk.specs.Sessions.{State}
+use Rattle.talk.specs.Sessions.{State}
 use Rattle.talk.specs.Talks.{Reply}
 use Rattle.evac_top.specs.Accounts.{Account}
 use Rattle.evac_top.specs.Headline.{IsBestBlock, KeepsAll, KeepsReplan}

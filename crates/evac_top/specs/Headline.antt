@@ -17,9 +17,9 @@ use Rattle.edit_session.specs.Sessions.{Begins, SessionState}
 use Rattle.edit_session.specs.Thrift.{IsCounted, IsThrifty, IsThriftyOpening}
 use Rattle.replan.specs.Rest.{rest}
 use Rattle.replan.specs.RestLaws.{IsBestFrom}
-use Rattle.replan_talk.specs.ReplanTalks.{ReplanOpens, ReplanReplies, Replanned, carried_on, gone_text, replan}
+use Rattle.talk.specs.ReplanTalks.{ReplanOpens, ReplanReplies, Replanned, carried_on, gone_text, replan}
 use Rattle.session_text.specs.StateTexts.{block_text}
-use Rattle.session_talk.specs.Sessions.{Opens, Replies, State, session}
+use Rattle.talk.specs.Sessions.{Opens, Replies, State, session}
 use Rattle.talk.specs.Short.{OpensShort}
 use Rattle.talk.specs.Talks.{EndsAt, RepliesTo, Reply, followed}
 use Rattle.evac_top.specs.Accounts.{Account, IsRefusal}

@@ -27,8 +27,8 @@ use Rattle.exit_study.specs.declared.exits.ExitRow.TheVariants.{Clears, Short}
 use Rattle.model_writer.specs.ModelText.{model_text, said_of}
 use Rattle.plan_checker.specs.declared.verdict.Verdict.TheVariants.{Yes}
 use Rattle.plan_checker.specs.Verdicts.{IsRight}
-use Rattle.study_talk.specs.Studies.{OpensStudy, StudyReplies, study}
-use Rattle.study_talk.specs.StudyTexts.{SaysExits}
+use Rattle.talk.specs.Studies.{OpensStudy, StudyReplies, study}
+use Rattle.talk.specs.StudyTexts.{SaysExits}
 use Rattle.talk.specs.Talks.{EndsAt, RepliesTo, Reply, followed}
 use Rattle.evac_top.specs.Accounts.{Account, Ends, IsRefusal, Outside}
 use Rattle.evac_top.specs.Answers.{runs_of}

@@ -17,12 +17,9 @@ use crate::upgrade::upgrade;
 use crate::words::{Mode, mode_of};
 use evac_law::{Code, Steps};
 use line_io::{Out, Sink, Source};
-use replan_talk::ReplanTalk;
-use session_talk::SessionTalk;
 use std::alloc::Global;
 use std::sync::ledger::Ledger;
-use study_talk::StudyDesk;
-use talk::{Status, send_refusal, status_after};
+use talk::{ReplanTalk, SessionTalk, Status, StudyDesk, send_refusal, status_after};
 
 /// Does what the words ask for, and answers how that ended. The words are those after the program's name.
 pub fn run<S: Source, K: Sink, L: Ledger>(

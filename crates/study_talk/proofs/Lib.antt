@@ -1,4 +1,0 @@
-pub mod RowLemmas
-pub mod CertLemmas
-pub mod Replying
-pub mod Beginning

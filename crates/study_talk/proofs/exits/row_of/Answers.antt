@@ -1,7 +1,0 @@
-use Rattle.study_talk.proofs.RowLemmas.{cleared_already}
-use Rattle.study_talk.proofs.exits.row_of.Goals as goal
-
-pub returns-then-node-clause-row : goal.returns-then-node-clause-row
-returns-then-node-clause-row g c =
-    let s = c.args.session.now.state in
-    rw c.cleared.ensures (cleared_already s c.args.node c.model.ensures.solved (let e = c.if-node.true in let f = c.node.ensures in let h = c.model.ensures.model in cc))
