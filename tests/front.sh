@@ -1,5 +1,5 @@
 #!/usr/bin/env bash
-# Tests the scripts `evacplan`, `build` and `.ci/run` on copies of them, with a stand-in for the command rt: nothing is proved or built here.
+# Tests the scripts `evacplan`, `build` and `.ci/run` on copies of them, with stand-ins for the kit's commands: nothing is proved or built here.
 #
 #     tests/front.sh
 #
@@ -11,13 +11,15 @@ trap 'rm -rf "$room"' EXIT
 passed=0 failed=0
 name='' here='' status=0
 
-# Begins a case: a repository of three crates, of which the program is built on two, an empty folder for temporary files, and the stand-in.
+# Begins a case: a repository of three crates, of which the program is built on two, an empty folder for temporary files, and the stand-ins.
 begin() {
   name=$1 here=$room/$((passed + failed))
-  mkdir -p "$here/bin" "$here/tmp" "$here/repo/docs"
+  mkdir -p "$here/bin" "$here/kit/bin" "$here/tmp" "$here/repo/docs"
   cp "$top/evacplan" "$top/build" "$here/repo/"
   cp "$top/docs/FORMATS.md" "$here/repo/docs/"
   cp "$top/tests/front/rt" "$top/tests/front/program" "$here/bin/"
+  cp "$top/tests/front/rattle" "$top/tests/front/rattle-link" "$here/kit/bin/"
+  cp "$top/tests/front/program" "$here/kit/"
   printf 'rattle-kit-1 logic 0123456789abcdef\n' >"$here/repo/README.md"
   printf '# crates\nlow:\nevacplan: low # and no more\nworked: low\n' >"$here/repo/crates.txt"
   local crate
@@ -27,7 +29,7 @@ begin() {
     echo "of $crate" >"$here/repo/crates/$crate/proofs/One.antt"
   done
   export PATH="$here/bin:$path" TMPDIR=$here/tmp RT_ROOM=$here
-  unset RT_LOGIC RT_ENDS RT_FAILS RT_SLOW
+  unset RT_LOGIC RT_KIT RT_ENDS RT_FAILS RT_SLOW
 }
 path=$PATH
 
@@ -400,10 +402,10 @@ begin_build() {
 
 begin_build 'build proves the crates of the program, each once those below it are, counts them, and builds it'
 run "$here/repo/build" 1
-[ -e "$here/repo/crates/low/out/rlib/stamp" ] || echo 'nothing is kept' >>"$here/out"
+[ -e "$here/repo/crates/evacplan/out/rlib/low.sum" ] || echo 'nothing is kept' >>"$here/out"
 [ ! -e "$here/repo/out" ] || echo 'something is left' >>"$here/out"
 expect status=0 out= 'says=proving the 3 crates of the program' 'says=1 of 3: low' 'says=2 of 3: other' 'says=3 of 3: evacplan' 'hides=logic=proved' \
-  'calls=version,proves low,proves other,proves evacplan'
+  'calls=version,version,proves low,proves other,proves evacplan'
 
 begin_build 'evacplan then runs what was built'
 run "$here/repo/build"
@@ -420,7 +422,7 @@ run "$here/repo/build" 1
 echo 'of other, edited' >"$here/repo/crates/other/src/one.rt"
 rm "$here/calls"
 run "$here/repo/build" 1
-expect status=0 'says=3 of 3: evacplan' 'calls=version,keeps low,proves other,proves evacplan'
+expect status=0 'says=3 of 3: evacplan' 'calls=version,version,proves other,proves evacplan'
 
 begin 'what changes while it is built is newer'
 RT_FAILS=edit run "$here/repo/build"
@@ -441,18 +443,18 @@ build_before
 touch -d '1 minute' "$here/repo/crates/low/src/one.rt"
 RT_FAILS='proof of other' run "$here/repo/build" 1
 [ ! -e "$here/repo/crates/evacplan/out/evacplan" ] || echo 'the program is there' >>"$here/out"
-[ -e "$here/repo/crates/low/out/rlib/stamp" ] || echo 'nothing is kept' >>"$here/out"
+[ -e "$here/repo/crates/evacplan/out/rlib/low.sum" ] || echo 'nothing is kept' >>"$here/out"
 [ ! -e "$here/repo/out" ] || echo 'something is left' >>"$here/out"
-expect status=70 out= 'says=1 of 3: low' 'says=Answers.antt:8' 'says=other is not proved: rt ended with 1' 'says=was not built' 'hides=: proved' \
-  'calls=version,proves low,proves other'
+expect status=70 out= 'says=1 of 3: low' 'says=Answers.antt:8' 'says=other is not proved: rattle ended with 1' 'says=was not built' 'hides=: proved' \
+  'calls=version,version,proves low,proves other'
 
-begin_build 'a build whose rt is killed says so'
+begin_build 'a build whose rattle is killed says so'
 RT_FAILS='killed at other' run "$here/repo/build" 1
-expect status=70 out= 'says=other is not proved: rt ended with 137'
+expect status=70 out= 'says=other is not proved: rattle ended with 137'
 
 begin_build 'a program that is not linked is status 70'
 RT_FAILS=program run "$here/repo/build"
-expect status=70 out= 'says=was not built'
+expect status=70 out= 'says=is not linked' 'says=was not built'
 
 begin 'where nothing can be written, it is said before anything is proved, and nothing is left'
 run_as_nobody "$here/repo/build"
@@ -463,6 +465,40 @@ begin 'without room for temporary files nothing is built, and it is said why'
 TMPDIR=$here/none run "$here/repo/build"
 expect status=70 lines=1 'says=no room for temporary files' calls=version
 
+begin_build 'what another kit proved is proved anew'
+run "$here/repo/build" 1
+rm "$here/calls"
+touch "$here/repo/crates/low/src/one.rt"
+RT_KIT=2 run "$here/repo/build" 1
+expect status=0 'says=3 of 3: evacplan' 'calls=version,version,proves low,proves other,proves evacplan'
+
+begin_build 'a source that is newer and says the same is proved already'
+run "$here/repo/build" 1
+rm "$here/calls"
+touch -d '1 minute' "$here/repo/crates/low/src/one.rt"
+run "$here/repo/build" 1
+expect status=0 'says=3 of 3: evacplan' 'calls=version,version'
+
+begin_build 'a program that rt made meanwhile is not taken for one of these sources'
+run "$here/repo/build" 1
+echo 'of other, edited' >"$here/repo/crates/other/src/one.rt"
+printf '#!/bin/sh\necho of rt\n' >"$here/repo/crates/evacplan/out/evacplan"
+echo 'of other' >"$here/repo/crates/other/src/one.rt"
+touch -d '1 minute' "$here/repo/crates/other/src/one.rt"
+run "$here/repo/build" 1
+touch -d '1 hour' "$here/repo/crates/evacplan/out/evacplan"
+run "$here/repo/evacplan" solve <<<'a building'
+expect status=0 'out=built: solve, a building' lines=0
+
+begin_build 'what is built on a crate is made anew with it, also where the crate is as it was'
+run "$here/repo/build" 1
+echo 'of low, edited' >"$here/repo/crates/low/src/one.rt"
+RT_FAILS='proof of evacplan' run "$here/repo/build" 1
+echo 'of low' >"$here/repo/crates/low/src/one.rt"
+rm "$here/calls"
+run "$here/repo/build" 1
+expect status=0 'says=3 of 3: evacplan' 'calls=version,version,proves low,proves evacplan'
+
 begin_build 'a check by hand that is at work in a crate is waited for'
 exec {held}<"$here/repo/crates/low"
 flock "$held"
@@ -472,17 +508,17 @@ flock -u "$held"
 exec {held}<&-
 wait $!
 status=$?
-expect status=0 out= 'says=waiting for another rt to finish in crates/low' 'says=1 of 3: other' 'says=3 of 3: evacplan' lines=6 \
-  'calls=version,proves other,proves low,proves evacplan'
+expect status=0 out= 'says=waiting for rt to finish in crates/low' 'says=1 of 3: other' 'says=3 of 3: evacplan' lines=6 \
+  'calls=version,version,proves other,proves low,proves evacplan'
 
-begin_build 'after a while without a line it is said what rt is at work on'
+begin_build 'after a while without a line it is said what rattle is at work on'
 sed -i 's/^silence=.*/silence=1/' "$here/repo/build"
 RT_SLOW=1 "$here/repo/build" 1 >"$here/out" 2>"$here/err" &
 await grep -qs 'at work on low' "$here/err"
 touch "$here/go"
 wait $!
 status=$?
-expect status=0 out= 'says=0 of 3 are done, and rt is at work on low'
+expect status=0 out= 'says=0 of 3 are done, and rattle is at work on low'
 
 begin 'another kit builds nothing'
 RT_LOGIC=fedcba9876543210 run "$here/repo/build"
@@ -504,14 +540,14 @@ await grep -qs 'another build' "$here/err"
 touch "$here/go"
 wait "$second"
 status=$?
-expect status=0 'says=another build is at work' 'says=no source is newer' 'calls=version,proves low,version,proves evacplan'
+expect status=0 'says=another build is at work' 'says=no source is newer' 'calls=version,version,proves low,version,proves evacplan'
 
 begin 'a build that is ended leaves nothing, and the next one goes on'
 RT_SLOW=1 "$here/repo/build" 2>"$here/first" &
 await test -e "$here/slow"
 kill $!
 wait $!
-await has_ended "$(cat "$here/slow")" || echo 'rt goes on' >>"$here/out"
+await has_ended "$(cat "$here/slow")" || echo 'rattle goes on' >>"$here/out"
 [ ! -e "$here/repo/out" ] || echo 'something is left' >>"$here/out"
 run "$here/repo/build"
 [ ! -e "$here/repo/out" ] || echo 'something is left' >>"$here/out"

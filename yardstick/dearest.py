@@ -5,7 +5,7 @@
 
 The time of a proof follows the code that the compiler makes of a body, and not its contract or its lemmas. So each body is printed with the length
 of that code in characters, and with the drops in it: each `?` and each early return drops what is owned there, field by field. A body that is long
-for its drops gets shorter where it is taken apart, or where less is owned at a `?`. The code is that of the last `rt check`, in crates/*/out.
+for its drops gets shorter where it is taken apart, or where less is owned at a `?`. The code is that of the last `./build` or `rt lib`.
 
 With --kept the seconds of each function are printed instead, as one check took them that kept its modules in an empty folder (`rt check` keeps them
 in crates/*/out/incremental): the time from one module's file to the next. That shows tests too. It is no part of any test.
@@ -23,8 +23,9 @@ PART = re.compile(r"[.-](?:Answers|Calls|Cases|Code|Given|Goals|Invariants|Kinds
 
 
 def bodies(crate):
-    """The length, the drops and the name of each body of a crate that is built."""
-    for path in crate.glob("out/rlib/*/toolchain/mir.json"):
+    """The length, the drops and the name of each body of a crate, as its newest library has them."""
+    built = sorted(TOP.glob(f"crates/*/out/rlib/{crate}.rlib/toolchain/mir.json"), key=lambda path: path.stat().st_mtime)
+    for path in built[-1:]:
         for name, body in json.loads(path.read_text()):
             code = json.dumps(body, separators=(",", ":"))
             yield len(code), len(DROP.findall(code)), name
@@ -49,10 +50,10 @@ def main():
         for name, took in seconds(options.kept)[: options.count]:
             print(f"{took:7.1f} seconds  {name}")
         return
-    crates = [path for path in (TOP / "crates").iterdir() if not options.crates or path.name in options.crates]
+    crates = options.crates or [path.name for path in (TOP / "crates").iterdir()]
     found = sorted((body for crate in crates for body in bodies(crate)), reverse=True)
     if not found:
-        print("no crate is built: rt check in its folder does that")
+        print("no library is built: ./build makes those of the program, and rt lib in a crate's folder makes it")
     for length, drops, name in found[: options.count]:
         print(f"{length:7} characters {drops:3} drops  {name}")
 
