@@ -20,10 +20,7 @@ pub use channel::Channel;
 pub use hold::hold_talk;
 pub use replans::ReplanTalk;
 pub use send::{send_refusal, send_short};
-pub use sessions::{
-    Desk, SessionTalk, edits_apart, reply_cut, reply_edited, reply_report, reply_undone,
-    sessions_agree, sessions_part,
-};
+pub use sessions::{SessionTalk, edits_apart, sessions_agree, sessions_part};
 pub use speaker::Speaker;
 pub use status::{Status, status_after};
 pub use studies::StudyDesk;
