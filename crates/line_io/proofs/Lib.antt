@@ -1,4 +1,5 @@
 pub mod CallLemmas
+mod CountLemmas
 pub mod GivenLemmas
 pub mod HearingLemmas
 pub mod LineLemmas

@@ -1,8 +1,8 @@
 -- What a call of a source or a sink in memory answers, and what is then left and held.
-use Rattle.std.specs.Prelude.{◌≡◌, ℕ, ◌+◌, ◌-◌, ◌^◌, Bool, true, false, ◌==◌, nat_le, ◌&&◌, ◌||◌, List, ◌++◌, length, take, drop, min, Result, Ok, Err}
+use Rattle.std.specs.Prelude.{◌≡◌, ℕ, ◌+◌, ◌-◌, ◌^◌, ◌≤◌, Bool, true, false, ◌==◌, nat_le, ◌&&◌, ◌||◌, List, ◌++◌, length, take, drop, min, Result, Ok, Err}
 use Rattle.std.specs.List.{list_any}
 use Rattle.line_io.specs.Causes.{last_count}
-use Rattle.line_io.specs.View.{MemorySource, MemorySink}
+use Rattle.line_io.specs.View.{Adapter, MemorySource, MemorySink}
 use Rattle.line_io.specs.declared.outside.Failed.{Failed}
 
 -- one more, up to a 64-bit counter's last value
@@ -33,6 +33,18 @@ source_gave s n = record s { left = drop n s.left; calls = counted s.calls }
 abbrev pub SourceTakes : MemorySource → ℕ → Result ℕ Failed → MemorySource → Type 0
 SourceTakes s room (Ok n) s' = (source_fails s ≡ false) × (n ≡ given_count s room) × (s' ≡ source_gave s n)
 SourceTakes s room (Err fault) s' = (source_fails s ≡ true) × (s' ≡ source_failed s)
+
+-- what a call of a source over std does: the call is counted, and so is each byte that it gives, or its fault
+abbrev pub AdapterTakes : {T : Type 0} → Adapter T → ℕ → Result ℕ Failed → Adapter T → Type 0
+AdapterTakes s room (Ok n) s' =
+    (n ≤ room) × (s'.calls ≡ counted s.calls) × (s'.bytes ≡ min (s.bytes + n) last_count) × (s'.faults ≡ s.faults)
+AdapterTakes s room (Err fault) s' = (s'.calls ≡ counted s.calls) × (s'.bytes ≡ s.bytes) × (s'.faults ≡ counted s.faults)
+
+-- what a call of a sink over std does with these bytes: the call is counted, and so is each byte that it takes, or its fault
+abbrev pub AdapterPuts : {T : Type 0} → Adapter T → List ℕ → Result ℕ Failed → Adapter T → Type 0
+AdapterPuts s piece (Ok n) s' =
+    (n ≤ length piece) × (s'.calls ≡ counted s.calls) × (s'.bytes ≡ min (s.bytes + n) last_count) × (s'.faults ≡ s.faults)
+AdapterPuts s piece (Err fault) s' = (s'.calls ≡ counted s.calls) × (s'.bytes ≡ s.bytes) × (s'.faults ≡ counted s.faults)
 
 -- whether the next call fails: its number is listed, or the room is used up
 abbrev pub sink_fails : MemorySink → Bool

@@ -56,8 +56,9 @@ pub record Called (T : Type 0) : Type 0 where
   pub inner : T
   pub calls : ℕ
 
--- the same as a source or a sink, with how often it failed
+-- the same as a source or a sink, with how often it failed, and how many bytes were read or written
 pub record Adapter (T : Type 0) : Type 0 where
   pub inner : T
   pub calls : ℕ
   pub faults : ℕ
+  pub bytes : ℕ

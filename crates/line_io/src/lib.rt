@@ -27,7 +27,7 @@ mod outside;
 mod text_line;
 mod writer;
 
-pub use adapters::{StdSink, StdSource};
+pub use adapters::{StdSink, StdSource, bytes_are_counted};
 pub use clean::{CleanSink, CleanSource};
 pub use hearing::{Ending, Heard, Listener, Refusal, listen};
 pub use limits::{BUFFER_SIZE, INPUT_LIMIT, LEAST_OFFER, LINE_LIMIT, PUT_LIMIT, TEXT_LINE_LIMIT};

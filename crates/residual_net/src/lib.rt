@@ -3,7 +3,7 @@
 //! A `Net` has a flow and a limit at each place: an arc at a moment, a node's contents at a moment, and the people who come into
 //! a node at a moment. What comes to a node at a moment leaves it or waits in it, whatever the limits are. The net is Over while
 //! some flow is above its limit, as may be after `set_limit`; `cancel` takes such flow off along a path from its supply to its
-//! arrival. Only `push` and `restore` raise a flow. The laws tie a net to its plan and to the cuts of its model.
+//! arrival. Only `push`, `push_legs` and `restore` raise a flow. The laws tie a net to its plan and to the cuts of its model.
 #![tactic(auto)]
 
 mod cancel;
