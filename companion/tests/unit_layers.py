@@ -38,7 +38,12 @@ def wrong_uses(tree: ast.AST) -> Iterator[str]:
     for node in ast.walk(tree):
         if isinstance(node, ast.Name) and node.id in PRINTING:
             yield node.id
-        if isinstance(node, ast.Attribute) and isinstance(node.value, ast.Name) and node.value.id == "sys" and node.attr in ("stdin", "stdout", "stderr"):
+        if (
+            isinstance(node, ast.Attribute)
+            and isinstance(node.value, ast.Name)
+            and node.value.id == "sys"
+            and node.attr in ("stdin", "stdout", "stderr")
+        ):
             yield f"sys.{node.attr}"
     yield from (it for it in imports(tree) if it.split(".")[0] in ("signal", "argparse"))
 
@@ -68,7 +73,9 @@ class Layers(unittest.TestCase):
             self.skipTest("Python before 3.10 doesn't name the modules of its library")
         for path, tree in self.sources():
             for name in imports(tree):
-                self.assertTrue(name.split(".")[0] in ("evacask", "__future__") or name.split(".")[0] in sys.stdlib_module_names, f"{path.name}: {name}")
+                self.assertTrue(
+                    name.split(".")[0] in ("evacask", "__future__") or name.split(".")[0] in sys.stdlib_module_names, f"{path.name}: {name}"
+                )
 
     def test_modules_and_functions_are_short(self) -> None:
         for path, tree in self.sources():

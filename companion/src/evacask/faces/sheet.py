@@ -85,7 +85,9 @@ def plain(value: Any) -> Any:
     if isinstance(value, enum.Enum):
         return plain(value.value)
     if isinstance(value, dict):
-        return {key if isinstance(key, str) else " ".join(map(str, key)) if isinstance(key, tuple) else str(key): plain(it) for key, it in value.items()}
+        return {
+            key if isinstance(key, str) else " ".join(map(str, key)) if isinstance(key, tuple) else str(key): plain(it) for key, it in value.items()
+        }
     if isinstance(value, (list, tuple)):
         return [plain(it) for it in value]
     return value if value is None or isinstance(value, (bool, int, float, str)) else str(value)

@@ -224,8 +224,17 @@ def model_of(text: str) -> Model:
     if not end:
         raise ValueError("the text ends before the line end")
     return Model(
-        text, said.title, said.period, said.horizon, MappingProxyType(said.nodes), MappingProxyType(said.arcs), tuple(said.windows),
-        tuple(said.entrants), MappingProxyType(said.floors), shares_of(lines[:end]), end,
+        text,
+        said.title,
+        said.period,
+        said.horizon,
+        MappingProxyType(said.nodes),
+        MappingProxyType(said.arcs),
+        tuple(said.windows),
+        tuple(said.entrants),
+        MappingProxyType(said.floors),
+        shares_of(lines[:end]),
+        end,
     )
 
 

@@ -85,7 +85,11 @@ def draft_of(model: Model) -> Draft:
         windows[it.way].append((it.first, it.until))
     rooms = model.rooms
     return Draft(
-        model, {way: arc.rate for way, arc in model.arcs.items()}, {it.name: it.capacity or 0 for it in rooms}, {it.name: it.start or 0 for it in rooms}, windows
+        model,
+        {way: arc.rate for way, arc in model.arcs.items()},
+        {it.name: it.capacity or 0 for it in rooms},
+        {it.name: it.start or 0 for it in rooms},
+        windows,
     )
 
 
@@ -229,7 +233,12 @@ def with_windows(draft: Draft, changed: Dict[int, str]) -> str:
     model = draft.model
     gone = {it.line for it in model.windows if (it.first, it.until) not in draft.windows[it.way]}
     old = {(it.way, it.first, it.until) for it in model.windows}
-    new = [f"window {tail} {head} {first} {until}" for (tail, head), there in draft.windows.items() for first, until in there if ((tail, head), first, until) not in old]
+    new = [
+        f"window {tail} {head} {first} {until}"
+        for (tail, head), there in draft.windows.items()
+        for first, until in there
+        if ((tail, head), first, until) not in old
+    ]
     lines = model.text.split("\n")
     if new:
         first = next(number for number, line in enumerate(lines, 1) if fields_of(line) and not fields_of(line)[0].startswith("#"))

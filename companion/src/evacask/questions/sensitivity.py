@@ -46,12 +46,20 @@ class Sensitivity:
     def records(self) -> List[Dict[str, object]]:
         """A dict for each way; moments are in periods, and None if not all can be out."""
         return [
-            {"names": " ".join(it.names), "without": it.without.cleared, "without_out": it.without.most, "as_it_is": self.cleared, "widened": it.wide.cleared}
+            {
+                "names": " ".join(it.names),
+                "without": it.without.cleared,
+                "without_out": it.without.most,
+                "as_it_is": self.cleared,
+                "widened": it.wide.cleared,
+            }
             for it in self.ways
         ]
 
 
-def sensitivity(client: Client, model: Model, rate: int = ANY_RATE, workers: int = 4, tell: Callable[[int, int], None] = lambda done, of: None) -> Sensitivity:
+def sensitivity(
+    client: Client, model: Model, rate: int = ANY_RATE, workers: int = 4, tell: Callable[[int, int], None] = lambda done, of: None
+) -> Sensitivity:
     """Tries each way: without it, and with a rate. `Shortfall` if the building can't be cleared as it is."""
     with session(client, model) as talk:
         opening, cut = talk.opening, talk.cut()

@@ -16,7 +16,9 @@ Scenario = Sequence[str]
 Result = Union[Outcome, Refused]
 
 
-def sweep(client: Client, model: Model, scenarios: Sequence[Scenario], workers: int = 4, tell: Callable[[int, int], None] = lambda done, of: None) -> List[Result]:
+def sweep(
+    client: Client, model: Model, scenarios: Sequence[Scenario], workers: int = 4, tell: Callable[[int, int], None] = lambda done, of: None
+) -> List[Result]:
     """The outcome of each scenario, or why it is refused, in their order."""
     if not scenarios:
         return []
