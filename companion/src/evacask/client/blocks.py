@@ -1,0 +1,184 @@
+"""What the program prints, read strictly: whatever isn't of the documented form is `Broken`, and never a wrong number."""
+from __future__ import annotations
+
+import re
+from dataclasses import dataclass, field
+from functools import cached_property
+from typing import Callable, List, Optional, Tuple, TypeVar
+
+from evacask.errors import Broken, Shortfall, Span
+from evacask.model.lines import number_of
+from evacask.model.seconds import interval
+
+T = TypeVar("T")
+HEAD = re.compile(rb"answer (\d{1,9})\npeople (\d{1,9})\ncleared (\d{1,9})\n")
+SHORT = re.compile(rb"refused 22 (\d{1,9})\npeople (\d{1,9})\nmost (\d{1,9})\n")
+ONE_LINE = re.compile(rb"refused (\d{1,3}) (\d{1,9})\n\Z")
+
+
+def strictly(read: Callable[[], T], what: str) -> T:
+    """What some reading gives; a line of another form is `Broken`."""
+    try:
+        return read()
+    except (ValueError, IndexError, KeyError, TypeError) as fault:
+        raise Broken(f"the program printed {what} that evacplan never prints ({fault})") from None
+
+
+def lines_of_reply(raw: bytes) -> List[List[str]]:
+    """The fields of the lines of a reply, without its line `end`."""
+    if not raw.endswith(b"\nend\n"):
+        raise ValueError("it doesn't end with the line end")
+    return [line.split(" ") for line in raw[: -len(b"end\n") - 1].decode("utf-8", "surrogateescape").split("\n")]
+
+
+@dataclass(frozen=True)
+class Move:
+    """`people` enter the arc from `tail` to `head` at `moment`."""
+
+    moment: int
+    tail: str
+    head: str
+    people: int
+
+
+@dataclass(frozen=True)
+class Label:
+    """From `moment` on the node has the label `value`."""
+
+    name: str
+    moment: int
+    value: int
+
+
+@dataclass(frozen=True)
+class Item:
+    """One line of a cut: its word (entry, hold or arc), its names, its moment (None of an entry) and its people."""
+
+    word: str
+    names: Tuple[str, ...]
+    moment: Optional[int]
+    people: int
+
+
+@dataclass(frozen=True)
+class Cut:
+    """The cut of `period`: at most `people` are out by then, the sum of its items."""
+
+    period: int
+    people: int
+    items: Tuple[Item, ...]
+
+
+@dataclass(frozen=True)
+class Outcome:
+    """When all are out, in periods; or None, and the most people who can be out by the horizon."""
+
+    cleared: Optional[int]
+    most: int
+
+
+@dataclass(frozen=True)
+class Plan:
+    """An answer block. Lists are read when they are asked for, so that a plan of a megabyte costs nothing before.
+
+    `cleared` is in periods of `period` seconds; `arrivals[k]` counts who is out by period k, from 0 to `cleared`.
+    """
+
+    raw: bytes = field(repr=False)
+    number: int
+    people: int
+    cleared: int
+    period: int
+
+    @property
+    def interval(self) -> Tuple[int, int]:
+        """The seconds from which on, and before which, all are out."""
+        return interval(self.cleared, self.period)
+
+    @property
+    def seconds(self) -> int:
+        """The seconds from which on all may be out: the earlier end of the interval."""
+        return self.interval[0]
+
+    @cached_property
+    def lines(self) -> List[List[str]]:
+        return strictly(lambda: lines_of_reply(self.raw), "a block")
+
+    @cached_property
+    def arrivals(self) -> Tuple[int, ...]:
+        def read() -> Tuple[int, ...]:
+            rows = [(number_of(k), number_of(out)) for _, k, out in (it for it in self.lines if it[0] == "out")]
+            if [k for k, _ in rows] != list(range(self.cleared + 1)) or rows[-1][1] != self.people:
+                raise ValueError("the arrivals don't end with all people at the clearing moment")
+            return tuple(out for _, out in rows)
+
+        return strictly(read, "an arrival")
+
+    @cached_property
+    def moves(self) -> Tuple[Move, ...]:
+        """Who enters which arc when, by moment."""
+        rows = (it for it in self.lines if it[0] == "move")
+        return strictly(lambda: tuple(Move(number_of(t), a, b, number_of(n)) for _, t, a, b, n in rows), "a move")
+
+    @cached_property
+    def labels(self) -> Tuple[Label, ...]:
+        rows = (it for it in self.lines if it[0] == "label")
+        return strictly(lambda: tuple(Label(name, number_of(t), number_of(v)) for _, name, t, v in rows), "a label")
+
+
+def plan_of(raw: bytes, period: int) -> Plan:
+    """A block, or `Shortfall`."""
+    head = HEAD.match(raw)
+    if head and raw.endswith(b"\nend\n"):
+        number, people, cleared = (int(it) for it in head.groups())
+        return Plan(raw, number, people, cleared, period)
+    short = SHORT.match(raw)
+    if short and raw.endswith(b"\nend\n"):
+        raise Shortfall(int(short[3]), int(short[2]), strictly(lambda: spans_of(lines_of_reply(raw)[3:]), "a shortfall"))
+    raise Broken(f"the program printed {raw[:40]!r} in place of a block")
+
+
+def outcome_of(raw: bytes) -> Outcome:
+    """When all are out by a block or a shortfall block."""
+    try:
+        plan = plan_of(raw, 1)
+    except Shortfall as short:
+        return Outcome(None, short.most)
+    return Outcome(plan.cleared, plan.people)
+
+
+def spans_of(lines: List[List[str]]) -> Tuple[Span, ...]:
+    """The lines `in NAME p q` of a cut."""
+    found = []
+    for word, name, first, last in lines:
+        if word != "in":
+            raise ValueError(word)
+        found.append((name, number_of(first), number_of(last)))
+    return tuple(found)
+
+
+def cut_of(raw: bytes) -> Cut:
+    """The reply to `cut k`. Its items must add up to its value."""
+
+    def read() -> Cut:
+        (word, period, people), *rest = lines_of_reply(raw)
+        cut = Cut(number_of(period), number_of(people), tuple(item_of(line) for line in rest))
+        if word != "cut" or cut.items and sum(it.people for it in cut.items) != cut.people:
+            raise ValueError("the items don't add up")
+        return cut
+
+    return strictly(read, "a cut")
+
+
+def item_of(line: List[str]) -> Item:
+    word, *rest = line
+    if word == "entry":
+        name, people = rest
+        return Item(word, (name,), None, number_of(people))
+    if word == "hold":
+        name, moment, people = rest
+        return Item(word, (name,), number_of(moment), number_of(people))
+    if word == "arc":
+        moment, tail, head, people = rest
+        return Item(word, (tail, head), number_of(moment), number_of(people))
+    raise ValueError(" ".join(line))

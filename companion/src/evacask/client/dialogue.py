@@ -1,0 +1,123 @@
+"""Sessions, studies and replans on a building that was accepted: lines with their replies as data."""
+from __future__ import annotations
+
+from typing import Iterable, Iterator, List, Optional, Sequence, Tuple
+
+from evacask.client.blocks import ONE_LINE, Cut, Plan, cut_of, plan_of
+from evacask.client.reports import Exit, Gone, Least, Report, exits_of, gone_of, least_of, report_of, work_of
+from evacask.client.talk import Line
+from evacask.errors import Broken
+from evacask.model.building import Model
+from evacask.model.codes import Place, refusal
+from evacask.model.forms import LINE_LIMIT, MOST_UNDOS, REPORTS, plain
+from evacask.model.lines import bytes_of, fields_of
+
+
+class Dialogue:
+    """What all three share: a line that gets one reply, or is refused."""
+
+    place = Place.SESSION
+
+    def __init__(self, line: Line, model: Model):
+        self.line, self.model = line, model
+
+    def ask(self, command: str) -> bytes:
+        """The reply to a command; `Refused` where the program refuses it, but for a shortfall, which is a reply."""
+        sent = plain(self.model, command)
+        if not fields_of(sent) or "\n" in sent or sent.startswith("#") or len(bytes_of(sent)) > LINE_LIMIT:
+            raise ValueError(f"{command!r} is no command: it would get no reply")
+        self.line.send(bytes_of(sent) + b"\n")
+        return self.answered(self.line.reply(), command)
+
+    def answered(self, reply: bytes, command: str) -> bytes:
+        refused = ONE_LINE.match(reply)
+        if refused:
+            raise refusal(self.place, int(refused[1]), 0, command)
+        return reply
+
+
+class Session(Dialogue):
+    """A session: each edit gives a plan, or raises and changes nothing. It belongs to one thread."""
+
+    def __init__(self, line: Line, model: Model):
+        super().__init__(line, model)
+        self.opening = self.plan = plan_of(line.reply(), model.period)
+
+    def edit(self, command: str) -> Plan:
+        """The plan after one edit; `Refused`, or `Shortfall` where not everybody could be out then."""
+        self.plan = plan_of(self.ask(command), self.model.period)
+        return self.plan
+
+    def undo(self) -> Plan:
+        """The plan after going back by one edit."""
+        return self.edit("undo")
+
+    def cut(self, period: Optional[int] = None) -> Cut:
+        """The cut of a period, or of the one before all are out; `Refused` with 33 above the horizon."""
+        wanted = max(0, self.plan.cleared - 1) if period is None else period
+        cut = cut_of(self.ask(f"cut {wanted}"))
+        if cut.period != wanted:
+            raise Broken(f"the program printed the cut of period {cut.period} in place of {wanted}")
+        return cut
+
+    def report(self, word: str) -> Report:
+        """One of the reports: routes, clearing, bottlenecks, summary."""
+        if word not in REPORTS:
+            raise ValueError(f"{word!r} is no report: there are {', '.join(REPORTS)}")
+        return report_of(self.ask(word), word)
+
+    def work(self) -> Tuple[int, int]:
+        """The work of the last edit: people taken back, and how often people were sent."""
+        return work_of(self.ask("work"))
+
+    def trials(self, groups: Iterable[Sequence[str]]) -> Iterator[List[bytes]]:
+        """The replies to each group of at most 64 edits, each group undone before the next.
+
+        All lines are sent ahead. It needs no answer to know how many edits to undo: after k edits and k undos the building is the opening's, as an
+        undo too many is refused by 39 and changes nothing. The last reply of each group shows it.
+        """
+        all_groups = [[plain(self.model, edit) for edit in group] for group in groups]
+        if any(len(it) > MOST_UNDOS for it in all_groups):
+            raise ValueError(f"a session keeps {MOST_UNDOS} edits: plan the edited building in place of the edits")
+        lines = (edit for group in all_groups for edit in [*group, *["undo"] * len(group)])
+        self.line.send(b"".join(bytes_of(f"{it}\n") for it in lines))
+        for group in all_groups:
+            replies = [self.line.reply() for _ in group]
+            self.check_back(replies, [self.line.reply() for _ in group])
+            yield replies
+
+    def check_back(self, replies: List[bytes], backs: List[bytes]) -> None:
+        """The accepted edits are undone, the last undo gives the opening again, and each further one is refused by 39."""
+        made = sum(it.startswith(b"answer ") for it in replies)
+        blocks, others = backs[:made], backs[made:]
+        opening = b"people %d\ncleared %d\n" % (self.opening.people, self.opening.cleared)
+        is_back = not blocks or blocks[-1].partition(b"\n")[2].startswith(opening)
+        if not is_back or not all(it.startswith(b"answer ") for it in blocks) or not all(it.startswith(b"refused 39 ") for it in others):
+            raise Broken("the program didn't come back to the building of the opening")
+
+
+class Study(Dialogue):
+    """A study: what the building comes to without an exit, or with another rate of an arc."""
+
+    place = Place.STUDY
+
+    def exits(self) -> Tuple[Exit, ...]:
+        """When all are out without each exit."""
+        return exits_of(self.ask("exits"))
+
+    def least(self, tail: str, head: str, moment: int) -> Least:
+        """The least rate of an arc at which all are out by a moment."""
+        return least_of(self.ask(f'least "{tail}" "{head}" {moment}'))
+
+
+class Replan(Session):
+    """A session whose plan is carried out. Once it has advanced, people can't be moved by edits."""
+
+    place = Place.REPLAN
+
+    def advance(self, moment: int) -> Gone:
+        """Carries the plan out up to a moment, and plans what is left."""
+        first = self.ask(f"advance {moment}")
+        at, out = gone_of(first)
+        self.plan = plan_of(self.line.reply(), self.model.period)
+        return Gone(at, out, self.plan)

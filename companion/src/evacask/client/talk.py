@@ -1,0 +1,180 @@
+"""The program over pipes: run once, or talked to line by line."""
+from __future__ import annotations
+
+import contextlib
+import os
+import pathlib
+import select
+import subprocess
+from dataclasses import dataclass
+from typing import Callable, ContextManager, Iterator, Optional, Protocol, Sequence, Union
+
+from evacask.client.processes import PROCESSES
+from evacask.errors import Broken, EvacaskError, NoMemory
+
+END, CHUNK = b"\nend\n", 1 << 18
+# More than any answer that was ever seen: another program may print without end.
+MOST_BYTES = 1 << 29
+# Milliseconds.
+PATIENCE = 1000
+Tell = Callable[[int], None]
+
+
+@dataclass(frozen=True)
+class Source:
+    """Where answers come from: the sum of the program, and the logic in which it is proved; None if it isn't."""
+
+    sha256: str
+    logic: Optional[str]
+
+    @property
+    def is_proved(self) -> bool:
+        return self.logic is not None
+
+
+class Line(Protocol):
+    """A talk: lines out, replies in."""
+
+    def send(self, lines: bytes) -> None:
+        """Sends lines, each with its end. They may be sent ahead: nothing waits for a reply."""
+
+    def reply(self) -> bytes:
+        """The next reply, waited for."""
+
+
+class Client(Protocol):
+    """Whatever answers as evacplan does. A test gives one that reads its answers from a table."""
+
+    @property
+    def source(self) -> Source:
+        """What answers."""
+
+    def run(self, words: Sequence[str], text: bytes) -> bytes:
+        """All that a run on a text prints."""
+
+    def talk(self, mode: str, text: bytes) -> ContextManager[Line]:
+        """A session, a study or a replan on a building's text."""
+
+
+def silent(seconds: int) -> None:
+    """Says nothing of a wait."""
+
+
+class Program:
+    """The program at a path. Threads may share one. `waiting` is called each second of a wait for a reply, with the seconds so far."""
+
+    def __init__(self, path: Union[str, "os.PathLike[str]"], waiting: Tell = silent):
+        self.path, self.waiting = pathlib.Path(path), waiting
+
+    @property
+    def source(self) -> Source:
+        from evacask.client.program import source_of
+
+        return source_of(self.path)
+
+    def run(self, words: Sequence[str], text: bytes) -> bytes:
+        """All that the program prints; `NoMemory` or `Broken` where it doesn't end with an answer."""
+        with PROCESSES.started([str(self.path), *words]) as process:
+            pipe = Pipe(process, self.waiting)
+            pipe.send(text)
+            printed = pipe.all()
+            if process.wait() not in (0, 1):
+                raise broken(process.returncode, "")
+        return printed
+
+    @contextlib.contextmanager
+    def talk(self, mode: str, text: bytes) -> Iterator[Line]:
+        """A talk. However the `with` ends, the program has ended then."""
+        with PROCESSES.started([str(self.path), mode]) as process:
+            pipe = Pipe(process, self.waiting)
+            pipe.send(text)
+            yield pipe
+
+
+def broken(status: int, where: str) -> EvacaskError:
+    """Why a program that ended gave no answer."""
+    if status == 5:
+        return NoMemory("the program found no memory")
+    if status < 0:
+        return Broken(f"the program was ended by signal {-status}{where}")
+    return Broken(f"the program broke off with status {status}{where}: is it evacplan, and not another one?")
+
+
+class Pipe:
+    """The pipes of a process. What is sent waits until the process reads it, and is written while replies are read, so neither side blocks the other."""
+
+    def __init__(self, process: "subprocess.Popen[bytes]", waiting: Tell = silent):
+        if process.stdin is None or process.stdout is None:
+            raise Broken("the program has no streams")
+        self.process, self.waiting = process, waiting
+        self.stdin, self.stdout = process.stdin, process.stdout
+        self.to_send, self.received = bytearray(), bytearray()
+        os.set_blocking(self.stdin.fileno(), False)
+
+    def send(self, lines: bytes) -> None:
+        self.to_send += lines
+        self.write()
+
+    def write(self) -> None:
+        """Writes what the process takes now. One that has ended takes nothing, and what it printed says why."""
+        try:
+            while self.to_send:
+                del self.to_send[: os.write(self.stdin.fileno(), self.to_send[:CHUNK])]
+        except BlockingIOError:
+            pass
+        except OSError:
+            self.to_send.clear()
+
+    def read(self) -> bytes:
+        """The next bytes that the process prints, waited for; none at its end."""
+        poll, seconds, source = select.poll(), 0, self.stdout.fileno()
+        poll.register(source, select.POLLIN)
+        if self.to_send:
+            poll.register(self.stdin.fileno(), select.POLLOUT)
+        while True:
+            ready = [number for number, _ in poll.poll(PATIENCE)]
+            if source in ready:
+                return os.read(source, CHUNK)
+            if ready:
+                self.write()
+                if not self.to_send:
+                    poll.unregister(self.stdin.fileno())
+            else:
+                seconds += 1
+                self.waiting(seconds)
+
+    def more(self) -> bool:
+        """Reads on; whether there was more."""
+        some = self.read()
+        self.received += some
+        if len(self.received) > MOST_BYTES:
+            raise Broken("the program prints without end")
+        return bool(some)
+
+    def all(self) -> bytes:
+        """All that the process prints after all was sent to it."""
+        while self.to_send and self.more():
+            pass
+        with contextlib.suppress(OSError):
+            self.stdin.close()
+        while self.more():
+            pass
+        return bytes(self.received)
+
+    def reply(self) -> bytes:
+        looked = 0
+        while not (length := reply_length(self.received, max(0, looked - len(END)))):
+            looked = len(self.received)
+            if not self.more():
+                raise broken(self.process.wait(), " in the middle of a talk")
+        reply = bytes(self.received[:length])
+        del self.received[:length]
+        return reply
+
+
+def reply_length(text: bytearray, start: int) -> int:
+    """The bytes of the first reply of a text, whose end is looked for from some byte on; 0 if it isn't whole."""
+    if text.startswith((b"work ", b"refused ")) and not text.startswith(b"refused 22 "):
+        return text.find(b"\n") + 1
+    found = text.find(END, start)
+    return found + len(END) if found >= 0 else 0

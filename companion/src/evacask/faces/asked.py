@@ -1,0 +1,90 @@
+"""What every command does: it reads its building, makes the edits, and gives the answer's sheet to the face that was asked for."""
+from __future__ import annotations
+
+import dataclasses
+import io
+import sys
+from argparse import Namespace
+from typing import Any, Dict, List, Optional
+
+from evacask.client.asking import accepted
+from evacask.client.program import found_program
+from evacask.client.talk import Program
+from evacask.errors import InputError, Refused, WordsError
+from evacask.faces.ending import Status
+from evacask.faces.sheet import Sheet, as_csv, as_json, as_text
+from evacask.model.building import Model
+from evacask.model.edits import edited
+from evacask.model.forms import EDITS
+from evacask.model.lines import fields_of, text_of
+
+NOT_PROVED = "evacask: the program isn't proved on this machine; ./build proves it\n"
+
+
+def read(name: str) -> str:
+    """The text of a file, or of standard input if its name is `-`."""
+    if name == "-" and sys.stdin is None:
+        raise InputError("standard input can't be read: it is closed")
+    try:
+        with open(0 if name == "-" else name, "rb", closefd=name != "-") as file:
+            return text_of(file.read())
+    except (OSError, ValueError, io.UnsupportedOperation) as fault:
+        what = "standard input" if name == "-" else name
+        raise InputError(f"{what} can't be read: {getattr(fault, 'strerror', None) or fault}") from None
+
+
+def edits_of(groups: List[str]) -> List[str]:
+    """The edits that some words name, with `;` between them."""
+    edits = [edit.strip() for group in groups for edit in group.split(";")]
+    for edit in edits:
+        if next(iter(fields_of(edit)), "") not in EDITS or not edit.isprintable():
+            raise WordsError(f"{edit or 'nothing'} is no edit: an edit begins with {', '.join(EDITS)}")
+    return edits
+
+
+class Asked:
+    """A building that a command is about: its name, the program to ask, and its model after the edits that were given."""
+
+    def __init__(self, given: Namespace, name: Optional[str] = None):
+        edits = edits_of(getattr(given, "edit", []))
+        self.name = name or given.building
+        self.client = program_of(given)
+        self.model = named(self.name, self.client, read(self.name))
+        if edits:
+            self.model = edited(self.model, edits)
+
+
+def program_of(given: Namespace) -> Program:
+    """The program that the words name, which must be proved if they say so."""
+    return found_program(given.program, given.proved)
+
+
+def named(name: str, client: Program, text: str) -> Model:
+    """The model of a text; a refusal of it names the file."""
+    try:
+        return accepted(client, text)
+    except Refused as fault:
+        raise RefusedFile(name, fault) from None
+
+
+class RefusedFile(Refused):
+    """A refused line of a file, whose name its message begins with."""
+
+    def __init__(self, name: str, fault: Refused):
+        super().__init__(fault.code, fault.line, fault.text, fault.remedy, fault.meaning)
+        self.args = (f"{name}, {fault}",)
+
+
+def source(client: Program) -> Dict[str, Any]:
+    return dataclasses.asdict(client.source)
+
+
+def put(answer: Sheet, question: str, given: Namespace, client: Optional[Program] = None) -> int:
+    """Writes a sheet as the words ask for it. At a terminal it says first if the program isn't proved."""
+    if client and sys.stderr is not None and sys.stderr.isatty() and not client.source.is_proved:
+        sys.stderr.write(NOT_PROVED)
+    if given.face == "json":
+        sys.stdout.write(as_json(answer, question, source(client) if client else None))
+    else:
+        sys.stdout.write(as_csv(answer) if given.face == "csv" else as_text(answer, given.columns == "all"))
+    return Status.ANSWERED

@@ -1,0 +1,63 @@
+"""The commands of evacask, and how its words find one."""
+from __future__ import annotations
+
+import sys
+from argparse import Namespace
+from typing import List, Optional, Sequence, Tuple
+
+from evacask.errors import NoProgram, WordsError
+from evacask.faces import edit, why
+from evacask.faces.asked import program_of
+from evacask.faces.ending import Status, ends
+from evacask.faces.words import Command, parser_of
+from evacask.version import VERSION
+
+COMMANDS: Tuple[Command, ...] = (why.COMMAND, edit.COMMAND)
+# Words of before, which answer still and aren't in the help.
+OLD_WORDS = {"doubts": "review", "ways": "sensitivity", "wide": "width", "talk": "session", "metres": "convert"}
+
+
+def run(words: Sequence[str]) -> int:
+    """Runs the command that the words name."""
+    top = parser_of(COMMANDS)
+    if not words:
+        top.print_help(sys.stderr)
+        return Status.WORDS
+    try:
+        given = top.parse_args(renamed(words))
+    except SystemExit as ended:  # (after --help)
+        return int(ended.code or 0)
+    if given.version:
+        sys.stdout.write(version_line(given))
+        return Status.ANSWERED
+    if given.command is None:
+        raise WordsError("which command? evacask --help lists them")
+    status: int = given.run(given)
+    return status
+
+
+def renamed(words: Sequence[str]) -> List[str]:
+    """The words with the new name of the command, which is the first word that is no option or an option's value."""
+    at = 0
+    while at < len(words) and words[at].startswith("-"):
+        at += 2 if words[at] == "--program" else 1
+    return [OLD_WORDS.get(word, word) if number == at else word for number, word in enumerate(words)]
+
+
+def version_line(given: Namespace) -> str:
+    """The version, and what is known of the program."""
+    try:
+        about = program_of(given).source
+    except NoProgram:
+        return f"evacask {VERSION}; there is no program\n"
+    return f"evacask {VERSION}; program {about.sha256[:16]}, {f'proved in logic {about.logic}' if about.logic else 'not proved'}\n"
+
+
+def main(words: Optional[Sequence[str]] = None) -> int:
+    """The status of a command; its words are those of the process if none are given."""
+    given = sys.argv[1:] if words is None else list(words)
+    return ends(lambda: run(given))
+
+
+if __name__ == "__main__":
+    sys.exit(main())

@@ -1,0 +1,104 @@
+"""A sheet: what a question's answer looks like, once for all faces. Text, CSV and JSON are drawn from it."""
+from __future__ import annotations
+
+import csv
+import dataclasses
+import enum
+import io
+import json
+from dataclasses import dataclass
+from typing import Any, Dict, List, Optional, Sequence, Tuple
+
+from evacask.model.lines import printable
+
+SCHEMA = 1
+# A cell that begins so is taken for a formula by spreadsheets.
+FORMULA = ("=", "+", "-", "@", "\t", "\r")
+
+
+@dataclass(frozen=True)
+class Column:
+    """A column: its head in text and its key in CSV and JSON, whether it stands to the right, and whether text shows it."""
+
+    head: str
+    key: str
+    is_right: bool = False
+    is_shown: bool = True
+
+
+@dataclass(frozen=True)
+class Sheet:
+    """Lines before and after a table. `answer` is the dataclass that it was drawn from."""
+
+    answer: Any
+    before: Tuple[str, ...] = ()
+    columns: Tuple[Column, ...] = ()
+    rows: Tuple[Tuple[Any, ...], ...] = ()
+    after: Tuple[str, ...] = ()
+
+
+def as_text(sheet: Sheet, all_columns: bool = False) -> str:
+    """The lines of a sheet. The head of a table is left out if it has no rows."""
+    shown = [at for at, column in enumerate(sheet.columns) if column.is_shown or all_columns]
+    heads = [sheet.columns[at].head or sheet.columns[at].key * all_columns for at in shown]
+    cells: List[List[str]] = [heads] if sheet.rows else []
+    cells += [[written(row[at]) for at in shown] for row in sheet.rows]
+    widths = [max((len(row[at]) for row in cells), default=0) for at in range(len(shown))]
+    sides = [sheet.columns[at].is_right for at in shown]
+    lines = ["  ".join(pad(*it) for it in zip(row, widths, sides)).rstrip() for row in cells]
+    return "".join(f"{line}\n" for line in map(printable, [*sheet.before, *lines, *sheet.after]))
+
+
+def written(cell: Any) -> str:
+    """A cell in text: nothing for None."""
+    return "" if cell is None else str(cell)
+
+
+def pad(cell: str, width: int, is_right: bool) -> str:
+    return cell.rjust(width) if is_right else cell.ljust(width)
+
+
+def as_csv(sheet: Sheet) -> str:
+    """All columns, with their keys as heads."""
+    out = io.StringIO()
+    writer = csv.writer(out, lineterminator="\n")
+    writer.writerow([column.key for column in sheet.columns])
+    writer.writerows([[safe(cell) for cell in row] for row in sheet.rows])
+    return out.getvalue()
+
+
+def safe(cell: Any) -> Any:
+    """A cell that no spreadsheet takes for a formula: a quote stands before it. Numbers stay."""
+    return "'" + cell if isinstance(cell, str) and cell.startswith(FORMULA) else written(cell)
+
+
+def as_json(sheet: Sheet, question: str, source: Optional[Dict[str, Any]]) -> str:
+    """The answer's own fields, and where it comes from: the program's sum and its logic, or null where no program was asked."""
+    said = {"schema": SCHEMA, "question": question, "program": source, "answer": plain(sheet.answer)}
+    return json.dumps(said, indent=1, ensure_ascii=True) + "\n"
+
+
+def plain(value: Any) -> Any:
+    """A value as JSON takes it: dataclasses as dicts, tuples as lists, and what is no such thing by its text."""
+    if dataclasses.is_dataclass(value) and not isinstance(value, type):
+        return {it.name: plain(getattr(value, it.name)) for it in dataclasses.fields(value)}
+    if isinstance(value, enum.Enum):
+        return plain(value.value)
+    if isinstance(value, dict):
+        return {
+            key if isinstance(key, str) else " ".join(map(str, key)) if isinstance(key, tuple) else str(key): plain(it) for key, it in value.items()
+        }
+    if isinstance(value, (list, tuple)):
+        return [plain(it) for it in value]
+    return value if value is None or isinstance(value, (bool, int, float, str)) else str(value)
+
+
+def runs(moments: Sequence[int], scale: int = 1) -> str:
+    """Moments as `2 to 23, 30`, each times a scale."""
+    found: List[List[int]] = []
+    for moment in moments:
+        if found and found[-1][1] + 1 == moment:
+            found[-1][1] = moment
+        else:
+            found.append([moment, moment])
+    return ", ".join(f"{first * scale}" if first == last else f"{first * scale} to {last * scale}" for first, last in found)

@@ -1,0 +1,244 @@
+"""A building as data: the statements of a text that the program accepts, with the numbers of their lines and the user's own names."""
+from __future__ import annotations
+
+import difflib
+from dataclasses import dataclass, field
+from types import MappingProxyType
+from typing import Dict, Iterable, List, Mapping, Optional, Tuple
+
+from evacask.errors import UnknownName
+from evacask.model.lines import bytes_of, fields_of, lines_of, number_of, printable
+from evacask.model.seconds import time_text
+from evacask.model.shares import shares_of
+
+Way = Tuple[str, str]
+# A comment that begins so, right above a node or an arc, is the user's own name for it.
+MARK = "#:"
+
+
+@dataclass(frozen=True)
+class Node:
+    """A node: its capacity and its start in people (both None of an exit), its line, and the user's own name for it."""
+
+    name: str
+    capacity: Optional[int]
+    start: Optional[int]
+    line: int
+    own_name: str = ""
+
+    @property
+    def is_exit(self) -> bool:
+        return self.capacity is None
+
+    @property
+    def kind(self) -> str:
+        """The two letters before its number."""
+        return self.name[:2]
+
+    @property
+    def floor(self) -> int:
+        return number_of(self.name.partition(".")[2])
+
+
+@dataclass(frozen=True)
+class Arc:
+    """An arc: its travel in periods, and its rate in people a period."""
+
+    tail: str
+    head: str
+    travel: int
+    rate: int
+    line: int
+    own_name: str = ""
+
+    @property
+    def way(self) -> Way:
+        return self.tail, self.head
+
+
+@dataclass(frozen=True)
+class Window:
+    """The moments from `first` on and before `until`, at which nobody enters an arc."""
+
+    way: Way
+    first: int
+    until: int
+    line: int
+
+
+@dataclass(frozen=True)
+class Entrant:
+    """People who come into a node at a moment."""
+
+    name: str
+    moment: int
+    people: int
+    line: int
+
+
+@dataclass(frozen=True)
+class Model:
+    """A building. `period` is in seconds, `horizon` in periods; nodes and arcs are in the order of the text. Two are equal if their texts are."""
+
+    text: str
+    title: str = field(default="", compare=False)
+    period: int = field(default=1, compare=False)
+    horizon: int = field(default=0, compare=False)
+    nodes: Mapping[str, Node] = field(default_factory=dict, compare=False, repr=False)
+    arcs: Mapping[Way, Arc] = field(default_factory=dict, compare=False, repr=False)
+    windows: Tuple[Window, ...] = field(default=(), compare=False, repr=False)
+    entrants: Tuple[Entrant, ...] = field(default=(), compare=False, repr=False)
+    floors: Mapping[int, str] = field(default_factory=dict, compare=False, repr=False)
+    shares: int = field(default=1, compare=False)
+    end_line: int = field(default=0, compare=False, repr=False)
+
+    @property
+    def bytes(self) -> bytes:
+        """The text as the program is given it."""
+        return bytes_of(self.text)
+
+    @property
+    def exits(self) -> List[Node]:
+        return [node for node in self.nodes.values() if node.is_exit]
+
+    @property
+    def rooms(self) -> List[Node]:
+        """The nodes that are no exits."""
+        return [node for node in self.nodes.values() if not node.is_exit]
+
+    @property
+    def people(self) -> int:
+        """All people, those who come later included (in shares where the model counts so)."""
+        return sum(node.start or 0 for node in self.nodes.values()) + sum(it.people for it in self.entrants)
+
+    @property
+    def is_steady(self) -> bool:
+        """Whether no rate changes with time and nobody comes later."""
+        return not self.windows and not self.entrants
+
+    def seconds(self, moment: int) -> int:
+        """The seconds from which on a moment may be: the earlier end of its interval."""
+        return moment * self.period
+
+    def time(self, moment: int) -> str:
+        """A moment with its seconds: 28 (140 to 145 s)."""
+        return time_text(moment, self.period)
+
+    def node(self, name: str) -> Node:
+        """The node of a name, or of an own name that no other node has; `UnknownName` with names that are near it."""
+        if name in self.nodes:
+            return self.nodes[name]
+        owners = [it for it in self.nodes.values() if it.own_name == name] if name else []
+        if len(owners) == 1:
+            return owners[0]
+        if owners:
+            raise UnknownName(f"{name} is the own name of {len(owners)} nodes: {', '.join(it.name for it in owners)}")
+        owns = [it.own_name for it in self.nodes.values() if it.own_name]
+        raise UnknownName(f"there is no node {name} in the building{near(name, [*self.nodes, *owns])}")
+
+    def arc(self, tail: str, head: str) -> Arc:
+        """The arc between two nodes; `UnknownName` with what there is in its place."""
+        way = tail, head = self.node(tail).name, self.node(head).name
+        if way in self.arcs:
+            return self.arcs[way]
+        if (head, tail) in self.arcs:
+            raise UnknownName(f"there is no arc from {tail} to {head}; there is one from {head} to {tail}")
+        heads = [to for start, to in self.arcs if start == tail]
+        hint = f"from {tail} there are arcs to {', '.join(heads)}" if heads else f"no arc leaves {tail}"
+        raise UnknownName(f"there is no arc from {tail} to {head}; {hint}")
+
+    def named(self, *names: str) -> str:
+        """The user's own names of some nodes or of an arc, for the end of a line; nothing if none of them has one."""
+        arc = self.arcs.get((names[0], names[1])) if len(names) == 2 else None
+        if arc and arc.own_name:
+            return arc.own_name
+        known = [self.nodes[name] for name in names if name in self.nodes]
+        return " to ".join(it.own_name or it.name for it in known) if any(it.own_name for it in known) else ""
+
+
+def near(name: str, names: Iterable[str]) -> str:
+    """Words that name what is written nearly so, or nothing."""
+    found = difflib.get_close_matches(name, list(dict.fromkeys(names)), n=3)
+    return f"; near it: {', '.join(found)}" if found else ""
+
+
+@dataclass
+class Statements:
+    """The statements of a text so far."""
+
+    title: str = ""
+    period: int = 1
+    horizon: int = 0
+    nodes: Dict[str, Node] = field(default_factory=dict)
+    arcs: Dict[Way, Arc] = field(default_factory=dict)
+    windows: List[Window] = field(default_factory=list)
+    entrants: List[Entrant] = field(default_factory=list)
+    floors: Dict[int, str] = field(default_factory=dict)
+
+    def take(self, fields: List[str], line: str, number: int, own_name: str) -> None:
+        """Adds a statement."""
+        word, *rest = fields
+        if word == "title":
+            self.title = printable(line.strip(" \t")[len(word) :].strip(" \t"))
+        elif word == "floor":
+            self.floors[number_of(rest[0])] = printable(line.strip(" \t")[len(word) :].strip(" \t")[len(rest[0]) :].strip(" \t"))
+        elif word == "period":
+            (self.period,) = map(number_of, rest)
+        elif word == "horizon":
+            (self.horizon,) = map(number_of, rest)
+        elif word == "node":
+            capacity, start = map(number_of, rest[1:]) if rest[1:] else (None, None)
+            self.nodes[rest[0]] = Node(rest[0], capacity, start, number, own_name)
+        else:
+            self.take_numbers(word, rest, number, own_name)
+
+    def take_numbers(self, word: str, rest: List[str], line: int, own_name: str) -> None:
+        """Adds a statement of names and two numbers."""
+        *names, first, second = rest
+        numbers = number_of(first), number_of(second)
+        if word == "entrant":
+            (name,) = names
+            self.entrants.append(Entrant(name, *numbers, line=line))
+            return
+        tail, head = names
+        if word == "arc":
+            self.arcs[tail, head] = Arc(tail, head, *numbers, line=line, own_name=own_name)
+        elif word == "window":
+            self.windows.append(Window((tail, head), *numbers, line=line))
+        else:
+            raise ValueError(f"{word} is no statement")
+
+
+def model_of(text: str) -> Model:
+    """The model of a text that the program accepts; `ValueError` for some that it doesn't."""
+    said, mark, end = Statements(), "", 0
+    lines = lines_of(text)
+    for number, line in enumerate(lines, 1):
+        fields = fields_of(line)
+        if fields[:1] == ["end"]:
+            end = number
+            break
+        if fields and not fields[0].startswith("#") and fields[0] != "evacplan":
+            said.take(fields, line, number, mark)
+        mark = own_name_of(line)
+    if not end:
+        raise ValueError("the text ends before the line end")
+    return Model(
+        text,
+        said.title,
+        said.period,
+        said.horizon,
+        MappingProxyType(said.nodes),
+        MappingProxyType(said.arcs),
+        tuple(said.windows),
+        tuple(said.entrants),
+        MappingProxyType(said.floors),
+        shares_of(lines[:end]),
+        end,
+    )
+
+
+def own_name_of(line: str) -> str:
+    """The own name that a line states for the line below, or nothing."""
+    line = line.strip(" \t")
+    return printable(line[len(MARK) :]).strip() if line.startswith(MARK) else ""

@@ -1,0 +1,77 @@
+"""The codes of refusals, by place, with what each means and what to do. The tables of docs/FORMATS.md are checked against them."""
+from __future__ import annotations
+
+import enum
+import functools
+import json
+import pathlib
+from dataclasses import dataclass
+from typing import Dict, List, Optional
+
+from evacask.errors import Refused
+from evacask.model.lines import fields_of
+
+FILE = pathlib.Path(__file__).resolve().parent / "codes.json"
+
+
+class Place(str, enum.Enum):
+    """What was refused: a line of a building, one of a session, a study or a replan, a block, or the words after evacplan."""
+
+    BUILDING = "building"
+    SESSION = "session"
+    STUDY = "study"
+    REPLAN = "replan"
+    CHECK = "check"
+    WORDS = "words"
+
+
+# Where else a code may have its meaning, if its own place has none for it.
+OTHERS = {Place.REPLAN: (Place.SESSION,), Place.STUDY: (Place.SESSION,)}
+
+
+@dataclass(frozen=True)
+class Meaning:
+    """What a code means in a place, of an edit with its first word where it has a meaning of its own, and what to do."""
+
+    code: int
+    place: Place
+    what: str
+    remedy: str
+    word: str = ""
+
+    @property
+    def sentence(self) -> str:
+        return f"{self.what} {self.remedy}"
+
+
+@functools.lru_cache(maxsize=None)
+def table() -> Dict[str, Dict[str, Dict[str, str]]]:
+    """The file as it is: by place, or by `edit WORD`, and then by code."""
+    said: Dict[str, Dict[str, Dict[str, str]]] = json.loads(FILE.read_text(encoding="utf-8"))
+    return said
+
+
+def entry(key: str, code: int, place: Place, word: str = "") -> Optional[Meaning]:
+    found = table().get(key, {}).get(str(code))
+    return Meaning(code, place, found["meaning"], found["remedy"], word) if found else None
+
+
+def meaning_of(place: Place, code: int, word: str = "") -> Optional[Meaning]:
+    """What a code means: of an edit by its first word, then in its place, then where that place takes its meanings from."""
+    edit = entry(f"edit {word}", code, place, word) if place in (Place.SESSION, Place.REPLAN) else None
+    places = (place, *OTHERS.get(place, ()), Place.BUILDING)
+    return edit or next(filter(None, (entry(it.value, code, it) for it in places)), None)
+
+
+def meanings(code: int) -> List[Meaning]:
+    """All meanings of a code, those of a building first, and those of single edits last."""
+    of_places = [entry(it.value, code, it) for it in Place]
+    of_edits = [entry(key, code, Place.SESSION, key[len("edit ") :]) for key in table() if key.startswith("edit ")]
+    return [it for it in (*of_places, *of_edits) if it]
+
+
+def refusal(place: Place, code: int, line: int, text: str) -> Refused:
+    """The exception for a refused line, with its meaning and remedy. `line` is 0 for a command, whose first word may give the code its meaning."""
+    word = next(iter(fields_of(text)), "") if not line else ""
+    meaning = meaning_of(place, code, word)
+    return Refused(code, line, text, meaning.remedy if meaning else "", meaning.what if meaning else "")

@@ -1,0 +1,253 @@
+"""Edits of a building's text, refused by the rules of a session. A line that no edit changes stays as it is, comments and names with it.
+
+A session refuses an edit after which not everybody could be out (22). Here several edits are one step, and only the last building is planned.
+"""
+from __future__ import annotations
+
+
+import re
+from dataclasses import dataclass, field
+from typing import Callable, Dict, List, Optional, Sequence, Set, Tuple, Union
+
+from evacask.errors import EvacaskError
+from evacask.model.building import Model, Way, model_of
+from evacask.model.codes import Place, refusal
+from evacask.model.forms import EDITS, plain
+from evacask.model.lines import fields_of, is_number, number_of
+
+MOST_RATE, MOST_PEOPLE, MOST_WINDOWS, LAST_MOMENT = 10_000, 100_000, 8, 1_200
+NAME = re.compile(r"(?:WP|HA|SW|LO|DS)[1-9][0-9]{0,3}\.(?:0|[1-9][0-9]{0,2})")
+
+
+class Fault(EvacaskError):
+    """The code by which an edit is refused."""
+
+    def __init__(self, code: int):
+        super().__init__(f"refused {code}")
+        self.code = code
+
+
+def refuse(is_refused: bool, code: int) -> None:
+    """Refuses an edit by a code, if something holds."""
+    if is_refused:
+        raise Fault(code)
+
+
+@dataclass
+class Draft:
+    """What edits change of a building: rates, capacities, starts and windows, and what is shut."""
+
+    model: Model
+    rates: Dict[Way, int]
+    capacities: Dict[str, int]
+    starts: Dict[str, int]
+    windows: Dict[Way, List[Tuple[int, int]]]
+    shut: Set[Way] = field(default_factory=set)
+    shut_exits: Set[str] = field(default_factory=set)
+
+    def way(self, tail: str, head: str) -> Way:
+        """An arc that is there."""
+        for name in (tail, head):
+            refuse(name not in self.model.nodes, 13)
+        refuse((tail, head) not in self.rates, 32)
+        return tail, head
+
+    def room(self, name: str) -> str:
+        """A node that is no exit."""
+        refuse(name not in self.model.nodes, 13)
+        refuse(name not in self.capacities, 37)
+        return name
+
+    def exit(self, name: str) -> str:
+        """A node that is an exit."""
+        refuse(name not in self.model.nodes, 13)
+        refuse(name in self.capacities, 36)
+        return name
+
+    def move_out(self, name: str, people: int) -> None:
+        """Has fewer start in a room."""
+        refuse(people > self.starts[name], 38)
+        self.starts[name] -= people
+
+    def move_in(self, name: str, people: int) -> None:
+        """Has more start in a room."""
+        refuse(self.starts[name] + people > self.capacities[name], 12)
+        self.starts[name] += people
+
+    @property
+    def people(self) -> int:
+        return sum(self.starts.values()) + sum(it.people for it in self.model.entrants)
+
+
+def draft_of(model: Model) -> Draft:
+    windows: Dict[Way, List[Tuple[int, int]]] = {way: [] for way in model.arcs}
+    for it in model.windows:
+        windows[it.way].append((it.first, it.until))
+    rooms = model.rooms
+    return Draft(
+        model,
+        {way: arc.rate for way, arc in model.arcs.items()},
+        {it.name: it.capacity or 0 for it in rooms},
+        {it.name: it.start or 0 for it in rooms},
+        windows,
+    )
+
+
+def shut(draft: Draft, tail: str, head: str) -> None:
+    way = draft.way(tail, head)
+    refuse(way in draft.shut, 34)
+    draft.shut.add(way)
+
+
+def reopen(draft: Draft, tail: str, head: str) -> None:
+    way = draft.way(tail, head)
+    refuse(way not in draft.shut, 35)
+    draft.shut.remove(way)
+
+
+def shutexit(draft: Draft, name: str) -> None:
+    refuse(draft.exit(name) in draft.shut_exits, 34)
+    draft.shut_exits.add(name)
+
+
+def openexit(draft: Draft, name: str) -> None:
+    refuse(draft.exit(name) not in draft.shut_exits, 35)
+    draft.shut_exits.remove(name)
+
+
+def rate(draft: Draft, tail: str, head: str, people: int) -> None:
+    way = draft.way(tail, head)
+    refuse(people > MOST_RATE, 7)
+    draft.rates[way] = people
+
+
+def room(draft: Draft, name: str, capacity: int) -> None:
+    draft.room(name)
+    refuse(capacity > MOST_PEOPLE, 7)
+    refuse(capacity < draft.starts[name], 12)
+    draft.capacities[name] = capacity
+
+
+def enter(draft: Draft, name: str, people: int) -> None:
+    draft.room(name)
+    refuse(not 0 < people <= MOST_PEOPLE, 7)
+    refuse(draft.people + people > MOST_PEOPLE, 17)
+    draft.move_in(name, people)
+
+
+def leave(draft: Draft, name: str, people: int) -> None:
+    draft.room(name)
+    refuse(not 0 < people <= MOST_PEOPLE, 7)
+    draft.move_out(name, people)
+
+
+def shift(draft: Draft, tail: str, head: str, people: int) -> None:
+    for name in (tail, head):
+        refuse(name not in draft.model.nodes, 13)
+    refuse(tail == head, 14)
+    draft.room(tail)
+    draft.room(head)
+    refuse(not 0 < people <= MOST_PEOPLE, 7)
+    draft.move_out(tail, people)
+    draft.move_in(head, people)
+
+
+def window(draft: Draft, tail: str, head: str, first: int, until: int) -> None:
+    there = draft.windows[draft.way(tail, head)]
+    refuse(first > LAST_MOMENT or not 1 <= until <= LAST_MOMENT + 1, 7)
+    refuse(first >= until, 24)
+    refuse(any(first < end and begin < until for begin, end in there), 25)
+    refuse(len(there) == MOST_WINDOWS, 26)
+    there.append((first, until))
+
+
+def unwindow(draft: Draft, tail: str, head: str, first: int, until: int) -> None:
+    there = draft.windows[draft.way(tail, head)]
+    refuse((first, until) not in there, 27)
+    there.remove((first, until))
+
+
+MADE_BY: Dict[str, Callable[..., None]] = {
+    "shut": shut,
+    "reopen": reopen,
+    "shutexit": shutexit,
+    "openexit": openexit,
+    "rate": rate,
+    "room": room,
+    "shift": shift,
+    "enter": enter,
+    "leave": leave,
+    "window": window,
+    "unwindow": unwindow,
+}
+
+
+def value_of(form: str, word: str) -> Union[str, int]:
+    """A field of an edit: a name where its form is a capital, else a number."""
+    if form.isupper():
+        refuse(not NAME.fullmatch(word), 8)
+        return word
+    refuse(not is_number(word), 6)
+    return number_of(word)
+
+
+def make(draft: Draft, edit: str) -> None:
+    """Makes one edit, or raises the fault that the program would name."""
+    word, *words = fields_of(edit) or [""]
+    refuse(word not in EDITS, 31)
+    forms = EDITS[word].split()
+    refuse(len(words) != len(forms), 5)
+    MADE_BY[word](draft, *(value_of(form, given) for form, given in zip(forms, words)))
+
+
+def edited(model: Model, edits: Sequence[str]) -> Model:
+    """The building after some edits, made one after the other; `Refused` for the first that can't be made. Own names may stand for nodes.
+
+    What is shut has rate 0 in the new text, so an edit of that one can't reopen it: give it a rate.
+    """
+    draft = draft_of(model)
+    for edit in edits:
+        try:
+            make(draft, plain(model, edit))
+        except Fault as fault:
+            raise refusal(Place.SESSION, fault.code, 0, edit) from None
+    return model_of(text_of(draft))
+
+
+def text_of(draft: Draft) -> str:
+    """The edited building: each changed line anew, and new windows above the line `end`."""
+    model, changed = draft.model, {}
+    for name, capacity in draft.capacities.items():
+        node, start = model.nodes[name], draft.starts[name]
+        if (node.capacity, node.start) != (capacity, start):
+            changed[node.line] = f"node {name} {capacity} {start}"
+    for way, arc in model.arcs.items():
+        people = 0 if way in draft.shut or arc.head in draft.shut_exits else draft.rates[way]
+        if people != arc.rate:
+            changed[arc.line] = f"arc {arc.tail} {arc.head} {arc.travel} {people}"
+    return with_windows(draft, changed)
+
+
+def with_windows(draft: Draft, changed: Dict[int, str]) -> str:
+    """The text with its changed lines: windows that were taken away are left out, and new ones come above `end`, in version 2."""
+    model = draft.model
+    gone = {it.line for it in model.windows if (it.first, it.until) not in draft.windows[it.way]}
+    old = {(it.way, it.first, it.until) for it in model.windows}
+    new = [
+        f"window {tail} {head} {first} {until}"
+        for (tail, head), there in draft.windows.items()
+        for first, until in there
+        if ((tail, head), first, until) not in old
+    ]
+    lines = model.text.split("\n")
+    if new:
+        first = next(number for number, line in enumerate(lines, 1) if fields_of(line) and not fields_of(line)[0].startswith("#"))
+        changed = {**changed, first: "evacplan 2"}
+    kept = [like(line, changed.get(number)) for number, line in enumerate(lines, 1) if number not in gone]
+    at = model.end_line - 1 - len(gone)
+    return "\n".join([*kept[:at], *(like(kept[at], line) for line in new), *kept[at:]])
+
+
+def like(old: str, new: Optional[str]) -> str:
+    """A line in place of another, with the same end; the other one if there is none."""
+    return old if new is None else new + "\r" if old.endswith("\r") else new

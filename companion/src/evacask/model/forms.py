@@ -1,0 +1,56 @@
+"""The lines that a session, a study and a replan answer, and what follows their first words."""
+from __future__ import annotations
+
+import re
+from typing import Dict, List
+
+from evacask.errors import UnknownName
+from evacask.model.building import Model
+
+# Nodes A and B, an exit D, and numbers by other letters.
+EDITS = {
+    "shut": "A B",
+    "reopen": "A B",
+    "shutexit": "D",
+    "openexit": "D",
+    "rate": "A B n",
+    "room": "A n",
+    "shift": "A B n",
+    "enter": "A n",
+    "leave": "A n",
+    "window": "A B p q",
+    "unwindow": "A B p q",
+}
+SESSION = {**EDITS, "undo": "", "cut": "k", "routes": "", "clearing": "", "bottlenecks": "", "summary": "", "work": ""}
+COMMANDS: Dict[str, Dict[str, str]] = {
+    "session": SESSION,
+    "study": {"exits": "", "least": "A B K"},
+    "replan": {**SESSION, "advance": "p"},
+}
+REPORTS = ("routes", "clearing", "bottlenecks", "summary")
+# Of these A and B are the ends of an arc.
+OF_ARCS = ("shut", "reopen", "rate", "window", "unwindow", "least")
+# The most bytes of a line, without its end, and the edits that a session keeps.
+LINE_LIMIT, MOST_UNDOS = 200, 64
+
+
+def words_of(line: str) -> List[str]:
+    """The words of a command that somebody typed: a name with blanks stands between double quotes."""
+    return [quoted or plain for quoted, plain in re.findall(r'"([^"]*)"|([^ \t"]+)', line)]
+
+
+def plain(model: Model, line: str) -> str:
+    """A command whose own names are replaced by the names of their nodes, as the program is sent it."""
+    word, *rest = words_of(line) or [""]
+    wanted = COMMANDS["replan"].get(word, COMMANDS["study"].get(word, "")).split()
+    return " ".join([word, *(own_to_name(model, it) if form in ("A", "B", "D") else it for it, form in zip(rest, wanted)), *rest[len(wanted) :]])
+
+
+def own_to_name(model: Model, word: str) -> str:
+    """The node's name that a word stands for, or the word itself."""
+    if not any(it.own_name == word for it in model.nodes.values()):
+        return word
+    try:
+        return model.node(word).name
+    except UnknownName:
+        return word

@@ -1,0 +1,44 @@
+"""Lines and fields of a text, as the program reads them."""
+from __future__ import annotations
+
+from typing import List
+
+
+def lines_of(text: str) -> List[str]:
+    """The lines of a text, without their ends; a last line may have none."""
+    lines = text.split("\n")
+    if not lines[-1]:
+        lines.pop()
+    return [line[:-1] if line.endswith("\r") else line for line in lines]
+
+
+def fields_of(line: str) -> List[str]:
+    """The fields of a line: blanks are spaces and tabs alone."""
+    return [it for it in line.replace("\t", " ").split(" ") if it]
+
+
+def is_number(word: str) -> bool:
+    """Whether a word is a number of the language: digits alone, nine at most."""
+    return word.isascii() and word.isdigit() and len(word) <= 9
+
+
+def number_of(word: str) -> int:
+    """The number that a word is; `ValueError` if it is none."""
+    if not is_number(word):
+        raise ValueError(f"{word!r} is no number")
+    return int(word)
+
+
+def text_of(data: bytes) -> str:
+    """Bytes as a text, in which a byte that is no letter stays itself."""
+    return data.decode("utf-8", "surrogateescape")
+
+
+def bytes_of(text: str) -> bytes:
+    """The bytes that a text was read from."""
+    return text.encode("utf-8", "surrogateescape")
+
+
+def printable(text: str) -> str:
+    """A text without letters that a terminal would obey."""
+    return "".join(it for it in text if it.isprintable())
