@@ -61,11 +61,11 @@ fn first_range(session: &Session, arc: u32, by: u16) -> RateRange
     }
 }
 
-// How many times a search doubles the least rate that is left, before it halves the range.
+// How many times a search doubles the least rate that is left, before it asks whether any rate is enough.
 const DOUBLINGS: u32 = 2;
 
-// The rate to try next. While no rate is known to be enough, the first ones aren't far above the rate that the arc has: the answer is
-// often near it, and a trial costs less there.
+// The rate to try next. While none is known to be enough, two that aren't far above the rate of the arc come first, and then the greatest,
+// which says whether any is enough. A search upwards takes at most twice the least rate that is left, as the answer is often near it.
 #[tactic(auto, unfolding(evac_law::specs::Limits::rate_limit))]
 fn next_rate(low: u32, high: u32, doublings: u32) -> u32
     requires some { low < high }
@@ -74,7 +74,9 @@ fn next_rate(low: u32, high: u32, doublings: u32) -> u32
     ensures most { result < high }
 {
     let middle = (low + high) / 2;
-    if high > RATE_LIMIT && doublings > 0 {
+    if high > RATE_LIMIT && doublings == 0 {
+        RATE_LIMIT
+    } else if low > 0 {
         middle.min(2 * low)
     } else {
         middle
