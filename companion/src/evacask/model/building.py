@@ -9,7 +9,7 @@ from typing import Dict, Iterable, List, Mapping, Optional, Tuple
 from evacask.errors import UnknownName
 from evacask.model.lines import bytes_of, fields_of, lines_of, number_of, printable
 from evacask.model.seconds import time_text
-from evacask.model.shares import shares_of
+from evacask.model.shares import Count, in_people, shares_of
 
 Way = Tuple[str, str]
 # A comment that begins so, right above a node or an arc, is the user's own name for it.
@@ -21,8 +21,8 @@ class Node:
     """A node: its capacity and its start in people (both None of an exit), its line, and the user's own name for it."""
 
     name: str
-    capacity: Optional[int]
-    start: Optional[int]
+    capacity: Optional[Count]
+    start: Optional[Count]
     line: int
     own_name: str = ""
 
@@ -47,7 +47,7 @@ class Arc:
     tail: str
     head: str
     travel: int
-    rate: int
+    rate: Count
     line: int
     own_name: str = ""
 
@@ -72,7 +72,7 @@ class Entrant:
 
     name: str
     moment: int
-    people: int
+    people: Count
     line: int
 
 
@@ -107,8 +107,8 @@ class Model:
         return [node for node in self.nodes.values() if not node.is_exit]
 
     @property
-    def people(self) -> int:
-        """All people, those who come later included (in shares where the model counts so)."""
+    def people(self) -> Count:
+        """All people, those who come later included."""
         return sum(node.start or 0 for node in self.nodes.values()) + sum(it.people for it in self.entrants)
 
     @property
@@ -164,8 +164,9 @@ def near(name: str, names: Iterable[str]) -> str:
 
 @dataclass
 class Statements:
-    """The statements of a text so far."""
+    """The statements of a text so far, which counts each person as so many shares."""
 
+    shares: int = 1
     title: str = ""
     period: int = 1
     horizon: int = 0
@@ -187,32 +188,36 @@ class Statements:
         elif word == "horizon":
             (self.horizon,) = map(number_of, rest)
         elif word == "node":
-            capacity, start = map(number_of, rest[1:]) if rest[1:] else (None, None)
+            capacity, start = map(self.people_of, rest[1:]) if rest[1:] else (None, None)
             self.nodes[rest[0]] = Node(rest[0], capacity, start, number, own_name)
         else:
             self.take_numbers(word, rest, number, own_name)
 
+    def people_of(self, word: str) -> Count:
+        """A number of people."""
+        return in_people(number_of(word), self.shares)
+
     def take_numbers(self, word: str, rest: List[str], line: int, own_name: str) -> None:
         """Adds a statement of names and two numbers."""
         *names, first, second = rest
-        numbers = number_of(first), number_of(second)
         if word == "entrant":
             (name,) = names
-            self.entrants.append(Entrant(name, *numbers, line=line))
+            self.entrants.append(Entrant(name, number_of(first), self.people_of(second), line))
             return
         tail, head = names
         if word == "arc":
-            self.arcs[tail, head] = Arc(tail, head, *numbers, line=line, own_name=own_name)
+            self.arcs[tail, head] = Arc(tail, head, number_of(first), self.people_of(second), line, own_name)
         elif word == "window":
-            self.windows.append(Window((tail, head), *numbers, line=line))
+            self.windows.append(Window((tail, head), number_of(first), number_of(second), line))
         else:
             raise ValueError(f"{word} is no statement")
 
 
 def model_of(text: str) -> Model:
     """The model of a text that the program accepts; `ValueError` for some that it doesn't."""
-    said, mark, end = Statements(), "", 0
     lines = lines_of(text)
+    last = next((number for number, line in enumerate(lines) if fields_of(line)[:1] == ["end"]), len(lines))
+    said, mark, end = Statements(shares_of(lines[:last])), "", 0
     for number, line in enumerate(lines, 1):
         fields = fields_of(line)
         if fields[:1] == ["end"]:
@@ -233,7 +238,7 @@ def model_of(text: str) -> Model:
         tuple(said.windows),
         tuple(said.entrants),
         MappingProxyType(said.floors),
-        shares_of(lines[:end]),
+        said.shares,
         end,
     )
 

@@ -9,6 +9,7 @@ from evacask.client.blocks import Cut
 from evacask.client.talk import Client
 from evacask.model.building import Model
 from evacask.model.ground import Ground
+from evacask.model.shares import Count
 
 
 @dataclass(frozen=True)
@@ -20,7 +21,7 @@ class Place:
 
     names: Tuple[str, ...]
     rooms: Tuple[str, ...]
-    people: int
+    people: Count
     moments: Tuple[int, ...]
     closed: Tuple[int, ...]
 
@@ -30,8 +31,8 @@ class Why:
     """At most `most` of `people` can be out by `period`; `places` add up to `most`. All are out by `cleared`. Moments are in periods."""
 
     period: int
-    most: int
-    people: int
+    most: Count
+    people: Count
     cleared: int
     places: Tuple[Place, ...]
     ground: Ground = Ground.PROVED
