@@ -64,7 +64,7 @@ def run_ways(given: Namespace) -> int:
     asked = Asked(given)
     with asked.talk() as talk:
         cleared_by(talk.opening, asked.name)
-        ways = all_ways(talk, asked.building, ANY_RATE if given.rate is None else given.rate)
+        ways = all_ways(asked.program, talk, asked.building, asked.text, ANY_RATE if given.rate is None else given.rate)
     if given.csv:
         ways.write_csv()
     else:

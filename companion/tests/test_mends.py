@@ -1,0 +1,65 @@
+"""What was wrong once: each test failed before its mend. All of them run evacask as a command."""
+import csv
+import io
+import unittest
+
+from companion.tests.asking import OFFICE, ask
+
+
+def hub(ways: int) -> str:
+    """Rooms with an arc each into one exit; the first room has 50 people and another exit of its own, and the others have one person each."""
+    rooms = [f"WP{it}.1" for it in range(1, ways + 1)]
+    lines = ["evacplan 1", "period 1", "horizon 100", "floor 1 Ground"]
+    lines += [f"node {name} 50 {50 if name == 'WP1.1' else 1}" for name in rooms]
+    lines += ["node DS1.1", "node DS2.1", *(f"arc {name} DS1.1 1 1" for name in rooms), "arc WP1.1 DS2.1 1 1", "end"]
+    return "\n".join([*lines, ""])
+
+
+# 100 people walk to two halls within a period, and 11 a period leave these for the exit: the last 1 at moment 10, and so all are out at 11.
+TWO_DOORS = """evacplan 1
+period 5
+horizon 13
+floor 1 Ground
+node WP1.1 100 100
+node HA1.1 100 0
+node HA2.1 100 0
+node DS1.1
+arc WP1.1 HA1.1 1 100
+arc WP1.1 HA2.1 1 100
+arc HA1.1 DS1.1 1 10
+arc HA2.1 DS1.1 1 1
+end
+"""
+
+
+class Sensitivity(unittest.TestCase):
+    def rows(self, text: str, *words: object) -> "dict[tuple[str, str], dict[str, str]]":
+        """The rows of all ways by their two names."""
+        said = ask("ways", "-", "--csv", *words, text=text)
+        self.assertEqual((said.status, said.err), (0, ""))
+        return {(row["from"], row["to"]): row for row in csv.DictReader(io.StringIO(said.out))}
+
+    def test_an_exit_with_more_ways_than_a_session_can_undo(self):
+        for ways in (64, 65, 66, 130):
+            with self.subTest(ways):
+                rows = self.rows(hub(ways))
+                # All 50 leave by the one arc that is left, one in each period from 0 on.
+                self.assertEqual(rows["", "DS2.1"]["without"], "50")
+                self.assertEqual(rows["WP1.1", "DS2.1"]["without"], "50")
+                # The others can't get out any more, and the first 50 take 50 periods too.
+                self.assertEqual((rows["", "DS1.1"]["without"], rows["", "DS1.1"]["without_out"]), ("", "50"))
+                self.assertEqual(rows["", "DS1.1"]["widened"], "1")
+
+    def test_arcs_that_can_not_be_changed_one_by_one(self):
+        # With 5 and 5 it is 10 in each of 10 periods; with 5 and 1, on the way there, not all could be out by the horizon.
+        self.assertEqual(self.rows(TWO_DOORS, "--rate", 5)["", "DS1.1"]["widened"], "11")
+
+    def test_doors_that_a_rate_makes_worse_are_shown(self):
+        # The 60 of the room leave it one by one at the moments 0 to 59, and walk one period more to the exit: 61 periods of 5 s.
+        said = ask("ways", OFFICE, "--rate", 1)
+        self.assertEqual((said.status, said.err), (0, ""))
+        self.assertRegex(said.out, r"(?m)^ *short 180 +140 s +305 s  WP1\.1 LO1\.1$")
+
+
+if __name__ == "__main__":
+    unittest.main()
