@@ -1,9 +1,14 @@
 """What was wrong once: each test failed before its mend. All of them run evacask as a command."""
 import csv
 import io
+import subprocess
+import sys
 import unittest
 
-from companion.tests.asking import OFFICE, ask
+from companion.tests.asking import OFFICE, TOP, ask
+
+# The seconds after which a reply that comes at once otherwise isn't waited for any longer.
+SOON = 10
 
 
 def hub(ways: int) -> str:
@@ -75,6 +80,15 @@ class Compare(unittest.TestCase):
         self.assertRegex(said.lines[3], r"^refused 34 .* shut HA1\.1 DS1\.1; shut HA1\.1 DS1\.1$")
         self.assertRegex(said.lines[4], r"^ +11 +55 s +same ")
         self.assertIn("refused 34: shut HA1.1 DS1.1: It is shut already.", said.out)
+
+
+class Talk(unittest.TestCase):
+    def test_a_line_of_carriage_returns(self):
+        command = [sys.executable, "-B", str(TOP / "evacask"), "talk", str(OFFICE)]
+        ran = subprocess.run(command, input=b"\r\r\nwork\n\r\n \r\nwork\r\n", capture_output=True, timeout=SOON)
+        self.assertEqual((ran.returncode, ran.stderr), (0, b""))
+        # One CR belongs to the end of a line, and a second one is a word.
+        self.assertEqual([line.split()[0] for line in ran.stdout.splitlines()], [b"answer", b"refused", b"work", b"work"])
 
 
 if __name__ == "__main__":
