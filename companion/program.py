@@ -2,11 +2,13 @@
 from __future__ import annotations
 
 import contextlib
+import functools
 import os
 import pathlib
 import re
 import signal
 import subprocess
+import sys
 from dataclasses import dataclass
 from typing import Iterator, List, Optional
 
@@ -163,6 +165,23 @@ def broken(status: int) -> Stop:
     return Stop(f"the program broke off with status {status}: is it evacplan, and not another one?", Status.NO_PROGRAM)
 
 
+def is_current() -> bool:
+    """Whether no source is newer than the program that is built. ./build knows; where it isn't there, there are no sources either."""
+    if not (TOP / "build").exists():
+        return True
+    try:
+        return subprocess.run(["bash", "-c", '. "$1" && is_current', "bash", str(TOP / "build")], stdin=subprocess.DEVNULL).returncode == 0
+    except OSError:
+        return True  # (without bash nothing is built here either)
+
+
+@functools.lru_cache(maxsize=None)
+def tell_if_old() -> None:
+    """Says once that the built program isn't that of the sources."""
+    if not is_current():
+        print("evacask: a source is newer than the program that is built, which is asked all the same; ./build makes it anew", file=sys.stderr)
+
+
 def find_program(given: Optional[str]) -> Program:
     """The program that is named by --program or by EVACPLAN, or else the built one, which its script names too."""
     named = given or os.environ.get("EVACPLAN")
@@ -170,6 +189,8 @@ def find_program(given: Optional[str]) -> Program:
         named = None  # (where nothing is built, the script answers after its input has ended, and so can't be talked to)
     path = pathlib.Path(named) if named else BUILT
     if path.is_file() and os.access(path, os.X_OK):
+        if not named:
+            tell_if_old()
         return Program(path.resolve())
     if named:
         raise Stop(f"there is no program {named}: --program and EVACPLAN name the file of the program", Status.NO_PROGRAM)

@@ -1,11 +1,16 @@
 """What was wrong once: each test failed before its mend. All of them run evacask as a command."""
 import csv
 import io
+import os
+import pathlib
+import shutil
 import subprocess
 import sys
+import tempfile
+import time
 import unittest
 
-from companion.tests.asking import OFFICE, TOP, ask
+from companion.tests.asking import OFFICE, PATIENCE, TOP, ask, program
 
 # The seconds after which a reply that comes at once otherwise isn't waited for any longer.
 SOON = 10
@@ -80,6 +85,37 @@ class Compare(unittest.TestCase):
         self.assertRegex(said.lines[3], r"^refused 34 .* shut HA1\.1 DS1\.1; shut HA1\.1 DS1\.1$")
         self.assertRegex(said.lines[4], r"^ +11 +55 s +same ")
         self.assertIn("refused 34: shut HA1.1 DS1.1: It is shut already.", said.out)
+
+
+class Programs(unittest.TestCase):
+    def test_a_program_that_is_older_than_its_sources(self):
+        with tempfile.TemporaryDirectory() as folder:
+            top = pathlib.Path(folder)
+            source, built = top / "crates/evac_law/src/model.rt", top / "crates/evacplan/out/evacplan"
+            for made in (source.parent, top / "crates/evacplan/src", built.parent):
+                made.mkdir(parents=True)
+            source.write_text("")
+            (top / "crates.txt").write_text("evac_law:\nevacplan: evac_law\n")
+            subprocess.run(["cp", "-R", TOP / "evacask", TOP / "companion", TOP / "build", folder], check=True)
+            shutil.copy(program(), built)
+            self.made(top, time.time() - 1000)
+            self.made(built, time.time())
+            self.assertEqual(self.why(top), "")
+            self.made(source, time.time() + 1000)
+            self.assertRegex(self.why(top), r"\Aevacask: a source is newer than the program[^\n]*\n\Z")
+
+    def made(self, path: pathlib.Path, when: float) -> None:
+        """Has a file, or all that is in a folder, be of this time."""
+        for it in (path, *path.rglob("*")):
+            os.utime(it, (when, when))
+
+    def why(self, top: pathlib.Path) -> str:
+        """What evacask in another copy says on standard error beside its answer."""
+        settings = {name: value for name, value in os.environ.items() if name != "EVACPLAN"}
+        command = [sys.executable, "-B", str(top / "evacask"), "why", str(OFFICE)]
+        ran = subprocess.run(command, capture_output=True, text=True, env=settings, timeout=PATIENCE)
+        self.assertEqual(ran.returncode, 0, ran.stderr)
+        return ran.stderr
 
 
 class Talk(unittest.TestCase):
