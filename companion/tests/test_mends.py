@@ -4,11 +4,13 @@ import io
 import os
 import pathlib
 import shutil
+import signal
 import subprocess
 import sys
 import tempfile
 import time
 import unittest
+from typing import Callable
 
 from companion.tests.asking import OFFICE, PATIENCE, TOP, ask, program
 
@@ -116,6 +118,41 @@ class Programs(unittest.TestCase):
         ran = subprocess.run(command, capture_output=True, text=True, env=settings, timeout=PATIENCE)
         self.assertEqual(ran.returncode, 0, ran.stderr)
         return ran.stderr
+
+    def test_signals_end_the_program_and_what_it_started(self):
+        for number in (signal.SIGTERM, signal.SIGHUP, signal.SIGINT):
+            with self.subTest(number), tempfile.TemporaryDirectory() as folder:
+                slow, began = pathlib.Path(folder, "program"), pathlib.Path(folder, "began")
+                slow.write_text(f'#!/bin/sh\n[ "$1" != upgrade ] || exec {program()} upgrade\nsleep 600 &\necho $$ $! >{began}.new\nmv {began}.new {began}\nwait\n')
+                slow.chmod(0o755)
+                command = [sys.executable, "-B", str(TOP / "evacask"), "--program", str(slow), "why", str(OFFICE)]
+                asked = subprocess.Popen(command, stdout=subprocess.DEVNULL, stderr=subprocess.DEVNULL)
+                self.until(began.exists)
+                processes = [int(it) for it in began.read_text().split()]
+                try:
+                    asked.send_signal(number)
+                    # (a shell sees 128 and the number)
+                    self.assertEqual(asked.wait(SOON), -number)
+                    self.until(lambda: not any(map(runs, processes)))
+                finally:
+                    for process in filter(runs, processes):
+                        os.kill(process, signal.SIGKILL)
+                    asked.wait(SOON)
+
+    def until(self, holds: Callable[[], bool]) -> None:
+        """Waits until something holds."""
+        end = time.monotonic() + SOON
+        while not holds():
+            self.assertLess(time.monotonic(), end, "it doesn't hold soon")
+            time.sleep(0.02)
+
+
+def runs(process: int) -> bool:
+    """Whether a process runs; one that has ended and wasn't waited for doesn't."""
+    try:
+        return pathlib.Path(f"/proc/{process}/stat").read_text().rpartition(")")[2].split()[0] != "Z"
+    except OSError:
+        return False
 
 
 class Talk(unittest.TestCase):
