@@ -76,6 +76,7 @@ class Building:
     title: str = ""
     period: int = 1
     horizon: int = 0
+    first_line: int = 0
     end_line: int = 0
     nodes: Dict[str, Node] = field(default_factory=dict)
     arcs: Dict[Way, Arc] = field(default_factory=dict)
@@ -177,7 +178,9 @@ def take(building: Building, fields: List[str], line: str, number: int, comment:
         building.title = line.strip(" \t")[len("title") :].strip(" \t")
         return
     numbers = [int(it) for it in names if is_number(it)]
-    if word == "period":
+    if word == "evacplan":
+        building.first_line = number
+    elif word == "period":
         building.period = numbers[0]
     elif word == "horizon":
         building.horizon = numbers[0]

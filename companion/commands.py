@@ -8,7 +8,7 @@ from typing import ContextManager, Optional
 from companion.building import is_number, near
 from companion.briefly import Briefly
 from companion.codes import accepted, cleared_by
-from companion.compare import compare_lines, edited_scenario, edits_of
+from companion.compare import compare_lines, edits_of, scenario
 from companion.doubts import doubts, doubts_lines
 from companion.ending import Status, Stop
 from companion.explain import MODES, code_lines, explained
@@ -64,7 +64,7 @@ def run_ways(given: Namespace) -> int:
     asked = Asked(given)
     with asked.talk() as talk:
         cleared_by(talk.opening, asked.name)
-        ways = all_ways(talk, asked.building, ANY_RATE if given.rate is None else given.rate)
+        ways = all_ways(asked.program, talk, asked.building, asked.text, ANY_RATE if given.rate is None else given.rate)
     if given.csv:
         ways.write_csv()
     else:
@@ -91,13 +91,11 @@ def run_wide(given: Namespace) -> int:
 
 def run_compare(given: Namespace) -> int:
     edits = [edits_of(words) for words in given.edit]
-    first, scenarios = Asked(given), []
-    others = [Asked(given, name) for name in given.others]
-    for asked, wanted in [(first, []), *((other, []) for other in others), *((first, some) for some in edits)]:
-        with asked.talk() as talk:
-            scenarios.append(edited_scenario(talk, asked.building, asked.name, wanted))
+    first = Asked(given)
+    wanted = [(first, []), *((Asked(given, name), []) for name in given.others), *((first, some) for some in edits)]
+    scenarios = [scenario(asked.program, asked.text, asked.name, some) for asked, some in wanted]
     show(compare_lines(scenarios))
-    return Status.ANSWERED
+    return Status.REFUSED if any(it.refusal for it in scenarios) else Status.ANSWERED
 
 
 def run_talk(given: Namespace) -> int:

@@ -4,17 +4,19 @@ from __future__ import annotations
 from dataclasses import dataclass
 from typing import List, Optional, Tuple
 
-from companion.building import Building, fields_of
-from companion.codes import cleared_by, refusal
+from companion.building import Building, building_of, fields_of
+from companion.codes import meaning_of
+from companion.edits import Refusal, edited
 from companion.ending import Status, Stop
 from companion.forms import EDITS, LINE_LIMIT
 from companion.printed import table
-from companion.program import Reply, Talk
+from companion.program import Program, Reply
 
 
 @dataclass(frozen=True)
 class Scenario:
-    """A building of a comparison: its numbers, or how many can be out of it. Moments are in periods of `period` seconds."""
+    """A building of a comparison: its numbers, or how many can be out of it, or why there is no such building. Moments are in periods of
+    `period` seconds."""
 
     name: str
     period: int
@@ -23,6 +25,7 @@ class Scenario:
     cleared: Optional[int] = None
     personperiods: int = 0
     curve: Tuple[int, ...] = ()
+    refusal: Optional[Refusal] = None
 
     def seconds_by(self, share: float) -> str:
         """The seconds by which a share of the people is out."""
@@ -48,15 +51,16 @@ def edits_of(words: str) -> List[str]:
     return edits
 
 
-def edited_scenario(talk: Talk, building: Building, name: str, edits: List[str]) -> Scenario:
-    """The building of a session after some edits, made one after the other."""
-    reply = talk.opening
-    for at, edit in enumerate(edits):
-        cleared_by(reply, edits[at - 1] if at else name)
-        reply = talk.ask(edit)
-        if reply.code and not reply.is_short:
-            raise Stop(f"{edit}: {refusal(reply, is_command=True)}", Status.REFUSED)
-    return scenario_of("; ".join(edits) or name, building, reply, None if reply.is_short else talk.ask("summary"))
+def scenario(program: Program, text: bytes, name: str, edits: List[str]) -> Scenario:
+    """The building of a text after some edits, which are one step: it alone is planned."""
+    named = "; ".join(edits) or name
+    try:
+        made = edited(text, edits) if edits else text
+    except Refusal as refusal:
+        return Scenario(named, 0, 0, 0, refusal=refusal)
+    with program.talk("session", made) as talk:
+        report = None if talk.opening.is_short else talk.ask("summary")
+        return scenario_of(named, building_of(made), talk.opening, report)
 
 
 def compare_lines(scenarios: List[Scenario]) -> List[str]:
@@ -64,6 +68,9 @@ def compare_lines(scenarios: List[Scenario]) -> List[str]:
     first = scenarios[0]
     rows = [["cleared", "seconds", "change", "half out", "95 of 100", "mean", "people", "building"]]
     for it in scenarios:
+        if it.refusal:
+            rows.append([f"refused {it.refusal.code}", "", "", "", "", "", "", it.name])
+            continue
         if it.cleared is None:
             rows.append([f"short {it.most}", "", "", "", "", "", f"{it.people}", it.name])
             continue
@@ -71,9 +78,15 @@ def compare_lines(scenarios: List[Scenario]) -> List[str]:
         numbers = [f"{it.cleared}", f"{it.cleared * it.period} s", change(it, first), it.seconds_by(0.5), it.seconds_by(0.95), mean]
         rows.append([*numbers, f"{it.people}", it.name])
     lines = table(rows, "rrrrrrrl")
-    if any(it.cleared is None for it in scenarios):
+    if any(it.cleared is None and not it.refusal for it in scenarios):
         lines.append("`short` is how many can be out by the horizon at most, where not all can.")
-    return lines
+    return lines + [refusal_line(it.refusal) for it in scenarios if it.refusal]
+
+
+def refusal_line(refusal: Refusal) -> str:
+    """What the code of a refused edit means."""
+    meaning = meaning_of(refusal.code, is_command=True)
+    return f"refused {refusal.code}: {refusal.edit}: {meaning.sentence if meaning else 'docs/FORMATS.md says what it means.'}"
 
 
 def change(it: Scenario, first: Scenario) -> str:

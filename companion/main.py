@@ -2,10 +2,12 @@
 from __future__ import annotations
 
 import os
+import signal
 import sys
 from typing import List, Optional, Sequence
 
-from companion.ending import Status, Stop
+from companion.ending import Ended, Status, Stop, attended, end_by
+from companion.program import end_all
 from companion.words import parser
 
 
@@ -19,14 +21,19 @@ def main(words: Optional[Sequence[str]] = None) -> int:
             print("evacask: the output can't be written: it is closed", file=sys.stderr)
         return Status.OUTPUT
     try:
-        status = answer(sys.argv[1:] if words is None else list(words))
-        sys.stdout.flush()
+        with attended(end_all):
+            status = answer(sys.argv[1:] if words is None else list(words))
+            sys.stdout.flush()
         return status
     except Stop as stop:
         status = stop.status
         said = f"evacask: {' '.join(str(stop).split())}"
     except KeyboardInterrupt:
-        status, said = Status.INTERRUPTED, "evacask: interrupted"
+        end_output()
+        return end_by(signal.SIGINT)
+    except Ended as ended:
+        end_output()
+        return end_by(ended.number)
     except BrokenPipeError:
         status, said = Status.CLOSED_PIPE, ""
     except OSError as fault:

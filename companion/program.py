@@ -2,13 +2,15 @@
 from __future__ import annotations
 
 import contextlib
+import functools
 import os
 import pathlib
 import re
 import signal
 import subprocess
+import sys
 from dataclasses import dataclass
-from typing import Iterator, List, Optional
+from typing import Iterator, List, Optional, Set
 
 from companion.building import fields_of, lines_of
 from companion.ending import Status, Stop
@@ -18,6 +20,23 @@ TOP = pathlib.Path(__file__).resolve().parent.parent
 BUILT = TOP / "crates/evacplan/out/evacplan"
 # The end of a part that has several lines, and the most bytes that are read at once.
 END, CHUNK = b"\nend\n", 1 << 16
+
+
+# The programs that were started and have not been waited for.
+running: "Set[subprocess.Popen[bytes]]" = set()
+
+
+def end_group(run: "subprocess.Popen[bytes]") -> None:
+    """Ends a program that wasn't waited for, with whatever it started: it leads a group of its own."""
+    if run.returncode is None:
+        with contextlib.suppress(ProcessLookupError):
+            os.killpg(run.pid, signal.SIGKILL)
+
+
+def end_all() -> None:
+    """Ends every program that was started."""
+    for run in list(running):
+        end_group(run)
 
 
 @dataclass
@@ -77,37 +96,38 @@ class Program:
     def __init__(self, path: pathlib.Path):
         self.path = path
 
-    def start(self, words: List[str]) -> "subprocess.Popen[bytes]":
-        """Starts the program apart from the terminal, so that Ctrl-C reaches evacask alone."""
+    @contextlib.contextmanager
+    def started(self, words: List[str]) -> "Iterator[subprocess.Popen[bytes]]":
+        """The program, apart from the terminal, so that Ctrl-C reaches evacask alone. However this ends, the program has ended then."""
         try:
             command = [str(self.path), *words]
-            return subprocess.Popen(command, stdin=subprocess.PIPE, stdout=subprocess.PIPE, start_new_session=True)
+            run = subprocess.Popen(command, stdin=subprocess.PIPE, stdout=subprocess.PIPE, start_new_session=True)
         except OSError as fault:
             raise Stop(f"{self.path} can't be run: {fault.strerror}", Status.NO_PROGRAM) from None
+        running.add(run)
+        try:
+            yield run
+        finally:
+            end_group(run)
+            run.wait()
+            running.discard(run)
+            for pipe in (run.stdin, run.stdout):
+                with contextlib.suppress(OSError):
+                    pipe.close()  # type: ignore[union-attr]
 
     def run(self, words: List[str], text: bytes) -> Ran:
         """Runs the program once on a text."""
-        run = self.start(words)
-        try:
-            with Patience():
-                printed = run.communicate(text)[0]
-        finally:
-            run.kill()
+        with self.started(words) as run, Patience():
+            printed = run.communicate(text)[0]
         if run.returncode not in (Status.ANSWERED, Status.REFUSED, Status.WORDS):
             raise broken(run.returncode)
         return Ran(printed, run.returncode)
 
     @contextlib.contextmanager
     def talk(self, mode: str, text: bytes) -> Iterator["Talk"]:
-        """A session, a study or a replan on a building that was accepted. However it ends, the program has ended then."""
-        run = self.start([mode])
-        try:
+        """A session, a study or a replan on a building that was accepted."""
+        with self.started([mode]) as run:
             yield Talk(run, mode, text)
-        finally:
-            run.kill()
-            run.wait()
-            with contextlib.suppress(OSError):
-                run.communicate()
 
 
 class Talk:
@@ -163,6 +183,23 @@ def broken(status: int) -> Stop:
     return Stop(f"the program broke off with status {status}: is it evacplan, and not another one?", Status.NO_PROGRAM)
 
 
+def is_current() -> bool:
+    """Whether no source is newer than the program that is built. ./build knows; where it isn't there, there are no sources either."""
+    if not (TOP / "build").exists():
+        return True
+    try:
+        return subprocess.run(["bash", "-c", '. "$1" && is_current', "bash", str(TOP / "build")], stdin=subprocess.DEVNULL).returncode == 0
+    except OSError:
+        return True  # (without bash nothing is built here either)
+
+
+@functools.lru_cache(maxsize=None)
+def tell_if_old() -> None:
+    """Says once that the built program isn't that of the sources."""
+    if not is_current():
+        print("evacask: a source is newer than the program that is built, which is asked all the same; ./build makes it anew", file=sys.stderr)
+
+
 def find_program(given: Optional[str]) -> Program:
     """The program that is named by --program or by EVACPLAN, or else the built one, which its script names too."""
     named = given or os.environ.get("EVACPLAN")
@@ -170,6 +207,8 @@ def find_program(given: Optional[str]) -> Program:
         named = None  # (where nothing is built, the script answers after its input has ended, and so can't be talked to)
     path = pathlib.Path(named) if named else BUILT
     if path.is_file() and os.access(path, os.X_OK):
+        if not named:
+            tell_if_old()
         return Program(path.resolve())
     if named:
         raise Stop(f"there is no program {named}: --program and EVACPLAN name the file of the program", Status.NO_PROGRAM)

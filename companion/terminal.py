@@ -73,8 +73,9 @@ def converse(talk: Talk, building: Building, brief: Briefly) -> int:
         complete_names(building, talk.mode)
     last = talk.opening
     for line in typed(f"{talk.mode}> "):
-        line = line[:-1] if line.endswith("\r") else line
-        words = fields_of(line)
+        # (one CR is a part of the line's end for the program too, so the line is sent with it)
+        ended = line[:-1] if line.endswith("\r") else line
+        words = fields_of(ended)
         if not words or words[0].startswith("#"):
             continue
         if words == ["quit"]:
@@ -83,7 +84,7 @@ def converse(talk: Talk, building: Building, brief: Briefly) -> int:
             sys.stdout.write(last.text)
         elif words == ["help"]:
             show(help_lines(talk.mode))
-        elif len(line.encode("utf-8", "surrogateescape")) > LINE_LIMIT:
+        elif len(ended.encode("utf-8", "surrogateescape")) > LINE_LIMIT:
             print(f"a line may have {LINE_LIMIT} bytes: this one was left out")
         else:
             last = talk.ask(line)

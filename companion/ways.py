@@ -5,11 +5,14 @@ import csv
 import sys
 from collections import Counter
 from dataclasses import dataclass
-from typing import List, Optional, Sequence, Tuple
+from typing import List, Optional, Tuple
 
 from companion.building import Building
+from companion.codes import refusal
+from companion.edits import edited
+from companion.ending import Status, Stop
 from companion.printed import some, table
-from companion.program import Reply, Talk
+from companion.program import Program, Reply, Talk
 from companion.progress import Count
 
 ANY_RATE = 10_000
@@ -80,7 +83,7 @@ class Ways:
         """What costs and brings most, and the table of the ways that change something."""
         ways = [it for it in self.all if not self.is_arc_again(it)]
         idle = [it for it in ways if self.is_idle(it)]
-        doors = [it for it in ways if self.is_room_door(it) and not self.brings(it) and it not in idle]
+        doors = [it for it in ways if self.is_room_door(it) and it.wide.cleared == self.cleared and it not in idle]
         shown = [it for it in ways if it not in idle and it not in doors]
         heads = ["without", "as it is", "any rate" if rate is None else f"rate {rate}", "way", ""]
         lines = [self.headline(shown), *table([heads, *map(self.row, shown)], "rrrll")]
@@ -128,29 +131,32 @@ class Ways:
         return ["", ""] if moment is None else [moment, self.building.seconds(moment)]
 
 
-def tried(talk: Talk, edits: Sequence[str]) -> Outcome:
-    """What some edits together come to, undone again."""
-    made, reply = 0, talk.opening
-    for edit in edits:
-        reply = talk.ask(edit)
-        if reply.is_short:
-            break
-        made += 1
-    outcome = outcome_of(reply)
-    for _ in range(made):
-        talk.ask("undo")
-    return outcome
+def tried(talk: Talk, edit: str) -> Outcome:
+    """What an edit comes to, undone again."""
+    reply = talk.ask(edit)
+    if reply.word == "answer":
+        back, opening = talk.ask("undo"), talk.opening
+        if back.word != "answer" or any(back.number(word) != opening.number(word) for word in ("people", "cleared")):
+            raise Stop("the program didn't go back to the building of the opening: is it evacplan, and not another one?", Status.NO_PROGRAM)
+    elif not reply.is_short:
+        raise Stop(f"{edit}: {refusal(reply, is_command=True)}", Status.REFUSED)
+    return outcome_of(reply)
 
 
-def all_ways(talk: Talk, building: Building, rate: int) -> Ways:
-    """Each arc and exit, tried in a session on the building."""
+def planned(program: Program, text: bytes, edits: List[str]) -> Outcome:
+    """What some edits come to together: one edit after the other might leave somebody inside on the way there."""
+    return outcome_of(program.run(["solve"], edited(text, edits)))
+
+
+def all_ways(program: Program, talk: Talk, building: Building, text: bytes, rate: int) -> Ways:
+    """Each arc and exit, tried in a session on the building of a text. Several arcs into one exit are edited together."""
     ways = []
     with Count("ways", len(building.arcs) + len(building.exits)) as count:
         for tail, head in building.arcs:
-            ways.append(Way((tail, head), tried(talk, [f"shut {tail} {head}"]), tried(talk, [f"rate {tail} {head} {rate}"])))
+            ways.append(Way((tail, head), tried(talk, f"shut {tail} {head}"), tried(talk, f"rate {tail} {head} {rate}")))
             count.step()
         for node in building.exits:
             into = [f"rate {tail} {head} {rate}" for tail, head in building.arcs if head == node.name]
-            ways.append(Way((node.name,), tried(talk, [f"shutexit {node.name}"]), tried(talk, into)))
+            ways.append(Way((node.name,), tried(talk, f"shutexit {node.name}"), planned(program, text, into)))
             count.step()
     return Ways(building, talk.opening.number("cleared"), sorted(ways, key=lambda it: it.order))

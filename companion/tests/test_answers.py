@@ -225,10 +225,14 @@ class Compare(unittest.TestCase):
         self.assertRegex(said.lines[2], r"^ +22 +110 s +-30 s +70 s +105 s +69 s +200 ")
 
     def test_edits_that_are_refused(self):
+        for edit, wanted in (("shut DS2.1", "refused 5"), ("shut LO1.1 SW1.2", "refused 32"), ("shutexit DS1.1; shutexit DS1.1", "refused 34")):
+            said = ask("compare", OFFICE, "--edit", edit)
+            self.assertEqual((said.status, said.err), (1, ""))
+            self.assertRegex(said.lines[2], rf"^{wanted} +{edit}$")
+            self.assertTrue(said.lines[3].startswith(f"{wanted}: {edit.rpartition('; ')[2]}: "))
+
+    def test_edits_that_are_none(self):
         for edit, wanted in (
-            ("shut DS2.1", "refused 5"),
-            ("shut LO1.1 SW1.2", "refused 32"),
-            ("shutexit DS1.1; shut HA1.3 SW1.3", "can be out by the horizon"),
             ("summary", "summary is no edit"),
             ("undo", "undo is no edit"),
             ("# nothing", "is no edit"),
@@ -238,9 +242,8 @@ class Compare(unittest.TestCase):
             (f"shutexit {'D' * 200}", "is no edit"),
         ):
             said = ask("compare", OFFICE, "--edit", edit)
-            self.assertEqual((said.out, said.err.count("\n")), ("", 1), said.err)
+            self.assertEqual((said.status, said.out, said.err.count("\n")), (2, "", 1), said.err)
             self.assertIn(wanted, said.err)
-            self.assertIn(said.status, (1, 2))
 
 
 if __name__ == "__main__":

@@ -1,0 +1,168 @@
+"""What was wrong once: each test failed before its mend. All of them run evacask as a command."""
+import csv
+import io
+import os
+import pathlib
+import shutil
+import signal
+import subprocess
+import sys
+import tempfile
+import time
+import unittest
+from typing import Callable
+
+from companion.tests.asking import OFFICE, PATIENCE, TOP, ask, program
+
+# The seconds after which a reply that comes at once otherwise isn't waited for any longer.
+SOON = 10
+
+
+def hub(ways: int) -> str:
+    """Rooms with an arc each into one exit; the first room has 50 people and another exit of its own, and the others have one person each."""
+    rooms = [f"WP{it}.1" for it in range(1, ways + 1)]
+    lines = ["evacplan 1", "period 1", "horizon 100", "floor 1 Ground"]
+    lines += [f"node {name} 50 {50 if name == 'WP1.1' else 1}" for name in rooms]
+    lines += ["node DS1.1", "node DS2.1", *(f"arc {name} DS1.1 1 1" for name in rooms), "arc WP1.1 DS2.1 1 1", "end"]
+    return "\n".join([*lines, ""])
+
+
+# 100 people walk to two halls within a period, and 11 a period leave these for the exit: the last 1 at moment 10, and so all are out at 11.
+TWO_DOORS = """evacplan 1
+period 5
+horizon 13
+floor 1 Ground
+node WP1.1 100 100
+node HA1.1 100 0
+node HA2.1 100 0
+node DS1.1
+arc WP1.1 HA1.1 1 100
+arc WP1.1 HA2.1 1 100
+arc HA1.1 DS1.1 1 10
+arc HA2.1 DS1.1 1 1
+end
+"""
+
+
+class Sensitivity(unittest.TestCase):
+    def rows(self, text: str, *words: object) -> "dict[tuple[str, str], dict[str, str]]":
+        """The rows of all ways by their two names."""
+        said = ask("ways", "-", "--csv", *words, text=text)
+        self.assertEqual((said.status, said.err), (0, ""))
+        return {(row["from"], row["to"]): row for row in csv.DictReader(io.StringIO(said.out))}
+
+    def test_an_exit_with_more_ways_than_a_session_can_undo(self):
+        for ways in (64, 65, 66, 130):
+            with self.subTest(ways):
+                rows = self.rows(hub(ways))
+                # All 50 leave by the one arc that is left, one in each period from 0 on.
+                self.assertEqual(rows["", "DS2.1"]["without"], "50")
+                self.assertEqual(rows["WP1.1", "DS2.1"]["without"], "50")
+                # The others can't get out any more, and the first 50 take 50 periods too.
+                self.assertEqual((rows["", "DS1.1"]["without"], rows["", "DS1.1"]["without_out"]), ("", "50"))
+                self.assertEqual(rows["", "DS1.1"]["widened"], "1")
+
+    def test_arcs_that_can_not_be_changed_one_by_one(self):
+        # With 5 and 5 it is 10 in each of 10 periods; with 5 and 1, on the way there, not all could be out by the horizon.
+        self.assertEqual(self.rows(TWO_DOORS, "--rate", 5)["", "DS1.1"]["widened"], "11")
+
+    def test_doors_that_a_rate_makes_worse_are_shown(self):
+        # The 60 of the room leave it one by one at the moments 0 to 59, and walk one period more to the exit: 61 periods of 5 s.
+        said = ask("ways", OFFICE, "--rate", 1)
+        self.assertEqual((said.status, said.err), (0, ""))
+        self.assertRegex(said.out, r"(?m)^ *short 180 +140 s +305 s  WP1\.1 LO1\.1$")
+
+
+class Compare(unittest.TestCase):
+    def test_several_edits_are_one_step(self):
+        said = ask("compare", "-", "--edit", "rate HA1.1 DS1.1 1; rate HA2.1 DS1.1 10", text=TWO_DOORS)
+        self.assertEqual((said.status, said.err), (0, ""))
+        self.assertRegex(said.lines[2], r"^ +11 +55 s +same ")
+
+    def test_a_refused_edit_is_a_row(self):
+        edits = ("rate HA1.1 DS1.1 9", "shut HA1.1 DS1.1; shut HA1.1 DS1.1", "rate HA1.1 DS1.1 1; rate HA2.1 DS1.1 10")
+        said = ask("compare", "-", *(word for edit in edits for word in ("--edit", edit)), text=TWO_DOORS)
+        self.assertEqual((said.status, said.err), (1, ""))
+        self.assertRegex(said.lines[2], r"^ +11 +55 s +same ")
+        self.assertRegex(said.lines[3], r"^refused 34 .* shut HA1\.1 DS1\.1; shut HA1\.1 DS1\.1$")
+        self.assertRegex(said.lines[4], r"^ +11 +55 s +same ")
+        self.assertIn("refused 34: shut HA1.1 DS1.1: It is shut already.", said.out)
+
+
+class Programs(unittest.TestCase):
+    def test_a_program_that_is_older_than_its_sources(self):
+        with tempfile.TemporaryDirectory() as folder:
+            top = pathlib.Path(folder)
+            source, built = top / "crates/evac_law/src/model.rt", top / "crates/evacplan/out/evacplan"
+            for made in (source.parent, top / "crates/evacplan/src", built.parent):
+                made.mkdir(parents=True)
+            source.write_text("")
+            (top / "crates.txt").write_text("evac_law:\nevacplan: evac_law\n")
+            subprocess.run(["cp", "-R", TOP / "evacask", TOP / "companion", TOP / "build", folder], check=True)
+            shutil.copy(program(), built)
+            self.made(top, time.time() - 1000)
+            self.made(built, time.time())
+            self.assertEqual(self.why(top), "")
+            self.made(source, time.time() + 1000)
+            self.assertRegex(self.why(top), r"\Aevacask: a source is newer than the program[^\n]*\n\Z")
+
+    def made(self, path: pathlib.Path, when: float) -> None:
+        """Has a file, or all that is in a folder, be of this time."""
+        for it in (path, *path.rglob("*")):
+            os.utime(it, (when, when))
+
+    def why(self, top: pathlib.Path) -> str:
+        """What evacask in another copy says on standard error beside its answer."""
+        settings = {name: value for name, value in os.environ.items() if name != "EVACPLAN"}
+        command = [sys.executable, "-B", str(top / "evacask"), "why", str(OFFICE)]
+        ran = subprocess.run(command, capture_output=True, text=True, env=settings, timeout=PATIENCE)
+        self.assertEqual(ran.returncode, 0, ran.stderr)
+        return ran.stderr
+
+    def test_signals_end_the_program_and_what_it_started(self):
+        for number in (signal.SIGTERM, signal.SIGHUP, signal.SIGINT):
+            with self.subTest(number), tempfile.TemporaryDirectory() as folder:
+                slow, began = pathlib.Path(folder, "program"), pathlib.Path(folder, "began")
+                slow.write_text(f'#!/bin/sh\n[ "$1" != upgrade ] || exec {program()} upgrade\nsleep 600 &\necho $$ $! >{began}.new\nmv {began}.new {began}\nwait\n')
+                slow.chmod(0o755)
+                command = [sys.executable, "-B", str(TOP / "evacask"), "--program", str(slow), "why", str(OFFICE)]
+                asked = subprocess.Popen(command, stdout=subprocess.DEVNULL, stderr=subprocess.DEVNULL)
+                self.until(began.exists)
+                processes = [int(it) for it in began.read_text().split()]
+                try:
+                    asked.send_signal(number)
+                    # (a shell sees 128 and the number)
+                    self.assertEqual(asked.wait(SOON), -number)
+                    self.until(lambda: not any(map(runs, processes)))
+                finally:
+                    for process in filter(runs, processes):
+                        os.kill(process, signal.SIGKILL)
+                    asked.wait(SOON)
+
+    def until(self, holds: Callable[[], bool]) -> None:
+        """Waits until something holds."""
+        end = time.monotonic() + SOON
+        while not holds():
+            self.assertLess(time.monotonic(), end, "it doesn't hold soon")
+            time.sleep(0.02)
+
+
+def runs(process: int) -> bool:
+    """Whether a process runs; one that has ended and wasn't waited for doesn't."""
+    try:
+        return pathlib.Path(f"/proc/{process}/stat").read_text().rpartition(")")[2].split()[0] != "Z"
+    except OSError:
+        return False
+
+
+class Talk(unittest.TestCase):
+    def test_a_line_of_carriage_returns(self):
+        command = [sys.executable, "-B", str(TOP / "evacask"), "talk", str(OFFICE)]
+        ran = subprocess.run(command, input=b"\r\r\nwork\n\r\n \r\nwork\r\n", capture_output=True, timeout=SOON)
+        self.assertEqual((ran.returncode, ran.stderr), (0, b""))
+        # One CR belongs to the end of a line, and a second one is a word.
+        self.assertEqual([line.split()[0] for line in ran.stdout.splitlines()], [b"answer", b"refused", b"work", b"work"])
+
+
+if __name__ == "__main__":
+    unittest.main()
