@@ -18,10 +18,10 @@ class Walk:
 
 
 def walks(model: Model, rate: Count = 1) -> Dict[str, Walk]:
-    """Of each node from which so many people at once can walk out, the quickest walk over arcs with that rate."""
+    """Of each node from which so many people at once can walk out, the quickest walk over arcs with that rate; over any open arc without a number."""
     into: Dict[str, List[Arc]] = {}
     for arc in model.arcs.values():
-        if arc.rate >= rate:
+        if arc.rate and arc.rate >= rate:
             into.setdefault(arc.head, []).append(arc)
     found: Dict[str, Walk] = {}
     waiting: List[Tuple[int, int, str, Optional[Arc]]] = [(0, 0, node.name, None) for node in model.exits]
