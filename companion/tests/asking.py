@@ -7,7 +7,8 @@ import sys
 from dataclasses import dataclass
 from typing import Union
 
-from companion.main import main
+from companion.main import main as main_of_modules
+from evacask.faces.commands import COMMANDS, main as main_of_package
 
 # The seconds after which something hangs; a machine with much else to do is slow.
 PATIENCE = 300
@@ -35,7 +36,8 @@ def ask(*words: object, text: Union[str, bytes] = "") -> Ended:
     source, out, err = (io.TextIOWrapper(io.BytesIO(it), "utf-8", "surrogateescape", newline="") for it in (given, b"", b""))
     try:
         sys.stdin, sys.stdout, sys.stderr = source, out, err
-        status = main([str(word) for word in words])
+        is_packaged = bool(words) and words[0] in [it.name for it in COMMANDS]
+        status = (main_of_package if is_packaged else main_of_modules)([str(word) for word in words])
     except SystemExit as ended:  # (after --help)
         status = int(ended.code or 0)
     finally:

@@ -112,7 +112,7 @@ class Why(unittest.TestCase):
 
     def test_without_a_period_it_is_the_one_below_cleared(self):
         said = ask("why", OFFICE).lines
-        self.assertEqual(said[0], "At most 236 of 240 can be out by moment 27 (135 s). Each of them counts here:")
+        self.assertEqual(said[0], "At most 236 of 240 can be out by moment 27 (135 to 140 s). Each of them counts here:")
         self.assertEqual(said[2].split(None, 1), ["60", "not held up: WP1.1"])
         self.assertEqual(said[3].split(), "88 SW1.2 LO1.1 2 to 23 10 to 115".split())
 

@@ -62,7 +62,7 @@ class Endings(unittest.TestCase):
             said = ask(*words, "--help")
             self.assertEqual((said.status, said.err), (0, ""))
             for status in Status:
-                self.assertRegex(said.out, rf"\n  {int(status)} +\w")
+                self.assertRegex(said.out, rf"[\n ]{int(status)} +\w")
             self.assertLessEqual(max(len(line) for line in said.lines), 140)
 
     def test_the_examples_of_help_are_answered(self):

@@ -7,6 +7,7 @@ import hashlib
 import os
 import pathlib
 import re
+import subprocess
 import sys
 from typing import NoReturn, Optional, Tuple
 
@@ -47,11 +48,24 @@ def source_of(path: pathlib.Path) -> Source:
 
 
 def state_of(top: pathlib.Path) -> State:
-    """The state of the program of the repository at `top`. (By the mark in the file; the sums of its sources are looked up by client/sources.py.)"""
+    """The state of the program of the repository at `top`: by the mark in the file, and by what its script `build` says of the sources."""
     path = top / "crates/evacplan/out/evacplan"
     if not is_program(path):
         return State.NONE
+    if not is_current(top):
+        return State.STALE
     return State.PROVED if source_of(path).is_proved else State.UNPROVED
+
+
+def is_current(top: pathlib.Path) -> bool:
+    """Whether no source is newer than the program that is built. Without the script `build` there are no sources either."""
+    if not (top / "build").exists():
+        return True
+    try:
+        words = ["bash", "-c", '. "$1" && is_current', "bash", str(top / "build")]
+        return subprocess.run(words, stdin=subprocess.DEVNULL, stdout=subprocess.DEVNULL).returncode == 0
+    except OSError:
+        return True  # (without bash nothing was built here)
 
 
 def is_program(path: pathlib.Path) -> bool:

@@ -2,16 +2,18 @@
 from __future__ import annotations
 
 import dataclasses
+import functools
 import io
 import sys
 from argparse import Namespace
 from typing import Any, Dict, List, Optional
 
 from evacask.client.asking import accepted
-from evacask.client.program import found_program
+from evacask.client.program import BUILT, TOP, State, found_program, state_of
 from evacask.client.talk import Program
 from evacask.errors import InputError, Refused, WordsError
 from evacask.faces.ending import Status
+from evacask.faces.progress import LINE, waiting
 from evacask.faces.sheet import Sheet, as_csv, as_json, as_text
 from evacask.model.building import Model
 from evacask.model.edits import edited
@@ -56,7 +58,17 @@ class Asked:
 
 def program_of(given: Namespace) -> Program:
     """The program that the words name, which must be proved if they say so."""
-    return found_program(given.program, given.proved)
+    program = found_program(given.program, given.proved, waiting)
+    if program.path == BUILT:
+        tell_if_old()
+    return program
+
+
+@functools.lru_cache(maxsize=None)
+def tell_if_old() -> None:
+    """Says once that the built program isn't that of the sources."""
+    if state_of(TOP) is State.STALE and sys.stderr is not None:
+        sys.stderr.write("evacask: a source is newer than the program that is built, which is asked all the same; ./build makes it anew\n")
 
 
 def named(name: str, client: Program, text: str) -> Model:
@@ -79,12 +91,13 @@ def source(client: Program) -> Dict[str, Any]:
     return dataclasses.asdict(client.source)
 
 
-def put(answer: Sheet, question: str, given: Namespace, client: Optional[Program] = None) -> int:
-    """Writes a sheet as the words ask for it. At a terminal it says first if the program isn't proved."""
+def put(answer: Sheet, question: str, given: Namespace, client: Optional[Program] = None, status: int = Status.ANSWERED) -> int:
+    """Writes a sheet as the words ask for it, and gives the status back. At a terminal it says first if the program isn't proved."""
+    LINE.erase()
     if client and sys.stderr is not None and sys.stderr.isatty() and not client.source.is_proved:
         sys.stderr.write(NOT_PROVED)
     if given.face == "json":
         sys.stdout.write(as_json(answer, question, source(client) if client else None))
     else:
         sys.stdout.write(as_csv(answer) if given.face == "csv" else as_text(answer, given.columns == "all"))
-    return Status.ANSWERED
+    return status

@@ -23,6 +23,7 @@ from evacask.errors import (
     OutputError,
     WordsError,
 )
+from evacask.faces.progress import LINE
 
 
 class Status(enum.IntEnum):
@@ -192,6 +193,7 @@ def told(status: Status, line: str) -> int:
     """Says a line on standard error, if somebody can hear it, and lets go of what can't be written."""
     let_go()
     try:
+        LINE.erase()
         if sys.stderr is not None:
             sys.stderr.write(f"evacask: {' '.join(line.split())}\n")
             sys.stderr.flush()

@@ -9,6 +9,7 @@ import json
 from dataclasses import dataclass
 from typing import Any, Dict, List, Optional, Sequence, Tuple
 
+from evacask.model.ground import Ground
 from evacask.model.lines import printable
 
 SCHEMA = 1
@@ -18,12 +19,16 @@ FORMULA = ("=", "+", "-", "@", "\t", "\r")
 
 @dataclass(frozen=True)
 class Column:
-    """A column: its head in text and its key in CSV and JSON, whether it stands to the right, and whether text shows it."""
+    """A column: its head in text and its key in CSV, whether it stands to the right, and whether text shows it unless all columns are asked for.
+
+    `ground` is what the column rests on, if that isn't the ground of the whole answer.
+    """
 
     head: str
     key: str
     is_right: bool = False
     is_shown: bool = True
+    ground: Optional[Ground] = None
 
 
 @dataclass(frozen=True)
@@ -38,7 +43,7 @@ class Sheet:
 
 
 def as_text(sheet: Sheet, all_columns: bool = False) -> str:
-    """The lines of a sheet. The head of a table is left out if it has no rows."""
+    """The lines of a sheet. The head of a table is left out if it has no rows. With all columns a last line says what they rest on."""
     shown = [at for at, column in enumerate(sheet.columns) if column.is_shown or all_columns]
     heads = [sheet.columns[at].head or sheet.columns[at].key * all_columns for at in shown]
     cells: List[List[str]] = [heads] if sheet.rows else []
@@ -46,7 +51,22 @@ def as_text(sheet: Sheet, all_columns: bool = False) -> str:
     widths = [max((len(row[at]) for row in cells), default=0) for at in range(len(shown))]
     sides = [sheet.columns[at].is_right for at in shown]
     lines = ["  ".join(pad(*it) for it in zip(row, widths, sides)).rstrip() for row in cells]
-    return "".join(f"{line}\n" for line in map(printable, [*sheet.before, *lines, *sheet.after]))
+    grounds = [f"ground: {grounds_text(sheet)}"] if all_columns else []
+    return "".join(f"{line}\n" for line in map(printable, [*sheet.before, *lines, *sheet.after, *grounds]))
+
+
+def grounds_of(sheet: Sheet) -> Dict[str, Ground]:
+    """The grounds of single columns, by their keys."""
+    return {it.key: it.ground for it in sheet.columns if it.ground}
+
+
+def grounds_text(sheet: Sheet) -> str:
+    """The ground of an answer, and those of single columns: proved; of people, most: printed plan."""
+    by_ground: Dict[Ground, List[str]] = {}
+    for key, ground in grounds_of(sheet).items():
+        by_ground.setdefault(ground, []).append(key)
+    whole = getattr(sheet.answer, "ground", Ground.OWN)
+    return "; ".join([str(whole), *(f"of {', '.join(keys)}: {ground}" for ground, keys in by_ground.items())])
 
 
 def written(cell: Any) -> str:
@@ -67,14 +87,17 @@ def as_csv(sheet: Sheet) -> str:
     return out.getvalue()
 
 
-def safe(cell: Any) -> Any:
-    """A cell that no spreadsheet takes for a formula: a quote stands before it. Numbers stay."""
-    return "'" + cell if isinstance(cell, str) and cell.startswith(FORMULA) else written(cell)
+def safe(cell: Any) -> str:
+    """A cell that no terminal obeys and no spreadsheet takes for a formula: before such a text stands a quote. Numbers stay."""
+    text = printable(written(cell))
+    return "'" + text if isinstance(cell, str) and text.startswith(FORMULA) else text
 
 
 def as_json(sheet: Sheet, question: str, source: Optional[Dict[str, Any]]) -> str:
-    """The answer's own fields, and where it comes from: the program's sum and its logic, or null where no program was asked."""
+    """The answer's own fields, and where it comes from: the program's sum and its logic, or null if no program was asked."""
     said = {"schema": SCHEMA, "question": question, "program": source, "answer": plain(sheet.answer)}
+    if grounds_of(sheet):
+        said["grounds"] = plain(grounds_of(sheet))
     return json.dumps(said, indent=1, ensure_ascii=True) + "\n"
 
 

@@ -87,7 +87,7 @@ FACES = (
     ],
     argument("--columns", choices=("all",), default=None, help="show the columns that are left out else: all"),
 )
-# What a command that asks about one building takes besides its own arguments.
+# What a command that asks about one building takes besides its own arguments. One that reads something else takes FACES alone.
 SHARED = (EDIT, *FACES)
 
 
