@@ -7,6 +7,7 @@ import enum
 import io
 import json
 from dataclasses import dataclass
+from fractions import Fraction
 from typing import Any, Dict, List, Optional, Sequence, Tuple
 
 from evacask.model.ground import Ground
@@ -113,6 +114,8 @@ def plain(value: Any) -> Any:
         }
     if isinstance(value, (list, tuple)):
         return [plain(it) for it in value]
+    if isinstance(value, Fraction):
+        return float(value)
     return value if value is None or isinstance(value, (bool, int, float, str)) else str(value)
 
 

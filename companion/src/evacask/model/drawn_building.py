@@ -57,6 +57,11 @@ def drawn_building(name: str, text: str) -> DrawnBuilding:
     return DrawnBuilding(name, tuple(lines), period_of(name, lines), tuple(ways))
 
 
+def has_ways(text: str) -> bool:
+    """Whether a text is a plan in metres."""
+    return any(fields_of(line)[:1] == ["way"] for line in lines_of(text))
+
+
 def period_of(name: str, lines: Sequence[str]) -> int:
     """The period that a plan gives."""
     found = [(number, it) for number, it in enumerate(map(fields_of, lines), 1) if it[:1] == ["period"]]
@@ -176,3 +181,8 @@ def fits(drawn: DrawnBuilding, period: int, shares: int) -> bool:
 def too_short(drawn: DrawnBuilding, period: int) -> Optional[DrawnWay]:
     """The first way that takes less than a period: no travel is short enough for it."""
     return next((it for it in drawn.ways if round(it.seconds / period, 9) < 1), None)
+
+
+def in_periods(drawn: DrawnBuilding) -> str:
+    """The building of a plan for its own period, in as few shares of a person as lose little."""
+    return building_text(drawn, Scale(drawn.period, best_shares(drawn, drawn.period).number))

@@ -17,7 +17,7 @@ class Walk:
     first: Optional[Arc]
 
 
-def walks(model: Model, rate: Count = 1) -> Dict[str, Walk]:
+def walks(model: Model, rate: Count = 0) -> Dict[str, Walk]:
     """Of each node from which so many people at once can walk out, the quickest walk over arcs with that rate; over any open arc without a number."""
     into: Dict[str, List[Arc]] = {}
     for arc in model.arcs.values():
