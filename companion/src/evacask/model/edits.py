@@ -1,9 +1,7 @@
 """Edits of a building's text, refused by the rules of a session. A line that no edit changes stays as it is, comments and names with it.
 
-A session refuses an edit after which not everybody could be out (22). Here several edits are one step, and only the last building is planned.
-"""
+A session refuses an edit after which not everybody could be out (22). Here several are one step, and only the last building is planned."""
 from __future__ import annotations
-
 
 import re
 from dataclasses import dataclass, field
@@ -84,14 +82,10 @@ def draft_of(model: Model) -> Draft:
     windows: Dict[Way, List[Tuple[int, int]]] = {way: [] for way in model.arcs}
     for it in model.windows:
         windows[it.way].append((it.first, it.until))
-    rooms = model.rooms
-    return Draft(
-        model,
-        {way: shares_in(arc.rate, model.shares) for way, arc in model.arcs.items()},
-        {it.name: shares_in(it.capacity or 0, model.shares) for it in rooms},
-        {it.name: shares_in(it.start or 0, model.shares) for it in rooms},
-        windows,
-    )
+    rates = {way: shares_in(arc.rate, model.shares) for way, arc in model.arcs.items()}
+    capacities = {it.name: shares_in(it.capacity or 0, model.shares) for it in model.rooms}
+    starts = {it.name: shares_in(it.start or 0, model.shares) for it in model.rooms}
+    return Draft(model, rates, capacities, starts, windows)
 
 
 def shut(draft: Draft, tail: str, head: str) -> None:
