@@ -120,9 +120,17 @@ class Model:
         """The seconds from which on a moment may be: the earlier end of its interval."""
         return moment * self.period
 
+    @property
+    def has_later_end(self) -> bool:
+        """Whether what happens at a moment is over by the end of its period, however short the periods are made.
+
+        That is a law if nobody comes later, or if each node holds everybody. Elsewhere shorter periods may take longer, or keep somebody inside.
+        """
+        return not self.entrants or all((it.capacity or 0) >= self.people for it in self.rooms)
+
     def time(self, moment: int) -> str:
-        """A moment with its seconds: 28 (140 to 145 s)."""
-        return time_text(moment, self.period)
+        """A moment with its seconds: 28 (140 to 145 s), or 28 (from 140 s) if no later end is claimed."""
+        return time_text(moment, self.period) if self.has_later_end else f"{moment} (from {self.seconds(moment)} s)"
 
     def node(self, name: str) -> Node:
         """The node of a name, or of an own name that no other node has; `UnknownName` with names that are near it."""
