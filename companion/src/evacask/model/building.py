@@ -7,13 +7,11 @@ from types import MappingProxyType
 from typing import Dict, Iterable, List, Mapping, Optional, Tuple
 
 from evacask.errors import UnknownName
-from evacask.model.lines import bytes_of, fields_of, lines_of, number_of, printable
+from evacask.model.lines import bytes_of, fields_of, lines_of, number_of, own_name_of, printable
 from evacask.model.seconds import time_text
 from evacask.model.shares import Count, in_people, shares_of
 
 Way = Tuple[str, str]
-# A comment that begins so, right above a node or an arc, is the user's own name for it.
-MARK = "#:"
 
 
 @dataclass(frozen=True)
@@ -122,10 +120,7 @@ class Model:
 
     @property
     def has_later_end(self) -> bool:
-        """Whether what happens at a moment is over by the end of its period, however short the periods are made.
-
-        That is a law if nobody comes later, or if each node holds everybody. Elsewhere shorter periods may take longer, or keep somebody inside.
-        """
+        """Whether all that a moment says holds by the end of its period, in shorter periods too: a law if nobody comes later or each node holds all."""
         return not self.entrants or all((it.capacity or 0) >= self.people for it in self.rooms)
 
     def time(self, moment: int) -> str:
@@ -249,9 +244,3 @@ def model_of(text: str) -> Model:
         said.shares,
         end,
     )
-
-
-def own_name_of(line: str) -> str:
-    """The own name that a line states for the line below, or nothing."""
-    line = line.strip(" \t")
-    return printable(line[len(MARK) :]).strip() if line.startswith(MARK) else ""
