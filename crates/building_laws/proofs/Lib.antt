@@ -17,3 +17,10 @@ pub mod Ways
 mod Pace
 mod Leaving
 mod People
+mod Shares
+mod Periods
+mod Finer
+mod Rounded
+mod Filled
+mod Waits
+mod Widening
