@@ -12,6 +12,7 @@ mod Values
 mod Rooms
 mod Looser
 mod Slower
+mod Doors
 mod Exits
 pub mod Ways
 mod Pace

@@ -19,3 +19,4 @@ pub mod Finer
 pub mod Filled
 pub mod Waits
 pub mod Widening
+pub mod Doors

@@ -1,5 +1,6 @@
 //! The laws, each the contract of a function with nothing to do.
 ghost use Rattle.building_laws.specs.Delays.{OneArcDelaysLittle, WindowDelaysByItsLength, CommonWindowDelaysByItsLength};
+ghost use Rattle.building_laws.specs.Doors.{DoorsAreSubstitutes, GreedyExitsAreGood, SeveralExitsCostMost};
 ghost use Rattle.building_laws.specs.Duality.{BestAtEveryMoment, MostIsReached};
 ghost use Rattle.building_laws.specs.Exits.{TwoExitsCostMost};
 ghost use Rattle.building_laws.specs.Filled.{EqualIsTight, FullInEveryBestPlan, StatedCutsAreFilled};
@@ -84,6 +85,25 @@ pub fn shifted_change_little()
 /// Two exits lost together keep inside, by each moment, at least as many people as each of them lost alone, added up.
 pub fn two_exits_cost_most()
     ensures { TwoExitsCostMost }
+{}
+
+/// Doors into exits are substitutes: what two changes at them bring together by a moment is at most what each brings alone, added up.
+#[tactic(auto, using(crate::proofs::Doors::doors_are_substitutes))]
+pub fn doors_are_substitutes()
+    ensures { DoorsAreSubstitutes }
+{}
+
+/// So several exits lost together keep inside, by each moment, at least as many people as each of them lost alone, added up.
+#[tactic(auto, using(crate::proofs::Doors::several_exits_cost_most))]
+pub fn several_exits_cost_most()
+    ensures { SeveralExitsCostMost }
+{}
+
+/// And who opens one exit after the other, each time the one with which most are out, lacks at most (1 - 1/n)^i after i of them of what the
+/// best n exits let out: with as many as the best, less than 37 in 100.
+#[tactic(auto, using(crate::proofs::Doors::greedy_exits_are_good))]
+pub fn greedy_exits_are_good()
+    ensures { GreedyExitsAreGood }
 {}
 
 /// Where rates are steady and there is room, one door, corridor or stair that is disturbed at no more than w moments delays nobody by more
