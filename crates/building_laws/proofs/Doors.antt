@@ -1,5 +1,5 @@
 -- What doors into exits bring together: the pairs of both of two cuts, and of one or the other, are two cuts again.
-use Rattle.std.proofs.Common.{◌≡◌, ℕ, zero, suc, ◌+◌, ◌-◌, ◌*◌, ◌^◌, ◌<◌, ◌≤◌, Bool, true, false, cond, not, ◌&&◌, ◌||◌, ◌⊎◌, eqb, leb, List, [], ◌∷◌, ◌++◌, length, refl, ap, sym, ◌∙◌, add-one, arith, inl, inr, IsTrue}
+use Rattle.std.proofs.Common.{◌≡◌, ℕ, zero, suc, ◌+◌, ◌-◌, ◌*◌, ◌^◌, ◌<◌, ◌≤◌, Bool, true, false, cond, not, ◌&&◌, ◌||◌, eqb, leb, List, [], ◌∷◌, ◌++◌, length, refl, ap, sym, ◌∙◌, arith, inl, inr}
 use Rattle.std.specs.List.{AllByRecursion, IsDistinct, sum_by}
 use Rattle.std.proofs.Math.Nat.{mul-add, mul-le-mul_left, mul-zero, mul_assoc, mul_left_comm, pow-suc, pow-zero, suc-mul, zero-mul}
 use Rattle.std.proofs.lemmas.Bool.{both_ways, cases_Bool, eq-eqb, eqb-true}
@@ -9,10 +9,10 @@ use Rattle.evac_law.specs.declared.plan.Move.{Move}
 use Rattle.evac_law.specs.Building.{IsValid, arrival, capacity, entry, head, is_exit_at, rate, tail}
 use Rattle.evac_law.specs.Cuts.{Cut, cut_value, leaves_cut}
 use Rattle.evac_law.specs.Plans.{IsFeasible, out_by}
-use Rattle.evac_law.specs.Sums.{below, moments_to}
+use Rattle.evac_law.specs.Sums.{below}
 use Rattle.evac_law.proofs.SumLemmas.{sum2, sum2-add, sum2-le, sum_below-same}
 use Rattle.evac_law.proofs.WeakDuality.{out_le_value, value_is}
-use Rattle.building_laws.specs.Doors.{DifferAtDoors, DoorsAreSubstitutes, GreedyExitsAreGood, HaveChoices, HaveTwoChanges, IsGreedy, KeepsOpen, SeveralExitsCostMost, has}
+use Rattle.building_laws.specs.Doors.{DifferAtDoors, DoorsAreSubstitutes, GreedyExitsAreGood, HaveChoices, KeepsOpen, SeveralExitsCostMost, has}
 use Rattle.building_laws.specs.Duality.{IsBestAt}
 use Rattle.building_laws.proofs.Duality.{cut_of}
 
@@ -75,10 +75,10 @@ same_at_doors m = record {
 -- ---- two cuts
 
 -- the pairs of both cuts, and of one or the other
-abbrev meet : Cut → Cut → Cut
+abbrev pub meet : Cut → Cut → Cut
 meet x y n t = x n t && y n t
 
-abbrev join : Cut → Cut → Cut
+abbrev pub join : Cut → Cut → Cut
 join x y n t = x n t || y n t
 
 pair_le : (n k : ℕ) (a b c d : ℕ → ℕ → ℕ) → ((i j : ℕ) → i < n → j < k → a i j + b i j ≤ c i j + d i j)
@@ -173,10 +173,10 @@ module _ (m : Model) where
   abbrev pub kept_rate : (ℕ → Bool) → ℕ → ℕ → ℕ
   kept_rate kept a t = cond (is_exit_at m (head m a) && not (kept (head m a))) 0 (rate m a t)
 
-  abbrev kept_value : (ℕ → Bool) → Cut → ℕ → ℕ
+  abbrev pub kept_value : (ℕ → Bool) → Cut → ℕ → ℕ
   kept_value kept x k = value_at m x k (kept_rate kept)
 
-  kept_is : (s : Model) (kept : ℕ → Bool) (x : Cut) (k : ℕ) → KeepsOpen m s kept → k ≤ m.horizon → cut_value s x k ≡ kept_value kept x k
+  pub kept_is : (s : Model) (kept : ℕ → Bool) (x : Cut) (k : ℕ) → KeepsOpen m s kept → k ≤ m.horizon → cut_value s x k ≡ kept_value kept x k
   kept_is s kept x k d l = value_of m s d.at_doors x k (kept_rate kept) l rates
     where
       kept_part : (exit keeps : Bool) (r w : ℕ) → (exit ≡ true → r ≡ cond keeps w 0) → (exit ≡ false → w ≡ r) → r ≡ cond (exit && not keeps) 0 w
@@ -186,7 +186,7 @@ module _ (m : Model) where
       rates a t i j =
           kept_part (is_exit_at m (head m a)) (kept (head m a)) (rate s a t) (rate m a t) (d.rates a t i j) (d.at_doors.inner a t i j)
 
-  all_kept : (x : Cut) (k : ℕ) → k ≤ m.horizon → cut_value m x k ≡ kept_value (λ _. true) x k
+  pub all_kept : (x : Cut) (k : ℕ) → k ≤ m.horizon → cut_value m x k ≡ kept_value (λ _. true) x k
   all_kept x k l = value_of m m (same_at_doors m) x k (kept_rate (λ _. true)) l (λ a t _ _. none (is_exit_at m (head m a)) (rate m a t))
     where
       none : (exit : Bool) (w : ℕ) → w ≡ cond (exit && not true) 0 w
@@ -206,7 +206,7 @@ module _ (m : Model) where
       grown b exit f g w h = grind arith
 
   -- what is open in the first model is open in one of two others, and what is open in the last is open in both
-  record AreFourKept (both one other neither : ℕ → Bool) : Type 0 where
+  pub record AreFourKept (both one other neither : ℕ → Bool) : Type 0 where
     pub in_one : (n : ℕ) → both n ≡ true → (one n || other n) ≡ true
     pub one_more : (n : ℕ) → neither n ≡ true → one n ≡ true
     pub other_more : (n : ℕ) → neither n ≡ true → other n ≡ true
@@ -221,7 +221,7 @@ module _ (m : Model) where
   same_part : (exit p q : Bool) (w : ℕ) → exit ≡ false → cond (exit && not p) 0 w ≡ cond (exit && not q) 0 w
   same_part exit p q w e = grind arith
 
-  kept_meet_join : (both one other neither : ℕ → Bool) (x y : Cut) (k : ℕ) → AreFourKept both one other neither
+  pub kept_meet_join : (both one other neither : ℕ → Bool) (x y : Cut) (k : ℕ) → AreFourKept both one other neither
       → kept_value both (meet x y) k + kept_value neither (join x y) k ≤ kept_value one x k + kept_value other y k
   kept_meet_join both one other neither x y k d =
       meet_join m x y k k (kept_rate both) (kept_rate one) (kept_rate other) (kept_rate neither) (omega arith) (record {
