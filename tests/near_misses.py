@@ -52,6 +52,52 @@ class NearMisses(unittest.TestCase):
         """As many people are out by each moment, in whole numbers from moment 0 on."""
         self.assertEqual(most_out(made)[: len(curve)], list(curve))
 
+    # ---- doors into exits
+
+    def test_doors_are_substitutes_one_less(self) -> None:
+        """Two doors bring one fewer together than each alone, added up: here one and one, and two."""
+        text = "node WP1.1 2 2; arc WP1.1 DS1.1 1 {}; arc WP1.1 DS2.1 1 {}"
+        for rates, out in (((0, 0), 0), ((1, 0), 1), ((0, 1), 1), ((1, 1), 2)):
+            self.assert_out(building(4, text.format(*rates)), 0, out)
+
+    def test_doors_are_substitutes_turned(self) -> None:
+        """Two doors bring at least as many together as each alone, added up: here there is only one person."""
+        text = "node WP1.1 1 1; arc WP1.1 DS1.1 1 {}; arc WP1.1 DS2.1 1 {}"
+        for rates, out in (((0, 0), 0), ((1, 0), 1), ((0, 1), 1), ((1, 1), 1)):
+            self.assert_out(building(4, text.format(*rates)), 0, out)
+
+    def test_doors_are_substitutes_of_other_arcs(self) -> None:
+        """Two arcs bring at most as many together as each alone, added up: of two in a row neither alone brings anybody."""
+        text = "node WP1.1 1 1; node HA1.1 0 0; arc WP1.1 HA1.1 1 {}; arc HA1.1 DS1.1 1 {}"
+        for rates, out in (((0, 0), 0), ((1, 0), 0), ((0, 1), 0), ((1, 1), 1)):
+            self.assert_out(building(4, text.format(*rates)), 0, 0, out)
+
+    def test_doors_are_substitutes_of_rooms(self) -> None:
+        """The same of rooms, with windows: whoever has to wait in two halls gets out only with a place in each."""
+        arcs = "arc WP1.1 HA1.1 1 1; arc HA1.1 HA2.1 1 1; arc HA2.1 DS1.1 1 1; "
+        opened = "window WP1.1 HA1.1 1 9; window HA1.1 HA2.1 0 2; window HA1.1 HA2.1 3 9; window HA2.1 DS1.1 0 4; window HA2.1 DS1.1 5 9"
+        for places, out in (((0, 0), 0), ((1, 0), 0), ((0, 1), 0), ((1, 1), 1)):
+            rooms = "node WP1.1 1 1; node HA1.1 {} 0; node HA2.1 {} 0; ".format(*places)
+            self.assert_out(building(8, rooms + arcs + opened), 0, 0, 0, 0, 0, out)
+
+    def test_several_exits_cost_most_one_less(self) -> None:
+        """Three exits lost keep inside one more than each alone, added up: here one, one and two, and four."""
+        text = "node WP1.1 4 4; arc WP1.1 DS1.1 1 {}; arc WP1.1 DS2.1 1 {}; arc WP1.1 DS3.1 1 {}"
+        for rates, out in (((1, 1, 2), 4), ((0, 1, 2), 3), ((1, 0, 2), 3), ((1, 1, 0), 2), ((0, 0, 0), 0)):
+            self.assert_out(building(4, text.format(*rates)), 0, out)
+
+    def test_several_exits_cost_most_in_moments(self) -> None:
+        """The same of moments: without one of two exits it takes one moment more, and without both one as well."""
+        text = "node WP1.1 4 4; arc WP1.1 DS1.1 1 {}; arc WP1.1 DS2.1 1 {}; arc WP1.1 DS3.1 1 2"
+        for rates, cleared in (((1, 1), 1), ((0, 1), 2), ((1, 0), 2), ((0, 0), 2)):
+            self.assertIn(f"cleared {cleared}", run(["solve"], building(4, text.format(*rates)).lines()))
+
+    def test_greedy_exits_are_good_as_the_best(self) -> None:
+        """Exits chosen one after the other are as good as the best: DS1.1 is best alone, with four, and DS2.1 and DS3.1 are best together."""
+        text = "node WP1.1 3 3; node WP2.1 3 3; arc WP1.1 DS1.1 1 {0}; arc WP2.1 DS1.1 1 {0}; arc WP1.1 DS2.1 1 {1}; arc WP2.1 DS3.1 1 {2}"
+        for rates, out in (((2, 0, 0), 4), ((0, 3, 0), 3), ((0, 0, 3), 3), ((2, 3, 0), 5), ((2, 0, 3), 5), ((0, 3, 3), 6)):
+            self.assert_out(building(4, text.format(*rates)), 0, out)
+
     # ---- shorter periods
 
     def test_finer_periods_agree_one_part_sooner(self) -> None:

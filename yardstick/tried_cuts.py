@@ -1,7 +1,8 @@
-"""The laws of cuts, of waiting and of doors that are closed, to be tried on random buildings by tried.py."""
+"""The laws of cuts, of waiting and of doors into exits, to be tried on random buildings by tried.py."""
+import itertools
 from dataclasses import dataclass, field
 
-from small_buildings import edit, most_out, random_building, run
+from small_buildings import edit, most_out, random_building, run, without_exits
 
 
 @dataclass
@@ -84,4 +85,59 @@ def waits(rng):
     return most_out(made) == most_out(edit(made, rooms={name: [start, start] for name, (_, start) in made.rooms.items()}))
 
 
-LAWS = (filled, widening, waits)
+def doors_of(made):
+    """The arcs that lead into exits."""
+    return [arc for arc in made.arcs if arc[1] in made.exits]
+
+
+def wider_doors(made, *gains):
+    """The building with doors that are wider by all of some gains."""
+    arcs = {arc: [travel, rate + sum(gain.get(arc, 0) for gain in gains)] for arc, (travel, rate) in made.arcs.items()}
+    return edit(made, arcs=arcs)
+
+
+def doors(rng):
+    """Two changes at doors, wider ones and closures less, bring together at most what each brings alone, added up."""
+    made = random_building(rng, windows=2, entrants=2, exits=3)
+    if not made.has_room():
+        return None
+    closed = rng.sample(doors_of(made), min(2, len(doors_of(made))))
+    one, other = ({arc: rng.choice([0, 0, 1, 2]) for arc in doors_of(made) if arc not in closed} for _ in range(2))
+    free = [arc for arc in closed if all(window[:2] != arc for window in made.windows)]
+    shut = [(*arc, first, first + 2) for arc, first in zip(free, rng.choices(range(4), k=2))]
+    neither = edit(made, windows=[*made.windows, *shut])
+    with_one = wider_doors(edit(made, windows=[*made.windows, *shut[1:]]), one)
+    with_other = wider_doors(edit(made, windows=[*made.windows, *shut[:1]]), other)
+    curves = [most_out(it) for it in (wider_doors(made, one, other), neither, with_one, with_other)]
+    return all(both + none <= alone + beside for both, none, alone, beside in zip(*curves))
+
+
+def several_exits(rng):
+    """Several exits lost keep inside at least as many as each alone, added up."""
+    made = random_building(rng, windows=2, entrants=2, exits=5)
+    if not made.has_room():
+        return None
+    lost = rng.sample(made.exits, rng.randint(1, len(made.exits)))
+    out, none = most_out(made), most_out(without_exits(made, *lost))
+    kept = [[all_out - fewer for all_out, fewer in zip(out, most_out(without_exits(made, it)))] for it in lost]
+    return all(sum(each) <= all_out - fewest for all_out, fewest, *each in zip(out, none, *kept))
+
+
+def greedy_exits(rng):
+    """Exits that are chosen one after the other are as good as the law says, against any others."""
+    made = random_building(rng, windows=1, entrants=1, exits=4)
+    if not made.has_room():
+        return None
+    sets = [frozenset(it) for count in range(len(made.exits) + 1) for it in itertools.combinations(made.exits, count)]
+    curves = {opened: most_out(without_exits(made, *set(made.exits) - opened)) for opened in sets}
+    moment, chosen = rng.randint(1, made.horizon), frozenset()
+    for count in range(1, len(made.exits) + 1):
+        chosen = max((chosen | {exit} for exit in made.exits), key=lambda opened: curves[opened][moment])
+        for others in filter(None, sets):
+            best, lacking = curves[others][moment], (len(others) - 1) ** count
+            if len(others) ** count * (best - curves[chosen][moment]) > lacking * best:
+                return False
+    return True
+
+
+LAWS = (filled, widening, waits, doors, several_exits, greedy_exits)

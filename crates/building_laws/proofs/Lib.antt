@@ -13,6 +13,8 @@ mod Rooms
 mod Looser
 mod Slower
 mod Doors
+mod Losses
+mod Greedy
 mod Exits
 pub mod Ways
 mod Pace

@@ -40,24 +40,24 @@ pub record KeepsOpen (m s : Model) (kept : ℕ → Bool) : Type 0 where
   pub rates : (a t : ℕ) → a < length m.arcs → t ≤ m.horizon → IsTrue (is_exit_at m (head m a))
       → rate s a t ≡ (if kept (head m a) then rate m a t else 0)
 
--- whether a list has a number
-abbrev pub has : List ℕ → ℕ → Bool
-has es n = list_any (λ e. e == n) es
+-- whether a number is in a list
+abbrev pub is_among : List ℕ → ℕ → Bool
+is_among es n = list_any (λ e. e == n) es
 
 -- several exits lost together keep inside, by each moment, at least as many people as each of them lost alone, added up
 abbrev pub SeveralExitsCostMost : Type 0
 SeveralExitsCostMost =
     (m none : Model) (without : ℕ → Model) (lost : List ℕ) → IsValid m → IsValid none → IsDistinct (λ e f. e == f) lost
-    → KeepsOpen m none (λ n. not (has lost n))
-    → ((e : ℕ) → IsTrue (has lost e) → IsValid (without e) × KeepsOpen m (without e) (λ n. not (e == n)))
+    → KeepsOpen m none (λ n. not (is_among lost n))
+    → ((e : ℕ) → IsTrue (is_among lost e) → IsValid (without e) × KeepsOpen m (without e) (λ n. not (e == n)))
     → (p q : List Move) (plan : ℕ → List Move) (k : ℕ) → k ≤ m.horizon → IsBestAt m p k → IsFeasible none q k
-    → ((e : ℕ) → IsTrue (has lost e) → IsBestAt (without e) (plan e) k)
+    → ((e : ℕ) → IsTrue (is_among lost e) → IsBestAt (without e) (plan e) k)
     → sum_by (λ e. out_by m p k - out_by (without e) (plan e) k) lost + out_by none q k ≤ out_by m p k
 
 -- for each list of exits the model with just these open, and a plan that is best there by k
 pub record HaveChoices (m : Model) (only : List ℕ → Model) (plan : List ℕ → List Move) (k : ℕ) : Type 0 where
   pub valid : (es : List ℕ) → IsValid (only es)
-  pub opens : (es : List ℕ) → KeepsOpen m (only es) (has es)
+  pub opens : (es : List ℕ) → KeepsOpen m (only es) (is_among es)
   pub best : (es : List ℕ) → IsBestAt (only es) (plan es) k
 
 -- each exit of a list lets at least as many out as any other would, beside those that were chosen before, which follow it

@@ -94,14 +94,14 @@ pub fn doors_are_substitutes()
 {}
 
 /// So several exits lost together keep inside, by each moment, at least as many people as each of them lost alone, added up.
-#[tactic(auto, using(crate::proofs::Doors::several_exits_cost_most))]
+#[tactic(auto, using(crate::proofs::Losses::several_exits_cost_most))]
 pub fn several_exits_cost_most()
     ensures { SeveralExitsCostMost }
 {}
 
 /// And who opens one exit after the other, each time the one with which most are out, lacks at most (1 - 1/n)^i after i of them of what the
 /// best n exits let out: with as many as the best, less than 37 in 100.
-#[tactic(auto, using(crate::proofs::Doors::greedy_exits_are_good))]
+#[tactic(auto, using(crate::proofs::Greedy::greedy_exits_are_good))]
 pub fn greedy_exits_are_good()
     ensures { GreedyExitsAreGood }
 {}

@@ -1,4 +1,5 @@
-//! Laws that hold of every building: what capacities, closures, lost exits, wider doors and other numbers of people can and can't change.
+//! Laws that hold of every building: what capacities, closures, lost exits, wider doors, shorter periods and other numbers of people can and can't
+//! change.
 //!
 //! They are statements on definitions alone, and know of no solver. Each is the contract of a function with nothing to do.
 //! They speak of plans that are best at a moment within the horizon, whether or not everybody can get out.
