@@ -16,7 +16,7 @@ import re
 import subprocess
 import time
 from dataclasses import dataclass
-from typing import Dict, Iterator, List, Optional
+from typing import Dict, Iterable, Iterator, List, Optional
 
 NOT_PROVED = "not proved on this machine; ./build proves it"
 PROVED_PLACE, UNPROVED_PLACE = "crates/evacplan/out/evacplan", "crates/evacplan/out/unproved/evacplan"
@@ -124,6 +124,11 @@ def crates_of(top: pathlib.Path) -> Dict[str, List[str]]:
     return dict(sorted(crates.items()))
 
 
+def rows_of(top: pathlib.Path) -> str:
+    """The rows of crates.txt for the crates that the program is built on, without what else is there."""
+    return "".join(f"{crate}: {' '.join(below)}\n" for crate, below in crates_of(top).items())
+
+
 def files_of(top: pathlib.Path, crate: str) -> Iterator[pathlib.Path]:
     """The files that a crate is made from, in order."""
     for part in PARTS:
@@ -133,8 +138,12 @@ def files_of(top: pathlib.Path, crate: str) -> Iterator[pathlib.Path]:
 
 
 def digests_of(top: pathlib.Path) -> str:
-    """A line for each file that the program is made from: its SHA-256 and its path."""
-    files = [top / "crates.txt", *(file for crate in crates_of(top) for file in files_of(top, crate))]
+    """A line for each file that the program is made from: its SHA-256 and its path. Of crates.txt the rows of its crates count."""
+    rows = hashlib.sha256(rows_of(top).encode()).hexdigest()
+    return f"{rows}  crates.txt\n" + "".join(digests_of_files(top, files_of(top, crate)) for crate in crates_of(top))
+
+
+def digests_of_files(top: pathlib.Path, files: Iterable[pathlib.Path]) -> str:
     return "".join(f"{hashlib.sha256(bytes_of(file)).hexdigest()}  {file.relative_to(top)}\n" for file in files)
 
 
@@ -152,10 +161,15 @@ def index_of(top: pathlib.Path) -> bytes:
 
 def keep_index(program: pathlib.Path, listed: bytes) -> None:
     """Keeps an index, if it can be written and no source is so young that one more change could bear the same time."""
-    with contextlib.suppress(OSError, ValueError, IndexError):
-        newest = max(float(line.rsplit(None, 2)[1]) for line in listed.splitlines() if b"/out/" not in line)
-        if newest < time.time() - 1:
+    if listed and not changed_after(listed, time.time() - 1):
+        with contextlib.suppress(OSError):
             program.with_suffix(".index").write_bytes(listed)
+
+
+def changed_after(listed: bytes, moment: float) -> str:
+    """A source in an index whose name, place or content changed after a moment (seconds since 1970); empty if none did."""
+    sources = (line.rsplit(None, 4) for line in listed.splitlines() if b"/out/" not in line)
+    return next((os.fsdecode(parts[0]) for parts in sources if len(parts) < 5 or float(parts[3]) > moment), "")
 
 
 def bytes_of(file: pathlib.Path) -> bytes:
