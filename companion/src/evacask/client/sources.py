@@ -68,6 +68,20 @@ def found(top: pathlib.Path) -> Found:
     return Found(State.STALE if why else State.NONE, top / PROVED_PLACE, why)
 
 
+def made(top: pathlib.Path) -> Found:
+    """The program of these sources. If there is none, ./build makes one without a proof first; it says so, or why it can't, on standard error."""
+    now = found(top)
+    if not now.is_current:
+        with subprocess.Popen([str(top / "build"), "--unproved"], stdin=subprocess.DEVNULL, stdout=subprocess.DEVNULL) as building:
+            try:
+                building.wait()
+            except BaseException:  # (it is told to end too, and waited for)
+                building.terminate()
+                raise
+        now = found(top)
+    return now
+
+
 def fault_of(top: pathlib.Path, program: pathlib.Path, state: State, digests: str) -> str:
     """Why a program isn't that of these sources; empty if it is."""
     data, said = bytes_of(program), said_of(program)
