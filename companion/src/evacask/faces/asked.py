@@ -22,6 +22,7 @@ from evacask.model.edits import edited
 from evacask.model.forms import EDITS
 from evacask.model.lines import fields_of, text_of
 
+
 def read(name: str) -> str:
     """The text of a file, or of standard input if its name is `-`."""
     if name == "-" and sys.stdin is None:
