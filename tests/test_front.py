@@ -689,6 +689,12 @@ class Acting(unittest.TestCase):
         subprocess.run(["cp", "-r", str(self.place.repo), str(self.place.here / "copy")], check=True)
         self.assertIs(sources.state_of(self.place.here / "copy"), sources.State.PROVED)
 
+    def test_without_a_program_the_tests_of_evacask_say_so(self) -> None:
+        self.place.copy(TOP / "companion/tests/run", self.place.repo / "companion/tests/run")
+        only_these("find")(self.place)
+        self.place.run("companion/tests/run")
+        self.assertEqual((self.place.status, self.place.out.count("evacask wasn't tested"), self.place.out.count("\n")), (1, 1, 1), self.place.err)
+
     def test_the_words_that_evacplan_names_are_those_of_the_formats(self) -> None:
         table = re.search(r"(?s)\n\| Words .*?\n\n", (TOP / "docs/FORMATS.md").read_text())
         said = re.search(r"the words are (.*?);", (TOP / "evacplan").read_text())

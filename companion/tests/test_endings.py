@@ -94,7 +94,7 @@ class Endings(unittest.TestCase):
             by_script = [f"{folder}/evacask", "why", OFFICE, "--program", f"{folder}/evacplan"]
             self.assertEqual(subprocess.run(by_script, capture_output=True, text=True).stderr, ran.stderr)
             self.assertIn("./build", ran.stderr)
-            self.assertIn("./evacplan", ran.stderr)
+            self.assertIn("--program", ran.stderr)
             wrong = subprocess.run(
                 [sys.executable, f"{folder}/evacask", "--program", program(), "summary", "-"], input=b"x", capture_output=True, env=settings
             )
@@ -209,7 +209,7 @@ class Sources(unittest.TestCase):
     def test_only_the_standard_library(self):
         for path in sorted((TOP / "companion").glob("*.py")):
             for name in re.findall(r"(?m)^(?:from|import) (\w+)", path.read_text()):
-                self.assertTrue(name in ("companion", "__future__") or name in sys.stdlib_module_names, f"{path.name}: {name}")
+                self.assertTrue(name in ("companion", "evacask", "__future__") or name in sys.stdlib_module_names, f"{path.name}: {name}")
 
 
 if __name__ == "__main__":
