@@ -14,7 +14,7 @@ PATIENCE = 300
 TOP = pathlib.Path(__file__).resolve().parent.parent.parent
 EXAMPLES = sorted((TOP / "examples").glob("*.evac"))
 OFFICE, SCHOOL, TOWER = (TOP / f"examples/{name}.evac" for name in ("office", "school", "tower"))
-EVACASK = [sys.executable, "-B", str(TOP / "evacask")]
+EVACASK = [sys.executable, "-B", str(TOP / "companion/src/evacask_start.py")]
 
 
 @dataclass

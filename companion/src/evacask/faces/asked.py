@@ -12,7 +12,7 @@ from evacask.client.asking import accepted
 from evacask.client.program import BUILT, TOP, State, found_program, state_of
 from evacask.client.talk import Program
 from evacask.errors import InputError, Refused, WordsError
-from evacask.faces.ending import Status
+from evacask.faces.ending import Status, say
 from evacask.faces.progress import LINE, waiting
 from evacask.faces.sheet import Sheet, as_csv, as_json, as_text
 from evacask.model.building import Model
@@ -101,7 +101,7 @@ def put(answer: Sheet, question: str, given: Namespace, client: Optional[Program
     """Writes a sheet as the words ask for it, and gives the status back. At a terminal it says first if the program isn't proved."""
     LINE.erase()
     if client and sys.stderr is not None and sys.stderr.isatty() and not client.source.is_proved:
-        sys.stderr.write(NOT_PROVED)
+        say(NOT_PROVED)
     if given.face == "json":
         sys.stdout.write(as_json(answer, question, source(client) if client else None))
     else:
