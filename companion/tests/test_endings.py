@@ -99,7 +99,7 @@ class Endings(unittest.TestCase):
                 [sys.executable, f"{folder}/evacask", "--program", program(), "summary", "-"], input=b"x", capture_output=True, env=settings
             )
             self.assertEqual(wrong.returncode, Status.REFUSED)
-            self.assertIn(b"refused 1: docs/FORMATS.md says what it means.", wrong.stderr)
+            self.assertIn(b"refused 1: The first line that isn't blank isn't", wrong.stderr)
 
     def test_another_program(self):
         for name in ("/bin/true", "/bin/false", "/bin/echo"):
@@ -209,7 +209,7 @@ class Sources(unittest.TestCase):
     def test_only_the_standard_library(self):
         for path in sorted((TOP / "companion").glob("*.py")):
             for name in re.findall(r"(?m)^(?:from|import) (\w+)", path.read_text()):
-                self.assertTrue(name in ("companion", "__future__") or name in sys.stdlib_module_names, f"{path.name}: {name}")
+                self.assertTrue(name in ("companion", "evacask", "__future__") or name in sys.stdlib_module_names, f"{path.name}: {name}")
 
 
 if __name__ == "__main__":
