@@ -85,7 +85,7 @@ def compare_lines(scenarios: List[Scenario]) -> List[str]:
 
 def refusal_line(refusal: Refusal) -> str:
     """What the code of a refused edit means."""
-    meaning = meaning_of(refusal.code, is_command=True)
+    meaning = meaning_of(refusal.code, is_command=True, word=refusal.edit.split()[0])
     return f"refused {refusal.code}: {refusal.edit}: {meaning.sentence if meaning else 'docs/FORMATS.md says what it means.'}"
 
 

@@ -50,8 +50,8 @@ def refusal_lines(code: int, line: int, lines: List[str], end: int) -> List[str]
         said.append(f"    line {line}: {visible(lines[line - 1])}")
         odd = [character_name(it) for it in dict.fromkeys(lines[line - 1]) if is_odd(it)]
         said += [f"    in this line there is {', '.join(odd[:4])}"] if odd else []
-        said += meaning_lines(code, line > end)
         word = next(iter(fields_of(lines[line - 1])), "")
+        said += meaning_lines(code, line > end, word)
         return said + [f"    {form}" for form in (forms_of(word, line > end) if code in OF_FORM else [])]
     return [*said, f"    line {line}: the input has ended before it", *meaning_lines(code, line > end)]
 
@@ -83,6 +83,6 @@ def character_name(letter: str) -> str:
     return f"U+{number_of(letter):04X} {unicodedata.name(letter, 'a control character')}"
 
 
-def meaning_lines(code: int, is_command: bool) -> List[str]:
-    row = meaning_of(code, is_command)
+def meaning_lines(code: int, is_command: bool, word: str = "") -> List[str]:
+    row = meaning_of(code, is_command, word)
     return [*indented(row.what), *indented(row.remedy)] if row else ["    docs/FORMATS.md says what it means."]

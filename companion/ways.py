@@ -139,7 +139,7 @@ def tried(talk: Talk, edit: str) -> Outcome:
         if back.word != "answer" or any(back.number(word) != opening.number(word) for word in ("people", "cleared")):
             raise Stop("the program didn't go back to the building of the opening: is it evacplan, and not another one?", Status.NO_PROGRAM)
     elif not reply.is_short:
-        raise Stop(f"{edit}: {refusal(reply, is_command=True)}", Status.REFUSED)
+        raise Stop(f"{edit}: {refusal(reply, is_command=True, word=edit.split()[0])}", Status.REFUSED)
     return outcome_of(reply)
 
 

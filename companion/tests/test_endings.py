@@ -99,7 +99,7 @@ class Endings(unittest.TestCase):
                 [sys.executable, f"{folder}/evacask", "--program", program(), "summary", "-"], input=b"x", capture_output=True, env=settings
             )
             self.assertEqual(wrong.returncode, Status.REFUSED)
-            self.assertIn(b"refused 1: docs/FORMATS.md says what it means.", wrong.stderr)
+            self.assertIn(b"refused 1: The first line that isn't blank isn't", wrong.stderr)
 
     def test_another_program(self):
         for name in ("/bin/true", "/bin/false", "/bin/echo"):

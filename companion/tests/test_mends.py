@@ -87,7 +87,7 @@ class Compare(unittest.TestCase):
         self.assertRegex(said.lines[2], r"^ +11 +55 s +same ")
         self.assertRegex(said.lines[3], r"^refused 34 .* shut HA1\.1 DS1\.1; shut HA1\.1 DS1\.1$")
         self.assertRegex(said.lines[4], r"^ +11 +55 s +same ")
-        self.assertIn("refused 34: shut HA1.1 DS1.1: It is shut already.", said.out)
+        self.assertIn("refused 34: shut HA1.1 DS1.1: The arc is shut already.", said.out)
 
 
 class Programs(unittest.TestCase):

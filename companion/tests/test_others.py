@@ -10,7 +10,6 @@ import time
 import unittest
 
 from companion.building import building_of
-from companion.codes import rows
 from companion.forms import COMMANDS
 from companion.metres import building_text
 from companion.terminal import candidates
@@ -166,11 +165,6 @@ class Explain(unittest.TestCase):
             self.assertEqual((said.status, said.err), (0, ""))
             self.assertGreaterEqual(len(said.lines), 3)
 
-    def test_the_forms_of_commands_are_those_of_formats(self):
-        for mode, place in (("session", ("The session", "Command")), ("study", ("The study", "Line"))):
-            cells = " ".join(cells[0] for *there, cells in rows() if tuple(there) == place)
-            self.assertEqual(dict(re.findall(r"`([a-z]+)(?: ([^`]*))?`", cells)), {**COMMANDS[mode], "quit": ""})
-
     def test_words(self):
         self.assertIn("line 33 of the input", ask("explain", 13, 33).lines[0])
         for words, wanted in (((99,), "no code 99"), ((13, "x"), "number of a line"), ((OFFICE, "sesion"), "near it: session")):
@@ -317,7 +311,7 @@ class TalkAtATerminal(unittest.TestCase):
         self.until("answer 1: 240 people, cleared 50 (250 s)")
         self.until("session> ")
         self.type("\x1b[A\n")
-        self.until("refused 34: It is shut already.")
+        self.until("refused 34: The arc is shut already.")
         self.until("session> ")
         self.type("openex\tDS2\t\n")
         self.until("answer 2: 240 people, cleared 28 (140 s)")

@@ -8,7 +8,7 @@ import enum
 import math
 import re
 from dataclasses import dataclass
-from typing import Callable, Dict, Iterator, List, Optional, Sequence, Tuple
+from typing import Callable, Dict, Iterator, Optional, Sequence, Tuple
 
 from evacask.errors import EvacaskError
 from evacask.model.building import Way
