@@ -209,7 +209,7 @@ class Sources(unittest.TestCase):
     def test_only_the_standard_library(self):
         for path in sorted((TOP / "companion").glob("*.py")):
             for name in re.findall(r"(?m)^(?:from|import) (\w+)", path.read_text()):
-                self.assertTrue(name in ("companion", "__future__") or name in sys.stdlib_module_names, f"{path.name}: {name}")
+                self.assertTrue(name in ("companion", "evacask", "__future__") or name in sys.stdlib_module_names, f"{path.name}: {name}")
 
 
 if __name__ == "__main__":

@@ -89,6 +89,15 @@ class Compare(unittest.TestCase):
         self.assertIn("refused 34: shut HA1.1 DS1.1: It is shut already.", said.out)
 
 
+class Names(unittest.TestCase):
+    def test_only_a_marked_comment_is_a_name(self):
+        text = TWO_DOORS.replace("node HA1.1", "# TODO ask the architect\nnode HA1.1").replace("node HA2.1", "#: Long hall\nnode HA2.1")
+        said = ask("tables", "fullest", "-", text=text)
+        self.assertEqual([row["name"] for row in csv.DictReader(io.StringIO(said.out))], ["", "", "Long hall"])
+        self.assertIn("Long hall to DS1.1", ask("why", "-", text=text).out)
+        self.assertNotIn("architect", ask("ways", "-", text=text).out)
+
+
 class Programs(unittest.TestCase):
     def test_a_program_that_is_older_than_its_sources(self):
         with tempfile.TemporaryDirectory() as folder:

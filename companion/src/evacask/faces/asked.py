@@ -28,7 +28,9 @@ def read(name: str) -> str:
     if name == "-" and sys.stdin is None:
         raise InputError("standard input can't be read: it is closed")
     try:
-        with open(0 if name == "-" else name, "rb", closefd=name != "-") as file:
+        if name == "-":
+            return text_of(sys.stdin.buffer.read())
+        with open(name, "rb") as file:
             return text_of(file.read())
     except (OSError, ValueError, io.UnsupportedOperation) as fault:
         what = "standard input" if name == "-" else name
