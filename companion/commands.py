@@ -9,19 +9,16 @@ from companion.building import is_number, near
 from companion.briefly import Briefly
 from companion.codes import accepted, cleared_by
 from companion.compare import compare_lines, edits_of, scenario
-from companion.doubts import doubts, doubts_lines
 from companion.ending import Status, Stop
 from companion.explain import MODES, code_lines, explained
 from companion.metres import both_lines, building_text, marked
 from companion.printed import show
 from companion.program import Talk, find_program
 from companion.routes import write_routes
-from companion.summary import shortfall, summary
 from companion.tables import write_table, write_walks
 from companion.terminal import converse
 from companion.ways import ANY_RATE, all_ways
 from companion.wide import asked_moment, wide
-from companion.why import why
 
 
 def text_of(name: str) -> bytes:
@@ -50,16 +47,6 @@ class Asked:
         return self.program.talk(mode, self.text)
 
 
-def run_summary(given: Namespace) -> int:
-    asked = Asked(given)
-    with asked.talk() as talk:
-        if talk.opening.is_short:
-            show(shortfall(asked.building, talk.opening))
-            return Status.REFUSED
-        show(summary(talk, asked.building))
-    return Status.ANSWERED
-
-
 def run_ways(given: Namespace) -> int:
     asked = Asked(given)
     with asked.talk() as talk:
@@ -69,14 +56,6 @@ def run_ways(given: Namespace) -> int:
         ways.write_csv()
     else:
         show(ways.lines(given.rate))
-    return Status.ANSWERED
-
-
-def run_why(given: Namespace) -> int:
-    asked = Asked(given)
-    with asked.talk() as talk:
-        cleared_by(talk.opening, asked.name)
-        show(why(talk, asked.building, given.period))
     return Status.ANSWERED
 
 
@@ -109,17 +88,6 @@ def run_talk(given: Namespace) -> int:
             return converse(session, asked.building, brief)
     with asked.talk(given.mode) as talk:
         return converse(talk, asked.building, brief)
-
-
-def run_doubts(given: Namespace) -> int:
-    asked = Asked(given)
-    with asked.talk() as talk:
-        if talk.opening.is_short:
-            found = doubts(asked.building, None, 0)
-        else:
-            found = doubts(asked.building, talk.opening.number("cleared"), talk.ask("summary").number("uncongested"))
-    show(doubts_lines(found))
-    return Status.REFUSED if found else Status.ANSWERED
 
 
 def run_explain(given: Namespace) -> int:

@@ -82,22 +82,6 @@ BUILDING = argument("building", metavar="BUILDING", help="a file with a building
 PROGRAM = "the program to ask, in place of the built one or of what EVACPLAN names"
 COMMANDS = (
     Command(
-        "summary",
-        commands.run_summary,
-        "how soon can all be out, what does congestion cost, and what decides?",
-        "",
-        "examples/office.evac",
-        (BUILDING,),
-    ),
-    Command(
-        "why",
-        commands.run_why,
-        "why not sooner? the ways that are full, and when",
-        "The cut of a period, added up by way and moments: whoever is out by then counts in one of its lines.",
-        "examples/office.evac",
-        (BUILDING, argument("period", type=number, nargs="?", metavar="K", help="the period; without it the one before all are out")),
-    ),
-    Command(
         "ways",
         commands.run_ways,
         "what does it cost to lose a way, and what does a wider one bring?",
@@ -165,14 +149,6 @@ COMMANDS = (
         "All but walks are of the printed plan: but for `out`, other best plans may differ.",
         "exits examples/office.evac",
         (argument("kind", metavar="KIND", choices=TABLES, help=", ".join(TABLES)), BUILDING),
-    ),
-    Command(
-        "doubts",
-        commands.run_doubts,
-        "is it the building that I meant? what is often a mistake",
-        "A doubt is evacask's own and is no fault: whoever made the building knows better. Without one nothing is printed.",
-        "examples/office.evac",
-        (BUILDING,),
     ),
     Command(
         "explain",

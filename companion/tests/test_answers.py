@@ -21,7 +21,7 @@ class Summary(unittest.TestCase):
                 people, cleared = number(report, "people"), number(report, "cleared")
                 shown = "\n".join(said.lines[:10])
                 self.assertRegex(shown, rf"people +{people}\n")
-                self.assertRegex(shown, rf"cleared +{cleared} \({number(report, 'seconds')} s\): ")
+                self.assertRegex(shown, rf"cleared +{cleared} \({number(report, 'seconds')} to \d+ s\): ")
                 self.assertRegex(shown, rf"uncongested +{number(report, 'uncongested')} ")
                 out = int(re.search(rf"^out {cleared - 1} (\d+)", report, re.M)[1])
                 self.assertIn(f"At most {out} of {people} can be out by moment {cleared - 1} ", shown)

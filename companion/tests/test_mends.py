@@ -73,6 +73,31 @@ class Sensitivity(unittest.TestCase):
         self.assertRegex(said.out, r"(?m)^ *short 180 +140 s +305 s  WP1\.1 LO1\.1$")
 
 
+class Review(unittest.TestCase):
+    TEXT = OFFICE.read_text()
+    DOUBTED = TEXT.replace("arc LO1.1 DS1.1 1 8\n", "arc LO1.1 DS1.1 1 80\n").replace("arc WP1.1 LO1.1 1 10\n", "arc WP1.1 LO1.1 1 60\n")
+
+    def test_a_doubt_has_a_status_of_its_own(self):
+        self.assertEqual(ask("doubts", "-", text=self.TEXT).status, 0)
+        self.assertEqual(ask("doubts", "-", text=self.DOUBTED).status, 10)
+        self.assertEqual(ask("doubts", "-", text=self.TEXT.replace("period 5", "period 0")).status, 1)
+
+    def test_the_summary_counts_doubts(self):
+        # 16 and 12 people a second through a door.
+        self.assertEqual(ask("summary", "-", text=self.DOUBTED).lines[-1], "2 doubts: evacask review -")
+        self.assertNotIn("doubt", ask("summary", "-", text=self.TEXT).out)
+
+
+class Summary(unittest.TestCase):
+    def test_a_horizon_that_can_not_be_written_is_not_said_to_be_enough(self):
+        # One person a period, 90,000 of them: 90,000 periods.
+        one_way = "evacplan 1\nperiod 5\nhorizon 20\nfloor 1 Ground\nnode WP1.1 90000 90000\nnode DS1.1\narc WP1.1 DS1.1 1 1\nend\n"
+        said = ask("summary", "-", text=one_way)
+        self.assertEqual((said.status, said.err), (1, ""))
+        self.assertNotIn("90000 is enough", said.out)
+        self.assertRegex(said.out, r"a horizon of 90000 would be enough .*, but 1200 is the greatest\n")
+
+
 class Compare(unittest.TestCase):
     def test_several_edits_are_one_step(self):
         said = ask("compare", "-", "--edit", "rate HA1.1 DS1.1 1; rate HA2.1 DS1.1 10", text=TWO_DOORS)

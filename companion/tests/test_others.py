@@ -205,7 +205,7 @@ class Names(unittest.TestCase):
 
     def test_any_bytes_in_a_title(self):
         text = changed("Three storey office", "B\u00fcro \udcff \x85 x", OFFICE.read_text()).encode("utf-8", "surrogateescape")
-        self.assertEqual(ask("summary", "-", text=text).lines[0].encode("utf-8", "surrogateescape")[:9], b"B\xc3\xbcro \xff ")
+        self.assertEqual(ask("summary", "-", text=text).lines[0], "B\u00fcro   x")
 
 
 class TalkOverPipes(unittest.TestCase):

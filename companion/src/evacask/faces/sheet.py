@@ -44,15 +44,24 @@ class Sheet:
 
 def as_text(sheet: Sheet, all_columns: bool = False) -> str:
     """The lines of a sheet. The head of a table is left out if it has no rows. With all columns a last line says what they rest on."""
+    grounds = [f"ground: {grounds_text(sheet)}"] if all_columns else []
+    lines = [*sheet.before, *table_lines(sheet, all_columns), *sheet.after, *grounds]
+    return "".join(f"{printable(line)}\n" for line in lines)
+
+
+def table_lines(sheet: Sheet, all_columns: bool = False) -> List[str]:
+    """The table of a sheet, with the columns that are shown."""
     shown = [at for at, column in enumerate(sheet.columns) if column.is_shown or all_columns]
     heads = [sheet.columns[at].head or sheet.columns[at].key * all_columns for at in shown]
-    cells: List[List[str]] = [heads] if sheet.rows else []
-    cells += [[written(row[at]) for at in shown] for row in sheet.rows]
-    widths = [max((len(row[at]) for row in cells), default=0) for at in range(len(shown))]
-    sides = [sheet.columns[at].is_right for at in shown]
-    lines = ["  ".join(pad(*it) for it in zip(row, widths, sides)).rstrip() for row in cells]
-    grounds = [f"ground: {grounds_text(sheet)}"] if all_columns else []
-    return "".join(f"{line}\n" for line in map(printable, [*sheet.before, *lines, *sheet.after, *grounds]))
+    rows = [heads, *([row[at] for at in shown] for row in sheet.rows)] if shown and sheet.rows else []
+    return aligned(rows, [sheet.columns[at].is_right for at in shown])
+
+
+def aligned(rows: Sequence[Sequence[Any]], is_right: Sequence[bool]) -> List[str]:
+    """The lines of a table with two blanks between columns; each column stands to the right or to the left."""
+    cells = [[written(cell) for cell in row] for row in rows]
+    widths = [max((len(row[at]) for row in cells), default=0) for at in range(len(is_right))]
+    return ["  ".join(pad(*it) for it in zip(row, widths, is_right)).rstrip() for row in cells]
 
 
 def grounds_of(sheet: Sheet) -> Dict[str, Ground]:
