@@ -8,7 +8,6 @@ from typing import ContextManager, Optional
 from companion.building import is_number, near
 from companion.briefly import Briefly
 from companion.codes import accepted, cleared_by
-from companion.compare import compare_lines, edits_of, scenario
 from companion.ending import Status, Stop
 from companion.explain import MODES, code_lines, explained
 from companion.metres import both_lines, building_text, marked
@@ -17,8 +16,6 @@ from companion.program import Talk, find_program
 from companion.routes import write_routes
 from companion.tables import write_table, write_walks
 from companion.terminal import converse
-from companion.ways import ANY_RATE, all_ways
-from companion.wide import asked_moment, wide
 
 
 def text_of(name: str) -> bytes:
@@ -45,36 +42,6 @@ class Asked:
 
     def talk(self, mode: str = "session") -> ContextManager[Talk]:
         return self.program.talk(mode, self.text)
-
-
-def run_ways(given: Namespace) -> int:
-    asked = Asked(given)
-    with asked.talk() as talk:
-        cleared_by(talk.opening, asked.name)
-        ways = all_ways(asked.program, talk, asked.building, asked.text, ANY_RATE if given.rate is None else given.rate)
-    if given.csv:
-        ways.write_csv()
-    else:
-        show(ways.lines(given.rate))
-    return Status.ANSWERED
-
-
-def run_wide(given: Namespace) -> int:
-    asked = Asked(given)
-    arc, moment = asked.building.arc(given.tail, given.head), asked_moment(asked.building, given.seconds)
-    with asked.talk("study") as study:
-        reply = cleared_by(study.ask(f"least {arc.tail} {arc.head} {moment}"), asked.name)
-    show(wide(reply, asked.building, arc, moment))
-    return Status.ANSWERED
-
-
-def run_compare(given: Namespace) -> int:
-    edits = [edits_of(words) for words in given.edit]
-    first = Asked(given)
-    wanted = [(first, []), *((Asked(given, name), []) for name in given.others), *((first, some) for some in edits)]
-    scenarios = [scenario(asked.program, asked.text, asked.name, some) for asked, some in wanted]
-    show(compare_lines(scenarios))
-    return Status.REFUSED if any(it.refusal for it in scenarios) else Status.ANSWERED
 
 
 def run_talk(given: Namespace) -> int:

@@ -70,7 +70,7 @@ class Sensitivity(unittest.TestCase):
         # The 60 of the room leave it one by one at the moments 0 to 59, and walk one period more to the exit: 61 periods of 5 s.
         said = ask("ways", OFFICE, "--rate", 1)
         self.assertEqual((said.status, said.err), (0, ""))
-        self.assertRegex(said.out, r"(?m)^ *short 180 +140 s +305 s  WP1\.1 LO1\.1$")
+        self.assertRegex(said.out, r"(?m)^ *short 180 +140 (to 145 )?s +305 (to 310 )?s  WP1\.1 LO1\.1$")
 
 
 class Review(unittest.TestCase):
@@ -102,15 +102,15 @@ class Compare(unittest.TestCase):
     def test_several_edits_are_one_step(self):
         said = ask("compare", "-", "--edit", "rate HA1.1 DS1.1 1; rate HA2.1 DS1.1 10", text=TWO_DOORS)
         self.assertEqual((said.status, said.err), (0, ""))
-        self.assertRegex(said.lines[2], r"^ +11 +55 s +same ")
+        self.assertRegex(said.lines[2], r"^ +11 +55 (to 60 )?s +same ")
 
     def test_a_refused_edit_is_a_row(self):
         edits = ("rate HA1.1 DS1.1 9", "shut HA1.1 DS1.1; shut HA1.1 DS1.1", "rate HA1.1 DS1.1 1; rate HA2.1 DS1.1 10")
         said = ask("compare", "-", *(word for edit in edits for word in ("--edit", edit)), text=TWO_DOORS)
         self.assertEqual((said.status, said.err), (1, ""))
-        self.assertRegex(said.lines[2], r"^ +11 +55 s +same ")
+        self.assertRegex(said.lines[2], r"^ +11 +55 (to 60 )?s +same ")
         self.assertRegex(said.lines[3], r"^refused 34 .* shut HA1\.1 DS1\.1; shut HA1\.1 DS1\.1$")
-        self.assertRegex(said.lines[4], r"^ +11 +55 s +same ")
+        self.assertRegex(said.lines[4], r"^ +11 +55 (to 60 )?s +same ")
         self.assertIn("refused 34: shut HA1.1 DS1.1: It is shut already.", said.out)
 
 

@@ -17,8 +17,8 @@ from evacask.faces.progress import LINE, waiting
 from evacask.faces.sheet import Sheet, as_csv, as_json, as_text
 from evacask.model.building import Model
 from evacask.model.edits import edited
-from evacask.model.forms import EDITS
-from evacask.model.lines import fields_of, text_of
+from evacask.model.forms import EDITS, LINE_LIMIT
+from evacask.model.lines import bytes_of, fields_of, text_of
 
 NOT_PROVED = "evacask: the program isn't proved on this machine; ./build proves it\n"
 
@@ -41,7 +41,7 @@ def edits_of(groups: List[str]) -> List[str]:
     """The edits that some words name, with `;` between them."""
     edits = [edit.strip() for group in groups for edit in group.split(";")]
     for edit in edits:
-        if next(iter(fields_of(edit)), "") not in EDITS or not edit.isprintable():
+        if next(iter(fields_of(edit)), "") not in EDITS or not edit.isprintable() or len(bytes_of(edit)) > LINE_LIMIT:
             raise WordsError(f"{edit or 'nothing'} is no edit: an edit begins with {', '.join(EDITS)}")
     return edits
 

@@ -21,7 +21,7 @@ FORMULA = ("=", "+", "-", "@", "\t", "\r")
 class Column:
     """A column: its head in text and its key in CSV, whether it stands to the right, and whether text shows it unless all columns are asked for.
 
-    `ground` is what the column rests on, if that isn't the ground of the whole answer.
+    One without a key is in text alone. `ground` is what the column rests on, if that isn't the ground of the whole answer.
     """
 
     head: str
@@ -33,13 +33,17 @@ class Column:
 
 @dataclass(frozen=True)
 class Sheet:
-    """Lines before and after a table. `answer` is the dataclass that it was drawn from."""
+    """Lines before and after a table. `answer` is the dataclass that it was drawn from.
+
+    `shown` has the numbers of the rows that text shows unless all columns are asked for; all rows if it is None.
+    """
 
     answer: Any
     before: Tuple[str, ...] = ()
     columns: Tuple[Column, ...] = ()
     rows: Tuple[Tuple[Any, ...], ...] = ()
     after: Tuple[str, ...] = ()
+    shown: Optional[Tuple[int, ...]] = None
 
 
 def as_text(sheet: Sheet, all_columns: bool = False) -> str:
@@ -50,10 +54,11 @@ def as_text(sheet: Sheet, all_columns: bool = False) -> str:
 
 
 def table_lines(sheet: Sheet, all_columns: bool = False) -> List[str]:
-    """The table of a sheet, with the columns that are shown."""
+    """The table of a sheet, with the columns and rows that are shown."""
     shown = [at for at, column in enumerate(sheet.columns) if column.is_shown or all_columns]
     heads = [sheet.columns[at].head or sheet.columns[at].key * all_columns for at in shown]
-    rows = [heads, *([row[at] for at in shown] for row in sheet.rows)] if shown and sheet.rows else []
+    rows = sheet.rows if sheet.shown is None or all_columns else tuple(sheet.rows[at] for at in sheet.shown)
+    rows = (tuple(heads), *(tuple(row[at] for at in shown) for row in rows)) if shown and rows else ()
     return aligned(rows, [sheet.columns[at].is_right for at in shown])
 
 
@@ -88,11 +93,12 @@ def pad(cell: str, width: int, is_right: bool) -> str:
 
 
 def as_csv(sheet: Sheet) -> str:
-    """All columns, with their keys as heads."""
+    """All rows, and all columns that have a key, which is their head."""
+    kept = [at for at, column in enumerate(sheet.columns) if column.key]
     out = io.StringIO()
     writer = csv.writer(out, lineterminator="\n")
-    writer.writerow([column.key for column in sheet.columns])
-    writer.writerows([[safe(cell) for cell in row] for row in sheet.rows])
+    writer.writerow([sheet.columns[at].key for at in kept])
+    writer.writerows([[safe(row[at]) for at in kept] for row in sheet.rows])
     return out.getvalue()
 
 

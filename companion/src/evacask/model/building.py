@@ -8,7 +8,7 @@ from typing import Dict, Iterable, List, Mapping, Optional, Tuple
 
 from evacask.errors import UnknownName
 from evacask.model.lines import bytes_of, fields_of, lines_of, number_of, printable
-from evacask.model.seconds import time_text
+from evacask.model.seconds import seconds_text, time_text
 from evacask.model.shares import shares_of
 
 Way = Tuple[str, str]
@@ -123,6 +123,10 @@ class Model:
     def time(self, moment: int) -> str:
         """A moment with its seconds: 28 (140 to 145 s)."""
         return time_text(moment, self.period)
+
+    def span(self, moment: int) -> str:
+        """The seconds of a moment: 140 to 145 s."""
+        return seconds_text(moment, self.period)
 
     def node(self, name: str) -> Node:
         """The node of a name, or of an own name that no other node has; `UnknownName` with names that are near it."""

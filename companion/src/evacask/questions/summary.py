@@ -43,7 +43,13 @@ class Summary:
 
     def records(self) -> List[Dict[str, object]]:
         """One dict with the figures."""
-        said: Dict[str, object] = {"people": self.people, "cleared": self.cleared, "uncongested": self.uncongested, "mean": self.mean, "doubts": self.doubts}
+        said: Dict[str, object] = {
+            "people": self.people,
+            "cleared": self.cleared,
+            "uncongested": self.uncongested,
+            "mean": self.mean,
+            "doubts": self.doubts,
+        }
         return [said]
 
 
