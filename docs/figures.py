@@ -17,9 +17,14 @@ from fractions import Fraction
 
 sys.dont_write_bytecode = True
 from hydraulic import A, DOOR, FREE_DENSITY, LEAF, LEVEL, STAIR, TREAD, WAITING, WALL, WAYS, density_of, frac, free_speed, rate_of, speed_of
-from worked import ESCALATOR_FLOW, FREE_FLOW, GATES, ROOM_DOOR, corridor, metro, school, tower
+from worked import ESCALATOR_FLOW, FREE_FLOW, GATES, ROOM_DOOR, corridor, metro, nine_storeys, school, tower
 
 TOP = pathlib.Path(__file__).resolve().parent.parent
+sys.path.insert(0, str(TOP / "companion/src"))
+from evacask.client.talk import Program
+from evacask.model.drawn_building import Scale, building_text, drawn_building
+from evacask.questions.bracket import bracket
+
 PAGE = TOP / "docs/FIGURES.md"
 PROGRAM = TOP / "crates/evacplan/out/evacplan"
 
@@ -450,15 +455,82 @@ def tower_by_hand():
     return table(["", "By hand", "In periods"], rows, "lrr")
 
 
+def nine_storeys_rates():
+    level, stair = WAYS[LEVEL][1], WAYS[STAIR][1]
+    return rates([("door of a stair", "0.91 - 0.30", frac("0.61"), level), ("stair", "1.12 - 0.30", frac("0.82"), stair)])
+
+
+def nine_storeys_travels():
+    return travel_rows(nine_storeys())
+
+
+def nine_storeys_ways():
+    by_name = nine_storeys().passages()
+    return by_name["corridor, to the stair's door"], by_name["last flight, with the door"]
+
+
+def nine_storeys_hand():
+    """The seconds until the door at the foot of a stair has let 1,200 people through, from when the first come to it."""
+    hall, last = nine_storeys_ways()
+    return hall.seconds + last.seconds + float(1200 / last.door)
+
+
+def nine_storeys_by_hand():
+    hall, last = nine_storeys_ways()
+    rows = [
+        ["people for each stair, of eight storeys", "8 × 150 = 1200"],
+        ["the first walk along the corridor", f"{hall.seconds:.1f} s"],
+        ["they walk down one storey", f"{last.seconds:.1f} s"],
+        ["1,200 people pass the door at its foot", f"1200 / {float(last.door):.3f} = {float(1200 / last.door):.0f} s"],
+        ["all are out", f"{nine_storeys_hand():.0f} s"],
+    ]
+    return table(["", "By hand"], rows, "lr")
+
+
+# The worked buildings with their time by hand, and the period for which each is compared with it.
+HANDS = (
+    ("One room", "corridor", corridor_hand, 1),
+    ("School", "school", school_hand, 1),
+    ("Metro", "metro", metro_hand, 5),
+    ("Tower", "tower", tower_hand, 5),
+    ("Nine storeys", "nine_storeys", nine_storeys_hand, 5),
+)
+
+
+def bracket_of(file, period, shares=None):
+    """The seconds between which a worked building clears, for a period and so many shares of a person."""
+    drawn = drawn_building(file, (TOP / f"examples/{file}.plan").read_text())
+    return bracket(Program(ANSWERS.program), drawn, period, shares)
+
+
+def end_text(seconds):
+    """The end of a bracket, or a dash if nothing is claimed."""
+    return "–" if seconds is None else f"{seconds} s"
+
+
 def roundings():
+    """Between which seconds each building clears, in whole people and in shares."""
     rows = []
-    buildings = (("One room", corridor(), corridor_hand()), ("School", school(), school_hand()))
-    buildings += (("Metro", metro(), metro_hand()), ("Tower", tower(), tower_hand()))
-    for name, example, by_hand in buildings:
+    for name, file, by_hand, _ in HANDS:
         for period in (2, 5, 10):
-            seconds = [f"{ANSWERS.number(example.lines(period, is_safe), 'seconds')} s" for is_safe in (True, False)]
-            rows.append([name, f"{period} s", seconds[0], f"{by_hand:.0f} s", seconds[1]])
-    return table(["Building", "Period", "Safe side", "By hand", "Other side"], rows, "lrrrr")
+            whole, parts = bracket_of(file, period, 1), bracket_of(file, period)
+            ends = [end_text(it) for it in (whole.earliest, whole.latest, parts.earliest, parts.latest)]
+            rows.append([name, f"{period} s", *ends[:2], f"{parts.shares.number}", *ends[2:], f"{by_hand():.0f} s"])
+    head = ["Building", "Period", "Whole people: not before", "all out before", "Shares", "In shares: not before", "all out before", "By hand"]
+    return table(head, rows, "lrrrrrrr")
+
+
+def shares():
+    """The answer in shares of a person beside the time by hand."""
+    rows = []
+    for name, file, by_hand, period in HANDS:
+        number = 100 if period == 1 else 40
+        found = bracket_of(file, period, number)
+        answer, hand = found.latest - period, by_hand()
+        if not found.earliest <= hand < found.latest or abs(answer - hand) > 0.02 * hand:
+            sys.exit(f"figures: {name} by hand {hand:.1f} s, and in shares {found.earliest} to {found.latest} s")
+        rows.append([name, f"{period} s", f"{number}", f"{found.earliest} s", f"{answer} to {found.latest} s", f"{hand:.0f} s", f"{100 * (answer - hand) / hand:+.1f} %"])
+    return table(["Building", "Period", "Shares", "Not before", "`cleared`, later side", "By hand", "Difference"], rows, "lrrrrrr")
 
 
 def room_periods():
@@ -489,7 +561,8 @@ NAMED = {
         *(school_rates, school_travels, school_capacities, school_by_hand, school_choices),
         *(metro_rates, metro_travels, metro_capacities, metro_by_hand),
         *(tower_rates, tower_travels, tower_capacities, tower_by_hand),
-        *(roundings, room_periods),
+        *(nine_storeys_rates, nine_storeys_travels, nine_storeys_by_hand),
+        *(roundings, shares, room_periods),
     )
 }
 
@@ -531,11 +604,22 @@ def wrong_sums(page):
                 yield f"FIGURES.md:{number}: {found[0]}: it is {value:.{places + 2}f}"
 
 
+def wrong_plan(example, wanted):
+    """Yields what differs between the arcs of an example and those of its plan in metres."""
+    name = f"{example.file.partition('.')[0]}.plan"
+    made = building_text(drawn_building(name, (TOP / "examples" / name).read_text()), Scale(5))
+    arcs, others = ([line for line in lines if line.startswith("arc ")] for lines in (wanted, made.split("\n")))
+    yield from (f"examples/{name}: it makes {other}, and figures.py computes {arc}" for arc, other in zip(sorted(arcs), sorted(others)) if arc != other)
+
+
 def wrong_files():
     """Yields what differs between an example's lines and its file."""
-    for example in (corridor(), school(), metro(), tower()):
-        path = TOP / "examples" / example.file
+    for example in (corridor(), school(), metro(), tower(), nine_storeys()):
         wanted = example.lines()
+        yield from wrong_plan(example, wanted)
+        path = TOP / "examples" / example.file
+        if path.suffix == ".plan":
+            continue
         said = [line for line in path.read_text().split("\n") if line and not line.startswith("#")] if path.exists() else []
         if said != wanted:
             line = next((one for one, other in zip(wanted, [*said, *[""] * len(wanted)]) if one != other), "a line more")

@@ -5,7 +5,7 @@ import math
 from dataclasses import dataclass
 from fractions import Fraction
 
-from hydraulic import A, LEAF, LEVEL, STAIR, WAYS, frac, free_speed, rate_of, speed_of
+from hydraulic import A, LEAF, LEVEL, STAIR, WAYS, frac, rate_of, speed_of
 
 # The people a second that a door of 0.90 m lets through.
 ROOM_DOOR = frac("1.3") * frac("0.60")
@@ -50,16 +50,10 @@ class Passage:
     def seconds(self):
         return float(self.length) / self.speed + float(self.landing) / speed_of(self.flow, LEVEL)
 
-    def free_seconds(self):
-        """The time of a walk with nobody in the way."""
-        return float(self.length) / (self.pace or free_speed(self.way)) + float(self.landing / free_speed(LEVEL))
-
-    def numbers(self, period=5, is_safe=True):
-        """Travel and rate for periods of so many seconds, rounded to the safe side or to the other."""
-        if is_safe:
-            lets_in = min(self.most, self.comes) if self.is_held else self.most
-            return max(1, math.ceil(round(self.seconds / period, 9))), rate_of(lets_in, period)
-        return max(1, math.floor(round(self.free_seconds() / period, 9))), math.ceil(self.most * period)
+    def numbers(self, period=5):
+        """Travel and rate for periods of so many seconds: travel rounded up, rate rounded down."""
+        lets_in = min(self.most, self.comes) if self.is_held else self.most
+        return max(1, math.ceil(round(self.seconds / period, 9))), rate_of(lets_in, period)
 
     @property
     def travel(self):
@@ -92,12 +86,12 @@ class Example:
     arcs: list
     floors: tuple = ("1 Ground", "2 Upper")
 
-    def lines(self, period=5, is_safe=True):
+    def lines(self, period=5):
         """The lines of the building for periods of so many seconds."""
         found = ["evacplan 1", f"title {self.title}", f"period {period}", f"horizon {self.horizon * 5 // period}"]
         found += [f"floor {it}" for it in self.floors]
         found += [f"node {it.name}" if it.capacity is None else f"node {it.name} {it.capacity} {it.start}" for it in self.places]
-        found += ["arc {} {} {} {}".format(tail, head, *it.numbers(period, is_safe)) for tail, head, it in self.arcs]
+        found += ["arc {} {} {} {}".format(tail, head, *it.numbers(period)) for tail, head, it in self.arcs]
         return [*found, "end"]
 
     def passages(self):
@@ -192,6 +186,23 @@ def metro():
     arcs += [(f"HA{it}.0", "LO1.1", way) for it, way in zip(thirds, (running, stair, still))]
     arcs += [("LO1.1", "LO2.1", gates), *(("LO2.1", f"DS{it}.2", way) for it, way in enumerate(out, 1))]
     return Example("metro.evac", "Metro station with two trains", 200, places, arcs, ("0 Platform", "1 Mezzanine", "2 Street"))
+
+
+def nine_storeys():
+    """An office building of nine storeys with a stair at each end, for 300 people on each storey above the ground."""
+    door = door_of("0.61")
+    stair_flow = WAYS[STAIR][1] * frac("0.82")
+    hall = Passage("corridor, to the stair's door", frac("2.00"), frac("45.7"), door, widths="2.40 - 0.40", door=door)
+    stair = Passage("stair, with its landings", frac("0.82"), frac("6.81"), 2 * door, STAIR, "1.12 - 0.30", "3.66 × 1.86", landing=frac("4.88"))
+    last = Passage("last flight, with the door", frac("0.82"), frac("6.81"), door, STAIR, "1.12 - 0.30", "3.66 × 1.86", landing=frac("4.88"), door=door)
+    places, arcs = [], []
+    for floor in range(2, 10):
+        places += [Place(f"WP{it}.{floor}", 200, 150) for it in (1, 2)]
+        places += [Place(f"SW{it}.{floor}", 9, area="5", what="landing of a stair") for it in (1, 2)]
+        arcs += [(f"WP{it}.{floor}", f"SW{it}.{floor}", hall) for it in (1, 2)]
+        arcs += [(f"SW{it}.{floor}", f"SW{it}.{floor - 1}" if floor > 2 else f"DS{it}.1", stair if floor > 2 else last) for it in (1, 2)]
+    floors = ("1 Ground", *(f"{it} Storey {it}" for it in range(2, 10)))
+    return Example("nine_storeys.plan", "Office building of nine storeys", 480, [*places, Place("DS1.1"), Place("DS2.1")], arcs, floors)
 
 
 STOREYS = 20

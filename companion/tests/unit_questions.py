@@ -15,8 +15,8 @@ class Questions(unittest.TestCase):
         answer = building.why()
         self.assertEqual((answer.most, answer.people, answer.places[0].moments), (2, 3, (0,)))
         drawn = why_sheet(answer, building.model)
-        self.assertEqual(as_text(drawn).splitlines()[2], "     2  WP1.1 DS1.1  0        0        =Hall to DS1.1")
-        self.assertEqual(as_csv(drawn).splitlines()[1], "2,WP1.1 DS1.1,0,0,'=Hall to DS1.1")
+        self.assertEqual(as_text(drawn).splitlines()[2], "     2  WP1.1 DS1.1  0        0 to 5   =Hall to DS1.1")
+        self.assertEqual(as_csv(drawn).splitlines()[1], "2,WP1.1 DS1.1,0,0 to 5,'=Hall to DS1.1")
 
     def test_a_cut_that_does_not_add_up_is_no_answer(self) -> None:
         building = reads(ROOM, Table({"cut 1": "cut 1 3\narc 0 WP1.1 DS1.1 2\nend\n"}))

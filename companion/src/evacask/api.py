@@ -16,6 +16,7 @@ from evacask.errors import InputError, NotProved
 from evacask.model.building import Model
 from evacask.model.edits import edited
 from evacask.model.lines import text_of
+from evacask.model.shares import Count
 from evacask.questions import sensitivity as of_ways
 from evacask.questions import sweep as of_scenarios
 from evacask.questions import why as of_cuts
@@ -66,7 +67,7 @@ class Building:
         """The cut of a period, or of the one before all are out."""
         return of_cuts.why(self.client, self.model, period)
 
-    def sensitivity(self, rate: int = of_ways.ANY_RATE, workers: int = 4, tell: Tell = quiet) -> of_ways.Sensitivity:
+    def sensitivity(self, rate: Optional[Count] = None, workers: int = 4, tell: Tell = quiet) -> of_ways.Sensitivity:
         """What each way costs and brings."""
         return of_ways.sensitivity(self.client, self.model, rate, workers, tell)
 

@@ -1,7 +1,7 @@
 """What can go wrong, as exceptions. A face turns each into one line and a status."""
 from __future__ import annotations
 
-from typing import Sequence, Tuple
+from typing import Any, Sequence, Tuple
 
 # A node of a cut, with the first and the last moment of a run at which it is in the cut.
 Span = Tuple[str, int, int]
@@ -29,10 +29,18 @@ class UnknownName(EvacaskError):
     """A node, an arc or an own name that isn't in the building."""
 
 
+class MarkError(EvacaskError):
+    """A comment that evacask reads, and the program reads past, isn't of its form. `line` is its number, from 1."""
+
+    def __init__(self, line: int, what: str):
+        super().__init__(f"line {line}: {what}")
+        self.line, self.what = line, what
+
+
 class Shortfall(EvacaskError):
     """Not everybody can be out by the horizon: at most `most` of `people` can. `cut` shows it, by nodes and runs of moments."""
 
-    def __init__(self, most: int, people: int, cut: Sequence[Span] = ()):
+    def __init__(self, most: Any, people: Any, cut: Sequence[Span] = ()):
         super().__init__(f"at most {most} of {people} can be out by the horizon")
         self.most, self.people, self.cut = most, people, tuple(cut)
 

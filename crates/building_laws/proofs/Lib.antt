@@ -12,8 +12,18 @@ mod Values
 mod Rooms
 mod Looser
 mod Slower
+mod Doors
+mod Losses
+mod Greedy
 mod Exits
 pub mod Ways
 mod Pace
 mod Leaving
 mod People
+mod Shares
+mod Periods
+mod Finer
+mod Rounded
+mod Filled
+mod Waits
+mod Widening

@@ -5,6 +5,7 @@ pub use Rattle.evac_law.specs.Edits
 pub use Rattle.evac_law.specs.Plans
 pub use Rattle.evac_law.specs.Sums
 pub mod Duality
+pub mod Shape
 pub mod Rooms
 pub mod Looser
 pub mod Slower
@@ -13,3 +14,9 @@ pub mod Exits
 pub mod Delays
 pub mod Ways
 pub mod Pace
+pub mod Shares
+pub mod Finer
+pub mod Filled
+pub mod Waits
+pub mod Widening
+pub mod Doors

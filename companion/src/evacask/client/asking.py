@@ -42,7 +42,7 @@ def solve(client: Client, model: Model, horizon: Optional[int] = None) -> Plan:
     refused = ONE_LINE.match(reply)
     if refused:
         raise refused_line(asked.text, Place.BUILDING, int(refused[1]), int(refused[2]))
-    return plan_of(reply, asked.period)
+    return plan_of(reply, asked.period, asked.shares)
 
 
 def plan_or_short(client: Client, model: Model, horizon: Optional[int] = None) -> Union[Plan, Shortfall]:

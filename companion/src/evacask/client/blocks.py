@@ -9,6 +9,7 @@ from typing import Callable, List, Optional, Tuple, TypeVar
 from evacask.errors import Broken, Shortfall, Span
 from evacask.model.lines import number_of
 from evacask.model.seconds import interval
+from evacask.model.shares import Count, in_people
 
 T = TypeVar("T")
 HEAD = re.compile(rb"answer (\d{1,9})\npeople (\d{1,9})\ncleared (\d{1,9})\n")
@@ -38,7 +39,7 @@ class Move:
     moment: int
     tail: str
     head: str
-    people: int
+    people: Count
 
 
 @dataclass(frozen=True)
@@ -57,7 +58,7 @@ class Item:
     word: str
     names: Tuple[str, ...]
     moment: Optional[int]
-    people: int
+    people: Count
 
 
 @dataclass(frozen=True)
@@ -65,7 +66,7 @@ class Cut:
     """The cut of `period`: at most `people` are out by then, the sum of its items."""
 
     period: int
-    people: int
+    people: Count
     items: Tuple[Item, ...]
 
 
@@ -74,21 +75,23 @@ class Outcome:
     """When all are out, in periods; or None, and the most people who can be out by the horizon."""
 
     cleared: Optional[int]
-    most: int
+    most: Count
 
 
 @dataclass(frozen=True)
 class Plan:
     """An answer block. Lists are read when they are asked for, so that a plan of a megabyte costs nothing before.
 
-    `cleared` is in periods of `period` seconds; `arrivals[k]` counts who is out by period k, from 0 to `cleared`.
+    `cleared` is in periods of `period` seconds; `arrivals[k]` counts who is out by period k, from 0 to `cleared`. The block itself, `raw`, counts each
+    person as so many shares.
     """
 
     raw: bytes = field(repr=False)
     number: int
-    people: int
+    people: Count
     cleared: int
     period: int
+    shares: int = 1
 
     @property
     def interval(self) -> Tuple[int, int]:
@@ -105,9 +108,9 @@ class Plan:
         return strictly(lambda: lines_of_reply(self.raw), "a block")
 
     @cached_property
-    def arrivals(self) -> Tuple[int, ...]:
-        def read() -> Tuple[int, ...]:
-            rows = [(number_of(k), number_of(out)) for _, k, out in (it for it in self.lines if it[0] == "out")]
+    def arrivals(self) -> Tuple[Count, ...]:
+        def read() -> Tuple[Count, ...]:
+            rows = [(number_of(k), in_people(number_of(out), self.shares)) for _, k, out in (it for it in self.lines if it[0] == "out")]
             if [k for k, _ in rows] != list(range(self.cleared + 1)) or rows[-1][1] != self.people:
                 raise ValueError("the arrivals don't end with all people at the clearing moment")
             return tuple(out for _, out in rows)
@@ -118,7 +121,7 @@ class Plan:
     def moves(self) -> Tuple[Move, ...]:
         """Who enters which arc when, by moment."""
         rows = (it for it in self.lines if it[0] == "move")
-        return strictly(lambda: tuple(Move(number_of(t), a, b, number_of(n)) for _, t, a, b, n in rows), "a move")
+        return strictly(lambda: tuple(Move(number_of(t), a, b, in_people(number_of(n), self.shares)) for _, t, a, b, n in rows), "a move")
 
     @cached_property
     def labels(self) -> Tuple[Label, ...]:
@@ -126,22 +129,23 @@ class Plan:
         return strictly(lambda: tuple(Label(name, number_of(t), number_of(v)) for _, name, t, v in rows), "a label")
 
 
-def plan_of(raw: bytes, period: int) -> Plan:
-    """A block, or `Shortfall`."""
+def plan_of(raw: bytes, period: int, shares: int = 1) -> Plan:
+    """A block that counts each person as so many shares, or `Shortfall`."""
     head = HEAD.match(raw)
     if head and raw.endswith(b"\nend\n"):
         number, people, cleared = (int(it) for it in head.groups())
-        return Plan(raw, number, people, cleared, period)
+        return Plan(raw, number, in_people(people, shares), cleared, period, shares)
     short = SHORT.match(raw)
     if short and raw.endswith(b"\nend\n"):
-        raise Shortfall(int(short[3]), int(short[2]), strictly(lambda: spans_of(lines_of_reply(raw)[3:]), "a shortfall"))
+        most, all_people = (in_people(int(it), shares) for it in (short[3], short[2]))
+        raise Shortfall(most, all_people, strictly(lambda: spans_of(lines_of_reply(raw)[3:]), "a shortfall"))
     raise Broken(f"the program printed {raw[:40]!r} in place of a block")
 
 
-def outcome_of(raw: bytes) -> Outcome:
+def outcome_of(raw: bytes, shares: int = 1) -> Outcome:
     """When all are out by a block or a shortfall block."""
     try:
-        plan = plan_of(raw, 1)
+        plan = plan_of(raw, 1, shares)
     except Shortfall as short:
         return Outcome(None, short.most)
     return Outcome(plan.cleared, plan.people)
@@ -157,12 +161,12 @@ def spans_of(lines: List[List[str]]) -> Tuple[Span, ...]:
     return tuple(found)
 
 
-def cut_of(raw: bytes) -> Cut:
+def cut_of(raw: bytes, shares: int = 1) -> Cut:
     """The reply to `cut k`. Its items must add up to its value."""
 
     def read() -> Cut:
         (word, period, people), *rest = lines_of_reply(raw)
-        cut = Cut(number_of(period), number_of(people), tuple(item_of(line) for line in rest))
+        cut = Cut(number_of(period), in_people(number_of(people), shares), tuple(item_of(line, shares) for line in rest))
         if word != "cut" or cut.items and sum(it.people for it in cut.items) != cut.people:
             raise ValueError("the items don't add up")
         return cut
@@ -170,15 +174,16 @@ def cut_of(raw: bytes) -> Cut:
     return strictly(read, "a cut")
 
 
-def item_of(line: List[str]) -> Item:
+def item_of(line: List[str], shares: int = 1) -> Item:
     word, *rest = line
+    people = in_people(number_of(rest[-1]), shares)
     if word == "entry":
-        name, people = rest
-        return Item(word, (name,), None, number_of(people))
+        name, _ = rest
+        return Item(word, (name,), None, people)
     if word == "hold":
-        name, moment, people = rest
-        return Item(word, (name,), number_of(moment), number_of(people))
+        name, moment, _ = rest
+        return Item(word, (name,), number_of(moment), people)
     if word == "arc":
-        moment, tail, head, people = rest
-        return Item(word, (tail, head), number_of(moment), number_of(people))
+        moment, tail, head, _ = rest
+        return Item(word, (tail, head), number_of(moment), people)
     raise ValueError(" ".join(line))

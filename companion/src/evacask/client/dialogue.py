@@ -6,7 +6,7 @@ from typing import Iterable, Iterator, List, Optional, Sequence, Tuple
 from evacask.client.blocks import ONE_LINE, Cut, Plan, cut_of, plan_of
 from evacask.client.reports import Exit, Gone, Least, Report, exits_of, gone_of, least_of, report_of, work_of
 from evacask.client.talk import Line
-from evacask.errors import Broken
+from evacask.errors import Broken, WordsError
 from evacask.model.building import Model
 from evacask.model.codes import Place, refusal
 from evacask.model.forms import LINE_LIMIT, MOST_UNDOS, REPORTS, plain
@@ -23,7 +23,10 @@ class Dialogue:
 
     def ask(self, command: str) -> bytes:
         """The reply to a command; `Refused` where the program refuses it, but for a shortfall, which is a reply."""
-        sent = plain(self.model, command)
+        try:
+            sent = plain(self.model, command)
+        except ValueError as fault:
+            raise WordsError(f"{command}: {fault}") from None
         if not fields_of(sent) or "\n" in sent or sent.startswith("#") or len(bytes_of(sent)) > LINE_LIMIT:
             raise ValueError(f"{command!r} is no command: it would get no reply")
         self.line.send(bytes_of(sent) + b"\n")
@@ -41,11 +44,11 @@ class Session(Dialogue):
 
     def __init__(self, line: Line, model: Model):
         super().__init__(line, model)
-        self.opening = self.plan = plan_of(line.reply(), model.period)
+        self.opening = self.plan = plan_of(line.reply(), model.period, model.shares)
 
     def edit(self, command: str) -> Plan:
         """The plan after one edit; `Refused`, or `Shortfall` where not everybody could be out then."""
-        self.plan = plan_of(self.ask(command), self.model.period)
+        self.plan = plan_of(self.ask(command), self.model.period, self.model.shares)
         return self.plan
 
     def undo(self) -> Plan:
@@ -55,7 +58,7 @@ class Session(Dialogue):
     def cut(self, period: Optional[int] = None) -> Cut:
         """The cut of a period, or of the one before all are out; `Refused` with 33 above the horizon."""
         wanted = max(0, self.plan.cleared - 1) if period is None else period
-        cut = cut_of(self.ask(f"cut {wanted}"))
+        cut = cut_of(self.ask(f"cut {wanted}"), self.model.shares)
         if cut.period != wanted:
             raise Broken(f"the program printed the cut of period {cut.period} in place of {wanted}")
         return cut
@@ -64,10 +67,10 @@ class Session(Dialogue):
         """One of the reports: routes, clearing, bottlenecks, summary."""
         if word not in REPORTS:
             raise ValueError(f"{word!r} is no report: there are {', '.join(REPORTS)}")
-        return report_of(self.ask(word), word)
+        return report_of(self.ask(word), word, self.model.shares)
 
     def work(self) -> Tuple[int, int]:
-        """The work of the last edit: people taken back, and how often people were sent."""
+        """The work of the last edit: people (or shares) taken back, and how often some were sent."""
         return work_of(self.ask("work"))
 
     def trials(self, groups: Iterable[Sequence[str]]) -> Iterator[List[bytes]]:
@@ -90,8 +93,8 @@ class Session(Dialogue):
         """The accepted edits are undone, the last undo gives the opening again, and each further one is refused by 39."""
         made = sum(it.startswith(b"answer ") for it in replies)
         blocks, others = backs[:made], backs[made:]
-        opening = b"people %d\ncleared %d\n" % (self.opening.people, self.opening.cleared)
-        is_back = not blocks or blocks[-1].partition(b"\n")[2].startswith(opening)
+        opening = self.opening.raw.split(b"\n", 3)[1:3]
+        is_back = not blocks or blocks[-1].split(b"\n", 3)[1:3] == opening
         if not is_back or not all(it.startswith(b"answer ") for it in blocks) or not all(it.startswith(b"refused 39 ") for it in others):
             raise Broken("the program didn't come back to the building of the opening")
 
@@ -103,11 +106,11 @@ class Study(Dialogue):
 
     def exits(self) -> Tuple[Exit, ...]:
         """When all are out without each exit."""
-        return exits_of(self.ask("exits"))
+        return exits_of(self.ask("exits"), self.model.shares)
 
     def least(self, tail: str, head: str, moment: int) -> Least:
         """The least rate of an arc at which all are out by a moment."""
-        return least_of(self.ask(f'least "{tail}" "{head}" {moment}'))
+        return least_of(self.ask(f'least "{tail}" "{head}" {moment}'), self.model.shares)
 
 
 class Replan(Session):
@@ -118,6 +121,6 @@ class Replan(Session):
     def advance(self, moment: int) -> Gone:
         """Carries the plan out up to a moment, and plans what is left."""
         first = self.ask(f"advance {moment}")
-        at, out = gone_of(first)
-        self.plan = plan_of(self.line.reply(), self.model.period)
+        at, out = gone_of(first, self.model.shares)
+        self.plan = plan_of(self.line.reply(), self.model.period, self.model.shares)
         return Gone(at, out, self.plan)

@@ -16,6 +16,7 @@ from evacask.faces.ending import Status
 from evacask.faces.progress import LINE, waiting
 from evacask.faces.sheet import Sheet, as_csv, as_json, as_text
 from evacask.model.building import Model
+from evacask.model.drawn_building import drawn_building, has_ways, in_periods
 from evacask.model.edits import edited
 from evacask.model.forms import EDITS, LINE_LIMIT
 from evacask.model.lines import bytes_of, fields_of, text_of
@@ -47,13 +48,18 @@ def edits_of(groups: List[str]) -> List[str]:
 
 
 class Asked:
-    """A building that a command is about: its name, the program to ask, and its model after the edits that were given."""
+    """A building that a command is about: its name, the program to ask, and its model after the edits that were given.
+
+    Of a plan in metres `drawn` is the plan, and the model is its building in shares of a person, rounded to the later side.
+    """
 
     def __init__(self, given: Namespace, name: Optional[str] = None):
         edits = edits_of(getattr(given, "edit", []))
         self.name = name or given.building
         self.client = program_of(given)
-        self.model = named(self.name, self.client, read(self.name))
+        text = read(self.name)
+        self.drawn = drawn_building(self.name, text) if has_ways(text) else None
+        self.model = named(self.name, self.client, in_periods(self.drawn) if self.drawn else text)
         if edits:
             self.model = edited(self.model, edits)
 

@@ -6,13 +6,22 @@ from argparse import Namespace
 from typing import List, Optional, Sequence, Tuple
 
 from evacask.errors import NoProgram, Shortfall, WordsError
-from evacask.faces import compare, edit, review, sensitivity, summary, why, width
+from evacask.faces import compare, convert, edit, review, sensitivity, summary, why, width
 from evacask.faces.asked import program_of
 from evacask.faces.ending import Status, ends
 from evacask.faces.words import Command, parser_of
 from evacask.version import VERSION
 
-COMMANDS: Tuple[Command, ...] = (summary.COMMAND, why.COMMAND, sensitivity.COMMAND, width.COMMAND, compare.COMMAND, review.COMMAND, edit.COMMAND)
+COMMANDS: Tuple[Command, ...] = (
+    summary.COMMAND,
+    why.COMMAND,
+    sensitivity.COMMAND,
+    width.COMMAND,
+    compare.COMMAND,
+    review.COMMAND,
+    convert.COMMAND,
+    edit.COMMAND,
+)
 # Words of before, which answer still and aren't in the help.
 OLD_WORDS = {"doubts": "review", "ways": "sensitivity", "wide": "width", "talk": "session", "metres": "convert"}
 

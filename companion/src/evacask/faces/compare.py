@@ -8,7 +8,7 @@ from evacask.faces.asked import Asked, edits_of, named, put, read
 from evacask.faces.ending import Status
 from evacask.faces.sheet import Column, Sheet
 from evacask.faces.words import BUILDING, FACES, Command, argument
-from evacask.model.seconds import interval, mean_text, seconds_text
+from evacask.model.seconds import interval, seconds_text
 from evacask.questions.compare import Comparison, Scenario, compare
 
 READ = ("cleared", "seconds", "change", "half out", "95 %", "mean", "people")
@@ -38,9 +38,13 @@ def read_cells(it: Scenario, first: Scenario) -> Tuple[str, ...]:
         return (f"refused {it.refused.code}", *[""] * 6)
     if it.cleared is None:
         return (f"short {it.most}", *[""] * 5, f"{it.people}")
-    shares = ("" if moment is None else seconds_text(moment, it.period) for moment in it.by_share)
-    mean = "" if it.mean is None else mean_text(it.mean, it.period)
-    return (f"{it.cleared}", seconds_text(it.cleared, it.period), change(it, first), *shares, mean, f"{it.people}")
+    shares = ("" if moment is None else span(moment, it) for moment in it.by_share)
+    mean = "" if it.mean is None else span(it.mean, it)
+    return (f"{it.cleared}", span(it.cleared, it), change(it, first), *shares, mean, f"{it.people}")
+
+
+def span(moment: float, it: Scenario) -> str:
+    return seconds_text(moment, it.period, it.has_later_end)
 
 
 def change(it: Scenario, first: Scenario) -> str:
@@ -59,6 +63,7 @@ def data_cells(it: Scenario) -> Tuple[Any, ...]:
     mean = None if it.mean is None else round(it.mean, 3)
     people = None if it.refused else it.people
     most = None if it.refused else it.most
+    ends = ends if it.has_later_end else (ends[0], None)
     return (it.cleared, *ends, most, *it.by_share, mean, people, it.period, it.refused.code if it.refused else None)
 
 

@@ -13,8 +13,8 @@ from evacask.faces.sheet import Column, Sheet
 from evacask.faces.wording import some
 from evacask.faces.words import BUILDING, SHARED, Command, argument, rate
 from evacask.model.building import Model
-from evacask.model.seconds import interval
-from evacask.questions.sensitivity import ANY_RATE, Sensitivity, WayOutcome, sensitivity
+from evacask.model.shares import in_people
+from evacask.questions.sensitivity import MOST_RATE, Sensitivity, WayOutcome, sensitivity
 
 # Sessions side by side.
 WORKERS = max(1, min(8, os.cpu_count() or 1))
@@ -24,9 +24,9 @@ DATA = (
 ).split(",")
 
 
-def columns(answer: Sensitivity) -> Tuple[Column, ...]:
+def columns(answer: Sensitivity, shares: int) -> Tuple[Column, ...]:
     """Those to read, and those for a spreadsheet."""
-    heads = ("without", "as it is", "any rate" if answer.rate == ANY_RATE else f"rate {answer.rate}")
+    heads = ("without", "as it is", "any rate" if answer.rate == in_people(MOST_RATE, shares) else f"rate {answer.rate}")
     read = (*(Column(it, "", is_right=True) for it in heads), Column("way", ""), Column("", ""))
     return (*read, *(Column("", it, is_shown=False) for it in DATA))
 
@@ -67,7 +67,7 @@ def sensitivity_sheet(answer: Sensitivity, model: Model) -> Sheet:
     after = notes(answer, kinds, [it for _, it in own], [it for _, it in shown])
     rows = tuple(row(it, answer, model) for it in answer.ways)
     head = headline([it for _, it in shown], answer, kinds, model)
-    return Sheet(answer, (head,), columns(answer), rows, tuple(after), tuple(at for at, _ in shown))
+    return Sheet(answer, (head,), columns(answer, model.shares), rows, tuple(after), tuple(at for at, _ in shown))
 
 
 def notes(answer: Sensitivity, kinds: Kinds, own: List[WayOutcome], shown: List[WayOutcome]) -> List[str]:
@@ -118,13 +118,13 @@ def row(way: WayOutcome, answer: Sensitivity, model: Model) -> Tuple[Any, ...]:
 
 def times_of(moment: Optional[int], model: Model) -> Tuple[Any, Any, Any]:
     """A moment, the seconds from which on and before which it is; or three empty cells."""
-    return (None, None, None) if moment is None else (moment, *interval(moment, model.period))
+    return (None, None, None) if moment is None else (moment, *model.ends(moment))
 
 
 def run(given: Namespace) -> int:
     asked = Asked(given)
     with progress("questions") as tell:
-        answer = sensitivity(asked.client, asked.model, ANY_RATE if given.rate is None else given.rate, WORKERS, tell)
+        answer = sensitivity(asked.client, asked.model, given.rate, WORKERS, tell)
     return put(sensitivity_sheet(answer, asked.model), "sensitivity", given, asked.client)
 
 

@@ -7,6 +7,7 @@ import enum
 import io
 import json
 from dataclasses import dataclass
+from fractions import Fraction
 from typing import Any, Dict, List, Optional, Sequence, Tuple
 
 from evacask.model.ground import Ground
@@ -128,15 +129,27 @@ def plain(value: Any) -> Any:
         }
     if isinstance(value, (list, tuple)):
         return [plain(it) for it in value]
+    if isinstance(value, Fraction):
+        return float(value)
     return value if value is None or isinstance(value, (bool, int, float, str)) else str(value)
 
 
-def runs(moments: Sequence[int], scale: int = 1) -> str:
-    """Moments as `2 to 23, 30`, each times a scale."""
-    found: List[List[int]] = []
+def runs(moments: Sequence[int]) -> str:
+    """Moments as `2 to 23, 30`."""
+    return ", ".join(f"{it[0]}" if len(it) == 1 else f"{it[0]} to {it[-1]}" for it in runs_of(moments))
+
+
+def seconds_of_runs(moments: Sequence[int], period: int) -> str:
+    """The seconds of moments as `10 to 120, 150 to 155`: each moment stands for its whole period."""
+    return ", ".join(f"{it[0] * period} to {it.stop * period}" for it in runs_of(moments))
+
+
+def runs_of(moments: Sequence[int]) -> List[range]:
+    """The longest runs of moments in a growing list."""
+    found: List[range] = []
     for moment in moments:
-        if found and found[-1][1] + 1 == moment:
-            found[-1][1] = moment
+        if found and found[-1].stop == moment:
+            found[-1] = range(found[-1].start, moment + 1)
         else:
-            found.append([moment, moment])
-    return ", ".join(f"{first * scale}" if first == last else f"{first * scale} to {last * scale}" for first, last in found)
+            found.append(range(moment, moment + 1))
+    return found

@@ -12,7 +12,6 @@ from evacask.faces.wording import OWN, some
 from evacask.faces.words import BUILDING, SHARED, Command
 from evacask.model.building import Model
 from evacask.model.ground import Ground
-from evacask.model.seconds import interval, mean_text
 from evacask.model.walks import Bound
 from evacask.questions.summary import Short, Summary, summary
 
@@ -36,7 +35,7 @@ def figures(answer: Summary, model: Model) -> List[List[str]]:
     walk = f"{model.time(answer.uncongested)}: the longest walk of those inside at first, with nobody in the way"
     rows += [["uncongested", walk], ["congestion", price(answer, model)]]
     if answer.mean is not None:
-        rows.append(["mean", f"{answer.mean:.1f} ({mean_text(answer.mean, model.period)}): when a person is out, on average"])
+        rows.append(["mean", f"{answer.mean:.1f} ({model.span(answer.mean)}): when a person is out, on average"])
     return rows
 
 
@@ -51,7 +50,7 @@ def price(answer: Summary, model: Model) -> str:
 
 def figure_rows(answer: Summary, model: Model) -> Tuple[Tuple[object, ...], ...]:
     """The figures for a spreadsheet: a number each, moments in periods and seconds apart."""
-    (first, last), proved = interval(answer.cleared, model.period), Ground.PROVED
+    (first, last), proved = model.ends(answer.cleared), Ground.PROVED
     rows: List[Tuple[object, ...]] = [("people", answer.people, proved), ("cleared", answer.cleared, proved)]
     rows += [("cleared_from_s", first, proved), ("cleared_before_s", last, proved), ("uncongested", answer.uncongested, proved)]
     rows += [("mean", "" if answer.mean is None else round(answer.mean, 3), proved)]

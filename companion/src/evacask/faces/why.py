@@ -5,7 +5,7 @@ from argparse import Namespace
 from typing import Sequence
 
 from evacask.faces.asked import Asked, put
-from evacask.faces.sheet import Column, Sheet, runs
+from evacask.faces.sheet import Column, Sheet, runs, seconds_of_runs
 from evacask.faces.words import BUILDING, SHARED, Command, argument, number
 from evacask.model.building import Model
 from evacask.questions.why import Place, Why, why
@@ -29,7 +29,7 @@ def why_sheet(answer: Why, model: Model) -> Sheet:
     if not answer.most:
         head = f"Nobody can be out {by}: no walk is so short, or the ways are closed."
     end = f"A best plan has as many out by then, and all {answer.people} by moment {model.time(answer.cleared)}."
-    rows = tuple((it.people, place(it), runs(it.moments), runs(it.moments, model.period), name(it, model)) for it in answer.places)
+    rows = tuple((it.people, place(it), runs(it.moments), seconds_of_runs(it.moments, model.period), name(it, model)) for it in answer.places)
     return Sheet(answer, (head,), COLUMNS, rows, (end,))
 
 

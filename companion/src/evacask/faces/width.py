@@ -9,7 +9,9 @@ from evacask.faces.sheet import Column, Sheet, aligned
 from evacask.faces.wording import OWN, some
 from evacask.faces.words import BUILDING, SHARED, Command, argument, number
 from evacask.model.building import Model
+from evacask.model.edits import MOST_RATE
 from evacask.model.ground import Ground
+from evacask.model.shares import in_people
 from evacask.questions.width import Leaves, Width, Widths, width
 
 COLUMNS = tuple(
@@ -23,19 +25,19 @@ def width_sheet(answer: Width, model: Model) -> Sheet:
     own_name = model.named(answer.tail, answer.head)
     way = f"{answer.tail} {answer.head}" + (f" ({own_name})" if own_name else "")
     by = f"by moment {model.time(answer.moment)}"
-    return Sheet(answer, tuple(lines(answer, way, by, model.period)), COLUMNS, rows(answer))
+    return Sheet(answer, tuple(lines(answer, model, way, by)), COLUMNS, rows(answer))
 
 
-def lines(answer: Width, way: str, by: str, period: int) -> List[str]:
+def lines(answer: Width, model: Model, way: str, by: str) -> List[str]:
     if answer.rate is None:
-        most = f"with 10,000 at most {answer.most} of {answer.people} are out {by}"
+        most = f"with {in_people(MOST_RATE, model.shares):,} at most {answer.most} of {answer.people} are out {by}"
         return [f"No rate of {way} is enough: {most}.", "evacask why says what else holds them up, and evacask sensitivity what brings more."]
     if answer.rate == 0:
         return [f"{way} isn't needed at all: without it everybody is out {by}."]
     said = [f"{way} needs a rate of {answer.rate} for everybody to be out {by}; it has {answer.now} now."]
-    said.append(f"With {answer.rate - 1} at most {answer.most} of {answer.people} are out by then.")
+    said.append(f"With {answer.rate - in_people(1, model.shares)} at most {answer.most} of {answer.people} are out by then.")
     if answer.widths:
-        need = f"{some(answer.rate, 'person needs', 'people need')} a clear width, in {period} s, of:"
+        need = f"{some(answer.rate, 'person needs', 'people need')} a clear width, in {model.period} s, of:"
         said += [f"{OWN}, by docs/FIGURES.md. {need}", *("  " + line for line in aligned(passages(answer.widths), (False, False)))]
     return said
 

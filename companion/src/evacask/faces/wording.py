@@ -5,11 +5,12 @@ import textwrap
 from typing import List
 
 from evacask.faces.words import WIDTH
+from evacask.model.shares import Count
 
 OWN = "evacask's own arithmetic, not proved"
 
 
-def some(number: int, one: str, more: str = "") -> str:
+def some(number: Count, one: str, more: str = "") -> str:
     """A number with its word: 1 period, 2 periods."""
     return f"{number:,} {one if number == 1 else more or one + 's'}"
 

@@ -7,13 +7,11 @@ from types import MappingProxyType
 from typing import Dict, Iterable, List, Mapping, Optional, Tuple
 
 from evacask.errors import UnknownName
-from evacask.model.lines import bytes_of, fields_of, lines_of, number_of, printable
-from evacask.model.seconds import seconds_text, time_text
-from evacask.model.shares import shares_of
+from evacask.model.lines import bytes_of, fields_of, lines_of, number_of, own_name_of, printable
+from evacask.model.seconds import interval, seconds_text
+from evacask.model.shares import Count, in_people, shares_of
 
 Way = Tuple[str, str]
-# A comment that begins so, right above a node or an arc, is the user's own name for it.
-MARK = "#:"
 
 
 @dataclass(frozen=True)
@@ -21,8 +19,8 @@ class Node:
     """A node: its capacity and its start in people (both None of an exit), its line, and the user's own name for it."""
 
     name: str
-    capacity: Optional[int]
-    start: Optional[int]
+    capacity: Optional[Count]
+    start: Optional[Count]
     line: int
     own_name: str = ""
 
@@ -47,7 +45,7 @@ class Arc:
     tail: str
     head: str
     travel: int
-    rate: int
+    rate: Count
     line: int
     own_name: str = ""
 
@@ -72,7 +70,7 @@ class Entrant:
 
     name: str
     moment: int
-    people: int
+    people: Count
     line: int
 
 
@@ -107,8 +105,8 @@ class Model:
         return [node for node in self.nodes.values() if not node.is_exit]
 
     @property
-    def people(self) -> int:
-        """All people, those who come later included (in shares where the model counts so)."""
+    def people(self) -> Count:
+        """All people, those who come later included."""
         return sum(node.start or 0 for node in self.nodes.values()) + sum(it.people for it in self.entrants)
 
     @property
@@ -120,13 +118,23 @@ class Model:
         """The seconds from which on a moment may be: the earlier end of its interval."""
         return moment * self.period
 
-    def time(self, moment: int) -> str:
-        """A moment with its seconds: 28 (140 to 145 s)."""
-        return time_text(moment, self.period)
+    @property
+    def has_later_end(self) -> bool:
+        """Whether all that a moment says holds by the end of its period, in shorter periods too: a law if nobody comes later or each node holds all."""
+        return not self.entrants or all((it.capacity or 0) >= self.people for it in self.rooms)
 
-    def span(self, moment: int) -> str:
-        """The seconds of a moment: 140 to 145 s."""
-        return seconds_text(moment, self.period)
+    def time(self, moment: int) -> str:
+        """A moment with its seconds: 28 (140 to 145 s), or 28 (from 140 s) if no later end is claimed."""
+        return f"{moment} ({self.span(moment)})"
+
+    def span(self, moment: float) -> str:
+        """The seconds of a moment, or of a mean of moments: 140 to 145 s, or from 140 s."""
+        return seconds_text(moment, self.period, self.has_later_end)
+
+    def ends(self, moment: int) -> Tuple[int, Optional[int]]:
+        """The seconds from which on a moment is, and those before which it is; None if no later end is claimed."""
+        first, last = interval(moment, self.period)
+        return first, last if self.has_later_end else None
 
     def node(self, name: str) -> Node:
         """The node of a name, or of an own name that no other node has; `UnknownName` with names that are near it."""
@@ -168,8 +176,9 @@ def near(name: str, names: Iterable[str]) -> str:
 
 @dataclass
 class Statements:
-    """The statements of a text so far."""
+    """The statements of a text so far, which counts each person as so many shares."""
 
+    shares: int = 1
     title: str = ""
     period: int = 1
     horizon: int = 0
@@ -191,32 +200,36 @@ class Statements:
         elif word == "horizon":
             (self.horizon,) = map(number_of, rest)
         elif word == "node":
-            capacity, start = map(number_of, rest[1:]) if rest[1:] else (None, None)
+            capacity, start = map(self.people_of, rest[1:]) if rest[1:] else (None, None)
             self.nodes[rest[0]] = Node(rest[0], capacity, start, number, own_name)
         else:
             self.take_numbers(word, rest, number, own_name)
 
+    def people_of(self, word: str) -> Count:
+        """A number of people."""
+        return in_people(number_of(word), self.shares)
+
     def take_numbers(self, word: str, rest: List[str], line: int, own_name: str) -> None:
         """Adds a statement of names and two numbers."""
         *names, first, second = rest
-        numbers = number_of(first), number_of(second)
         if word == "entrant":
             (name,) = names
-            self.entrants.append(Entrant(name, *numbers, line=line))
+            self.entrants.append(Entrant(name, number_of(first), self.people_of(second), line))
             return
         tail, head = names
         if word == "arc":
-            self.arcs[tail, head] = Arc(tail, head, *numbers, line=line, own_name=own_name)
+            self.arcs[tail, head] = Arc(tail, head, number_of(first), self.people_of(second), line, own_name)
         elif word == "window":
-            self.windows.append(Window((tail, head), *numbers, line=line))
+            self.windows.append(Window((tail, head), number_of(first), number_of(second), line))
         else:
             raise ValueError(f"{word} is no statement")
 
 
 def model_of(text: str) -> Model:
     """The model of a text that the program accepts; `ValueError` for some that it doesn't."""
-    said, mark, end = Statements(), "", 0
     lines = lines_of(text)
+    last = next((number for number, line in enumerate(lines) if fields_of(line)[:1] == ["end"]), len(lines))
+    said, mark, end = Statements(shares_of(lines[:last])), "", 0
     for number, line in enumerate(lines, 1):
         fields = fields_of(line)
         if fields[:1] == ["end"]:
@@ -237,12 +250,6 @@ def model_of(text: str) -> Model:
         tuple(said.windows),
         tuple(said.entrants),
         MappingProxyType(said.floors),
-        shares_of(lines[:end]),
+        said.shares,
         end,
     )
-
-
-def own_name_of(line: str) -> str:
-    """The own name that a line states for the line below, or nothing."""
-    line = line.strip(" \t")
-    return printable(line[len(MARK) :]).strip() if line.startswith(MARK) else ""

@@ -1,19 +1,18 @@
 """Edits of a building's text, refused by the rules of a session. A line that no edit changes stays as it is, comments and names with it.
 
-A session refuses an edit after which not everybody could be out (22). Here several edits are one step, and only the last building is planned.
-"""
+A session refuses an edit after which not everybody could be out (22). Here several are one step, and only the last building is planned."""
 from __future__ import annotations
-
 
 import re
 from dataclasses import dataclass, field
 from typing import Callable, Dict, List, Optional, Sequence, Set, Tuple, Union
 
-from evacask.errors import EvacaskError
+from evacask.errors import EvacaskError, WordsError
 from evacask.model.building import Model, Way, model_of
 from evacask.model.codes import Place, refusal
 from evacask.model.forms import EDITS, plain
 from evacask.model.lines import fields_of, is_number, number_of
+from evacask.model.shares import shares_in
 
 MOST_RATE, MOST_PEOPLE, MOST_WINDOWS, LAST_MOMENT = 10_000, 100_000, 8, 1_200
 NAME = re.compile(r"(?:WP|HA|SW|LO|DS)[1-9][0-9]{0,3}\.(?:0|[1-9][0-9]{0,2})")
@@ -35,7 +34,7 @@ def refuse(is_refused: bool, code: int) -> None:
 
 @dataclass
 class Draft:
-    """What edits change of a building: rates, capacities, starts and windows, and what is shut."""
+    """What edits change of a building: rates, capacities, starts and windows, and what is shut. People are counted in the model's shares."""
 
     model: Model
     rates: Dict[Way, int]
@@ -76,21 +75,17 @@ class Draft:
 
     @property
     def people(self) -> int:
-        return sum(self.starts.values()) + sum(it.people for it in self.model.entrants)
+        return sum(self.starts.values()) + sum(shares_in(it.people, self.model.shares) for it in self.model.entrants)
 
 
 def draft_of(model: Model) -> Draft:
     windows: Dict[Way, List[Tuple[int, int]]] = {way: [] for way in model.arcs}
     for it in model.windows:
         windows[it.way].append((it.first, it.until))
-    rooms = model.rooms
-    return Draft(
-        model,
-        {way: arc.rate for way, arc in model.arcs.items()},
-        {it.name: it.capacity or 0 for it in rooms},
-        {it.name: it.start or 0 for it in rooms},
-        windows,
-    )
+    rates = {way: shares_in(arc.rate, model.shares) for way, arc in model.arcs.items()}
+    capacities = {it.name: shares_in(it.capacity or 0, model.shares) for it in model.rooms}
+    starts = {it.name: shares_in(it.start or 0, model.shares) for it in model.rooms}
+    return Draft(model, rates, capacities, starts, windows)
 
 
 def shut(draft: Draft, tail: str, head: str) -> None:
@@ -211,6 +206,8 @@ def edited(model: Model, edits: Sequence[str]) -> Model:
             make(draft, plain(model, edit))
         except Fault as fault:
             raise refusal(Place.SESSION, fault.code, 0, edit) from None
+        except ValueError as fault:
+            raise WordsError(f"{edit}: {fault}") from None
     return model_of(text_of(draft))
 
 
@@ -219,11 +216,11 @@ def text_of(draft: Draft) -> str:
     model, changed = draft.model, {}
     for name, capacity in draft.capacities.items():
         node, start = model.nodes[name], draft.starts[name]
-        if (node.capacity, node.start) != (capacity, start):
+        if (shares_in(node.capacity or 0, model.shares), shares_in(node.start or 0, model.shares)) != (capacity, start):
             changed[node.line] = f"node {name} {capacity} {start}"
     for way, arc in model.arcs.items():
         people = 0 if way in draft.shut or arc.head in draft.shut_exits else draft.rates[way]
-        if people != arc.rate:
+        if people != shares_in(arc.rate, model.shares):
             changed[arc.line] = f"arc {arc.tail} {arc.head} {arc.travel} {people}"
     return with_windows(draft, changed)
 

@@ -6,6 +6,7 @@ from typing import Dict, List
 
 from evacask.errors import UnknownName
 from evacask.model.building import Model
+from evacask.model.shares import in_shares
 
 # Nodes A and B, an exit D, and numbers by other letters.
 EDITS = {
@@ -40,10 +41,17 @@ def words_of(line: str) -> List[str]:
 
 
 def plain(model: Model, line: str) -> str:
-    """A command whose own names are replaced by the names of their nodes, as the program is sent it."""
+    """A command as the program is sent it: with the names of nodes in place of own names, and people in shares."""
     word, *rest = words_of(line) or [""]
     wanted = COMMANDS["replan"].get(word, COMMANDS["study"].get(word, "")).split()
-    return " ".join([word, *(own_to_name(model, it) if form in ("A", "B", "D") else it for it, form in zip(rest, wanted)), *rest[len(wanted) :]])
+    return " ".join([word, *(sent(model, form, it) for it, form in zip(rest, wanted)), *rest[len(wanted) :]])
+
+
+def sent(model: Model, form: str, word: str) -> str:
+    """A field of a command as the program is sent it. `ValueError` for people who are no whole number of shares."""
+    if form in ("A", "B", "D"):
+        return own_to_name(model, word)
+    return in_shares(word, model.shares) if form == "n" else word
 
 
 def own_to_name(model: Model, word: str) -> str:

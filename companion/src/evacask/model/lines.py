@@ -3,6 +3,9 @@ from __future__ import annotations
 
 from typing import List
 
+# A comment that begins so, right above a node or an arc, is the user's own name for it.
+NAME_MARK = "#:"
+
 
 def lines_of(text: str) -> List[str]:
     """The lines of a text, without their ends; a last line may have none."""
@@ -42,3 +45,9 @@ def bytes_of(text: str) -> bytes:
 def printable(text: str) -> str:
     """A text without letters that a terminal would obey."""
     return "".join(it for it in text if it.isprintable())
+
+
+def own_name_of(line: str) -> str:
+    """The own name that a line states for the line below, or nothing."""
+    line = line.strip(" \t")
+    return printable(line[len(NAME_MARK) :]).strip() if line.startswith(NAME_MARK) else ""

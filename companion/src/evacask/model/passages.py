@@ -22,6 +22,11 @@ def free_speed(kind: str) -> float:
     return FREE_SHARE * PACES[kind]
 
 
+def crowd_speed(density: float) -> float:
+    """The speed on the level in a crowd of so many people on a square metre; 0 or less if nobody moves."""
+    return free_speed(LEVEL) if density <= FREE_DENSITY else PACES[LEVEL] * (1 - A * density)
+
+
 def speed(kind: str, flow: float) -> float:
     """The speed of people who pass with a flow, where nobody is held up; at the greatest flow that of a queue."""
     pace, free = PACES[kind], free_speed(kind)

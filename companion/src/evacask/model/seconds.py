@@ -13,20 +13,9 @@ def interval(moment: int, period: int) -> Tuple[int, int]:
     return moment * period, (moment + 1) * period
 
 
-def seconds_text(moment: int, period: int) -> str:
-    """The seconds of a moment alone: 140 to 145 s."""
-    first, last = interval(moment, period)
-    return f"{first} to {last} s"
-
-
-def time_text(moment: int, period: int) -> str:
-    """A moment with its seconds: 28 (140 to 145 s)."""
-    return f"{moment} ({seconds_text(moment, period)})"
-
-
-def mean_text(mean: float, period: int) -> str:
-    """The seconds of a mean of moments, which is as uncertain as they are: 70 to 75 s."""
-    return f"{mean * period:.0f} to {(mean + 1) * period:.0f} s"
+def seconds_text(moment: float, period: int, has_later_end: bool = True) -> str:
+    """The seconds of a moment, or of a mean of moments, alone: 140 to 145 s, or from 140 s if no later end is claimed."""
+    return f"{moment * period:.0f} to {(moment + 1) * period:.0f} s" if has_later_end else f"from {moment * period:.0f} s"
 
 
 def last_moment_within(seconds: int, period: int) -> int:

@@ -5,6 +5,7 @@ import heapq
 from dataclasses import dataclass
 from typing import Dict, List, Optional, Tuple
 
+from evacask.model.shares import Count, shares_in
 from evacask.model.building import Arc, Model
 
 
@@ -16,11 +17,11 @@ class Walk:
     first: Optional[Arc]
 
 
-def walks(model: Model, rate: int = 1) -> Dict[str, Walk]:
-    """Of each node from which so many people at once can walk out, the quickest walk over arcs with that rate."""
+def walks(model: Model, rate: Count = 0) -> Dict[str, Walk]:
+    """Of each node from which so many people at once can walk out, the quickest walk over arcs with that rate; over any open arc without a number."""
     into: Dict[str, List[Arc]] = {}
     for arc in model.arcs.values():
-        if arc.rate >= rate:
+        if arc.rate and arc.rate >= rate:
             into.setdefault(arc.head, []).append(arc)
     found: Dict[str, Walk] = {}
     waiting: List[Tuple[int, int, str, Optional[Arc]]] = [(0, 0, node.name, None) for node in model.exits]
@@ -39,7 +40,7 @@ class Bound:
     """The walking bound: out of each room with people a walk for `rate` people at once takes at most `periods`."""
 
     periods: int
-    rate: int
+    rate: Count
     moment: int
 
 
@@ -47,7 +48,7 @@ def walking_bound(model: Model) -> Optional[Bound]:
     """The least moment that the law gives, over all rates, or None where its premises don't hold.
 
     The law: no rate changes with time, nobody comes later, somebody is inside, and out of each room with people there is a walk of at most u
-    periods over arcs of a rate of at least r. Then everybody is out by u + (people - 1) div r.
+    periods over arcs of a rate of at least r. Then everybody is out by u + (people - 1) div r, counted in shares if the model has them.
     """
     starts = [node.name for node in model.rooms if node.start]
     if not model.is_steady or not starts:
@@ -58,7 +59,7 @@ def walking_bound(model: Model) -> Optional[Bound]:
         if not all(name in out for name in starts):
             break  # (nor is there a walk for more people at once)
         periods = max(out[name].periods for name in starts)
-        bound = Bound(periods, rate, periods + (model.people - 1) // rate)
+        bound = Bound(periods, rate, periods + (shares_in(model.people, model.shares) - 1) // shares_in(rate, model.shares))
         if best is None or bound.moment < best.moment:
             best = bound
     return best

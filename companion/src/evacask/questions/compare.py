@@ -10,28 +10,30 @@ from evacask.errors import Refused, Shortfall
 from evacask.model.building import Model
 from evacask.model.edits import edited
 from evacask.model.ground import Ground
+from evacask.model.shares import Count
 
 
 @dataclass(frozen=True)
 class Scenario:
     """A building of a comparison: its figures, or how many can be out of it at most, or why there is no such building.
 
-    Moments are in periods of `period` seconds. `by_share` has the moments by which half of the people, and 95 %, are out.
+    Moments are in periods of `period` seconds, whose later end is claimed or isn't. `by_share` has the moments by which half of the people, and 95 %, are out.
     """
 
     name: str
     period: int
-    people: int
-    most: int
+    has_later_end: bool
+    people: Count
+    most: Count
     cleared: Optional[int] = None
-    person_periods: Optional[int] = None
+    person_periods: Optional[Count] = None
     by_share: Tuple[Optional[int], ...] = (None, None)
     refused: Optional[Refused] = None
 
     @property
     def mean(self) -> Optional[float]:
         """The mean moment at which a person is out."""
-        return self.person_periods / self.people if self.person_periods is not None and self.people else None
+        return float(self.person_periods / self.people) if self.person_periods is not None and self.people else None
 
 
 @dataclass(frozen=True)
@@ -73,7 +75,7 @@ def compare(
         try:
             found.append(scenario(client, named, edited(model, group)))
         except Refused as refused:
-            found.append(Scenario(named, model.period, 0, 0, refused=refused))
+            found.append(Scenario(named, model.period, True, 0, 0, refused=refused))
     return Comparison(tuple(found))
 
 
@@ -81,9 +83,9 @@ def scenario(client: Client, name: str, model: Model) -> Scenario:
     """The figures of one building."""
     try:
         with session(client, model) as talk:
-            plan, person_periods = talk.opening, talk.report("summary").number("personperiods")
+            plan, person_periods = talk.opening, talk.report("summary").people("personperiods")
     except Shortfall as short:
-        return Scenario(name, model.period, short.people, short.most)
+        return Scenario(name, model.period, model.has_later_end, short.people, short.most)
     # (95 of 100 by whole numbers, so that no rounding comes in)
     shares = [next((k for k, out in enumerate(plan.arrivals) if 100 * out >= share * plan.people), None) for share in (50, 95)]
-    return Scenario(name, model.period, plan.people, plan.people, plan.cleared, person_periods, tuple(shares))
+    return Scenario(name, model.period, model.has_later_end, plan.people, plan.people, plan.cleared, person_periods, tuple(shares))

@@ -10,6 +10,7 @@ from evacask.client.talk import Client
 from evacask.errors import Shortfall
 from evacask.model.building import Arc, Model, Node
 from evacask.model.ground import Ground
+from evacask.model.shares import Count
 from evacask.model.walks import walks
 
 # Above so many people a second a rate may be one for a minute; above so many seconds a travel may be in seconds.
@@ -96,7 +97,7 @@ def node_doubt(node: Node, has_people: bool, is_safe: bool, is_met: bool, is_hea
 
 def arc_doubts(model: Model) -> Iterator[Doubt]:
     """Arcs with odd numbers, or that lead to odd places."""
-    twins = Counter((arc.tail[:2], arc.travel, arc.rate) for arc in model.arcs.values())
+    twins: Dict[Tuple[str, Count, Count], int] = Counter((arc.tail[:2], arc.travel, arc.rate) for arc in model.arcs.values())
     for arc in model.arcs.values():
         yield from number_doubts(model, arc)
         if arc.tail[:2] == arc.head[:2] == "HA" and (arc.head, arc.tail) not in model.arcs:

@@ -10,7 +10,7 @@ from __future__ import annotations
 
 import sys
 from dataclasses import dataclass
-from typing import Callable, Dict, List, Tuple
+from typing import Callable, Dict, List, Optional, Tuple
 
 from evacask.client.asking import session
 from evacask.client.blocks import Outcome, Plan
@@ -18,9 +18,10 @@ from evacask.client.talk import Client
 from evacask.errors import Broken, Refused
 from evacask.model.building import Model, Way
 from evacask.model.ground import Ground
+from evacask.model.shares import Count, in_people, typed
 from evacask.questions.sweep import sweep
 
-ANY_RATE = 10_000
+MOST_RATE = 10_000
 Names = Tuple[str, ...]
 
 
@@ -33,7 +34,7 @@ class WayOutcome:
     wide: Outcome
 
     @property
-    def order(self) -> Tuple[int, int, int]:
+    def order(self) -> Tuple[Count, int, int]:
         """The least for the way that costs most: whom it keeps inside first, then when all are out without it, then when with the rate."""
         inside = self.without.most if self.without.cleared is None else sys.maxsize
         return inside, -(self.without.cleared or 0), sys.maxsize if self.wide.cleared is None else self.wide.cleared
@@ -44,8 +45,8 @@ class Sensitivity:
     """All ways of a building, what costs most first, and when all are out as it is. `asked` counts the buildings that had to be planned."""
 
     cleared: int
-    people: int
-    rate: int
+    people: Count
+    rate: Count
     ways: Tuple[WayOutcome, ...]
     asked: int
     ground: Ground = Ground.PROVED
@@ -65,9 +66,10 @@ class Sensitivity:
 
 
 def sensitivity(
-    client: Client, model: Model, rate: int = ANY_RATE, workers: int = 4, tell: Callable[[int, int], None] = lambda done, of: None
+    client: Client, model: Model, rate: Optional[Count] = None, workers: int = 4, tell: Callable[[int, int], None] = lambda done, of: None
 ) -> Sensitivity:
-    """Tries each way: without it, and with a rate. `Shortfall` if the building can't be cleared as it is."""
+    """Tries each way: without it, and with a rate, or with the greatest there is. `Shortfall` if the building can't be cleared as it is."""
+    rate = in_people(MOST_RATE, model.shares) if rate is None else rate
     with session(client, model) as talk:
         opening, cut = talk.opening, talk.cut()
     crossed = {it.names for it in cut.items if it.word == "arc"}
@@ -84,15 +86,15 @@ def sensitivity(
     return Sensitivity(opening.cleared, opening.people, rate, tuple(sorted(ways, key=lambda it: it.order)), len(asked))
 
 
-def most_sent(plan: Plan) -> Dict[Way, int]:
+def most_sent(plan: Plan) -> Dict[Way, Count]:
     """The most people whom a plan sends into each arc at a moment; arcs that nobody enters are left out."""
-    sent: Dict[Way, int] = {}
+    sent: Dict[Way, Count] = {}
     for it in plan.moves:
         sent[it.tail, it.head] = max(it.people, sent.get((it.tail, it.head), 0))
     return sent
 
 
-def questions(model: Model, rate: int, sent: Dict[Way, int], crossed: "set[Way]") -> Dict[Tuple[Names, str], List[str]]:
+def questions(model: Model, rate: Count, sent: Dict[Way, Count], crossed: "set[Way]") -> Dict[Tuple[Names, str], List[str]]:
     """The edits of each question that has to be asked, by the way and what is tried."""
 
     def keeps(way: Way) -> bool:
@@ -104,11 +106,16 @@ def questions(model: Model, rate: int, sent: Dict[Way, int], crossed: "set[Way]"
         if way in sent:
             asked[way, "without"] = ["shut %s %s" % way]
         if not keeps(way):
-            asked[way, "wide"] = ["rate %s %s %d" % (*way, rate)]
+            asked[way, "wide"] = [rate_edit(way, rate)]
     for name in (it.name for it in model.exits):
         into = [way for way in model.arcs if way[1] == name]
         if any(way in sent for way in into):
             asked[(name,), "without"] = [f"shutexit {name}"]
         if not all(map(keeps, into)):
-            asked[(name,), "wide"] = ["rate %s %s %d" % (*way, rate) for way in into]
+            asked[(name,), "wide"] = [rate_edit(way, rate) for way in into]
     return asked
+
+
+def rate_edit(way: Way, rate: Count) -> str:
+    """The edit that gives an arc another rate."""
+    return f"rate {way[0]} {way[1]} {typed(rate)}"

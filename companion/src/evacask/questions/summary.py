@@ -1,7 +1,6 @@
 """The short answer: how many people, when they are out, what congestion costs, and what decides; or why not everybody can be out."""
 from __future__ import annotations
 
-from collections import Counter
 from dataclasses import dataclass
 from typing import Dict, List, Optional, Tuple, Union
 
@@ -11,6 +10,7 @@ from evacask.errors import Shortfall, Span
 from evacask.model.building import Model
 from evacask.model.edits import LAST_MOMENT
 from evacask.model.ground import Ground
+from evacask.model.shares import Count
 from evacask.model.walks import Bound, walking_bound, walks
 from evacask.questions.review import review_of
 from evacask.questions.why import Why, why_of
@@ -27,10 +27,10 @@ class Summary:
     """
 
     title: str
-    people: int
+    people: Count
     cleared: int
     uncongested: int
-    person_periods: int
+    person_periods: Count
     cut: Optional[Why]
     bound: Optional[Bound]
     doubts: int
@@ -39,7 +39,7 @@ class Summary:
     @property
     def mean(self) -> Optional[float]:
         """The mean moment at which a person is out; None of nobody."""
-        return self.person_periods / self.people if self.people else None
+        return float(self.person_periods / self.people) if self.people else None
 
     def records(self) -> List[Dict[str, object]]:
         """One dict with the figures."""
@@ -62,10 +62,10 @@ class Short:
     """
 
     horizon: int
-    most: int
-    people: int
+    most: Count
+    people: Count
     cut: Tuple[Span, ...]
-    caught: Tuple[Tuple[str, int], ...]
+    caught: Tuple[Tuple[str, Count], ...]
     enough: Optional[int]
     greatest: int
     doubts: int
@@ -87,7 +87,7 @@ def summary(client: Client, model: Model) -> Union[Summary, Short]:
         return short_of(model, short)
     walk = report.number("uncongested")
     doubts = len(review_of(model, cleared, walk).doubts)
-    return Summary(model.title, people, cleared, walk, report.number("personperiods"), cut, walking_bound(model), doubts)
+    return Summary(model.title, people, cleared, walk, report.people("personperiods"), cut, walking_bound(model), doubts)
 
 
 def short_of(model: Model, short: Shortfall) -> Short:
@@ -97,10 +97,10 @@ def short_of(model: Model, short: Shortfall) -> Short:
     return Short(model.horizon, short.most, short.people, short.cut, caught_in(model), bound.moment if bound else None, greatest, doubts)
 
 
-def caught_in(model: Model) -> Tuple[Tuple[str, int], ...]:
+def caught_in(model: Model) -> Tuple[Tuple[str, Count], ...]:
     """The nodes with people, or into which people come, from which no way leads out; and how many they are."""
     out = walks(model)
-    inside = Counter({node.name: node.start or 0 for node in model.rooms})
+    inside: Dict[str, Count] = {node.name: node.start or 0 for node in model.rooms}
     for it in model.entrants:
         inside[it.name] += it.people
     return tuple((name, people) for name, people in inside.items() if people and name not in out)

@@ -10,6 +10,7 @@ from evacask.client.dialogue import Session
 from evacask.client.talk import Client
 from evacask.model.building import Model
 from evacask.model.ground import Ground
+from evacask.model.shares import Count
 
 
 @dataclass(frozen=True)
@@ -21,7 +22,7 @@ class Place:
 
     names: Tuple[str, ...]
     rooms: Tuple[str, ...]
-    people: int
+    people: Count
     moments: Tuple[int, ...]
     closed: Tuple[int, ...]
 
@@ -31,8 +32,8 @@ class Why:
     """At most `most` of `people` can be out by `period`; `places` add up to `most`. All are out by `cleared`. Moments are in periods."""
 
     period: int
-    most: int
-    people: int
+    most: Count
+    people: Count
     cleared: int
     places: Tuple[Place, ...]
     ground: Ground = Ground.PROVED

@@ -11,6 +11,7 @@ from evacask.errors import Broken, Refused
 from evacask.model.building import Model
 from evacask.model.ground import Ground
 from evacask.model.passages import DOOR, GREATEST_FLOWS, LEAF, LEVEL, SIDES, STAIRS
+from evacask.model.shares import Count
 from evacask.model.seconds import last_moment_within
 
 
@@ -45,10 +46,10 @@ class Width:
     head: str
     seconds: int
     moment: int
-    now: int
-    people: int
-    rate: Optional[int]
-    most: Optional[int]
+    now: Count
+    people: Count
+    rate: Optional[Count]
+    most: Optional[Count]
     widths: Optional[Widths]
     ground: Ground = Ground.PROVED
 
@@ -78,7 +79,7 @@ def asked_moment(model: Model, seconds: int) -> int:
     return moment
 
 
-def widths_of(rate: int, period: int) -> Widths:
+def widths_of(rate: Count, period: int) -> Widths:
     """The clear widths for so many people in a period."""
     stairs = tuple((kind, clear_width(rate, period, kind, SIDES[kind])) for kind in STAIRS)
     return Widths(
@@ -89,13 +90,13 @@ def widths_of(rate: int, period: int) -> Widths:
     )
 
 
-def leaves_for(rate: int, period: int) -> Leaves:
+def leaves_for(rate: Count, period: int) -> Leaves:
     """The leaves that let so many people through, each of which must be pushed open."""
-    leaves = math.ceil(rate / period / LEAF - 1e-9)
+    leaves = math.ceil(float(rate) / period / LEAF - 1e-9)
     doors = math.ceil(leaves / 2)
     return Leaves(leaves, doors, clear_width(rate, period, LEVEL, doors * DOOR))
 
 
-def clear_width(rate: float, period: int, kind: str, sides: float) -> float:
+def clear_width(rate: Count, period: int, kind: str, sides: float) -> float:
     """The least clear width in metres, with so much for the sides, rounded up to the centimetre."""
-    return math.ceil((rate / period / GREATEST_FLOWS[kind] + sides) * 100 - 1e-6) / 100
+    return math.ceil((float(rate) / period / GREATEST_FLOWS[kind] + sides) * 100 - 1e-6) / 100
