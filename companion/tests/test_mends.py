@@ -71,23 +71,57 @@ class Sensitivity(unittest.TestCase):
         # The 60 of the room leave it one by one at the moments 0 to 59, and walk one period more to the exit: 61 periods of 5 s.
         said = ask("ways", OFFICE, "--rate", 1)
         self.assertEqual((said.status, said.err), (0, ""))
-        self.assertRegex(said.out, r"(?m)^ *short 180 +140 s +305 s  WP1\.1 LO1\.1$")
+        self.assertRegex(said.out, r"(?m)^ *short 180 +140 (to 145 )?s +305 (to 310 )?s  WP1\.1 LO1\.1$")
+
+
+class Review(unittest.TestCase):
+    TEXT = OFFICE.read_text()
+    DOUBTED = TEXT.replace("arc LO1.1 DS1.1 1 8\n", "arc LO1.1 DS1.1 1 80\n").replace("arc WP1.1 LO1.1 1 10\n", "arc WP1.1 LO1.1 1 60\n")
+
+    def test_a_doubt_has_a_status_of_its_own(self):
+        self.assertEqual(ask("doubts", "-", text=self.TEXT).status, 0)
+        self.assertEqual(ask("doubts", "-", text=self.DOUBTED).status, 10)
+        self.assertEqual(ask("doubts", "-", text=self.TEXT.replace("period 5", "period 0")).status, 1)
+
+    def test_the_summary_counts_doubts(self):
+        # 16 and 12 people a second through a door.
+        self.assertEqual(ask("summary", "-", text=self.DOUBTED).lines[-1], "2 doubts: evacask review -")
+        self.assertNotIn("doubt", ask("summary", "-", text=self.TEXT).out)
+
+
+class Summary(unittest.TestCase):
+    def test_a_horizon_that_can_not_be_written_is_not_said_to_be_enough(self):
+        # One person a period, 90,000 of them: 90,000 periods.
+        one_way = "evacplan 1\nperiod 5\nhorizon 20\nfloor 1 Ground\nnode WP1.1 90000 90000\nnode DS1.1\narc WP1.1 DS1.1 1 1\nend\n"
+        said = ask("summary", "-", text=one_way)
+        self.assertEqual((said.status, said.err), (1, ""))
+        self.assertNotIn("90000 is enough", said.out)
+        self.assertRegex(said.out, r"a horizon of 90000 would be enough .*, but 1200 is the greatest\n")
 
 
 class Compare(unittest.TestCase):
     def test_several_edits_are_one_step(self):
         said = ask("compare", "-", "--edit", "rate HA1.1 DS1.1 1; rate HA2.1 DS1.1 10", text=TWO_DOORS)
         self.assertEqual((said.status, said.err), (0, ""))
-        self.assertRegex(said.lines[2], r"^ +11 +55 s +same ")
+        self.assertRegex(said.lines[2], r"^ +11 +55 (to 60 )?s +same ")
 
     def test_a_refused_edit_is_a_row(self):
         edits = ("rate HA1.1 DS1.1 9", "shut HA1.1 DS1.1; shut HA1.1 DS1.1", "rate HA1.1 DS1.1 1; rate HA2.1 DS1.1 10")
         said = ask("compare", "-", *(word for edit in edits for word in ("--edit", edit)), text=TWO_DOORS)
         self.assertEqual((said.status, said.err), (1, ""))
-        self.assertRegex(said.lines[2], r"^ +11 +55 s +same ")
+        self.assertRegex(said.lines[2], r"^ +11 +55 (to 60 )?s +same ")
         self.assertRegex(said.lines[3], r"^refused 34 .* shut HA1\.1 DS1\.1; shut HA1\.1 DS1\.1$")
-        self.assertRegex(said.lines[4], r"^ +11 +55 s +same ")
+        self.assertRegex(said.lines[4], r"^ +11 +55 (to 60 )?s +same ")
         self.assertIn("refused 34: shut HA1.1 DS1.1: The arc is shut already.", said.out)
+
+
+class Names(unittest.TestCase):
+    def test_only_a_marked_comment_is_a_name(self):
+        text = TWO_DOORS.replace("node HA1.1", "# TODO ask the architect\nnode HA1.1").replace("node HA2.1", "#: Long hall\nnode HA2.1")
+        said = ask("tables", "fullest", "-", text=text)
+        self.assertEqual([row["name"] for row in csv.DictReader(io.StringIO(said.out))], ["", "", "Long hall"])
+        self.assertIn("Long hall to DS1.1", ask("why", "-", text=text).out)
+        self.assertNotIn("architect", ask("ways", "-", text=text).out)
 
 
 class Programs(unittest.TestCase):

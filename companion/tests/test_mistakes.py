@@ -195,7 +195,7 @@ class Mistakes(unittest.TestCase):
         for what, text, doubt in SILENT:
             with self.subTest(what):
                 said = ask("doubts", "-", text=text)
-                self.assertEqual((said.status, said.err), (1 if doubt else 0, ""))
+                self.assertEqual((said.status, said.err), (10 if doubt else 0, ""))
                 self.assertIn(doubt or "", said.out)
 
     def test_no_example_is_doubted(self):

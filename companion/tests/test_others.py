@@ -196,10 +196,11 @@ class Names(unittest.TestCase):
     def test_own_names_are_shown(self):
         self.assertIn("Foot of stair 2 to Door at stair 2", ask("why", SCHOOL).out)
         self.assertIn("(Entrance lobby to Main door)", ask("wide", SCHOOL, "LO1.1", "DS1.1", 100).out)
+        self.assertEqual(ask("width", SCHOOL, "Entrance lobby", "Main door", 100).out, ask("wide", SCHOOL, "LO1.1", "DS1.1", 100).out)
 
     def test_any_bytes_in_a_title(self):
         text = changed("Three storey office", "B\u00fcro \udcff \x85 x", OFFICE.read_text()).encode("utf-8", "surrogateescape")
-        self.assertEqual(ask("summary", "-", text=text).lines[0].encode("utf-8", "surrogateescape")[:9], b"B\xc3\xbcro \xff ")
+        self.assertEqual(ask("summary", "-", text=text).lines[0], "B\u00fcro   x")
 
 
 class TalkOverPipes(unittest.TestCase):

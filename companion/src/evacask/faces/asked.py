@@ -19,8 +19,8 @@ from evacask.faces.sheet import Sheet, as_csv, as_json, as_text
 from evacask.model.building import Model
 from evacask.model.drawn_building import drawn_building, has_ways, in_periods
 from evacask.model.edits import edited
-from evacask.model.forms import EDITS
-from evacask.model.lines import fields_of, text_of
+from evacask.model.forms import EDITS, LINE_LIMIT
+from evacask.model.lines import bytes_of, fields_of, text_of
 
 
 def read(name: str) -> str:
@@ -28,7 +28,9 @@ def read(name: str) -> str:
     if name == "-" and sys.stdin is None:
         raise InputError("standard input can't be read: it is closed")
     try:
-        with open(0 if name == "-" else name, "rb", closefd=name != "-") as file:
+        if name == "-":
+            return text_of(sys.stdin.buffer.read())
+        with open(name, "rb") as file:
             return text_of(file.read())
     except (OSError, ValueError, io.UnsupportedOperation) as fault:
         what = "standard input" if name == "-" else name
@@ -39,7 +41,7 @@ def edits_of(groups: List[str]) -> List[str]:
     """The edits that some words name, with `;` between them."""
     edits = [edit.strip() for group in groups for edit in group.split(";")]
     for edit in edits:
-        if next(iter(fields_of(edit)), "") not in EDITS or not edit.isprintable():
+        if next(iter(fields_of(edit)), "") not in EDITS or not edit.isprintable() or len(bytes_of(edit)) > LINE_LIMIT:
             raise WordsError(f"{edit or 'nothing'} is no edit: an edit begins with {', '.join(EDITS)}")
     return edits
 
