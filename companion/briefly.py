@@ -19,13 +19,13 @@ class Briefly:
         self.building = building
         self.cleared: Optional[int] = None
 
-    def lines(self, reply: Reply) -> List[str]:
-        """A reply in few lines."""
+    def lines(self, reply: Reply, word: str = "") -> List[str]:
+        """A reply in few lines, to a command with some first word."""
         if reply.is_short:
             most, people = reply.number("most"), reply.number("people")
             return [f"refused 22: at most {most} of {people} can be out by the horizon, so nothing was changed"]
         if reply.word == "refused":
-            return [refusal(reply, is_command=True)]
+            return [refusal(reply, is_command=True, word=word)]
         if reply.word == "answer":
             return [self.block(reply)]
         if reply.word == "advance":

@@ -6,6 +6,7 @@ from dataclasses import dataclass, field
 from typing import Dict, List, Optional, Tuple
 
 from companion.ending import Status, Stop
+from evacask.model.building import own_name_of
 
 Way = Tuple[str, str]
 
@@ -167,12 +168,12 @@ def building_of(text: bytes) -> Building:
             break
         if fields and not fields[0].startswith("#"):
             take(building, fields, line, number, comment)
-        comment = line[2:].strip() if line.startswith("# ") else ""
+        comment = own_name_of(line)
     return building
 
 
 def take(building: Building, fields: List[str], line: str, number: int, comment: str) -> None:
-    """Adds a statement to a building. The comment right above a node is the user's own name for it."""
+    """Adds a statement to a building. The line `#:` right above a node is the user's own name for it."""
     word, names = fields[0], fields[1:]
     if word == "title":
         building.title = line.strip(" \t")[len("title") :].strip(" \t")

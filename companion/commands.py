@@ -8,20 +8,14 @@ from typing import ContextManager, Optional
 from companion.building import is_number, near
 from companion.briefly import Briefly
 from companion.codes import accepted, cleared_by
-from companion.compare import compare_lines, edits_of, scenario
-from companion.doubts import doubts, doubts_lines
 from companion.ending import Status, Stop
 from companion.explain import MODES, code_lines, explained
 from companion.metres import both_lines, building_text, marked
 from companion.printed import show
 from companion.program import Talk, find_program
 from companion.routes import write_routes
-from companion.summary import shortfall, summary
 from companion.tables import write_table, write_walks
 from companion.terminal import converse
-from companion.ways import ANY_RATE, all_ways
-from companion.wide import asked_moment, wide
-from companion.why import why
 
 
 def text_of(name: str) -> bytes:
@@ -50,54 +44,6 @@ class Asked:
         return self.program.talk(mode, self.text)
 
 
-def run_summary(given: Namespace) -> int:
-    asked = Asked(given)
-    with asked.talk() as talk:
-        if talk.opening.is_short:
-            show(shortfall(asked.building, talk.opening))
-            return Status.REFUSED
-        show(summary(talk, asked.building))
-    return Status.ANSWERED
-
-
-def run_ways(given: Namespace) -> int:
-    asked = Asked(given)
-    with asked.talk() as talk:
-        cleared_by(talk.opening, asked.name)
-        ways = all_ways(asked.program, talk, asked.building, asked.text, ANY_RATE if given.rate is None else given.rate)
-    if given.csv:
-        ways.write_csv()
-    else:
-        show(ways.lines(given.rate))
-    return Status.ANSWERED
-
-
-def run_why(given: Namespace) -> int:
-    asked = Asked(given)
-    with asked.talk() as talk:
-        cleared_by(talk.opening, asked.name)
-        show(why(talk, asked.building, given.period))
-    return Status.ANSWERED
-
-
-def run_wide(given: Namespace) -> int:
-    asked = Asked(given)
-    arc, moment = asked.building.arc(given.tail, given.head), asked_moment(asked.building, given.seconds)
-    with asked.talk("study") as study:
-        reply = cleared_by(study.ask(f"least {arc.tail} {arc.head} {moment}"), asked.name)
-    show(wide(reply, asked.building, arc, moment))
-    return Status.ANSWERED
-
-
-def run_compare(given: Namespace) -> int:
-    edits = [edits_of(words) for words in given.edit]
-    first = Asked(given)
-    wanted = [(first, []), *((Asked(given, name), []) for name in given.others), *((first, some) for some in edits)]
-    scenarios = [scenario(asked.program, asked.text, asked.name, some) for asked, some in wanted]
-    show(compare_lines(scenarios))
-    return Status.REFUSED if any(it.refusal for it in scenarios) else Status.ANSWERED
-
-
 def run_talk(given: Namespace) -> int:
     if given.building == "-":
         raise Stop("talk reads what you type, so the building must be a file", Status.WORDS)
@@ -109,17 +55,6 @@ def run_talk(given: Namespace) -> int:
             return converse(session, asked.building, brief)
     with asked.talk(given.mode) as talk:
         return converse(talk, asked.building, brief)
-
-
-def run_doubts(given: Namespace) -> int:
-    asked = Asked(given)
-    with asked.talk() as talk:
-        if talk.opening.is_short:
-            found = doubts(asked.building, None, 0)
-        else:
-            found = doubts(asked.building, talk.opening.number("cleared"), talk.ask("summary").number("uncongested"))
-    show(doubts_lines(found))
-    return Status.REFUSED if found else Status.ANSWERED
 
 
 def run_explain(given: Namespace) -> int:

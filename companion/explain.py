@@ -4,12 +4,15 @@ from __future__ import annotations
 import unicodedata
 from typing import List, Optional
 
-from companion.building import building_of, fields_of, lines_of
+from companion.building import fields_of, lines_of
 from companion.codes import forms_of, meaning_of, meanings
 from companion.ending import Status, Stop
 from companion.printed import indented
 from companion.program import Program
-from companion.summary import remedies
+from evacask.errors import Shortfall
+from evacask.faces.summary import remedies
+from evacask.model.building import model_of
+from evacask.questions.summary import short_of
 
 # The codes whose remedy is to compare a line with its form: fields, a number, its range, a name.
 OF_FORM = (5, 6, 7, 8)
@@ -37,7 +40,7 @@ def explained(program: Program, text: bytes, mode: str) -> List[str]:
         if reply[0] == "refused":
             said += refusal_lines(int(reply[1]), int(reply[2]), lines, end)
             if reply[1] == "22" and int(reply[2]) <= end:
-                said += [line for remedy in remedies(building_of(text)) for line in indented(remedy)]
+                said += [line for remedy in remedies(short_of(model_of(text.decode("utf-8", "surrogateescape")), Shortfall(0, 0))) for line in indented(remedy)]
         elif reply[0] == "no":
             said += ["no " + " ".join(reply[1:]), *meaning_lines(int(reply[1]), True)]
     return said
@@ -50,8 +53,8 @@ def refusal_lines(code: int, line: int, lines: List[str], end: int) -> List[str]
         said.append(f"    line {line}: {visible(lines[line - 1])}")
         odd = [character_name(it) for it in dict.fromkeys(lines[line - 1]) if is_odd(it)]
         said += [f"    in this line there is {', '.join(odd[:4])}"] if odd else []
-        said += meaning_lines(code, line > end)
         word = next(iter(fields_of(lines[line - 1])), "")
+        said += meaning_lines(code, line > end, word)
         return said + [f"    {form}" for form in (forms_of(word, line > end) if code in OF_FORM else [])]
     return [*said, f"    line {line}: the input has ended before it", *meaning_lines(code, line > end)]
 
@@ -83,6 +86,6 @@ def character_name(letter: str) -> str:
     return f"U+{number_of(letter):04X} {unicodedata.name(letter, 'a control character')}"
 
 
-def meaning_lines(code: int, is_command: bool) -> List[str]:
-    row = meaning_of(code, is_command)
+def meaning_lines(code: int, is_command: bool, word: str = "") -> List[str]:
+    row = meaning_of(code, is_command, word)
     return [*indented(row.what), *indented(row.remedy)] if row else ["    docs/FORMATS.md says what it means."]

@@ -15,9 +15,11 @@ from typing import Iterator, List, Optional, Set
 from companion.building import fields_of, lines_of
 from companion.ending import Status, Stop
 from companion.progress import Patience
+from evacask.client import sources
+from evacask.client.program import path_of
+from evacask.errors import NoProgram
 
 TOP = pathlib.Path(__file__).resolve().parent.parent
-BUILT = TOP / "crates/evacplan/out/evacplan"
 # The end of a part that has several lines, and the most bytes that are read at once.
 END, CHUNK = b"\nend\n", 1 << 16
 
@@ -183,39 +185,21 @@ def broken(status: int) -> Stop:
     return Stop(f"the program broke off with status {status}: is it evacplan, and not another one?", Status.NO_PROGRAM)
 
 
-def is_current() -> bool:
-    """Whether no source is newer than the program that is built. ./build knows; where it isn't there, there are no sources either."""
-    if not (TOP / "build").exists():
-        return True
-    try:
-        return subprocess.run(["bash", "-c", '. "$1" && is_current', "bash", str(TOP / "build")], stdin=subprocess.DEVNULL).returncode == 0
-    except OSError:
-        return True  # (without bash nothing is built here either)
-
-
 @functools.lru_cache(maxsize=None)
-def tell_if_old() -> None:
-    """Says once that the built program isn't that of the sources."""
-    if not is_current():
-        print("evacask: a source is newer than the program that is built, which is asked all the same; ./build makes it anew", file=sys.stderr)
+def tell_if_unproved(path: pathlib.Path) -> None:
+    """Says once that the program isn't proved."""
+    if path == TOP / sources.UNPROVED_PLACE and sys.stderr is not None:
+        print(f"evacask: {sources.NOT_PROVED}", file=sys.stderr)
 
 
 def find_program(given: Optional[str]) -> Program:
-    """The program that is named by --program or by EVACPLAN, or else the built one, which its script names too."""
-    named = given or os.environ.get("EVACPLAN")
-    if named and pathlib.Path(named).resolve() == TOP / "evacplan":
-        named = None  # (where nothing is built, the script answers after its input has ended, and so can't be talked to)
-    path = pathlib.Path(named) if named else BUILT
-    if path.is_file() and os.access(path, os.X_OK):
-        if not named:
-            tell_if_old()
-        return Program(path.resolve())
-    if named:
-        raise Stop(f"there is no program {named}: --program and EVACPLAN name the file of the program", Status.NO_PROGRAM)
-    raise Stop(
-        "no program is built: ./build makes the proved one (without it ./evacplan runs unproved), or name one by --program PATH",
-        Status.NO_PROGRAM,
-    )
+    """The program that is named by --program or by EVACPLAN, or else that of the sources, or of the package."""
+    try:
+        path = path_of(given)
+    except NoProgram as fault:
+        raise Stop(str(fault), Status.NO_PROGRAM) from None
+    tell_if_unproved(path)
+    return Program(path)
 
 
 def model_of(text: bytes) -> bytes:

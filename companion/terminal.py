@@ -88,6 +88,6 @@ def converse(talk: Talk, building: Building, brief: Briefly) -> int:
             print(f"a line may have {LINE_LIMIT} bytes: this one was left out")
         else:
             last = talk.ask(line)
-            show(brief.lines(last))
+            show(brief.lines(last, words[0]))
         sys.stdout.flush()
     return Status.ANSWERED

@@ -71,71 +71,9 @@ def period(text: str) -> int:
     return int(text)
 
 
-def rate(text: str) -> int:
-    """The rate of an arc: people a period."""
-    if number(text) > commands.ANY_RATE:
-        raise ArgumentTypeError(f"{text} is no rate: 0 to {commands.ANY_RATE:,} people a period")
-    return int(text)
-
-
 BUILDING = argument("building", metavar="BUILDING", help="a file with a building, or - for standard input")
 PROGRAM = "the program to ask, in place of the built one or of what EVACPLAN names"
 COMMANDS = (
-    Command(
-        "summary",
-        commands.run_summary,
-        "how soon can all be out, what does congestion cost, and what decides?",
-        "",
-        "examples/office.evac",
-        (BUILDING,),
-    ),
-    Command(
-        "why",
-        commands.run_why,
-        "why not sooner? the ways that are full, and when",
-        "The cut of a period, added up by way and moments: whoever is out by then counts in one of its lines.",
-        "examples/office.evac",
-        (BUILDING, argument("period", type=number, nargs="?", metavar="K", help="the period; without it the one before all are out")),
-    ),
-    Command(
-        "ways",
-        commands.run_ways,
-        "what does it cost to lose a way, and what does a wider one bring?",
-        "Of each arc and exit: when all are out without it, as it is, and with any rate (10,000; of an exit: of all arcs into it).\n"
-        "One session tries them all. What costs most comes first.",
-        "examples/office.evac",
-        (
-            BUILDING,
-            argument("--rate", type=rate, metavar="N", help="try this rate, and not any rate"),
-            argument("--csv", action="store_true", help="print all ways, for a spreadsheet"),
-        ),
-    ),
-    Command(
-        "wide",
-        commands.run_wide,
-        "how wide must a way be, to have all out in a time?",
-        "The least rate of the arc from A to B, and the widths of a door, a corridor and a stair for it.",
-        "examples/office.evac SW2.2 DS2.1 120",
-        (
-            BUILDING,
-            argument("tail", metavar="A", help="the node from which the arc leads"),
-            argument("head", metavar="B", help="the node to which it leads"),
-            argument("seconds", type=number, metavar="SECONDS", help="by when all are to be out"),
-        ),
-    ),
-    Command(
-        "compare",
-        commands.run_compare,
-        "what if? a building, edits of it, and other buildings side by side",
-        "An edit is a line of a session, as 'shut A B' or 'rate A B 9'. Each --edit is a line of the table.\n"
-        "Several edits in one have ; between them.",
-        "examples/office.evac --edit 'shutexit DS2.1; rate SW1.2 LO1.1 8'",
-        (
-            BUILDING,
-            argument("others", metavar="OTHER", nargs="*", help="another building"),
-            argument("--edit", action="append", default=[], metavar="EDITS", help="the building after these edits"),
-        ),
-    ),
     Command(
         "talk",
         commands.run_talk,
@@ -165,14 +103,6 @@ COMMANDS = (
         "All but walks are of the printed plan: but for `out`, other best plans may differ.",
         "exits examples/office.evac",
         (argument("kind", metavar="KIND", choices=TABLES, help=", ".join(TABLES)), BUILDING),
-    ),
-    Command(
-        "doubts",
-        commands.run_doubts,
-        "is it the building that I meant? what is often a mistake",
-        "A doubt is evacask's own and is no fault: whoever made the building knows better. Without one nothing is printed.",
-        "examples/office.evac",
-        (BUILDING,),
     ),
     Command(
         "explain",

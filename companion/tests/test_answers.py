@@ -1,11 +1,16 @@
 """The short answer, what each way costs, the cut, the least width and comparisons."""
 import csv
 import io
+import pathlib
 import re
+import tempfile
 import unittest
 
 from companion.building import building_of
 from companion.tests.asking import EXAMPLES, OFFICE, SCHOOL, TOP, ask, edited, solved
+from evacask.faces.width import leaves_text
+from evacask.model.passages import GREATEST_FLOWS, SIDES
+from evacask.questions.width import clear_width, leaves_for
 
 
 def number(text: str, word: str) -> int:
@@ -21,7 +26,7 @@ class Summary(unittest.TestCase):
                 people, cleared = number(report, "people"), number(report, "cleared")
                 shown = "\n".join(said.lines[:10])
                 self.assertRegex(shown, rf"people +{people}\n")
-                self.assertRegex(shown, rf"cleared +{cleared} \({number(report, 'seconds')} s\): ")
+                self.assertRegex(shown, rf"cleared +{cleared} \({number(report, 'seconds')} to \d+ s\): ")
                 self.assertRegex(shown, rf"uncongested +{number(report, 'uncongested')} ")
                 out = int(re.search(rf"^out {cleared - 1} (\d+)", report, re.M)[1])
                 self.assertIn(f"At most {out} of {people} can be out by moment {cleared - 1} ", shown)
@@ -72,21 +77,22 @@ class Ways(unittest.TestCase):
 
     def test_the_first_lines_say_which_way_decides(self):
         said = ask("ways", SCHOOL).lines
-        self.assertIn("More rate helps most at LO2.1 DS2.1: 85 s.", said[0])
-        self.assertIn("LO1.1 DS1.1 costs most: without it 275 s.", said[0])
-        self.assertTrue(any(re.match(r" +145 s +110 s +85 s  LO2.1 DS2.1  Foot of stair 2 to Door at stair 2", line) for line in said[:10]))
+        self.assertIn("More rate helps most at LO2.1 DS2.1: 85 to 90 s.", said[0])
+        self.assertIn("LO1.1 DS1.1 costs most: without it 275 to 280 s.", said[0])
+        wanted = " *145 to 150 s +110 to 115 s +85 to 90 s  LO2.1 DS2.1  Foot of stair 2 to Door at stair 2"
+        self.assertTrue(any(re.match(wanted, line) for line in said[:10]))
 
     def test_another_rate(self):
         said = ask("ways", SCHOOL, "--rate", 5).lines
         self.assertIn("rate 5", said[1])
-        self.assertTrue(any(re.match(r" +145 s +110 s +100 s  LO2.1 DS2.1", line) for line in said), said)
+        self.assertTrue(any(re.match(r" *145 to 150 s +110 to 115 s +100 to 105 s  LO2.1 DS2.1", line) for line in said), said)
 
     def test_what_costs_most_comes_first(self):
         for path in EXAMPLES:
             with self.subTest(path.name):
                 said = ask("ways", path)
                 self.assertEqual((said.status, said.err), (0, ""))
-                costs = [re.match(r" *(short )?(\d+)( s)? +\d+ s ", line) for line in said.lines[2:]]
+                costs = [re.match(r" *(short )?(\d+)( to \d+ s)? +\d+ to \d+ s ", line) for line in said.lines[2:]]
                 costs = [(not it[1], int(it[2]) * (1 if it[1] else -1)) for it in costs if it]
                 self.assertEqual(costs, sorted(costs))
 
@@ -127,31 +133,32 @@ class Why(unittest.TestCase):
 
 class Wide(unittest.TestCase):
     def test_the_least_rate_is_the_study_s(self):
-        said = ask("wide", SCHOOL, "LO1.1", "DS1.1", 104)
+        said = ask("wide", SCHOOL, "LO1.1", "DS1.1", 109)
         wanted = re.search(r"^least LO1.1 DS1.1 20 (\d+)", solved(SCHOOL.read_bytes() + b"least LO1.1 DS1.1 20\n", "study"), re.M)[1]
-        self.assertIn(f"needs a rate of {wanted} for everybody to be out by moment 20 (100 s); it has 9 now.", said.lines[0])
+        self.assertIn(f"needs a rate of {wanted} for everybody to be out by moment 20 (100 to 105 s); it has 9 now.", said.lines[0])
         self.assertIn("With 10 at most 198 of 200", said.lines[1])
 
     def test_a_width_lets_through_its_rate_and_a_centimetre_less_does_not(self):
-        from companion.passages import GREATEST_FLOWS, SIDES
-        from companion.wide import centimetres
-
         for kind in GREATEST_FLOWS:
             for rate in range(1, 40):
-                width = float(centimetres(rate, 5, kind, SIDES[kind]).split()[0])
+                width = clear_width(rate, 5, kind, SIDES[kind])
                 lets = [GREATEST_FLOWS[kind] * (it - SIDES[kind]) * 5 for it in (width, width - 0.01)]
                 self.assertTrue(lets[0] >= rate - 1e-9 and lets[1] < rate, (kind, rate))
 
     def test_leaves_that_are_not_held_open(self):
-        from companion.wide import leaves_text
+        self.assertEqual(leaves_text(leaves_for(4, 5)), "1 leaf, 0.92 m")
+        self.assertEqual(leaves_text(leaves_for(8, 5)), "2 leaves, 1.54 m together")
+        self.assertEqual(leaves_text(leaves_for(10, 6)), "2 leaves, 1.59 m together")
+        self.assertEqual(leaves_text(leaves_for(11, 5)), "3 leaves in 2 doors, 2.30 m together")
 
-        self.assertEqual(leaves_text(4, 5), "1 leaf, 0.92 m")
-        self.assertEqual(leaves_text(8, 5), "2 leaves, 1.54 m together")
-        self.assertEqual(leaves_text(10, 6), "2 leaves, 1.59 m together")
-        self.assertEqual(leaves_text(11, 5), "3 leaves in 2 doors, 2.30 m together")
+    def test_a_period_counts_when_it_has_ended(self):
+        # With periods of 5 s moment 19 lasts from 95 s to 100 s.
+        for seconds, moment in ((99, 18), (100, 19), (104, 19)):
+            self.assertIn(f"by moment {moment} ", ask("width", SCHOOL, "LO1.1", "DS1.1", seconds).lines[0])
+        self.assertEqual((ask("width", SCHOOL, "LO1.1", "DS1.1", 4).status, ask("width", SCHOOL, "LO1.1", "DS1.1", 605).status), (1, 0))
 
     def test_never_and_not_at_all(self):
-        self.assertIn("No rate of LO1.1 DS1.1 is enough: with 10,000 at most 180 of 240", ask("wide", OFFICE, "LO1.1", "DS1.1", 100).out)
+        self.assertIn("No rate of LO1.1 DS1.1 is enough: with 10,000 at most 180 of 240", ask("wide", OFFICE, "LO1.1", "DS1.1", 105).out)
         self.assertIn("HA1.3 SW1.3 isn't needed at all", ask("wide", OFFICE, "HA1.3", "SW1.3", 400).out)
 
     def test_names_that_are_not_there(self):
@@ -159,7 +166,7 @@ class Wide(unittest.TestCase):
             (("LO1.2", "DS1.1", 100), "no node LO1.2 in the building; near it: LO1.1"),
             (("DS1.1", "LO1.1", 100), "no arc from DS1.1 to LO1.1; there is one from LO1.1 to DS1.1"),
             (("HA1.3", "DS1.1", 100), "no arc from HA1.3 to DS1.1; from HA1.3 there are arcs to SW1.3, SW2.3"),
-            (("LO1.1", "DS1.1", 700), "600 s ahead"),
+            (("LO1.1", "DS1.1", 700), "605 s ahead"),
         ):
             said = ask("wide", OFFICE, *words)
             self.assertEqual((said.status, said.out, said.err.count("\n")), (1, "", 1))
@@ -174,7 +181,7 @@ class EveryExample(unittest.TestCase):
             building, opening = building_of(path.read_bytes()), solved(path.read_bytes(), "solve")
             arc, cleared = next(iter(building.arcs.values())), number(opening, "cleared")
             with self.subTest(path.name):
-                said = ask("wide", path, arc.tail, arc.head, building.seconds(cleared))
+                said = ask("wide", path, arc.tail, arc.head, building.seconds(cleared + 1))
                 self.assertEqual((said.status, said.err), (0, ""))
                 rate = re.search(r"needs a rate of (\d+) ", said.lines[0])
                 least = int(rate[1]) if rate else 0
@@ -215,14 +222,23 @@ class Compare(unittest.TestCase):
     def test_edits_side_by_side(self):
         said = ask("compare", OFFICE, "--edit", "shutexit DS2.1", "--edit", "shut HA1.3 SW1.3; rate LO1.1 DS1.1 9", "--edit", "shutexit DS1.1")
         self.assertEqual((said.status, said.err), (0, ""))
-        self.assertEqual(said.lines[1].split(), f"28 140 s 65 s 130 s 70 s 240 {OFFICE}".split())
-        self.assertEqual(said.lines[2].split(), "50 250 s +110 s 100 s 235 s 113 s 240 shutexit DS2.1".split())
-        self.assertRegex(said.lines[3], r"^ +31 +155 s +\+15 s .* shut HA1.3 SW1.3; rate LO1.1 DS1.1 9$")
+        self.assertEqual(said.lines[1].split(), f"28 140 to 145 s 65 to 70 s 130 to 135 s 70 to 75 s 240 {OFFICE}".split())
+        self.assertEqual(said.lines[2].split(), "50 250 to 255 s +110 s 100 to 105 s 235 to 240 s 113 to 118 s 240 shutexit DS2.1".split())
+        self.assertRegex(said.lines[3], r"^ +31 +155 to 160 s +\+15 s .* shut HA1.3 SW1.3; rate LO1.1 DS1.1 9$")
         self.assertRegex(said.lines[4], r"^short 180 +240  shutexit DS1.1$")
 
     def test_two_buildings(self):
         said = ask("compare", OFFICE, SCHOOL)
-        self.assertRegex(said.lines[2], r"^ +22 +110 s +-30 s +70 s +105 s +69 s +200 ")
+        self.assertRegex(said.lines[2], r"^ +22 +110 to 115 s +-30 s +70 to 75 s +105 to 110 s +69 to 74 s +200 ")
+
+    def test_buildings_of_other_periods(self):
+        # 11 periods of 10 s against 22 of 5 s: 110 to 120 s against 110 to 115 s.
+        plan = (TOP / "examples/school.plan").read_text()
+        with tempfile.TemporaryDirectory() as folder:
+            path = pathlib.Path(folder, "ten.evac")
+            path.write_text(ask("metres", "-", "--period", 10, text=plan).out)
+            said = ask("compare", SCHOOL, path)
+        self.assertRegex(said.lines[2], r"^ +11 +110 to 120 s +\+0 to \+5 s ")
 
     def test_edits_that_are_refused(self):
         for edit, wanted in (("shut DS2.1", "refused 5"), ("shut LO1.1 SW1.2", "refused 32"), ("shutexit DS1.1; shutexit DS1.1", "refused 34")):

@@ -10,8 +10,9 @@ import sys
 import tempfile
 import time
 import unittest
-from typing import Callable
+from typing import Callable, Tuple
 
+from evacask.client import sources
 from companion.tests.asking import OFFICE, PATIENCE, TOP, ask, program
 
 # The seconds after which a reply that comes at once otherwise isn't waited for any longer.
@@ -70,54 +71,90 @@ class Sensitivity(unittest.TestCase):
         # The 60 of the room leave it one by one at the moments 0 to 59, and walk one period more to the exit: 61 periods of 5 s.
         said = ask("ways", OFFICE, "--rate", 1)
         self.assertEqual((said.status, said.err), (0, ""))
-        self.assertRegex(said.out, r"(?m)^ *short 180 +140 s +305 s  WP1\.1 LO1\.1$")
+        self.assertRegex(said.out, r"(?m)^ *short 180 +140 (to 145 )?s +305 (to 310 )?s  WP1\.1 LO1\.1$")
+
+
+class Review(unittest.TestCase):
+    TEXT = OFFICE.read_text()
+    DOUBTED = TEXT.replace("arc LO1.1 DS1.1 1 8\n", "arc LO1.1 DS1.1 1 80\n").replace("arc WP1.1 LO1.1 1 10\n", "arc WP1.1 LO1.1 1 60\n")
+
+    def test_a_doubt_has_a_status_of_its_own(self):
+        self.assertEqual(ask("doubts", "-", text=self.TEXT).status, 0)
+        self.assertEqual(ask("doubts", "-", text=self.DOUBTED).status, 10)
+        self.assertEqual(ask("doubts", "-", text=self.TEXT.replace("period 5", "period 0")).status, 1)
+
+    def test_the_summary_counts_doubts(self):
+        # 16 and 12 people a second through a door.
+        self.assertEqual(ask("summary", "-", text=self.DOUBTED).lines[-1], "2 doubts: evacask review -")
+        self.assertNotIn("doubt", ask("summary", "-", text=self.TEXT).out)
+
+
+class Summary(unittest.TestCase):
+    def test_a_horizon_that_can_not_be_written_is_not_said_to_be_enough(self):
+        # One person a period, 90,000 of them: 90,000 periods.
+        one_way = "evacplan 1\nperiod 5\nhorizon 20\nfloor 1 Ground\nnode WP1.1 90000 90000\nnode DS1.1\narc WP1.1 DS1.1 1 1\nend\n"
+        said = ask("summary", "-", text=one_way)
+        self.assertEqual((said.status, said.err), (1, ""))
+        self.assertNotIn("90000 is enough", said.out)
+        self.assertRegex(said.out, r"a horizon of 90000 would be enough .*, but 1200 is the greatest\n")
 
 
 class Compare(unittest.TestCase):
     def test_several_edits_are_one_step(self):
         said = ask("compare", "-", "--edit", "rate HA1.1 DS1.1 1; rate HA2.1 DS1.1 10", text=TWO_DOORS)
         self.assertEqual((said.status, said.err), (0, ""))
-        self.assertRegex(said.lines[2], r"^ +11 +55 s +same ")
+        self.assertRegex(said.lines[2], r"^ +11 +55 (to 60 )?s +same ")
 
     def test_a_refused_edit_is_a_row(self):
         edits = ("rate HA1.1 DS1.1 9", "shut HA1.1 DS1.1; shut HA1.1 DS1.1", "rate HA1.1 DS1.1 1; rate HA2.1 DS1.1 10")
         said = ask("compare", "-", *(word for edit in edits for word in ("--edit", edit)), text=TWO_DOORS)
         self.assertEqual((said.status, said.err), (1, ""))
-        self.assertRegex(said.lines[2], r"^ +11 +55 s +same ")
+        self.assertRegex(said.lines[2], r"^ +11 +55 (to 60 )?s +same ")
         self.assertRegex(said.lines[3], r"^refused 34 .* shut HA1\.1 DS1\.1; shut HA1\.1 DS1\.1$")
-        self.assertRegex(said.lines[4], r"^ +11 +55 s +same ")
-        self.assertIn("refused 34: shut HA1.1 DS1.1: It is shut already.", said.out)
+        self.assertRegex(said.lines[4], r"^ +11 +55 (to 60 )?s +same ")
+        self.assertIn("refused 34: shut HA1.1 DS1.1: The arc is shut already.", said.out)
+
+
+class Names(unittest.TestCase):
+    def test_only_a_marked_comment_is_a_name(self):
+        text = TWO_DOORS.replace("node HA1.1", "# TODO ask the architect\nnode HA1.1").replace("node HA2.1", "#: Long hall\nnode HA2.1")
+        said = ask("tables", "fullest", "-", text=text)
+        self.assertEqual([row["name"] for row in csv.DictReader(io.StringIO(said.out))], ["", "", "Long hall"])
+        self.assertIn("Long hall to DS1.1", ask("why", "-", text=text).out)
+        self.assertNotIn("architect", ask("ways", "-", text=text).out)
 
 
 class Programs(unittest.TestCase):
-    def test_a_program_that_is_older_than_its_sources(self):
+    def test_a_program_that_is_not_of_these_sources(self):
         with tempfile.TemporaryDirectory() as folder:
             top = pathlib.Path(folder)
-            source, built = top / "crates/evac_law/src/model.rt", top / "crates/evacplan/out/evacplan"
-            for made in (source.parent, top / "crates/evacplan/src", built.parent):
-                made.mkdir(parents=True)
-            source.write_text("")
-            (top / "crates.txt").write_text("evac_law:\nevacplan: evac_law\n")
-            subprocess.run(["cp", "-R", TOP / "evacask", TOP / "companion", TOP / "build", folder], check=True)
+            source, built = top / "crates/evacplan/src/main.rt", top / sources.UNPROVED_PLACE
+            for made in (source, built):
+                made.parent.mkdir(parents=True)
+            source.write_text("one")
+            for name in ("evacask", "companion", "build", "tools", "README.md"):
+                subprocess.run(["cp", "-R", TOP / name, folder], check=True)
+            (top / "crates.txt").write_text("evacplan:\n")
             shutil.copy(program(), built)
-            self.made(top, time.time() - 1000)
-            self.made(built, time.time())
-            self.assertEqual(self.why(top), "")
-            self.made(source, time.time() + 1000)
-            self.assertRegex(self.why(top), r"\Aevacask: a source is newer than the program[^\n]*\n\Z")
+            sources.record(top, built, "", sources.digests_of(top))
+            self.assertEqual(self.why(top), (0, f"evacask: {sources.NOT_PROVED}\n"))
+            about = source.stat()
+            source.write_text("two")
+            os.utime(source, ns=(about.st_atime_ns, about.st_mtime_ns))
+            status, said = self.why(top)
+            self.assertEqual((status, said.count("rt isn't on the path"), said.count("\n")), (70, 1, 2))
 
-    def made(self, path: pathlib.Path, when: float) -> None:
-        """Has a file, or all that is in a folder, be of this time."""
-        for it in (path, *path.rglob("*")):
-            os.utime(it, (when, when))
-
-    def why(self, top: pathlib.Path) -> str:
-        """What evacask in another copy says on standard error beside its answer."""
+    def why(self, top: pathlib.Path) -> Tuple[int, str]:
+        """How evacask ends in another copy, without a kit, and what it says on standard error."""
         settings = {name: value for name, value in os.environ.items() if name != "EVACPLAN"}
+        settings["PATH"] = str(top / "bin")
+        (top / "bin").mkdir(exist_ok=True)
+        for name in ("find", "env", "python3"):
+            if not (top / "bin" / name).exists():
+                (top / "bin" / name).symlink_to(shutil.which(name) or name)
         command = [sys.executable, "-B", str(top / "evacask"), "why", str(OFFICE)]
         ran = subprocess.run(command, capture_output=True, text=True, env=settings, timeout=PATIENCE)
-        self.assertEqual(ran.returncode, 0, ran.stderr)
-        return ran.stderr
+        return ran.returncode, ran.stderr
 
     def test_signals_end_the_program_and_what_it_started(self):
         for number in (signal.SIGTERM, signal.SIGHUP, signal.SIGINT):

@@ -110,24 +110,24 @@ BLOCK, WITH_REPORTS = (solved(TEXT.encode(), "solve", *flags) for flags in ((), 
 SHUT = "shutexit DS2.1\n"
 # What was typed, the words of the program, its input, the code, and a part of the remedy.
 COMMANDS = [
-    ("a file after solve", ["solve", "office.evac"], "", 40, "Write one of these"),
-    ("no words", [], "", 40, "Write one of these"),
-    ("a flag that isn't one", ["solve", "--route"], TEXT, 40, "Write one of these"),
-    ("a drill without its flag", ["drill", "12"], "", 40, "Write one of these"),
-    ("a drill of 41", ["drill", "--number", "41"], "", 40, "Write one of these"),
-    ("shut of an exit", ["session"], TEXT + "shut DS2.1\n", 5, "an exit is shut by `shutexit D`"),
+    ("a file after solve", ["solve", "office.evac"], "", 40, "its table of words"),
+    ("no words", [], "", 40, "its table of words"),
+    ("a flag that isn't one", ["solve", "--route"], TEXT, 40, "its table of words"),
+    ("a drill without its flag", ["drill", "12"], "", 40, "its table of words"),
+    ("a drill of 41", ["drill", "--number", "41"], "", 40, "its table of words"),
+    ("shut of an exit", ["session"], TEXT + "shut DS2.1\n", 5, "An exit is shut by `shutexit D`"),
     ("shutexit of a room", ["session"], TEXT + "shutexit WP1.1\n", 36, "Use `shut`"),
     ("close", ["session"], TEXT + "close DS2.1\n", 31, "misspelt"),
     ("open", ["session"], TEXT + SHUT + "open DS2.1\n", 31, "it is `openexit`"),
-    ("reopen of an exit", ["session"], TEXT + SHUT + "reopen DS2.1\n", 5, "opened by `openexit D`"),
+    ("reopen of an exit", ["session"], TEXT + SHUT + "reopen DS2.1\n", 5, "An exit is opened by `openexit D`"),
     ("a decimal rate", ["session"], TEXT + "rate LO1.1 DS1.1 4.5\n", 6, "no point"),
-    ("a dash between nodes", ["session"], TEXT + "shut SW1.2-LO1.1\n", 5, "by two names"),
+    ("a dash between nodes", ["session"], TEXT + "shut SW1.2-LO1.1\n", 5, "the two names of an arc"),
     ("an arc turned round", ["session"], TEXT + "shut LO1.1 SW1.2\n", 32, "the other way round"),
     ("exits in a session", ["session"], TEXT + "exits\n", 31, "of another mode"),
     ("least in a session", ["session"], TEXT + "least LO1.1 DS1.1 27\n", 31, "of another mode"),
     ("a cut after the horizon", ["session"], TEXT + "cut 121\n", 33, "up to the horizon"),
     ("more leave than are there", ["session"], TEXT + "leave WP1.1 61\n", 38, "Lower the number"),
-    ("more enter than there is room", ["session"], TEXT + "enter WP1.1 21\n", 12, "Raise the capacity"),
+    ("more enter than there is room", ["session"], TEXT + "enter WP1.1 21\n", 12, "raise the capacity"),
     ("people enter an exit", ["session"], TEXT + "enter DS1.1 1\n", 37, "Name another node"),
     ("a capital word", ["session"], TEXT + "Summary\n", 31, "capital word"),
     ("a field too many", ["session"], TEXT + "summary 0\n", 5, "number of fields"),
@@ -195,7 +195,7 @@ class Mistakes(unittest.TestCase):
         for what, text, doubt in SILENT:
             with self.subTest(what):
                 said = ask("doubts", "-", text=text)
-                self.assertEqual((said.status, said.err), (1 if doubt else 0, ""))
+                self.assertEqual((said.status, said.err), (10 if doubt else 0, ""))
                 self.assertIn(doubt or "", said.out)
 
     def test_no_example_is_doubted(self):

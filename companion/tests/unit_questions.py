@@ -5,6 +5,8 @@ from companion.tests.table import ROOM, Table
 from evacask import Broken, Refused, Shortfall, reads
 from evacask.faces.sheet import as_csv, as_text
 from evacask.faces.why import why_sheet
+from evacask.model.building import model_of
+from evacask.questions.summary import Short, summary
 
 
 class Questions(unittest.TestCase):
@@ -20,6 +22,14 @@ class Questions(unittest.TestCase):
         building = reads(ROOM, Table({"cut 1": "cut 1 3\narc 0 WP1.1 DS1.1 2\nend\n"}))
         with self.assertRaises(Broken):
             building.why()
+
+    def test_the_greatest_horizon_by_the_limit_on_cells(self) -> None:
+        # 1,000 nodes and arcs: 1,000,000 / 1,000 moments, of which 0 is the first.
+        lines = [f"node WP{it}.1 1 1\narc WP{it}.1 DS1.1 1 1" for it in range(1, 500)]
+        text = "evacplan 1\nperiod 5\nhorizon 0\nfloor 1 G\nnode DS1.1\n" + "\n".join(lines) + "\narc WP1.1 WP2.1 1 1\nend\n"
+        answer = summary(Table({"session": "refused 22 1\npeople 499\nmost 0\nend\n"}), model_of(text))
+        self.assertIsInstance(answer, Short)
+        self.assertEqual((answer.greatest, answer.most, answer.people), (999, 0, 499))
 
     def test_endings(self) -> None:
         with self.assertRaises(Refused) as refused:

@@ -5,14 +5,23 @@ import sys
 from argparse import Namespace
 from typing import List, Optional, Sequence, Tuple
 
-from evacask.errors import NoProgram, WordsError
-from evacask.faces import convert, edit, why
+from evacask.errors import NoProgram, Shortfall, WordsError
+from evacask.faces import compare, convert, edit, review, sensitivity, summary, why, width
 from evacask.faces.asked import program_of
-from evacask.faces.ending import Status, ends
+from evacask.faces.ending import Status, ends, say
 from evacask.faces.words import Command, parser_of
 from evacask.version import VERSION
 
-COMMANDS: Tuple[Command, ...] = (why.COMMAND, convert.COMMAND, edit.COMMAND)
+COMMANDS: Tuple[Command, ...] = (
+    summary.COMMAND,
+    why.COMMAND,
+    sensitivity.COMMAND,
+    width.COMMAND,
+    compare.COMMAND,
+    review.COMMAND,
+    convert.COMMAND,
+    edit.COMMAND,
+)
 # Words of before, which answer still and aren't in the help.
 OLD_WORDS = {"doubts": "review", "ways": "sensitivity", "wide": "width", "talk": "session", "metres": "convert"}
 
@@ -21,7 +30,7 @@ def run(words: Sequence[str]) -> int:
     """Runs the command that the words name."""
     top = parser_of(COMMANDS)
     if not words:
-        top.print_help(sys.stderr)
+        say(top.format_help())
         return Status.WORDS
     try:
         given = top.parse_args(renamed(words))
@@ -32,8 +41,19 @@ def run(words: Sequence[str]) -> int:
         return Status.ANSWERED
     if given.command is None:
         raise WordsError("which command? evacask --help lists them")
-    status: int = given.run(given)
+    try:
+        status: int = given.run(given)
+    except Shortfall as short:
+        raise ShortBuilding(given.building, short) from None
     return status
+
+
+class ShortBuilding(Shortfall):
+    """A building from which not everybody can be out, whose name its message begins with."""
+
+    def __init__(self, name: str, short: Shortfall):
+        super().__init__(short.most, short.people, short.cut)
+        self.args = (f"{name}: {short}; evacask summary says where the others are",)
 
 
 def renamed(words: Sequence[str]) -> List[str]:

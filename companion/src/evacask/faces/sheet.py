@@ -22,7 +22,7 @@ FORMULA = ("=", "+", "-", "@", "\t", "\r")
 class Column:
     """A column: its head in text and its key in CSV, whether it stands to the right, and whether text shows it unless all columns are asked for.
 
-    `ground` is what the column rests on, if that isn't the ground of the whole answer.
+    One without a key is in text alone. `ground` is what the column rests on, if that isn't the ground of the whole answer.
     """
 
     head: str
@@ -34,26 +34,40 @@ class Column:
 
 @dataclass(frozen=True)
 class Sheet:
-    """Lines before and after a table. `answer` is the dataclass that it was drawn from."""
+    """Lines before and after a table. `answer` is the dataclass that it was drawn from.
+
+    `shown` has the numbers of the rows that text shows unless all columns are asked for; all rows if it is None.
+    """
 
     answer: Any
     before: Tuple[str, ...] = ()
     columns: Tuple[Column, ...] = ()
     rows: Tuple[Tuple[Any, ...], ...] = ()
     after: Tuple[str, ...] = ()
+    shown: Optional[Tuple[int, ...]] = None
 
 
 def as_text(sheet: Sheet, all_columns: bool = False) -> str:
     """The lines of a sheet. The head of a table is left out if it has no rows. With all columns a last line says what they rest on."""
+    grounds = [f"ground: {grounds_text(sheet)}"] if all_columns else []
+    lines = [*sheet.before, *table_lines(sheet, all_columns), *sheet.after, *grounds]
+    return "".join(f"{printable(line)}\n" for line in lines)
+
+
+def table_lines(sheet: Sheet, all_columns: bool = False) -> List[str]:
+    """The table of a sheet, with the columns and rows that are shown."""
     shown = [at for at, column in enumerate(sheet.columns) if column.is_shown or all_columns]
     heads = [sheet.columns[at].head or sheet.columns[at].key * all_columns for at in shown]
-    cells: List[List[str]] = [heads] if sheet.rows else []
-    cells += [[written(row[at]) for at in shown] for row in sheet.rows]
-    widths = [max((len(row[at]) for row in cells), default=0) for at in range(len(shown))]
-    sides = [sheet.columns[at].is_right for at in shown]
-    lines = ["  ".join(pad(*it) for it in zip(row, widths, sides)).rstrip() for row in cells]
-    grounds = [f"ground: {grounds_text(sheet)}"] if all_columns else []
-    return "".join(f"{line}\n" for line in map(printable, [*sheet.before, *lines, *sheet.after, *grounds]))
+    rows = sheet.rows if sheet.shown is None or all_columns else tuple(sheet.rows[at] for at in sheet.shown)
+    rows = (tuple(heads), *(tuple(row[at] for at in shown) for row in rows)) if shown and rows else ()
+    return aligned(rows, [sheet.columns[at].is_right for at in shown])
+
+
+def aligned(rows: Sequence[Sequence[Any]], is_right: Sequence[bool]) -> List[str]:
+    """The lines of a table with two blanks between columns; each column stands to the right or to the left."""
+    cells = [[written(cell) for cell in row] for row in rows]
+    widths = [max((len(row[at]) for row in cells), default=0) for at in range(len(is_right))]
+    return ["  ".join(pad(*it) for it in zip(row, widths, is_right)).rstrip() for row in cells]
 
 
 def grounds_of(sheet: Sheet) -> Dict[str, Ground]:
@@ -80,11 +94,12 @@ def pad(cell: str, width: int, is_right: bool) -> str:
 
 
 def as_csv(sheet: Sheet) -> str:
-    """All columns, with their keys as heads."""
+    """All rows, and all columns that have a key, which is their head."""
+    kept = [at for at, column in enumerate(sheet.columns) if column.key]
     out = io.StringIO()
     writer = csv.writer(out, lineterminator="\n")
-    writer.writerow([column.key for column in sheet.columns])
-    writer.writerows([[safe(cell) for cell in row] for row in sheet.rows])
+    writer.writerow([sheet.columns[at].key for at in kept])
+    writer.writerows([[safe(row[at]) for at in kept] for row in sheet.rows])
     return out.getvalue()
 
 

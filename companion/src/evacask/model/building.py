@@ -8,7 +8,7 @@ from typing import Dict, Iterable, List, Mapping, Optional, Tuple
 
 from evacask.errors import UnknownName
 from evacask.model.lines import bytes_of, fields_of, lines_of, number_of, own_name_of, printable
-from evacask.model.seconds import time_text
+from evacask.model.seconds import interval, seconds_text
 from evacask.model.shares import Count, in_people, shares_of
 
 Way = Tuple[str, str]
@@ -125,7 +125,16 @@ class Model:
 
     def time(self, moment: int) -> str:
         """A moment with its seconds: 28 (140 to 145 s), or 28 (from 140 s) if no later end is claimed."""
-        return time_text(moment, self.period) if self.has_later_end else f"{moment} (from {self.seconds(moment)} s)"
+        return f"{moment} ({self.span(moment)})"
+
+    def span(self, moment: float) -> str:
+        """The seconds of a moment, or of a mean of moments: 140 to 145 s, or from 140 s."""
+        return seconds_text(moment, self.period, self.has_later_end)
+
+    def ends(self, moment: int) -> Tuple[int, Optional[int]]:
+        """The seconds from which on a moment is, and those before which it is; None if no later end is claimed."""
+        first, last = interval(moment, self.period)
+        return first, last if self.has_later_end else None
 
     def node(self, name: str) -> Node:
         """The node of a name, or of an own name that no other node has; `UnknownName` with names that are near it."""

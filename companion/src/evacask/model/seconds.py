@@ -13,10 +13,9 @@ def interval(moment: int, period: int) -> Tuple[int, int]:
     return moment * period, (moment + 1) * period
 
 
-def time_text(moment: int, period: int) -> str:
-    """A moment with its seconds: 28 (140 to 145 s)."""
-    first, last = interval(moment, period)
-    return f"{moment} ({first} to {last} s)"
+def seconds_text(moment: float, period: int, has_later_end: bool = True) -> str:
+    """The seconds of a moment, or of a mean of moments, alone: 140 to 145 s, or from 140 s if no later end is claimed."""
+    return f"{moment * period:.0f} to {(moment + 1) * period:.0f} s" if has_later_end else f"from {moment * period:.0f} s"
 
 
 def last_moment_within(seconds: int, period: int) -> int:

@@ -8,6 +8,7 @@ Most of it needs no question, since the opening's plan and the cut of the period
 """
 from __future__ import annotations
 
+import sys
 from dataclasses import dataclass
 from typing import Callable, Dict, List, Optional, Tuple
 
@@ -16,11 +17,11 @@ from evacask.client.blocks import Outcome, Plan
 from evacask.client.talk import Client
 from evacask.errors import Broken, Refused
 from evacask.model.building import Model, Way
+from evacask.model.draft import MOST_RATE
 from evacask.model.ground import Ground
 from evacask.model.shares import Count, in_people, typed
 from evacask.questions.sweep import sweep
 
-MOST_RATE = 10_000
 Names = Tuple[str, ...]
 
 
@@ -32,10 +33,16 @@ class WayOutcome:
     without: Outcome
     wide: Outcome
 
+    @property
+    def order(self) -> Tuple[Count, int, int]:
+        """The least for the way that costs most: whom it keeps inside first, then when all are out without it, then when with the rate."""
+        inside = self.without.most if self.without.cleared is None else sys.maxsize
+        return inside, -(self.without.cleared or 0), sys.maxsize if self.wide.cleared is None else self.wide.cleared
+
 
 @dataclass(frozen=True)
 class Sensitivity:
-    """All ways of a building, and when all are out as it is. `asked` counts the buildings that had to be planned."""
+    """All ways of a building, what costs most first, and when all are out as it is. `asked` counts the buildings that had to be planned."""
 
     cleared: int
     people: Count
@@ -75,8 +82,8 @@ def sensitivity(
             raise Broken(f"the program refused {asked[key]}: {outcome}")
         found[key] = outcome
     names: List[Names] = [*model.arcs, *((it.name,) for it in model.exits)]
-    ways = tuple(WayOutcome(it, found.get((it, "without"), same), found.get((it, "wide"), same)) for it in names)
-    return Sensitivity(opening.cleared, opening.people, rate, ways, len(asked))
+    ways = [WayOutcome(it, found.get((it, "without"), same), found.get((it, "wide"), same)) for it in names]
+    return Sensitivity(opening.cleared, opening.people, rate, tuple(sorted(ways, key=lambda it: it.order)), len(asked))
 
 
 def most_sent(plan: Plan) -> Dict[Way, Count]:

@@ -2,7 +2,7 @@
 from __future__ import annotations
 
 from concurrent.futures import ThreadPoolExecutor
-from typing import Callable, Dict, List, Sequence, Tuple, Union
+from typing import Callable, Dict, Iterator, List, Sequence, Tuple, Union
 
 from evacask.client.asking import session
 from evacask.client.blocks import Outcome, outcome_of
@@ -28,35 +28,36 @@ def sweep(
     def share(at: int) -> None:
         """The outcomes of the scenarios of one worker."""
         numbers = range(at, len(scenarios), workers)
-        found.update(quick(client, model, [(it, scenarios[it]) for it in numbers if 0 < len(scenarios[it]) <= MOST_UNDOS]))
+        for number, outcome in quick(client, model, [(it, scenarios[it]) for it in numbers if 0 < len(scenarios[it]) <= MOST_UNDOS]):
+            found[number] = outcome
+            tell(len(found), len(scenarios))
         for number in numbers:
             if number not in found:
                 found[number] = alone(client, model, scenarios[number])
-        tell(len(found), len(scenarios))
+                tell(len(found), len(scenarios))
 
     with ThreadPoolExecutor(workers) as pool:
         list(pool.map(share, range(workers)))
     return [found[it] for it in range(len(scenarios))]
 
 
-def quick(client: Client, model: Model, scenarios: Sequence[Tuple[int, Scenario]]) -> Dict[int, Result]:
-    """The outcomes of scenarios in one session, by their numbers, but for those of which a step is refused."""
-    found: Dict[int, Result] = {}
+def quick(client: Client, model: Model, scenarios: Sequence[Tuple[int, Scenario]]) -> Iterator[Tuple[int, Outcome]]:
+    """The outcomes of scenarios in one session, with their numbers, but for those of which a step is refused."""
     if not scenarios:
-        return found
+        return
     try:
         with session(client, model) as talk:
             for (number, _), replies in zip(scenarios, talk.trials(edits for _, edits in scenarios)):
                 if all(it.startswith(b"answer ") for it in replies[:-1]) and replies[-1].startswith((b"answer ", b"refused 22 ")):
-                    found[number] = outcome_of(replies[-1], model.shares)
+                    yield number, outcome_of(replies[-1], model)
     except Shortfall:
         pass  # (the building itself can't be cleared, so there is no session on it)
-    return found
 
 
 def alone(client: Client, model: Model, edits: Scenario) -> Result:
     """A scenario of which only the last building counts, planned from nothing."""
     try:
-        return outcome_of(client.run(["solve"], edited(model, edits).bytes), model.shares)
+        wanted = edited(model, edits)
+        return outcome_of(client.run(["solve"], wanted.bytes), wanted)
     except Refused as refused:
         return refused

@@ -6,6 +6,7 @@ from typing import Dict, List, Optional, Tuple
 
 from evacask.client.asking import session
 from evacask.client.blocks import Cut
+from evacask.client.dialogue import Session
 from evacask.client.talk import Client
 from evacask.model.building import Model
 from evacask.model.ground import Ground
@@ -48,8 +49,13 @@ class Why:
 def why(client: Client, model: Model, period: Optional[int] = None) -> Why:
     """The cut of a period, or of the one before all are out. `Refused` with 33 if the period is above the horizon."""
     with session(client, model) as talk:
-        cut = talk.cut(period)
-        return Why(cut.period, cut.people, talk.plan.people, talk.plan.cleared, tuple(places_of(cut)))
+        return why_of(talk, period)
+
+
+def why_of(talk: Session, period: Optional[int]) -> Why:
+    """The same of the building of a session."""
+    cut = talk.cut(period)
+    return Why(cut.period, cut.people, talk.plan.people, talk.plan.cleared, tuple(places_of(cut)))
 
 
 def places_of(cut: Cut) -> List[Place]:

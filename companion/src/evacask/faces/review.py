@@ -1,0 +1,36 @@
+"""The command `review` and its sheet."""
+from __future__ import annotations
+
+from argparse import Namespace
+
+from evacask.faces.asked import Asked, put
+from evacask.faces.ending import Status
+from evacask.faces.sheet import Column, Sheet
+from evacask.faces.words import BUILDING, SHARED, Command
+from evacask.model.building import Model
+from evacask.questions.review import Review, review
+
+COLUMNS = (Column("line", "line", is_shown=False), Column("doubt", "doubt", is_shown=False))
+
+
+def review_sheet(answer: Review, model: Model) -> Sheet:
+    """A line for each doubt; nothing if there is none."""
+    head = ("evacask's own doubts, not proved; a doubt is no fault:",) if answer.doubts else ()
+    lines = tuple(f"line {it.line}: {it.what}" for it in answer.doubts)
+    return Sheet(answer, head + lines, COLUMNS, tuple((it.line, it.what) for it in answer.doubts))
+
+
+def run(given: Namespace) -> int:
+    asked = Asked(given)
+    answer = review(asked.client, asked.model)
+    return put(review_sheet(answer, asked.model), "review", given, asked.client, Status.REVIEW if answer.doubts else Status.ANSWERED)
+
+
+COMMAND = Command(
+    "review",
+    run,
+    "is it the building that I meant? what is often a mistake",
+    "A doubt is evacask's own and is no fault: whoever made the building knows better. Without one nothing is printed.",
+    "examples/office.evac",
+    (BUILDING, *SHARED),
+)
