@@ -77,7 +77,6 @@ fn allowed_below(
 
 // The moment from which on an admissible run of waits is taken back by a way. Where the first of the waits has nobody, or leads from a dead pair,
 // there is no run.
-#[inline(never)]
 fn run_since(incoming: &Incoming<'_>, distances: &Distances, way: Way, label: u32) -> Option<u32>
     requires sizes { distances.now.sizes ≡ incoming.now.sizes }
     requires way { IsWayWithin incoming.now.sizes way }
@@ -104,10 +103,6 @@ pub fn look_from(incoming: &Incoming<'_>, distances: &Distances, from: usize, la
 {
     for index in from..incoming.ways.len() {
         let way = incoming.ways[index];
-        // Ways forwards come first, and none backwards leads to the label 0.
-        if label == 0 && way.back {
-            break;
-        }
         if label > RUN_LIMIT && way.back && way.is_wait(incoming.sizes) {
             if let Some(since) = run_since(incoming, distances, way, label) {
                 return Look::Run { index, way, since };
@@ -151,7 +146,6 @@ pub fn least_label(incoming: &Incoming<'_>, distances: &Distances, enough: u32) 
 }
 
 /// The least distance label that a run of waits allows, or the first one that is low enough. The way over waits backwards is the last of all.
-#[inline(never)]
 pub fn run_label(incoming: &Incoming<'_>, distances: &Distances, enough: u32) -> u32
     requires { distances.now.sizes ≡ incoming.now.sizes }
     ensures { result ≤ 65536 }
