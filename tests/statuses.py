@@ -15,7 +15,7 @@ import sys
 import tempfile
 import unittest
 from dataclasses import dataclass
-from typing import IO, Callable
+from typing import IO, Callable, Sequence
 
 sys.dont_write_bytecode = True
 TOP = pathlib.Path(__file__).resolve().parent.parent
@@ -38,7 +38,7 @@ class Ended:
     read: int
 
 
-def with_file(words: "list[str | bytes]", text: bytes, before: "Callable[[], None] | None" = None) -> Ended:
+def with_file(words: "Sequence[str | bytes]", text: bytes, before: "Callable[[], None] | None" = None) -> Ended:
     """A run on a file, whose output is a file too."""
     with tempfile.TemporaryFile() as source, tempfile.TemporaryFile() as sink:
         source.write(text)
@@ -48,7 +48,7 @@ def with_file(words: "list[str | bytes]", text: bytes, before: "Callable[[], Non
         return Ended(ran.returncode, sink.read(), os.lseek(source.fileno(), 0, os.SEEK_CUR))
 
 
-def with_streams(words: "list[str]", source: "IO[bytes] | int", sink: "IO[bytes] | int" = subprocess.PIPE) -> "subprocess.CompletedProcess[bytes]":
+def with_streams(words: "Sequence[str]", source: "IO[bytes] | int", sink: "IO[bytes] | int" = subprocess.PIPE) -> "subprocess.CompletedProcess[bytes]":
     """A run on any streams."""
     return subprocess.run([PROGRAM, *words], stdin=source, stdout=sink, timeout=60)
 
@@ -104,8 +104,8 @@ class Statuses(unittest.TestCase):
         self.assertEqual(with_file(["check"], BUILDING + ANSWER), Ended(0, b"yes\n", len(BUILDING + ANSWER)))
 
     def test_2_reads_nothing(self) -> None:
-        for words in ([], ["nothing"], ["solve", "solve"], ["solve", "--routes", "--routes"], ["drill", "--number", "01"]):
-            self.assertEqual(with_file(words, BUILDING), Ended(2, b"refused 40 0\n", 0), words)
+        for words in ("", "nothing", "solve solve", "solve --routes --routes", "drill --number 01"):
+            self.assertEqual(with_file(words.split(), BUILDING), Ended(2, b"refused 40 0\n", 0), words)
 
     def test_3_writes_nothing_of_a_building_that_failed(self) -> None:
         for words in (["solve"], ["cards"], ["check"], ["upgrade"], ["session"], ["study"], ["replan"]):
