@@ -7,8 +7,8 @@ A name is that of a law or of a near miss; without names all are tried. For a la
 with what it says. For a near miss one building is made, by the seed that LAWS.md names, and must go against it. Buildings are edited in a session
 where everybody gets out of them, and else as texts. Capacities are tried on the large buildings of `buildings.py` and on examples/ too.
 
-It is no part of any test. It prints each building that goes against a law, and each near miss that its building doesn't show to be false. Its
-status is 1 where there is one.
+No test tries the laws; tests/near_misses.py tries the near misses too. It prints each building that goes against a law, and each near miss that its
+building doesn't show to be false. Its status is 1 where there is one.
 """
 import argparse
 import pathlib
