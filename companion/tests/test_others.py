@@ -10,7 +10,6 @@ import time
 import unittest
 
 from companion.building import building_of
-from companion.forms import COMMANDS
 from companion.metres import building_text
 from companion.terminal import candidates
 from companion.tests.asking import EXAMPLES, OFFICE, PATIENCE, SCHOOL, TOP, ask, changed, program, solved
