@@ -1,5 +1,6 @@
 """Tables, metres, explanations of codes, own names, and talks."""
 import csv
+import importlib.util
 import io
 import os
 import pathlib
@@ -268,11 +269,10 @@ class TalkAtATerminal(unittest.TestCase):
     """With a pseudo-terminal in place of a person's."""
 
     def setUp(self):
-        try:
-            import pty
-            import readline  # noqa: F401
-        except ImportError:
+        if not all(map(importlib.util.find_spec, ("pty", "readline"))):
             self.skipTest("no pseudo-terminal, or no readline")
+        import pty
+
         child, self.terminal = pty.fork()
         if not child:
             settings = {**os.environ, "TERM": "dumb", "EVACPLAN": program()}
