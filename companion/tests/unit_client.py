@@ -1,20 +1,24 @@
 """The client against scripts of a few lines: pipes, endings, the file of the program, and what is known of it."""
+import contextlib
 import os
 import pathlib
 import tempfile
 import unittest
-from typing import List
+from typing import List, Optional, Tuple, Type, Union
 from unittest import mock
 
-from evacask.client import program, talk
+from evacask.client import program, sources, talk
 from evacask.client.processes import PROCESSES
 from evacask.client.program import State, found_program, path_of, source_of, state_of
+from evacask.client.sources import Found
 from evacask.client.talk import Pipe, Program
 from evacask.errors import Broken, EvacaskError, NoMemory, NoProgram, NotProved
 
+Path = Optional[pathlib.Path]
+Wanted = Union[bytes, Tuple[Type[EvacaskError], str]]
 MARK = b"\0rattle logic=0123456789abcdef\0"
 # A script, what is sent to it, and what comes: bytes, or an error and words of it.
-RUNS = (
+RUNS: Tuple[Tuple[str, bytes, Wanted], ...] = (
     ("echo yes", b"", b"yes\n"),
     ("cat", b"yes\n" * 1_000_000, b"yes\n" * 1_000_000),
     ("echo refused 13 1; exit 1", b"x" * 1_000_000, b"refused 13 1\n"),
@@ -114,30 +118,39 @@ class Files(Scripts):
             source_of(self.folder / "nothing")
 
     def test_which_program_is_found(self) -> None:
-        named, built, packaged = self.script("", "named"), self.script("", "built"), self.script("", "packaged")
-        nothing = self.folder / "nothing"
-        for given, environment, places, wanted in (
-            (str(named), None, (built, packaged), named),
-            (None, str(named), (built, packaged), named),
-            (None, None, (built, packaged), built),
-            (None, None, (nothing, packaged), packaged),
-            (str(self.folder / "evacplan"), None, (built, packaged), built),
+        named, packaged, made = self.script("", "named"), self.script("", "packaged"), self.script("", "made")
+        nothing, script = self.folder / "nothing", self.folder / "evacplan"
+        (self.folder / "crates.txt").write_text("")
+        for given, environment, state, wanted in (
+            (named, None, State.PROVED, named),
+            (None, named, State.PROVED, named),
+            (None, None, State.PROVED, made),
+            (None, None, State.UNPROVED, made),
+            (script, None, State.PROVED, made),
+            (None, None, State.STALE, None),
+            (nothing, None, State.PROVED, None),
+            (self.folder, None, State.PROVED, None),
         ):
-            with self.subTest(given=given, environment=environment, places=places):
-                self.assertEqual(self.found(given, environment, *places), wanted.resolve())
-        for given, environment, places in (
-            (str(nothing), None, (built, packaged)),
-            (str(self.folder), None, (built, packaged)),
-            (None, None, (nothing, nothing)),
-        ):
-            with self.subTest(given=given), self.assertRaises(NoProgram):
-                self.found(given, environment, *places)
+            with self.subTest(given=given, environment=environment, state=state):
+                self.script("", "build")
+                self.assert_found(given, environment, Found(state, made), packaged, wanted)
+        (self.folder / "build").unlink()
+        self.assert_found(None, None, Found(State.NONE, nothing), packaged, packaged)
+        self.assert_found(None, None, Found(State.NONE, nothing), nothing, None)
 
-    def found(self, given: "str | None", environment: "str | None", built: pathlib.Path, packaged: pathlib.Path) -> pathlib.Path:
+    def assert_found(self, given: Path, environment: Path, now: Found, packaged: pathlib.Path, wanted: Path) -> None:
+        """The program that is found, in a repository or in a package, is the wanted one, or there is none."""
         settings = {name: value for name, value in os.environ.items() if name != "EVACPLAN"}
-        settings.update({"EVACPLAN": environment} if environment else {})
-        with mock.patch.multiple(program, BUILT=built, PACKAGED=packaged, TOP=self.folder), mock.patch.dict(os.environ, settings, clear=True):
-            return path_of(given)
+        settings.update({"EVACPLAN": str(environment)} if environment else {})
+        with contextlib.ExitStack() as stack:
+            stack.enter_context(mock.patch.multiple(program, PACKAGED=packaged, TOP=self.folder))
+            stack.enter_context(mock.patch.multiple(sources, made=lambda top: now, found=lambda top: now))
+            stack.enter_context(mock.patch.dict(os.environ, settings, clear=True))
+            if wanted:
+                self.assertEqual(path_of(str(given) if given else None), wanted.resolve())
+            else:
+                stack.enter_context(self.assertRaises(NoProgram))
+                path_of(str(given) if given else None)
 
     def test_a_proved_program_is_asked_for(self) -> None:
         path = self.script("echo yes")

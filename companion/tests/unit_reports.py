@@ -1,6 +1,6 @@
 """Replies read strictly: each form by an example, and what evacplan never prints."""
 import unittest
-from typing import Any, Callable, Tuple
+from typing import Any, Callable, Tuple, Type
 
 from companion.tests.table import BLOCK, ROOM, Table
 from evacask import Broken, Refused, Shortfall, WordsError, reads
@@ -155,7 +155,7 @@ class Talks(unittest.TestCase):
         with reads(ROOM, Table(replies)).session() as session:
             self.assertEqual((session.opening.number, session.edit('rate "=Hall" DS1.1 9').number, session.undo().number), (0, 1, 1))
             self.assertEqual((session.work(), session.report("summary").number("seconds"), session.cut(9).people), ((1, 2), 10, 3))
-            for ask, error in (
+            wrong: Tuple[Tuple[Callable[[], Any], Type[Exception]], ...] = (
                 (lambda: session.cut(), Broken),
                 (lambda: session.cut(21), Refused),
                 (lambda: session.edit("rate WP1.1 DS1.1 0"), Shortfall),
@@ -166,7 +166,8 @@ class Talks(unittest.TestCase):
                 (lambda: session.edit("# comment"), ValueError),
                 (lambda: session.edit("x" * 201), ValueError),
                 (lambda: list(session.trials([["undo"] * 65])), ValueError),
-            ):
+            )
+            for ask, error in wrong:
                 with self.assertRaises(error):
                     ask()
 
