@@ -1,6 +1,6 @@
 """The model: statements of a text, own names, edits by hand, forms, and walks."""
 import unittest
-from typing import List
+from typing import List, Tuple
 
 from evacask.errors import MarkError, Refused, UnknownName, WordsError
 from evacask.model.building import Arc, Entrant, Model, Node, Window, model_of, near
@@ -115,7 +115,7 @@ class Edits(unittest.TestCase):
         return [line for line in edited(model_of(TEXT), edits).text.splitlines() if line not in TEXT.splitlines()]
 
     def test_each_edit(self) -> None:
-        for edits, wanted in (
+        cases: List[Tuple[List[str], List[str]]] = [
             (["shut WP1.0 HA1.0"], ["arc WP1.0 HA1.0 1 0"]),
             (["shut WP1.0 HA1.0", "reopen WP1.0 HA1.0"], []),
             (["shutexit DS1.0"], ["arc HA1.0 DS1.0 1 0"]),
@@ -130,7 +130,8 @@ class Edits(unittest.TestCase):
             (["unwindow HA1.0 DS1.0 4 6"], []),
             (['rate "Kitchen" HA1.0 7', "\trate  HA1.0 DS1.0\t3 "], ["arc WP1.0 HA1.0 1 7", "arc HA1.0 DS1.0 1 3"]),
             ([], []),
-        ):
+        ]
+        for edits, wanted in cases:
             with self.subTest(edits):
                 self.assertEqual(self.changed(*edits), wanted)
         self.assertEqual(edited(model_of(TEXT), []).text, TEXT)
