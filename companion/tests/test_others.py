@@ -1,5 +1,6 @@
 """Tables, metres, explanations of codes, own names, and talks."""
 import csv
+import importlib.util
 import io
 import os
 import pathlib
@@ -10,7 +11,6 @@ import time
 import unittest
 
 from companion.building import building_of
-from companion.forms import COMMANDS
 from companion.metres import building_text
 from companion.terminal import candidates
 from companion.tests.asking import EXAMPLES, OFFICE, PATIENCE, SCHOOL, TOP, ask, changed, program, solved
@@ -269,11 +269,10 @@ class TalkAtATerminal(unittest.TestCase):
     """With a pseudo-terminal in place of a person's."""
 
     def setUp(self):
-        try:
-            import pty
-            import readline  # noqa: F401
-        except ImportError:
+        if not all(map(importlib.util.find_spec, ("pty", "readline"))):
             self.skipTest("no pseudo-terminal, or no readline")
+        import pty
+
         child, self.terminal = pty.fork()
         if not child:
             settings = {**os.environ, "TERM": "dumb", "EVACPLAN": program()}

@@ -74,8 +74,7 @@ def program_of(given: Namespace) -> Program:
 @functools.lru_cache(maxsize=None)
 def tell_that_unproved() -> None:
     """Says once that the program isn't proved. (Of a program that is named, it is said at a terminal alone.)"""
-    if sys.stderr is not None:
-        sys.stderr.write(f"evacask: {NOT_PROVED}\n")
+    say(f"evacask: {NOT_PROVED}\n")
 
 
 def named(name: str, client: Program, text: str) -> Model:
