@@ -1,0 +1,151 @@
+/** A building as tables of nodes and ways. The text stays the one source: a row changes its line of it. */
+import { html, table } from './dom.js';
+import { MOST_PEOPLE, MOST_RATE } from './building.js';
+import { nextName, rowsOf, withArc, withLine, withNode, withSetting, withoutArc, withoutNode } from './rows.js';
+
+/** @typedef {import('./rows.js').Rows} Rows */
+/** @typedef {import('./rows.js').Row} Row */
+/** @typedef {(text: string) => void} Takes takes the text after a change */
+
+const KINDS = [['WP', 'room (WP)'], ['HA', 'hall (HA)'], ['SW', 'stair (SW)'], ['LO', 'lobby (LO)'], ['DS', 'exit (DS)']];
+const MOST_ROWS = 400;
+
+/**
+ * A field for a number.
+ * @param {string} label for a screen reader
+ * @param {string} value
+ * @param {number} least
+ * @param {number} most
+ * @param {(value: string) => void} change
+ */
+function numberField(label, value, least, most, change) {
+  return html('input', { type: 'number', min: least, max: most, step: 1, value, 'aria-label': label, inputmode: 'numeric', change: (/** @type {Event} */ event) => change(/** @type {HTMLInputElement} */ (event.target).value.trim()) });
+}
+
+/**
+ * A field of a row's line.
+ * @param {string} text
+ * @param {string} word
+ * @param {Row} row
+ * @param {number} at
+ * @param {string} label
+ * @param {number} least
+ * @param {number} most
+ * @param {Takes} takes
+ */
+function cell(text, word, row, at, label, least, most, takes) {
+  /** @param {string} value */
+  const change = (value) => takes(withLine(text, row.line, [word, ...row.fields.map((field, place) => (place === at ? value : field))].join(' ')));
+  return numberField(label, row.fields[at] ?? '', least, most, change);
+}
+
+/**
+ * @param {string} label
+ * @param {() => void} click
+ */
+function removeButton(label, click) {
+  return html('button', { type: 'button', class: 'small', 'aria-label': label, click }, 'Remove');
+}
+
+/**
+ * The table of nodes.
+ * @param {string} text
+ * @param {Rows} rows
+ * @param {Takes} takes
+ */
+function nodeTable(text, rows, takes) {
+  const cells = rows.nodes.slice(0, MOST_ROWS).map((row) => {
+    const [name = '?'] = row.fields, isExit = name.startsWith('DS');
+    const capacity = isExit ? 'exit' : cell(text, 'node', row, 1, `Capacity of ${name}`, 0, MOST_PEOPLE, takes);
+    const people = isExit ? '' : cell(text, 'node', row, 2, `People in ${name}`, 0, MOST_PEOPLE, takes);
+    return [name, capacity, people, removeButton(`Remove ${name}`, () => takes(withoutNode(text, name)))];
+  });
+  return table('Nodes: rooms, halls, stairs, lobbies and exits', ['name', 'capacity', 'people at first', ''], cells);
+}
+
+/**
+ * The table of ways.
+ * @param {string} text
+ * @param {Rows} rows
+ * @param {Takes} takes
+ */
+function arcTable(text, rows, takes) {
+  const cells = rows.arcs.slice(0, MOST_ROWS).map((row) => {
+    const [tail = '?', head = '?'] = row.fields, way = `${tail} to ${head}`;
+    const travel = cell(text, 'arc', row, 2, `Travel from ${way}`, 1, 600, takes), rate = cell(text, 'arc', row, 3, `Rate from ${way}`, 0, MOST_RATE, takes);
+    return [way, travel, rate, removeButton(`Remove ${way}`, () => takes(withoutArc(text, tail, head)))];
+  });
+  return table('Ways: each leads from one node to another', ['from and to', 'travel, in periods', 'rate, people a period', ''], cells);
+}
+
+/**
+ * @param {string} id
+ * @param {string} words
+ * @param {HTMLElement} field
+ */
+function labelled(id, words, field) {
+  field.id = id;
+  return html('span', { class: 'field' }, html('label', { for: id }, words), field);
+}
+
+/**
+ * A form that adds a node.
+ * @param {string} text
+ * @param {Rows} rows
+ * @param {Takes} takes
+ */
+function nodeForm(text, rows, takes) {
+  const kind = html('select', {}, ...KINDS.map(([value, words]) => html('option', { value }, words)));
+  const number = /** @param {number} least @param {number} most @param {number} value */ (least, most, value) => html('input', { type: 'number', min: least, max: most, step: 1, value, required: true, inputmode: 'numeric' });
+  const floor = number(0, 999, 1), capacity = number(0, MOST_PEOPLE, 20), people = number(0, MOST_PEOPLE, 0);
+  const add = /** @param {Event} event */ (event) => {
+    event.preventDefault();
+    takes(withNode(text, nextName(rows, kind.value, Number(floor.value)), kind.value === 'DS' ? [] : [capacity.value, people.value]));
+  };
+  return html('form', { class: 'adder', submit: add }, labelled('new-kind', 'New', kind), labelled('new-floor', 'on floor', floor),
+    labelled('new-capacity', 'capacity', capacity), labelled('new-people', 'people', people), html('button', {}, 'Add node'));
+}
+
+/**
+ * A form that adds a way.
+ * @param {string} text
+ * @param {Rows} rows
+ * @param {Takes} takes
+ */
+function arcForm(text, rows, takes) {
+  const names = rows.nodes.map(({ fields }) => fields[0] ?? '').slice(0, MOST_ROWS);
+  const ends = /** @param {string[]} list */ (list) => html('select', { required: true }, ...list.map((name) => html('option', { value: name }, name)));
+  const tail = ends(names.filter((name) => !name.startsWith('DS'))), head = ends(names);
+  const travel = html('input', { type: 'number', min: 1, max: 600, step: 1, value: 1, required: true, inputmode: 'numeric' });
+  const rate = html('input', { type: 'number', min: 0, max: MOST_RATE, step: 1, value: 4, required: true, inputmode: 'numeric' });
+  const add = /** @param {Event} event */ (event) => {
+    event.preventDefault();
+    takes(withArc(text, [tail.value, head.value, travel.value, rate.value]));
+  };
+  return html('form', { class: 'adder', submit: add }, labelled('new-tail', 'New way from', tail), labelled('new-head', 'to', head),
+    labelled('new-travel', 'travel', travel), labelled('new-rate', 'rate', rate), html('button', {}, 'Add way'));
+}
+
+/**
+ * The period and the horizon.
+ * @param {string} text
+ * @param {Rows} rows
+ * @param {Takes} takes
+ */
+function settings(text, rows, takes) {
+  const field = /** @param {string} word @param {string} label @param {number} least @param {number} most */ (word, label, least, most) => numberField(label, rows.settings[word] ?? '', least, most, (value) => takes(withSetting(text, word, value)));
+  return html('p', { class: 'adder' }, html('span', { class: 'field' }, 'Seconds of a period ', field('period', 'Seconds of a period', 1, 600)),
+    html('span', { class: 'field' }, 'Periods to look ahead ', field('horizon', 'Periods to look ahead', 0, 1200)));
+}
+
+/**
+ * The tables of a building's text, whose changes give another text.
+ * @param {string} text
+ * @param {Takes} takes
+ * @returns {HTMLElement[]}
+ */
+export function buildingTables(text, takes) {
+  const rows = rowsOf(text), left = Math.max(rows.nodes.length, rows.arcs.length) - MOST_ROWS;
+  const more = left > 0 ? [html('p', { class: 'soft' }, `Only the first ${MOST_ROWS} rows of each are shown. The text has all.`)] : [];
+  return [settings(text, rows, takes), nodeTable(text, rows, takes), nodeForm(text, rows, takes), arcTable(text, rows, takes), arcForm(text, rows, takes), ...more];
+}
