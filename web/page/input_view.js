@@ -54,6 +54,7 @@ export class InputView {
     this.hidden = text.length > MOST_SHOWN ? text : null;
     this.box.value = this.hidden ? '' : text;
     this.box.disabled = this.hidden !== null;
+    at('file-name').textContent = plain(name);
     at('too-long').textContent = this.hidden ? `${plain(name)} has ${count(text.length)} letters. It is planned whole, but it is too long to show here.` : '';
     this.drawTables();
     this.changed();

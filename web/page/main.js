@@ -27,8 +27,13 @@ class Page {
     this.isBusy = false;
     /** @type {string[]} */
     this.chosen = [];
-    const clicks = { plan: () => this.plan(), stop: () => this.stop(), undo: () => this.undo(), 'save-building': () => this.saveBuilding(), 'save-answer': () => this.saveAnswer(), print: () => this.print() };
+    /** @type {HTMLDetailsElement[]} what is open only while it is printed */
+    this.opened = [];
+    this.lastText = '';
+    const clicks = { plan: () => this.plan(), stop: () => this.stop(), undo: () => this.undo(), 'save-building': () => this.saveBuilding(), 'save-answer': () => this.saveAnswer(), print: () => window.print() };
     for (const [id, click] of Object.entries(clicks)) at(id).addEventListener('click', click);
+    window.addEventListener('beforeprint', () => this.beforePrint());
+    window.addEventListener('afterprint', () => this.afterPrint());
     at('choice').addEventListener('change', (event) => this.choose(/** @type {HTMLSelectElement} */ (event.target).value.split(' ')));
     at('text').addEventListener('keydown', (event) => event.key === 'Enter' && (event.ctrlKey || event.metaKey) && this.plan());
     at('statements').append(...STATEMENTS.map(([form, ranges]) => html('div', {}, html('dt', {}, html('code', {}, form)), html('dd', {}, ranges))));
@@ -43,6 +48,7 @@ class Page {
    */
   say(...words) {
     fill(at('status'), ...words);
+    at('status').scrollIntoView({ block: 'nearest' });
   }
 
   /**
@@ -100,6 +106,7 @@ class Page {
     at('result').hidden = outcome.kind !== 'answer' && outcome.kind !== 'short';
     at('begin').hidden = true;
     fill(at('changes-part'));
+    fill(at('change-buttons'));
     if (outcome.kind === 'answer') this.showAnswer();
     else if (outcome.kind === 'short') this.showShort(outcome);
     else this.showRefusal(outcome);
@@ -222,24 +229,34 @@ class Page {
   }
 
   saveBuilding() {
-    const answer = this.desk.current, isEdited = answer && answer !== this.desk.answers[0] && this.input.text === this.desk.text;
-    const text = isEdited ? editedText(this.desk.text, this.desk.answers[0].building, answer.building) : this.input.text;
-    save(fileName(this.input.name, isEdited ? '-changed.evac' : '.evac'), text);
-    this.say(isEdited ? 'The building is saved with its changes.' : 'The building is saved.');
+    const text = this.buildingText, isChanged = text !== this.input.text;
+    save(fileName(this.input.name, isChanged ? '-changed.evac' : '.evac'), text);
+    this.say(isChanged ? 'The building is saved with its changes.' : 'The building is saved.');
   }
 
   saveAnswer() {
-    const text = this.desk.current?.text ?? this.lastText;
-    if (text) save(fileName(this.input.name, '-answer.txt'), text);
+    save(fileName(this.input.name, '-answer.txt'), this.desk.current?.text ?? this.lastText);
     this.say('The answer is saved. On a computer with evacplan, `check` reads the building and then this.');
   }
 
-  /** Prints the report: the answer with the building's text, and without buttons. */
-  print() {
-    const answer = this.desk.current, isEdited = answer && answer !== this.desk.answers[0];
-    const text = isEdited ? editedText(this.desk.text, this.desk.answers[0].building, answer.building) : this.desk.text || this.input.text;
+  /** The building's text as it stands: with the changes, if there are some and the text is still the one that was planned. */
+  get buildingText() {
+    const [given] = this.desk.answers, answer = this.desk.current;
+    const isChanged = answer !== null && answer !== given && this.input.text === this.desk.text;
+    return isChanged ? editedText(this.desk.text, given.building, answer.building) : this.input.text;
+  }
+
+  /** Before the browser prints: tables are opened, and the building's text is put below. The report is the answer without buttons. */
+  beforePrint() {
+    const answer = this.desk.current, text = answer ? editedText(this.desk.text, this.desk.answers[0].building, answer.building) : this.input.text;
     fill(at('printed-text'), ...text.split('\n').map((line) => `${plain(line.replace(/\r$/, ''))}\n`));
-    window.print();
+    this.opened = /** @type {HTMLDetailsElement[]} */ ([...document.querySelectorAll('#parts details:not([open])')]);
+    this.opened.forEach((it) => { it.open = true; });
+  }
+
+  afterPrint() {
+    this.opened.forEach((it) => { it.open = false; });
+    this.opened = [];
   }
 }
 

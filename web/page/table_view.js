@@ -115,12 +115,16 @@ function nodeForm(text, rows, takes) {
 function arcForm(text, rows, takes) {
   const names = rows.nodes.map(({ fields }) => fields[0] ?? '').slice(0, MOST_ROWS);
   const ends = /** @param {string[]} list */ (list) => html('select', { required: true }, ...list.map((name) => html('option', { value: name }, name)));
-  const tail = ends(names.filter((name) => !name.startsWith('DS'))), head = ends(names);
+  const isExit = /** @param {string} name */ (name) => name.startsWith('DS'), rooms = names.filter((name) => !isExit(name));
+  const tail = ends(rooms), head = ends([...names.filter(isExit), ...rooms]);
+  tail.addEventListener('change', () => head.setCustomValidity(''));
+  head.addEventListener('change', () => head.setCustomValidity(''));
   const travel = html('input', { type: 'number', min: 1, max: 600, step: 1, value: 1, required: true, inputmode: 'numeric' });
   const rate = html('input', { type: 'number', min: 0, max: MOST_RATE, step: 1, value: 4, required: true, inputmode: 'numeric' });
   const add = /** @param {Event} event */ (event) => {
     event.preventDefault();
-    takes(withArc(text, [tail.value, head.value, travel.value, rate.value]));
+    head.setCustomValidity(tail.value === head.value ? 'A way joins two different nodes.' : '');
+    if (head.reportValidity()) takes(withArc(text, [tail.value, head.value, travel.value, rate.value]));
   };
   return html('form', { class: 'adder', submit: add }, labelled('new-tail', 'New way from', tail), labelled('new-head', 'to', head),
     labelled('new-travel', 'travel', travel), labelled('new-rate', 'rate', rate), html('button', {}, 'Add way'));

@@ -3,9 +3,8 @@ import fs from 'node:fs';
 import { Host } from '../page/host.js';
 
 const [path, ...words] = process.argv.slice(2);
-/** @type {Uint8Array[]} */
 const written = [];
 const host = new Host(words, fs.readFileSync(0), false, (bytes) => written.push(bytes));
 await host.load(await WebAssembly.compile(fs.readFileSync(path)));
-process.exitCode = host.goOn() ?? 70;
-fs.writeSync(1, Buffer.concat(written));
+const status = host.goOn();
+process.stdout.write(Buffer.concat(written), () => process.exit(status));
