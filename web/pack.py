@@ -1,4 +1,4 @@
-"""Packs the page into one file: pack.py MODULE.wasm CLAIM ORIGIN OUT.html, with what may be claimed of the module, and what it was made from, in words.
+"""Packs the page into one file: pack.py MODULE.wasm OUT.html packs a module by hand; web/build says what may be claimed of it, and what it was made from.
 
 The modules of page/ become one script: each is a value of what it exports, after those that it imports. The worker is packed alike, and goes into the page
 as a text. The page's policy names the script and the style by their sums, so it runs no other.
@@ -58,29 +58,28 @@ def plain(cell: str) -> str:
     return re.sub(r"\[([^]]*)\]\([^)]*\)", r"\1", cell).replace("`", "").strip()
 
 
-def rows_under(heading: str, first: str) -> List[List[str]]:
-    """The rows of the table with this first column, under a heading of docs/FORMATS.md."""
+def rows_after(mark: str) -> List[List[str]]:
+    """The rows of the first table after a mark in docs/FORMATS.md."""
     text = FORMATS.read_text(encoding="utf-8")
-    after = text[text.index(f"\n## {heading}\n") :]
-    lines = after[after.index(f"\n| {first} |") + 1 :].split("\n")
-    rows = [[plain(cell) for cell in line.strip()[1:-1].split("|")] for line in lines[2 : lines.index("")]]
-    if not rows:
-        raise SystemExit(f"docs/FORMATS.md has no table {first} under {heading}")
-    return rows
+    after = text[text.index(f"\n{mark}\n") :]
+    lines = after[after.index("\n|") + 1 :].split("\n")
+    return [[plain(cell) for cell in line.strip()[1:-1].split("|")] for line in lines[2 : lines.index("")]]
 
 
 def codes() -> List[Tuple[int, str, str]]:
-    """The codes of refusals, with their meanings and remedies; those of a building first."""
-    found: Dict[int, Tuple[int, str, str]] = {}
-    for heading in ("The codes of a building", "The session"):
-        for code, what, remedy in rows_under(heading, "Code"):
-            found.setdefault(int(code), (int(code), what, remedy))
-    return list(found.values())
+    """The codes of a building: what each means, and what to do."""
+    return [(int(code), what, remedy) for code, what, remedy in rows_after("<!-- codes: building -->")]
+
+
+def edit_codes() -> List[Tuple[str, int, str, str]]:
+    """The codes of an edit: its word, or nothing if it is any, and then the same."""
+    of_edits = [(word, int(code), what, remedy) for word, code, what, remedy in rows_after("<!-- codes: commands -->")]
+    return of_edits + [("", int(code), what, remedy) for code, what, remedy in rows_after("<!-- codes: session -->")]
 
 
 def statements() -> List[Tuple[str, str]]:
     """The statements of the language: the form of each, and its ranges."""
-    return [(form, "; ".join(filter(None, (ranges.strip(), often)))) for form, ranges, often in rows_under("The statements", "Statement")]
+    return [(form, "; ".join(filter(None, (ranges.strip(), often)))) for form, ranges, often in rows_after("## The statements")]
 
 
 def parts(module: bytes, claim: str, origin: str) -> str:
@@ -91,6 +90,7 @@ def parts(module: bytes, claim: str, origin: str) -> str:
         "WORKER": bundle("worker", {}),
         "EXAMPLES": examples,
         "CODES": codes(),
+        "EDIT_CODES": edit_codes(),
         "STATEMENTS": statements(),
         "CLAIM": claim,
         "ORIGIN": origin,
@@ -115,14 +115,20 @@ def policy(script: str, style: str) -> str:
     )
 
 
-def main(module: str, claim: str, origin: str, out: str) -> None:
-    script = bundle("main", {"parts": parts(Path(module).read_bytes(), claim, origin)})
+def page_of(module: bytes, claim: str, origin: str) -> str:
+    """The page of a module, with what may be claimed of it and what it was made from, in words."""
+    script = bundle("main", {"parts": parts(module, claim, origin)})
     style = (PAGE / "style.css").read_text(encoding="utf-8")
     if "</" in style or re.search(r"</script|<!--", script, re.IGNORECASE):
         raise SystemExit("the script or the style would end too early")
     page = (PAGE / "index.html").read_text(encoding="utf-8")
     for name, text in (("@POLICY@", policy(script, style)), ("@STYLE@", style), ("@SCRIPT@", script)):
         page = page.replace(name, text)
+    return page
+
+
+def main(module: str, out: str) -> None:
+    page = page_of(Path(module).read_bytes(), "This page was packed by hand, and nothing is claimed of its module.", "a module that was given by hand")
     Path(out).write_text(page, encoding="utf-8")
 
 

@@ -101,13 +101,32 @@ function fact(value, what, ground) {
 }
 
 /**
+ * A number of people; if the building counts shares of them, both.
+ * @param {Building} building
+ * @param {number} number
+ */
+function peopleWords(building, number) {
+  if (building.shares === 1) return some(number, 'person', 'people');
+  return `${count(number)} shares of people (${(number / building.shares).toFixed(1)} people)`;
+}
+
+/**
+ * What a building in shares has to say of the numbers below.
+ * @param {Building} building
+ */
+function sharesNote(building) {
+  if (building.shares === 1) return null;
+  return html('p', { class: 'note' }, `This building counts each person as ${building.shares} shares, by its line #shares. So do all numbers of people and rates below: divide them by ${building.shares}.`);
+}
+
+/**
  * The answer in one sentence.
  * @param {Answer} answer
  */
 export function sentence({ building, block }) {
   if (block.people === 0) return 'Nobody is in this building.';
-  const who = block.people === 1 ? 'The one person' : `All ${count(block.people)} people`;
-  return `${who} can be out after ${spanWords(building, block.cleared).replace(/ s$/, ' seconds')}.`;
+  const who = block.people === 1 ? 'The one person' : `All ${peopleWords(building, block.people)}`;
+  return `${who} can be out after ${spanWords(building, block.cleared).replace(/ s$/, ' seconds').replace(/^from (.*)$/, '$1 or more')}.`;
 }
 
 /**
@@ -115,7 +134,7 @@ export function sentence({ building, block }) {
  * @param {Short} short
  */
 export function shortSentence({ building, shortfall }) {
-  return `At most ${count(shortfall.most)} of ${count(shortfall.people)} people can be out by ${seconds(building, building.horizon).replace(/ s$/, ' seconds')}.`;
+  return `At most ${count(shortfall.most)} of ${peopleWords(building, shortfall.people)} can be out by ${seconds(building, building.horizon).replace(/ s$/, ' seconds')}.`;
 }
 
 /**
@@ -248,7 +267,7 @@ function fullSection({ building, block }) {
 function assumptions(building) {
   const windows = [...building.arcs.values()].reduce((sum, arc) => sum + arc.windows.length, 0);
   return section('What it assumes', 'page', html('ul', {},
-    html('li', {}, `A period lasts ${some(building.period, 'second')}. The plan looks ${seconds(building, building.horizon)} ahead. The people of a period count as if all set out at its first instant: so a time is from its moment on and before the next.`),
+    html('li', {}, `A period lasts ${some(building.period, 'second')}. The plan looks ${seconds(building, building.horizon)} ahead. The people of a period count as if all set out at its first instant. ${building.entrants.length === 0 || spanWords(building, 1).includes(' to ') ? 'So a time is from its moment on and before the next.' : 'People come in later, and not every node holds everybody: so no later end of a time is claimed.'}`),
     html('li', {}, `${some(building.nodes.size, 'node')}, ${some(building.arcs.size, 'way')}, ${some(windows, 'closure')}, ${some(building.entrants.length, 'late arrival')}.`),
     html('li', {}, 'Everybody follows the plan. Nobody has proved that the rates, travel times and capacities are true of the building: check them against your code and your drawings.'),
     html('li', {}, 'It is the best case. It doesn\'t predict what people will do. Add the time before people set out, and the margin that your code asks for.')));
@@ -263,7 +282,7 @@ export function firstParts(answer) {
   const { building, block } = answer;
   if (block.people === 0) return [checkedWords(answer)];
   const lead = `No plan has them all out sooner. This is moment ${count(block.cleared)}, in periods of ${some(building.period, 'second')}. `;
-  return [html('p', { class: 'lead' }, lead, mark('checked')), facts(answer), checkedWords(answer), whySection(answer)];
+  return [html('p', { class: 'lead' }, lead, mark('checked')), sharesNote(building), facts(answer), checkedWords(answer), whySection(answer)];
 }
 
 /**
@@ -288,6 +307,7 @@ export function shortParts({ building, shortfall }) {
   const caught = caughtIn(building), held = [...shortfall.inside].filter(([, moments]) => moments.at(-1)).map(([name]) => name);
   const remedy = caught.length ? `No way leads out from ${listed(caught)}. Add the way that is missing, or turn one round.` : 'Raise the horizon first. If that brings nobody more out, widen one of the ways below, or add one.';
   return [
+    sharesNote(building),
     html('p', { id: 'verdict', class: 'verdict' }, html('strong', {}, 'Checked.'), ` This page has added up the cut that shows it: it is worth ${count(shortfall.most)} people, and ${count(peopleOf(building))} have to get out. `, mark('checked')),
     html('p', {}, html('strong', {}, 'What to do: '), remedy, ' ', mark('page')),
     held.length ? html('p', {}, `People are held up in ${held.length <= 12 ? held.join(', ') : `${held.slice(0, 12).join(', ')} and ${held.length - 12} more`}.`) : null,

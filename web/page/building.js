@@ -39,6 +39,7 @@ import { Fault, linesOf, numberAt, partsOfName, wantFields } from './lines.js';
  * @property {Map<string, Arc>} arcs by both names with a space between, in the order of the text
  * @property {Entrant[]} entrants
  * @property {number} end the line of `end`
+ * @property {number} shares as how many shares each person is counted, by a comment `#shares N` (docs/FIGURES.md); 1 without one
  */
 
 export const MOST_RATE = 10000;
@@ -143,6 +144,15 @@ function versionOf(line) {
 }
 
 /**
+ * As how many shares a text counts each person.
+ * @param {string} text
+ */
+function sharesOf(text) {
+  const found = /^[ \t]*#shares[ \t]+(\d{1,3})[ \t\r]*$/m.exec(text);
+  return Math.max(1, Number(found?.[1] ?? 1));
+}
+
+/**
  * Reads a building. A text that isn't one is a Fault; which of its faults that names isn't promised: the program's refusal says that.
  * @param {string} text
  * @returns {Building}
@@ -150,7 +160,7 @@ function versionOf(line) {
 export function readBuilding(text) {
   const lines = linesOf(text);
   /** @type {Building} */
-  const building = { version: versionOf(lines.shift()), title: '', period: 0, horizon: -1, floors: new Map(), nodes: new Map(), arcs: new Map(), entrants: [], end: 0 };
+  const building = { version: versionOf(lines.shift()), title: '', period: 0, horizon: -1, floors: new Map(), nodes: new Map(), arcs: new Map(), entrants: [], end: 0, shares: sharesOf(text) };
   for (const line of lines) {
     const word = line.fields[0];
     if (building.end > 0) throw new Fault(line.number, 'something comes after `end`');

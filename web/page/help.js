@@ -1,19 +1,5 @@
 /** Helps where a building or an edit is refused: what the code means, and what to do. */
-import { CODES, STATEMENTS } from './parts.js';
-
-/**
- * Codes whose meaning in a session isn't that of a building's text.
- * @type {Record<number, string>}
- */
-const OF_EDITS = {
-  7: 'The number is out of its range.',
-  12: 'The capacity would be below the people who start there.',
-  17: 'There would be too many people: 100,000 at most.',
-  24: 'The closure must begin before it ends.',
-  25: 'A moment of the closure lies in another one of this way. Join the two.',
-  26: 'This way has 8 closures already.',
-  38: 'Fewer people start there.',
-};
+import { CODES, EDIT_CODES, STATEMENTS } from './parts.js';
 
 /**
  * What a code means in a building, and what to do.
@@ -25,11 +11,13 @@ export function meaningOf(code) {
 }
 
 /**
- * Why an edit is refused.
+ * Why an edit is refused, and what to do.
+ * @param {string} word
  * @param {number} code
  */
-export function editMeaning(code) {
-  return OF_EDITS[code] ?? meaningOf(code).what;
+export function editMeaning(word, code) {
+  const found = EDIT_CODES.find(([of, number]) => number === code && (of === word || of === ''));
+  return found ? `${found[2]} ${found[3]}` : meaningOf(code).what;
 }
 
 /**

@@ -207,7 +207,7 @@ class Page {
         this.say('The change is made, and its answer is checked.');
         at('change-words').scrollIntoView({ block: 'nearest' });
       } else if (outcome.kind === 'short') this.say(html('strong', {}, 'The change is not made. '), `With it, not everybody gets out. ${shortSentence(outcome)} The building stays as it was.`);
-      else if (outcome.kind === 'refused') this.say(html('strong', {}, 'The change is not made. '), editMeaning(outcome.code));
+      else if (outcome.kind === 'refused') this.say(html('strong', {}, 'The change is not made. '), editMeaning(edit.word, outcome.code));
       else if (outcome.kind === 'stopped') this.say('Stopped. The change is not made.');
       else this.showRefusal(outcome);
       this.focusAgain();

@@ -25,6 +25,12 @@ export const EXAMPLES = [];
 export const CODES = [];
 
 /**
+ * The codes of refused edits: the edit's word, or '' if it is any; the number, what it means, and what to do.
+ * @type {[string, number, string, string][]}
+ */
+export const EDIT_CODES = [];
+
+/**
  * The statements of the language, with their ranges.
  * @type {[string, string][]}
  */

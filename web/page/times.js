@@ -1,4 +1,5 @@
 /** Moments in seconds, and numbers in words. */
+import { peopleOf } from './building.js';
 
 /** @typedef {import('./building.js').Building} Building */
 
@@ -39,14 +40,23 @@ export function momentWords(building, moment) {
 }
 
 /**
+ * Whether all that a moment says holds by the end of its period, however short the periods are made: a law if nobody comes later, or each node holds everybody.
+ * @param {Building} building
+ */
+function hasLaterEnd(building) {
+  const nodes = [...building.nodes.values()], people = peopleOf(building);
+  return building.entrants.length === 0 || nodes.every((node) => node.isExit || node.capacity >= people);
+}
+
+/**
  * The seconds that a time of people being out stands for: `140 to 145 s`. The plan counts the people of a period as if all set out at its first instant,
- * so the true time is from this moment on and before the next.
+ * so the true time is from this moment on and before the next. Where no later end can be claimed: `from 140 s`.
  * @param {Building} building
  * @param {number} moment
  */
 export function spanWords(building, moment) {
-  if (moment === 0) return '0 s';
-  return `${count(moment * building.period)} to ${count((moment + 1) * building.period)} s`;
+  const from = count(moment * building.period);
+  return hasLaterEnd(building) ? `${from} to ${count((moment + 1) * building.period)} s` : `from ${from} s`;
 }
 
 /**

@@ -9,6 +9,8 @@ import { Host } from '../page/host.js';
 import { Run } from '../page/program.js';
 import { EMPTY, nextName, rowsOf, withArc, withLine, withNode, withSetting, withoutArc, withoutNode } from '../page/rows.js';
 import { measuresOf, uncongested } from '../page/measures.js';
+import { readBuilding } from '../page/building.js';
+import { spanWords } from '../page/times.js';
 
 const [modulePath, program] = process.argv.slice(2);
 const module = await WebAssembly.compile(fs.readFileSync(modulePath));
@@ -125,6 +127,15 @@ async function testWrong() {
   assert.deepEqual([short.kind, short.line], ['wrong', 3]);
 }
 
+/** What a time stands for: no later end is claimed if people come later and a node may be too small. */
+async function testTimes() {
+  const office = (await newDesk().plan(example('office'))).building, theatre = (await newDesk().plan(example('theatre'))).building;
+  assert.equal(spanWords(office, 28), '140 to 145 s');
+  assert.match(spanWords(theatre, 1), /^from \d+ s$/);
+  assert.equal(readBuilding(`#shares 40\n${example('office')}`).shares, 40);
+  assert.equal(office.shares, 1);
+}
+
 /** A building is made by the tables alone. */
 async function testRows() {
   let text = withNode(EMPTY, nextName(rowsOf(EMPTY), 'WP', 1), ['10', '3']);
@@ -140,5 +151,5 @@ async function testRows() {
   assert.equal(withLine('a\nb\nc', 1, 'd'), 'a\nd\nc');
 }
 
-for (const test of [testOffice, testSavedTexts, testManyUndos, testStop, testWrong, testRows]) await test();
+for (const test of [testOffice, testSavedTexts, testManyUndos, testStop, testWrong, testTimes, testRows]) await test();
 console.log('sessions of the page: all well');
