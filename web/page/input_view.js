@@ -105,9 +105,9 @@ export class InputView {
     if (!this.hasTables) return;
     const fields = () => [.../** @type {NodeListOf<HTMLElement>} */ (at('tables').querySelectorAll('input, select, button'))];
     const focused = fields().indexOf(/** @type {HTMLElement} */ (document.activeElement));
-    at('tables').replaceChildren(...buildingTables(this.hidden ? '' : this.box.value, (text) => {
-      this.box.value = text;
-      this.drawTables();
+    at('tables').replaceChildren(...buildingTables(this.hidden ? '' : this.box.value, (change, isNewRow) => {
+      this.box.value = change(this.box.value);
+      if (isNewRow) this.drawTables();
       this.changed();
     }));
     if (focused >= 0) fields()[focused]?.focus();

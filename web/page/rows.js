@@ -28,8 +28,21 @@ export function rowsOf(text) {
  * @param {number} line
  * @param {string} said
  */
-export function withLine(text, line, said) {
+function withLine(text, line, said) {
   return text.split('\n').map((it, at) => (at === line ? said : it)).join('\n');
+}
+
+/**
+ * A text with one field of a line changed.
+ * @param {string} text
+ * @param {number} line
+ * @param {number} place of the field; the word is at 0
+ * @param {string} value
+ */
+export function withField(text, line, place, value) {
+  const fields = fieldsOf(text.split('\n')[line].replace(/\r$/, ''));
+  fields[place] = value;
+  return withLine(text, line, fields.join(' '));
 }
 
 /**

@@ -1,11 +1,11 @@
 /** A building as tables of nodes and ways. The text stays the one source: a row changes its line of it. */
 import { html, table } from './dom.js';
 import { MOST_PEOPLE, MOST_RATE } from './building.js';
-import { nextName, rowsOf, withArc, withLine, withNode, withSetting, withoutArc, withoutNode } from './rows.js';
+import { nextName, rowsOf, withArc, withField, withNode, withSetting, withoutArc, withoutNode } from './rows.js';
 
 /** @typedef {import('./rows.js').Rows} Rows */
 /** @typedef {import('./rows.js').Row} Row */
-/** @typedef {(text: string) => void} Takes takes the text after a change */
+/** @typedef {(change: (text: string) => string, isNewRow: boolean) => void} Takes takes a change of the text; the tables are drawn anew if rows come or go */
 
 const KINDS = [['WP', 'room (WP)'], ['HA', 'hall (HA)'], ['SW', 'stair (SW)'], ['LO', 'lobby (LO)'], ['DS', 'exit (DS)']];
 const MOST_ROWS = 400;
@@ -19,13 +19,11 @@ const MOST_ROWS = 400;
  * @param {(value: string) => void} change
  */
 function numberField(label, value, least, most, change) {
-  return html('input', { type: 'number', min: least, max: most, step: 1, value, 'aria-label': label, inputmode: 'numeric', change: (/** @type {Event} */ event) => change(/** @type {HTMLInputElement} */ (event.target).value.trim()) });
+  return html('input', { type: 'number', min: least, max: most, step: 1, value, 'aria-label': label, inputmode: 'numeric', input: (/** @type {Event} */ event) => change(/** @type {HTMLInputElement} */ (event.target).value.trim()) });
 }
 
 /**
  * A field of a row's line.
- * @param {string} text
- * @param {string} word
  * @param {Row} row
  * @param {number} at
  * @param {string} label
@@ -33,10 +31,8 @@ function numberField(label, value, least, most, change) {
  * @param {number} most
  * @param {Takes} takes
  */
-function cell(text, word, row, at, label, least, most, takes) {
-  /** @param {string} value */
-  const change = (value) => takes(withLine(text, row.line, [word, ...row.fields.map((field, place) => (place === at ? value : field))].join(' ')));
-  return numberField(label, row.fields[at] ?? '', least, most, change);
+function cell(row, at, label, least, most, takes) {
+  return numberField(label, row.fields[at] ?? '', least, most, (value) => takes((text) => withField(text, row.line, at + 1, value), false));
 }
 
 /**
@@ -49,31 +45,29 @@ function removeButton(label, click) {
 
 /**
  * The table of nodes.
- * @param {string} text
  * @param {Rows} rows
  * @param {Takes} takes
  */
-function nodeTable(text, rows, takes) {
+function nodeTable(rows, takes) {
   const cells = rows.nodes.slice(0, MOST_ROWS).map((row) => {
     const [name = '?'] = row.fields, isExit = name.startsWith('DS');
-    const capacity = isExit ? 'exit' : cell(text, 'node', row, 1, `Capacity of ${name}`, 0, MOST_PEOPLE, takes);
-    const people = isExit ? '' : cell(text, 'node', row, 2, `People in ${name}`, 0, MOST_PEOPLE, takes);
-    return [name, capacity, people, removeButton(`Remove ${name}`, () => takes(withoutNode(text, name)))];
+    const capacity = isExit ? 'exit' : cell(row, 1, `Capacity of ${name}`, 0, MOST_PEOPLE, takes);
+    const people = isExit ? '' : cell(row, 2, `People in ${name}`, 0, MOST_PEOPLE, takes);
+    return [name, capacity, people, removeButton(`Remove ${name}`, () => takes((text) => withoutNode(text, name), true))];
   });
   return table('Nodes: rooms, halls, stairs, lobbies and exits', ['name', 'capacity', 'people at first', ''], cells);
 }
 
 /**
  * The table of ways.
- * @param {string} text
  * @param {Rows} rows
  * @param {Takes} takes
  */
-function arcTable(text, rows, takes) {
+function arcTable(rows, takes) {
   const cells = rows.arcs.slice(0, MOST_ROWS).map((row) => {
     const [tail = '?', head = '?'] = row.fields, way = `${tail} to ${head}`;
-    const travel = cell(text, 'arc', row, 2, `Travel from ${way}`, 1, 600, takes), rate = cell(text, 'arc', row, 3, `Rate from ${way}`, 0, MOST_RATE, takes);
-    return [way, travel, rate, removeButton(`Remove ${way}`, () => takes(withoutArc(text, tail, head)))];
+    const travel = cell(row, 2, `Travel from ${way}`, 1, 600, takes), rate = cell(row, 3, `Rate from ${way}`, 0, MOST_RATE, takes);
+    return [way, travel, rate, removeButton(`Remove ${way}`, () => takes((text) => withoutArc(text, tail, head), true))];
   });
   return table('Ways: each leads from one node to another', ['from and to', 'travel, in periods', 'rate, people a period', ''], cells);
 }
@@ -90,17 +84,17 @@ function labelled(id, words, field) {
 
 /**
  * A form that adds a node.
- * @param {string} text
  * @param {Rows} rows
  * @param {Takes} takes
  */
-function nodeForm(text, rows, takes) {
+function nodeForm(rows, takes) {
   const kind = html('select', {}, ...KINDS.map(([value, words]) => html('option', { value }, words)));
   const number = /** @param {number} least @param {number} most @param {number} value */ (least, most, value) => html('input', { type: 'number', min: least, max: most, step: 1, value, required: true, inputmode: 'numeric' });
   const floor = number(0, 999, 1), capacity = number(0, MOST_PEOPLE, 20), people = number(0, MOST_PEOPLE, 0);
   const add = /** @param {Event} event */ (event) => {
     event.preventDefault();
-    takes(withNode(text, nextName(rows, kind.value, Number(floor.value)), kind.value === 'DS' ? [] : [capacity.value, people.value]));
+    const name = nextName(rows, kind.value, Number(floor.value));
+    takes((text) => withNode(text, name, kind.value === 'DS' ? [] : [capacity.value, people.value]), true);
   };
   return html('form', { class: 'adder', submit: add }, labelled('new-kind', 'New', kind), labelled('new-floor', 'on floor', floor),
     labelled('new-capacity', 'capacity', capacity), labelled('new-people', 'people', people), html('button', {}, 'Add node'));
@@ -108,11 +102,10 @@ function nodeForm(text, rows, takes) {
 
 /**
  * A form that adds a way.
- * @param {string} text
  * @param {Rows} rows
  * @param {Takes} takes
  */
-function arcForm(text, rows, takes) {
+function arcForm(rows, takes) {
   const names = rows.nodes.map(({ fields }) => fields[0] ?? '').slice(0, MOST_ROWS);
   const ends = /** @param {string[]} list */ (list) => html('select', { required: true }, ...list.map((name) => html('option', { value: name }, name)));
   const isExit = /** @param {string} name */ (name) => name.startsWith('DS'), rooms = names.filter((name) => !isExit(name));
@@ -124,7 +117,7 @@ function arcForm(text, rows, takes) {
   const add = /** @param {Event} event */ (event) => {
     event.preventDefault();
     head.setCustomValidity(tail.value === head.value ? 'A way joins two different nodes.' : '');
-    if (head.reportValidity()) takes(withArc(text, [tail.value, head.value, travel.value, rate.value]));
+    if (head.reportValidity()) takes((text) => withArc(text, [tail.value, head.value, travel.value, rate.value]), true);
   };
   return html('form', { class: 'adder', submit: add }, labelled('new-tail', 'New way from', tail), labelled('new-head', 'to', head),
     labelled('new-travel', 'travel', travel), labelled('new-rate', 'rate', rate), html('button', {}, 'Add way'));
@@ -132,12 +125,11 @@ function arcForm(text, rows, takes) {
 
 /**
  * The period and the horizon.
- * @param {string} text
  * @param {Rows} rows
  * @param {Takes} takes
  */
-function settings(text, rows, takes) {
-  const field = /** @param {string} word @param {string} label @param {number} least @param {number} most */ (word, label, least, most) => numberField(label, rows.settings[word] ?? '', least, most, (value) => takes(withSetting(text, word, value)));
+function settings(rows, takes) {
+  const field = /** @param {string} word @param {string} label @param {number} least @param {number} most */ (word, label, least, most) => numberField(label, rows.settings[word] ?? '', least, most, (value) => takes((text) => withSetting(text, word, value), !(word in rows.settings)));
   return html('p', { class: 'adder' }, html('span', { class: 'field' }, 'Seconds of a period ', field('period', 'Seconds of a period', 1, 600)),
     html('span', { class: 'field' }, 'Periods to look ahead ', field('horizon', 'Periods to look ahead', 0, 1200)));
 }
@@ -151,5 +143,5 @@ function settings(text, rows, takes) {
 export function buildingTables(text, takes) {
   const rows = rowsOf(text), left = Math.max(rows.nodes.length, rows.arcs.length) - MOST_ROWS;
   const more = left > 0 ? [html('p', { class: 'soft' }, `Only the first ${MOST_ROWS} rows of each are shown. The text has all.`)] : [];
-  return [settings(text, rows, takes), nodeTable(text, rows, takes), nodeForm(text, rows, takes), arcTable(text, rows, takes), arcForm(text, rows, takes), ...more];
+  return [settings(rows, takes), nodeTable(rows, takes), nodeForm(rows, takes), arcTable(rows, takes), arcForm(rows, takes), ...more];
 }

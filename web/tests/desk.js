@@ -7,7 +7,7 @@ import { Desk } from '../page/desk.js';
 import { editedText } from '../page/edits.js';
 import { Host } from '../page/host.js';
 import { Run } from '../page/program.js';
-import { EMPTY, nextName, rowsOf, withArc, withLine, withNode, withSetting, withoutArc, withoutNode } from '../page/rows.js';
+import { EMPTY, nextName, rowsOf, withArc, withField, withNode, withSetting, withoutArc, withoutNode } from '../page/rows.js';
 import { measuresOf, uncongested } from '../page/measures.js';
 import { readBuilding } from '../page/building.js';
 import { spanWords } from '../page/times.js';
@@ -148,7 +148,7 @@ async function testRows() {
   assert.equal(clearedOf(withSetting(text, 'horizon', '60')), 11);
   assert.equal(clearedOf(withoutNode(text, 'WP1.2')), 2);
   assert.equal(rowsOf(withoutArc(text, 'WP1.2', 'WP1.1')).arcs.length, 1);
-  assert.equal(withLine('a\nb\nc', 1, 'd'), 'a\nd\nc');
+  assert.equal(withField('a\nnode  WP1.1 2 3\r\nc', 1, 3, '9'), 'a\nnode WP1.1 2 9\nc');
 }
 
 for (const test of [testOffice, testSavedTexts, testManyUndos, testStop, testWrong, testTimes, testRows]) await test();

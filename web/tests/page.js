@@ -2,6 +2,7 @@
 import assert from 'node:assert/strict';
 import { spawnSync } from 'node:child_process';
 import fs from 'node:fs';
+import http from 'node:http';
 import path from 'node:path';
 import { browsersHere, sleep } from './browsers.js';
 import { largestBuilding, randomBuilding, Random, slowBuilding } from './random.js';
@@ -149,21 +150,31 @@ async function testStop(browser) {
   return `stop in ${took.toFixed(0)} ms, a pause of ${pause.toFixed(0)} ms in the run`;
 }
 
-/** The page's policy refuses each way out that it can name. */
+/** The page's policy refuses each way out that it can name: a server on this computer hears of none, and the page is told of each script that is refused. */
 async function testPrivate(browser) {
+  let heard = 0;
+  const server = http.createServer((_, reply) => reply.end()).on('connection', () => { heard += 1; });
+  await new Promise((done) => server.listen(0, '127.0.0.1', done));
+  const address = `http://127.0.0.1:${server.address().port}/`;
+  await fetch(address);
+  assert.equal(heard, 1, 'the server hears what is sent');
+  const add = (tag, more) => `document.body.append(Object.assign(document.createElement('${tag}'), ${more}))`;
   const ways = {
-    fetch: "fetch('http://127.0.0.1:9/').catch(() => 0)", image: "(new Image().src = 'http://127.0.0.1:9/', 0)", socket: "(() => { try { new WebSocket('ws://127.0.0.1:9/') } catch { } })()",
-    beacon: "navigator.sendBeacon('http://127.0.0.1:9/', 'x')", frame: "document.body.append(Object.assign(document.createElement('iframe'), { src: 'http://127.0.0.1:9/' }))",
-    form: "(() => { const it = Object.assign(document.createElement('form'), { action: 'http://127.0.0.1:9/', method: 'post' }); document.body.append(it); it.submit() })()",
-    script: "document.body.append(Object.assign(document.createElement('script'), { src: 'http://127.0.0.1:9/' }))", inline: "document.body.append(Object.assign(document.createElement('script'), { text: 'window.ran = 1' }))",
+    fetch: `fetch('${address}').catch(() => 0)`, image: `(new Image().src = '${address}', 0)`, socket: `(() => { try { new WebSocket('${address.replace('http', 'ws')}') } catch { } })()`,
+    beacon: `navigator.sendBeacon('${address}', 'x')`, frame: add('iframe', `{ src: '${address}' }`), script: add('script', `{ src: '${address}' }`), inline: add('script', "{ text: 'window.ran = 1' }"),
+    style: add('link', `{ rel: 'stylesheet', href: '${address}' }`), events: `(() => { try { new EventSource('${address}') } catch { } })()`,
+    form: `(() => { const it = Object.assign(document.createElement('form'), { action: '${address}', method: 'post' }); document.body.append(it); it.submit() })()`,
   };
+  const told = {};
   for (const [name, way] of Object.entries(ways)) {
-    const told = await browser.value(`new Promise((done) => { document.addEventListener('securitypolicyviolation', (event) => done(event.effectiveDirective), { once: true }); setTimeout(() => done('nothing'), 5000); ${way} })`);
-    assert.notEqual(told, 'nothing', `${name} isn't refused`);
+    told[name] = await browser.value(`new Promise((done) => { document.addEventListener('securitypolicyviolation', (event) => done(event.effectiveDirective), { once: true }); setTimeout(() => done('nothing'), 1000); ${way} })`);
   }
+  assert.equal(told.fetch, 'connect-src');
+  assert.match(told.inline, /^script-src/);
   assert.equal(await browser.value('window.ran ?? null'), null);
+  assert.equal(heard, 1, `something was sent: ${JSON.stringify(told)}`);
+  server.close();
   browser.errors = [];
-  await browser.go(page);
 }
 
 /** Texts that would be markup, noise and the limits of the language: no error of a script, and nothing shown as markup. */
