@@ -38,6 +38,7 @@ class Processes:
             self.starting.discard(threading.get_ident())
         if self.is_closed:
             self.end(process)
+            self.after_start()
             raise Broken("the command is ending, so nothing more is asked")
         self.after_start()
         return process
