@@ -224,9 +224,9 @@ def missing_links(document):
 
 
 def rows_of(document, title):
-    """The numbers in the first column of a document's tables whose first heading is this."""
-    tables = re.findall(rf"(?m)^\| {title} \|.*\n\|[-| :]+\|\n((?:\|.*\n)*)", document.read_text())
-    return [int(number) for table in tables for number in re.findall(r"(?m)^\| (\d+) \|", table)]
+    """The numbers in the first column of a document's tables whose first heading is this, or in the second one after `Command`."""
+    tables = re.findall(rf"(?m)^\| (?:Command \| )?{title} \|.*\n\|[-| :]+\|\n((?:\|.*\n)*)", document.read_text())
+    return [int(number) for table in tables for number in re.findall(r"(?m)^\| (?:`\w+` \| )?(\d+) \|", table)]
 
 
 def wrong_numbers(title, specification, function, document):

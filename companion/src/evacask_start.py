@@ -9,3 +9,9 @@ def main() -> int:
     from evacask.faces.commands import main as run
 
     return run()
+
+
+if __name__ == "__main__":
+    import sys
+
+    sys.exit(main())

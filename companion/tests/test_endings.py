@@ -91,7 +91,7 @@ class Endings(unittest.TestCase):
             by_script = [f"{folder}/evacask", "why", OFFICE, "--program", f"{folder}/evacplan"]
             self.assertEqual(subprocess.run(by_script, capture_output=True, text=True).stderr, ran.stderr)
             self.assertIn("./build", ran.stderr)
-            self.assertIn("./evacplan", ran.stderr)
+            self.assertIn("--program", ran.stderr)
             wrong = subprocess.run(
                 [sys.executable, f"{folder}/evacask", "--program", program(), "summary", "-"], input=b"x", capture_output=True, env=settings
             )

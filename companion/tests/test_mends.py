@@ -10,8 +10,9 @@ import sys
 import tempfile
 import time
 import unittest
-from typing import Callable
+from typing import Callable, Tuple
 
+from evacask.client import sources
 from companion.tests.asking import OFFICE, PATIENCE, TOP, ask, program
 
 # The seconds after which a reply that comes at once otherwise isn't waited for any longer.
@@ -111,7 +112,7 @@ class Compare(unittest.TestCase):
         self.assertRegex(said.lines[2], r"^ +11 +55 (to 60 )?s +same ")
         self.assertRegex(said.lines[3], r"^refused 34 .* shut HA1\.1 DS1\.1; shut HA1\.1 DS1\.1$")
         self.assertRegex(said.lines[4], r"^ +11 +55 (to 60 )?s +same ")
-        self.assertIn("refused 34: shut HA1.1 DS1.1: It is shut already.", said.out)
+        self.assertIn("refused 34: shut HA1.1 DS1.1: The arc is shut already.", said.out)
 
 
 class Names(unittest.TestCase):
@@ -124,34 +125,36 @@ class Names(unittest.TestCase):
 
 
 class Programs(unittest.TestCase):
-    def test_a_program_that_is_older_than_its_sources(self):
+    def test_a_program_that_is_not_of_these_sources(self):
         with tempfile.TemporaryDirectory() as folder:
             top = pathlib.Path(folder)
-            source, built = top / "crates/evac_law/src/model.rt", top / "crates/evacplan/out/evacplan"
-            for made in (source.parent, top / "crates/evacplan/src", built.parent):
-                made.mkdir(parents=True)
-            source.write_text("")
-            (top / "crates.txt").write_text("evac_law:\nevacplan: evac_law\n")
-            subprocess.run(["cp", "-R", TOP / "evacask", TOP / "companion", TOP / "build", folder], check=True)
+            source, built = top / "crates/evacplan/src/main.rt", top / sources.UNPROVED_PLACE
+            for made in (source, built):
+                made.parent.mkdir(parents=True)
+            source.write_text("one")
+            for name in ("evacask", "companion", "build", "tools", "README.md"):
+                subprocess.run(["cp", "-R", TOP / name, folder], check=True)
+            (top / "crates.txt").write_text("evacplan:\n")
             shutil.copy(program(), built)
-            self.made(top, time.time() - 1000)
-            self.made(built, time.time())
-            self.assertEqual(self.why(top), "")
-            self.made(source, time.time() + 1000)
-            self.assertRegex(self.why(top), r"\Aevacask: a source is newer than the program[^\n]*\n\Z")
+            sources.record(top, built, "", sources.digests_of(top))
+            self.assertEqual(self.why(top), (0, f"evacask: {sources.NOT_PROVED}\n"))
+            about = source.stat()
+            source.write_text("two")
+            os.utime(source, ns=(about.st_atime_ns, about.st_mtime_ns))
+            status, said = self.why(top)
+            self.assertEqual((status, said.count("rt isn't on the path"), said.count("\n")), (70, 1, 2))
 
-    def made(self, path: pathlib.Path, when: float) -> None:
-        """Has a file, or all that is in a folder, be of this time."""
-        for it in (path, *path.rglob("*")):
-            os.utime(it, (when, when))
-
-    def why(self, top: pathlib.Path) -> str:
-        """What evacask in another copy says on standard error beside its answer."""
+    def why(self, top: pathlib.Path) -> Tuple[int, str]:
+        """How evacask ends in another copy, without a kit, and what it says on standard error."""
         settings = {name: value for name, value in os.environ.items() if name != "EVACPLAN"}
+        settings["PATH"] = str(top / "bin")
+        (top / "bin").mkdir(exist_ok=True)
+        for name in ("find", "env", "python3"):
+            if not (top / "bin" / name).exists():
+                (top / "bin" / name).symlink_to(shutil.which(name) or name)
         command = [sys.executable, "-B", str(top / "evacask"), "why", str(OFFICE)]
         ran = subprocess.run(command, capture_output=True, text=True, env=settings, timeout=PATIENCE)
-        self.assertEqual(ran.returncode, 0, ran.stderr)
-        return ran.stderr
+        return ran.returncode, ran.stderr
 
     def test_signals_end_the_program_and_what_it_started(self):
         for number in (signal.SIGTERM, signal.SIGHUP, signal.SIGINT):

@@ -12,7 +12,6 @@ import unittest
 from companion.tests.asking import EXAMPLES, OFFICE, PATIENCE, SCHOOL, TOP, ask, changed, program, solved
 from evacask.faces.prompt import candidates
 from evacask.model.building import model_of
-from evacask.model.forms import COMMANDS, STATEMENTS
 
 
 def table(*words: object) -> list:
@@ -148,12 +147,6 @@ class Metres(unittest.TestCase):
         self.assertIn("no line `period SECONDS`", ask("metres", "-", text="evacplan 1\n").err)
 
 
-def rows_below(page: str, head: str) -> list:
-    """The rows of the first table of a page with this head."""
-    rest = page.partition(f"\n{head}")[2].split("\n")[2:]
-    return rest[: next(number for number, row in enumerate(rest) if not row.startswith("|"))]
-
-
 class Explain(unittest.TestCase):
     def test_every_code_of_the_program(self):
         cases = (TOP / "crates/evac_law/specs/Codes.antt").read_text()
@@ -163,17 +156,6 @@ class Explain(unittest.TestCase):
             said = ask("explain", code)
             self.assertEqual((said.status, said.err), (0, ""))
             self.assertGreaterEqual(len(said.lines), 3)
-
-    def test_the_forms_of_lines_are_those_of_formats(self):
-        page = (TOP / "docs/FORMATS.md").read_text()
-        for mode, head in (("session", "| Command | What it does |"), ("study", "| Line | What is printed |")):
-            cells = " ".join(row.split("|")[1] for row in rows_below(page.partition(f"\n## The {mode}\n")[2], head))
-            self.assertEqual(dict(re.findall(r"`([a-z]+)(?: ([^`]*))?`", cells)), {**COMMANDS[mode], "quit": ""})
-        forms = {}
-        for row in rows_below(page, "| Statement | Ranges | How often |"):
-            form, ranges = (it.strip() for it in row.split("|")[1:3])
-            forms.setdefault(form.strip("`").split()[0], []).append(f"{form}: {ranges}" if ranges else form)
-        self.assertEqual({word: tuple(found) for word, found in forms.items()}, STATEMENTS)
 
     def test_words(self):
         self.assertIn("line 33 of the input", ask("explain", 13, 33).lines[0])
@@ -322,7 +304,7 @@ class TalkAtATerminal(unittest.TestCase):
         self.until("answer 1: 240 people, cleared 50 (250 to 255 s)")
         self.until("session> ")
         self.type("\x1b[A\n")
-        self.until("refused 34: It is shut already.")
+        self.until("refused 34: The arc is shut already.")
         self.until("session> ")
         self.type("openex\tDS2\t\n")
         self.until("answer 2: 240 people, cleared 28 (140 to 145 s)")

@@ -5,7 +5,7 @@ import contextlib
 import dataclasses
 from typing import Iterator, Optional, Union
 
-from evacask.client.blocks import ONE_LINE, Plan, plan_of
+from evacask.client.blocks import NOT_UNDERSTOOD, ONE_LINE, Plan, opening_of, understood
 from evacask.client.dialogue import Replan, Session, Study
 from evacask.client.reports import Verdict, verdict_of
 from evacask.client.talk import Client
@@ -22,7 +22,7 @@ def accepted(client: Client, text: str) -> Model:
     if refused:
         raise refused_line(text, Place.BUILDING, int(refused[1]), int(refused[2]))
     if not reply.startswith(b"evacplan 2\n") or not reply.endswith(b"\nend\n"):
-        raise Broken(f"the program printed {reply[:40]!r} in place of a building: is it evacplan, and not another one?")
+        raise Broken(f"the program printed {reply[:40]!r} in place of a building: {NOT_UNDERSTOOD}")
     try:
         return model_of(text)
     except (ValueError, KeyError, IndexError) as fault:
@@ -31,8 +31,10 @@ def accepted(client: Client, text: str) -> Model:
 
 def refused_line(text: str, place: Place, code: int, line: int) -> Refused:
     """The exception for a line of a text that the program refused."""
-    lines = lines_of(text)
-    return refusal(place, code, line, lines[line - 1] if 0 < line <= len(lines) else "")
+    lines = [*lines_of(text), ""]
+    if not 0 < line <= len(lines):
+        raise Broken(f"the program refused line {line} of {len(lines) - 1}: {NOT_UNDERSTOOD}")
+    return understood(refusal(place, code, line, lines[line - 1]))
 
 
 def solve(client: Client, model: Model, horizon: Optional[int] = None) -> Plan:
@@ -42,7 +44,7 @@ def solve(client: Client, model: Model, horizon: Optional[int] = None) -> Plan:
     refused = ONE_LINE.match(reply)
     if refused:
         raise refused_line(asked.text, Place.BUILDING, int(refused[1]), int(refused[2]))
-    return plan_of(reply, asked.period, asked.shares)
+    return opening_of(reply, asked)
 
 
 def plan_or_short(client: Client, model: Model, horizon: Optional[int] = None) -> Union[Plan, Shortfall]:

@@ -4,14 +4,18 @@ from __future__ import annotations
 import re
 from dataclasses import dataclass, field
 from functools import cached_property
-from typing import Callable, List, Optional, Tuple, TypeVar
+from typing import Callable, Collection, Container, Iterator, List, Optional, Tuple, TypeVar
 
-from evacask.errors import Broken, Shortfall, Span
+from evacask.errors import Broken, Refused, Shortfall, Span
+from evacask.model.building import Model
 from evacask.model.lines import number_of
 from evacask.model.seconds import interval
 from evacask.model.shares import Count, in_people
 
 T = TypeVar("T")
+# The code of a shortfall, which comes with its block.
+SHORT_CODE = 22
+NOT_UNDERSTOOD = "is it evacplan, and not another one?"
 HEAD = re.compile(rb"answer (\d{1,9})\npeople (\d{1,9})\ncleared (\d{1,9})\n")
 SHORT = re.compile(rb"refused 22 (\d{1,9})\npeople (\d{1,9})\nmost (\d{1,9})\n")
 ONE_LINE = re.compile(rb"refused (\d{1,3}) (\d{1,9})\n\Z")
@@ -80,18 +84,21 @@ class Outcome:
 
 @dataclass(frozen=True)
 class Plan:
-    """An answer block. Lists are read when they are asked for, so that a plan of a megabyte costs nothing before.
+    """An answer block about `model`. Lists are read when they are asked for, so that a plan of a megabyte costs nothing before.
 
-    `cleared` is in periods of `period` seconds; `arrivals[k]` counts who is out by period k, from 0 to `cleared`. The block itself, `raw`, counts each
-    person as so many shares.
+    `cleared` is in periods; `arrivals[k]` counts who is out by period k, from 0 to `cleared`. The block itself, `raw`, counts in the model's shares.
     """
 
     raw: bytes = field(repr=False)
     number: int
     people: Count
     cleared: int
-    period: int
-    shares: int = 1
+    model: Model = field(compare=False, repr=False)
+
+    @property
+    def period(self) -> int:
+        """The seconds of a period."""
+        return self.model.period
 
     @property
     def interval(self) -> Tuple[int, int]:
@@ -103,6 +110,14 @@ class Plan:
         """The seconds from which on all may be out: the earlier end of the interval."""
         return self.interval[0]
 
+    def rows(self, word: str) -> Iterator[List[str]]:
+        """The fields after the word of each line that begins with it."""
+        return (line[1:] for line in self.lines if line[0] == word)
+
+    def count(self, field: str) -> Count:
+        """A field as people."""
+        return in_people(number_of(field), self.model.shares)
+
     @cached_property
     def lines(self) -> List[List[str]]:
         return strictly(lambda: lines_of_reply(self.raw), "a block")
@@ -110,45 +125,78 @@ class Plan:
     @cached_property
     def arrivals(self) -> Tuple[Count, ...]:
         def read() -> Tuple[Count, ...]:
-            rows = [(number_of(k), in_people(number_of(out), self.shares)) for _, k, out in (it for it in self.lines if it[0] == "out")]
-            if [k for k, _ in rows] != list(range(self.cleared + 1)) or rows[-1][1] != self.people:
+            found = [(number_of(k), self.count(out)) for k, out in self.rows("out")]
+            if [k for k, _ in found] != list(range(self.cleared + 1)) or found[-1][1] != self.people:
                 raise ValueError("the arrivals don't end with all people at the clearing moment")
-            return tuple(out for _, out in rows)
+            return tuple(out for _, out in found)
 
         return strictly(read, "an arrival")
 
     @cached_property
     def moves(self) -> Tuple[Move, ...]:
         """Who enters which arc when, by moment."""
-        rows = (it for it in self.lines if it[0] == "move")
-        return strictly(lambda: tuple(Move(number_of(t), a, b, in_people(number_of(n), self.shares)) for _, t, a, b, n in rows), "a move")
+
+        def read() -> Tuple[Move, ...]:
+            found = tuple(Move(number_of(t), tail, head, self.count(people)) for t, tail, head, people in self.rows("move"))
+            check_known({(it.tail, it.head) for it in found}, self.model.arcs)
+            return found
+
+        return strictly(read, "a move")
 
     @cached_property
     def labels(self) -> Tuple[Label, ...]:
-        rows = (it for it in self.lines if it[0] == "label")
-        return strictly(lambda: tuple(Label(name, number_of(t), number_of(v)) for _, name, t, v in rows), "a label")
+        def read() -> Tuple[Label, ...]:
+            found = tuple(Label(name, number_of(t), number_of(value)) for name, t, value in self.rows("label"))
+            check_known({it.name for it in found}, self.model.nodes)
+            return found
+
+        return strictly(read, "a label")
 
 
-def plan_of(raw: bytes, period: int, shares: int = 1) -> Plan:
-    """A block that counts each person as so many shares, or `Shortfall`."""
+def check_known(names: Collection[T], known: Container[T]) -> None:
+    """`ValueError` for a name that the building doesn't have."""
+    for name in names:
+        if name not in known:
+            raise ValueError(f"the building has no {name}")
+
+
+def plan_of(raw: bytes, model: Model) -> Plan:
+    """A block about a model, or `Shortfall`. A clearing moment above its horizon is `Broken`."""
     head = HEAD.match(raw)
     if head and raw.endswith(b"\nend\n"):
         number, people, cleared = (int(it) for it in head.groups())
-        return Plan(raw, number, in_people(people, shares), cleared, period, shares)
+        if cleared > model.horizon:
+            raise Broken(f"the program printed the clearing moment {cleared}, above the horizon {model.horizon}")
+        return Plan(raw, number, in_people(people, model.shares), cleared, model)
     short = SHORT.match(raw)
     if short and raw.endswith(b"\nend\n"):
-        most, all_people = (in_people(int(it), shares) for it in (short[3], short[2]))
+        most, all_people = (in_people(int(it), model.shares) for it in (short[3], short[2]))
         raise Shortfall(most, all_people, strictly(lambda: spans_of(lines_of_reply(raw)[3:]), "a shortfall"))
-    raise Broken(f"the program printed {raw[:40]!r} in place of a block")
+    raise Broken(f"the program printed {raw[:40]!r} in place of a block: {NOT_UNDERSTOOD}")
 
 
-def outcome_of(raw: bytes, shares: int = 1) -> Outcome:
+def opening_of(raw: bytes, model: Model) -> Plan:
+    """The block of a building as it is, whose people are the building's; or `Shortfall`."""
+    plan = plan_of(raw, model)
+    if plan.people != model.people:
+        raise Broken(f"the program planned for {plan.people} people in place of {model.people}")
+    return plan
+
+
+def outcome_of(raw: bytes, model: Model) -> Outcome:
     """When all are out by a block or a shortfall block."""
     try:
-        plan = plan_of(raw, 1, shares)
+        plan = plan_of(raw, model)
     except Shortfall as short:
         return Outcome(None, short.most)
     return Outcome(plan.cleared, plan.people)
+
+
+def understood(refused: Refused) -> Refused:
+    """A refusal of one line that evacplan gives; `Broken` for one with another code, or for a shortfall without its block."""
+    if not refused.meaning or refused.code == SHORT_CODE:
+        raise Broken(f"the program printed refused {refused.code}, which it never does there: {NOT_UNDERSTOOD}")
+    return refused
 
 
 def spans_of(lines: List[List[str]]) -> Tuple[Span, ...]:
@@ -161,20 +209,22 @@ def spans_of(lines: List[List[str]]) -> Tuple[Span, ...]:
     return tuple(found)
 
 
-def cut_of(raw: bytes, shares: int = 1) -> Cut:
-    """The reply to `cut k`. Its items must add up to its value."""
+def cut_of(raw: bytes, model: Model) -> Cut:
+    """The reply to `cut k`. Its items must add up to its value, and be of the model."""
 
     def read() -> Cut:
         (word, period, people), *rest = lines_of_reply(raw)
-        cut = Cut(number_of(period), in_people(number_of(people), shares), tuple(item_of(line, shares) for line in rest))
-        if word != "cut" or cut.items and sum(it.people for it in cut.items) != cut.people:
+        cut = Cut(number_of(period), in_people(number_of(people), model.shares), tuple(item_of(line, model.shares) for line in rest))
+        if word != "cut" or sum(it.people for it in cut.items) != cut.people:
             raise ValueError("the items don't add up")
+        check_known({it.names for it in cut.items if it.word == "arc"}, model.arcs)
+        check_known({it.names[0] for it in cut.items if it.word != "arc"}, model.nodes)
         return cut
 
     return strictly(read, "a cut")
 
 
-def item_of(line: List[str], shares: int = 1) -> Item:
+def item_of(line: List[str], shares: int) -> Item:
     word, *rest = line
     people = in_people(number_of(rest[-1]), shares)
     if word == "entry":

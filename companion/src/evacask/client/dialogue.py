@@ -3,7 +3,7 @@ from __future__ import annotations
 
 from typing import Iterable, Iterator, List, Optional, Sequence, Tuple
 
-from evacask.client.blocks import ONE_LINE, Cut, Plan, cut_of, plan_of
+from evacask.client.blocks import ONE_LINE, Cut, Plan, cut_of, opening_of, plan_of, understood
 from evacask.client.reports import Exit, Gone, Least, Report, exits_of, gone_of, least_of, report_of, work_of
 from evacask.client.talk import Line
 from evacask.errors import Broken, WordsError
@@ -35,7 +35,7 @@ class Dialogue:
     def answered(self, reply: bytes, command: str) -> bytes:
         refused = ONE_LINE.match(reply)
         if refused:
-            raise refusal(self.place, int(refused[1]), 0, command)
+            raise understood(refusal(self.place, int(refused[1]), 0, command))
         return reply
 
 
@@ -44,11 +44,11 @@ class Session(Dialogue):
 
     def __init__(self, line: Line, model: Model):
         super().__init__(line, model)
-        self.opening = self.plan = plan_of(line.reply(), model.period, model.shares)
+        self.opening = self.plan = opening_of(line.reply(), model)
 
     def edit(self, command: str) -> Plan:
         """The plan after one edit; `Refused`, or `Shortfall` where not everybody could be out then."""
-        self.plan = plan_of(self.ask(command), self.model.period, self.model.shares)
+        self.plan = plan_of(self.ask(command), self.model)
         return self.plan
 
     def undo(self) -> Plan:
@@ -58,9 +58,10 @@ class Session(Dialogue):
     def cut(self, period: Optional[int] = None) -> Cut:
         """The cut of a period, or of the one before all are out; `Refused` with 33 above the horizon."""
         wanted = max(0, self.plan.cleared - 1) if period is None else period
-        cut = cut_of(self.ask(f"cut {wanted}"), self.model.shares)
-        if cut.period != wanted:
-            raise Broken(f"the program printed the cut of period {cut.period} in place of {wanted}")
+        cut = cut_of(self.ask(f"cut {wanted}"), self.model)
+        worth = self.plan.arrivals[wanted] if wanted < self.plan.cleared else self.plan.people
+        if (cut.period, cut.people) != (wanted, worth):
+            raise Broken(f"the program printed a cut of period {cut.period} worth {cut.people}, in place of {wanted} worth {worth}")
         return cut
 
     def report(self, word: str) -> Report:
@@ -107,7 +108,7 @@ class Study(Dialogue):
     def answered(self, reply: bytes, command: str) -> bytes:
         """A reply that isn't refused; `Shortfall` if the building can't be cleared, which is the one answer of a study then."""
         if reply.startswith(b"refused 22 "):
-            plan_of(reply, self.model.period, self.model.shares)
+            plan_of(reply, self.model)
         return super().answered(reply, command)
 
     def exits(self) -> Tuple[Exit, ...]:
@@ -128,5 +129,5 @@ class Replan(Session):
         """Carries the plan out up to a moment, and plans what is left."""
         first = self.ask(f"advance {moment}")
         at, out = gone_of(first, self.model.shares)
-        self.plan = plan_of(self.line.reply(), self.model.period, self.model.shares)
+        self.plan = plan_of(self.line.reply(), self.model)
         return Gone(at, out, self.plan)

@@ -40,7 +40,6 @@ class Processes:
             self.end(process)
             self.after_start()
             raise Broken("the command is ending, so nothing more is asked")
-        self.after_start()
         return process
 
     def end(self, process: "subprocess.Popen[bytes]") -> None:

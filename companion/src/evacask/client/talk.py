@@ -9,14 +9,24 @@ import subprocess
 from dataclasses import dataclass
 from typing import Callable, ContextManager, Iterator, Optional, Protocol, Sequence, Union
 
+from evacask.client.blocks import NOT_UNDERSTOOD
 from evacask.client.processes import PROCESSES
 from evacask.errors import Broken, EvacaskError, NoMemory
 
 END, CHUNK = b"\nend\n", 1 << 18
 # More than any answer that was ever seen: another program may print without end.
 MOST_BYTES = 1 << 29
-# Milliseconds.
-PATIENCE = 1000
+# The first words of all that the program prints.
+FIRST_WORDS = tuple(
+    it.encode() + end
+    for end, words in (
+        (b" ", "answer refused work cut routes clearing bottlenecks summary exits least advance cards evacplan drill no"),
+        (b"\n", "yes"),
+    )
+    for it in words.split()
+)
+# Milliseconds between two looks at a program that says nothing, and the seconds in which one ends that has closed its output.
+PATIENCE, LAST_PATIENCE = 1000, 10
 Tell = Callable[[int], None]
 
 
@@ -78,8 +88,9 @@ class Program:
             pipe = Pipe(process, self.waiting)
             pipe.send(text)
             printed = pipe.all()
-            if process.wait() not in (0, 1):
-                raise broken(process.returncode, "")
+            status = pipe.status()
+        if status not in (0, 1):
+            raise broken(status, "")
         return printed
 
     @contextlib.contextmanager
@@ -97,7 +108,7 @@ def broken(status: int, where: str) -> EvacaskError:
         return NoMemory("the program found no memory")
     if status < 0:
         return Broken(f"the program was ended by signal {-status}{where}")
-    return Broken(f"the program broke off with status {status}{where}: is it evacplan, and not another one?")
+    return Broken(f"the program broke off with status {status}{where}: {NOT_UNDERSTOOD}")
 
 
 class Pipe:
@@ -109,9 +120,11 @@ class Pipe:
         self.process, self.waiting = process, waiting
         self.stdin, self.stdout = process.stdin, process.stdout
         self.to_send, self.received = bytearray(), bytearray()
+        self.is_last, self.seconds = False, 0
         os.set_blocking(self.stdin.fileno(), False)
 
     def send(self, lines: bytes) -> None:
+        """Sends lines, or keeps what the process doesn't take yet."""
         self.to_send += lines
         self.write()
 
@@ -121,55 +134,70 @@ class Pipe:
             while self.to_send:
                 del self.to_send[: os.write(self.stdin.fileno(), self.to_send[:CHUNK])]
         except BlockingIOError:
-            pass
+            return
         except OSError:
             self.to_send.clear()
+        if self.is_last:
+            with contextlib.suppress(OSError):
+                self.stdin.close()
 
-    def read(self) -> bytes:
-        """The next bytes that the process prints, waited for; none at its end."""
-        poll, seconds, source = select.poll(), 0, self.stdout.fileno()
-        poll.register(source, select.POLLIN)
+    def wait(self) -> bool:
+        """Waits a second at most until there is something to read, and writes meanwhile; whether there is."""
+        poll = select.poll()
+        poll.register(self.stdout.fileno(), select.POLLIN)
         if self.to_send:
             poll.register(self.stdin.fileno(), select.POLLOUT)
-        while True:
-            ready = [number for number, _ in poll.poll(PATIENCE)]
-            if source in ready:
-                return os.read(source, CHUNK)
-            if ready:
-                self.write()
-                if not self.to_send:
-                    poll.unregister(self.stdin.fileno())
-            else:
-                seconds += 1
-                self.waiting(seconds)
+        ready = [number for number, _ in poll.poll(PATIENCE)]
+        if not ready:
+            self.seconds += 1
+            self.waiting(self.seconds)
+        if self.to_send and self.stdin.fileno() in ready:
+            self.write()
+        return self.stdout.fileno() in ready
+
+    def read(self) -> bytes:
+        """The next bytes that the process prints, waited for; none at its end, also if something that it started holds its output."""
+        self.seconds = 0
+        while not self.wait():
+            if self.seconds and self.process.poll() is not None:
+                return b""
+        return os.read(self.stdout.fileno(), CHUNK)
 
     def more(self) -> bool:
-        """Reads on; whether there was more."""
+        """Reads on; whether there was more. What doesn't begin as an answer, or has no end, comes from another program."""
         some = self.read()
         self.received += some
+        if not any(self.received.startswith(word[: len(self.received)]) for word in FIRST_WORDS):
+            raise Broken(f"the program printed {bytes(self.received[:40])!r}: {NOT_UNDERSTOOD}")
         if len(self.received) > MOST_BYTES:
             raise Broken("the program prints without end")
         return bool(some)
 
     def all(self) -> bytes:
         """All that the process prints after all was sent to it."""
-        while self.to_send and self.more():
-            pass
-        with contextlib.suppress(OSError):
-            self.stdin.close()
+        self.is_last = True
+        self.write()
         while self.more():
             pass
         return bytes(self.received)
 
     def reply(self) -> bytes:
+        """The next reply, waited for."""
         looked = 0
         while not (length := reply_length(self.received, max(0, looked - len(END)))):
             looked = len(self.received)
             if not self.more():
-                raise broken(self.process.wait(), " in the middle of a talk")
+                raise broken(self.status(), " in the middle of a talk")
         reply = bytes(self.received[:length])
         del self.received[:length]
         return reply
+
+    def status(self) -> int:
+        """The status of a process that has closed its output."""
+        try:
+            return self.process.wait(LAST_PATIENCE)
+        except subprocess.TimeoutExpired:
+            raise Broken(f"the program closed its output and went on: {NOT_UNDERSTOOD}") from None
 
 
 def reply_length(text: bytearray, start: int) -> int:

@@ -9,7 +9,8 @@ from argparse import Namespace
 from typing import Any, Dict, List, Optional
 
 from evacask.client.asking import accepted
-from evacask.client.program import BUILT, TOP, State, found_program, state_of
+from evacask.client.program import UNPROVED, found_program
+from evacask.client.sources import NOT_PROVED
 from evacask.client.talk import Program
 from evacask.errors import InputError, Refused, WordsError
 from evacask.faces.ending import Status
@@ -20,8 +21,6 @@ from evacask.model.drawn_building import drawn_building, has_ways, in_periods
 from evacask.model.edits import edited
 from evacask.model.forms import EDITS, LINE_LIMIT
 from evacask.model.lines import bytes_of, fields_of, text_of
-
-NOT_PROVED = "evacask: the program isn't proved on this machine; ./build proves it\n"
 
 
 def read(name: str) -> str:
@@ -67,16 +66,16 @@ class Asked:
 def program_of(given: Namespace) -> Program:
     """The program that the words name, which must be proved if they say so."""
     program = found_program(given.program, given.proved, waiting)
-    if program.path == BUILT:
-        tell_if_old()
+    if program.path == UNPROVED or not program.source.is_proved and sys.stderr is not None and sys.stderr.isatty():
+        tell_that_unproved()
     return program
 
 
 @functools.lru_cache(maxsize=None)
-def tell_if_old() -> None:
-    """Says once that the built program isn't that of the sources."""
-    if state_of(TOP) is State.STALE and sys.stderr is not None:
-        sys.stderr.write("evacask: a source is newer than the program that is built, which is asked all the same; ./build makes it anew\n")
+def tell_that_unproved() -> None:
+    """Says once that the program isn't proved. (Of a program that is named, it is said at a terminal alone.)"""
+    if sys.stderr is not None:
+        sys.stderr.write(f"evacask: {NOT_PROVED}\n")
 
 
 def named(name: str, client: Program, text: str) -> Model:
@@ -100,10 +99,8 @@ def source(client: Program) -> Dict[str, Any]:
 
 
 def put(answer: Sheet, question: str, given: Namespace, client: Optional[Program] = None, status: int = Status.ANSWERED) -> int:
-    """Writes a sheet as the words ask for it, and gives the status back. At a terminal it says first if the program isn't proved."""
+    """Writes a sheet as the words ask for it, and gives the status back."""
     LINE.erase()
-    if client and sys.stderr is not None and sys.stderr.isatty() and not client.source.is_proved:
-        sys.stderr.write(NOT_PROVED)
     if given.face == "json":
         sys.stdout.write(as_json(answer, question, source(client) if client else None))
     else:

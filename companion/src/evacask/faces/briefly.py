@@ -10,7 +10,7 @@ from evacask.faces.sheet import table_lines
 from evacask.faces.why import COLUMNS, place_rows
 from evacask.faces.sheet import Sheet
 from evacask.model.building import Model
-from evacask.model.edits import MOST_RATE
+from evacask.model.draft import MOST_RATE
 from evacask.model.shares import in_people
 from evacask.questions.conversation import Said
 from evacask.questions.why import places_of

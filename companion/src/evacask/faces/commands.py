@@ -8,7 +8,7 @@ from typing import List, Optional, Sequence, Tuple
 from evacask.errors import NoProgram, Shortfall, WordsError
 from evacask.faces import compare, convert, edit, explain, review, sensitivity, session, summary, tables, why, width
 from evacask.faces.asked import program_of
-from evacask.faces.ending import Status, ends
+from evacask.faces.ending import Status, ends, say
 from evacask.faces.words import Command, parser_of
 from evacask.version import VERSION
 
@@ -33,7 +33,7 @@ def run(words: Sequence[str]) -> int:
     """Runs the command that the words name."""
     top = parser_of(COMMANDS)
     if not words:
-        top.print_help(sys.stderr)
+        say(top.format_help())
         return Status.WORDS
     try:
         given = top.parse_args(renamed(words))

@@ -192,14 +192,19 @@ def fill_closed_streams() -> None:
 def told(status: Status, line: str) -> int:
     """Says a line on standard error, if somebody can hear it, and lets go of what can't be written."""
     let_go()
+    say(f"evacask: {' '.join(line.split())}\n")
+    return status
+
+
+def say(text: str) -> None:
+    """Writes a text to standard error, if somebody can hear it."""
     try:
         LINE.erase()
         if sys.stderr is not None:
-            sys.stderr.write(f"evacask: {' '.join(line.split())}\n")
+            sys.stderr.write(text)
             sys.stderr.flush()
     except OSError:
         let_go()
-    return status
 
 
 def let_go() -> None:

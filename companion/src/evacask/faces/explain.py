@@ -13,18 +13,10 @@ from evacask.faces.summary import remedies
 from evacask.faces.wording import indented
 from evacask.faces.words import FACES, Command, argument
 from evacask.model.building import near
-from evacask.model.codes import Meaning, Place, meanings
+from evacask.model.codes import Meaning, meanings
 from evacask.model.lines import is_number, number_of
 from evacask.questions.explain import MODES, Explained, Refusal, code_point, explain, is_odd
 
-PLACES = {
-    Place.BUILDING: "The codes of a building",
-    Place.SESSION: "The session",
-    Place.STUDY: "The study",
-    Place.REPLAN: "The replan",
-    Place.CHECK: "Checking a block",
-    Place.WORDS: "Words and statuses",
-}
 REFUSALS = tuple(Column("", key, is_shown=False) for key in ("code", "line", "text", "meaning", "remedy"))
 CODES = tuple(Column("", key, is_shown=False) for key in ("code", "place", "meaning", "remedy"))
 
@@ -44,14 +36,9 @@ def code_sheet(code: int, line: Optional[int]) -> Sheet:
         raise WordsError(f"there is no code {code}: docs/FORMATS.md has them all")
     said = [f"refused {code}" + (f" {line}: line {line} of the input" if line is not None else "")]
     for row in rows:
-        place = f"{place_of(row)}: " if len(rows) > 1 else ""
+        place = f"{row.heading}: " if len(rows) > 1 else ""
         said += [*indented(place + row.what), *indented(row.remedy)]
-    return Sheet(Code(code, tuple(rows)), tuple(said), CODES, tuple((code, place_of(it), it.what, it.remedy) for it in rows))
-
-
-def place_of(row: Meaning) -> str:
-    """The place of a meaning: a heading of docs/FORMATS.md, or an edit."""
-    return f"The edit {row.word}" if row.word else PLACES[row.place]
+    return Sheet(Code(code, tuple(rows)), tuple(said), CODES, tuple((code, it.heading, it.what, it.remedy) for it in rows))
 
 
 def explain_sheet(answer: Explained) -> Sheet:

@@ -12,9 +12,10 @@ from evacask.faces.progress import progress
 from evacask.faces.sheet import Column, Sheet
 from evacask.faces.wording import some
 from evacask.faces.words import BUILDING, SHARED, Command, argument, rate
+from evacask.model.draft import MOST_RATE
 from evacask.model.building import Model
 from evacask.model.shares import in_people
-from evacask.questions.sensitivity import MOST_RATE, Sensitivity, WayOutcome, sensitivity
+from evacask.questions.sensitivity import Sensitivity, WayOutcome, sensitivity
 
 # Sessions side by side.
 WORKERS = max(1, min(8, os.cpu_count() or 1))

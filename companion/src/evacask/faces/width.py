@@ -9,7 +9,7 @@ from evacask.faces.sheet import Column, Sheet, aligned
 from evacask.faces.wording import OWN, some
 from evacask.faces.words import BUILDING, SHARED, Command, argument, number
 from evacask.model.building import Model
-from evacask.model.edits import MOST_RATE
+from evacask.model.draft import MOST_RATE
 from evacask.model.ground import Ground
 from evacask.model.shares import in_people
 from evacask.questions.width import Leaves, Width, Widths, width

@@ -11,7 +11,7 @@ from typing import IO, Any, Callable, Dict, List, NoReturn, Optional, Sequence, 
 from evacask.errors import WordsError
 from evacask.faces.ending import STATUSES
 from evacask.model.building import near
-from evacask.model.edits import MOST_RATE
+from evacask.model.draft import MOST_RATE
 
 WIDTH = 118
 

@@ -8,13 +8,14 @@ import enum
 import math
 import re
 from dataclasses import dataclass
-from typing import Callable, Dict, Iterator, List, Optional, Sequence, Tuple
+from typing import Callable, Dict, Iterator, Optional, Sequence, Tuple
 
 from evacask.errors import EvacaskError
 from evacask.model.building import Way
+from evacask.model.draft import MOST_RATE
 from evacask.model.passages import DOOR, GREATEST_FLOWS, LEAF, LEVEL, SIDES, STAIRS, crowd_speed, free_speed, speed
 
-LONGEST_TRAVEL, MOST_RATE = 600, 10_000
+LONGEST_TRAVEL = 600
 
 
 class PlanFault(EvacaskError):

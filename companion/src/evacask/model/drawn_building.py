@@ -6,7 +6,7 @@ from dataclasses import dataclass
 from typing import Callable, Dict, List, Optional, Sequence, Tuple
 
 from evacask.model.drawn import DrawnWay, PlanFault, Rounding, Wrong, arc_numbers, drawn_way
-from evacask.model.edits import MOST_PEOPLE
+from evacask.model.draft import MOST_PEOPLE
 from evacask.model.lines import fields_of, is_number, lines_of
 from evacask.model.shares import MARK, MOST
 

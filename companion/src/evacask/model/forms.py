@@ -2,7 +2,7 @@
 from __future__ import annotations
 
 import re
-from typing import Dict, List, Tuple
+from typing import Dict, List
 
 from evacask.errors import UnknownName
 from evacask.model.building import Model
@@ -27,21 +27,6 @@ COMMANDS: Dict[str, Dict[str, str]] = {
     "session": SESSION,
     "study": {"exits": "", "least": "A B K"},
     "replan": {**SESSION, "advance": "p"},
-}
-# How each statement of a building is written, with its ranges.
-STATEMENTS: Dict[str, Tuple[str, ...]] = {
-    "title": ("`title TEXT`",),
-    "period": ("`period SECONDS`: 1 to 600",),
-    "horizon": ("`horizon MOMENTS`: 0 to 1,200",),
-    "floor": ("`floor NUMBER TEXT`: 0 to 999, each number once",),
-    "node": (
-        "`node NAME CAPACITY START`: for the kinds `WP`, `HA`, `SW` and `LO`; both 0 to 100,000, the start at most the capacity",
-        "`node NAME`: for the kind `DS`: an exit has no capacity and no start",
-    ),
-    "arc": ("`arc FROM TO TRAVEL RATE`: travel 1 to 600, rate 0 to 10,000",),
-    "window": ("`window FROM TO FIRST UNTIL`: in version 2; first 0 to 1,200, until 1 to 1,201, and first below until",),
-    "entrant": ("`entrant NAME MOMENT PEOPLE`: in version 2; a node that is no exit; moment 1 to 1,200, people 1 to 100,000",),
-    "end": ("`end`",),
 }
 REPORTS = ("routes", "clearing", "bottlenecks", "summary")
 # Of these A and B are the ends of an arc.

@@ -6,7 +6,7 @@ from dataclasses import dataclass
 from typing import Iterator, Tuple, Union
 
 from evacask.client import asking
-from evacask.client.blocks import ONE_LINE, Cut, Plan, cut_of, lines_of_reply, plan_of, strictly
+from evacask.client.blocks import ONE_LINE, Cut, Plan, cut_of, lines_of_reply, plan_of, strictly, understood
 from evacask.client.dialogue import Dialogue, Replan
 from evacask.client.reports import Exit, Gone, Least, exits_of, gone_of, least_of
 from evacask.client.talk import Client
@@ -56,28 +56,28 @@ class Conversation:
 
     def read(self, raw: bytes, more: bytes, line: str) -> Said:
         """What a reply says. That to an accepted advance has two parts."""
-        period, shares = self.model.period, self.model.shares
+        shares = self.model.shares
         refused = ONE_LINE.match(raw)
         if refused:
-            return refusal(self.talk.place, int(refused[1]), 0, line)
+            return understood(refusal(self.talk.place, int(refused[1]), 0, line))
         word = raw.split(b" ", 1)[0]
         if word == b"advance":
             at, out = gone_of(raw, shares)
-            return Gone(at, out, plan_of(more, period, shares))
+            return Gone(at, out, plan_of(more, self.model))
         if word == b"cut":
-            return cut_of(raw, shares)
+            return cut_of(raw, self.model)
         if word == b"exits":
             return exits_of(raw, shares)
         if word == b"least":
             return least_of(raw, shares)
         if word in (b"answer", b"refused"):
-            return plan_or_short(raw, period, shares)
+            return plan_or_short(raw, self.model)
         return Lines(lines_of(raw))
 
 
-def plan_or_short(raw: bytes, period: int, shares: int) -> Union[Plan, Shortfall]:
+def plan_or_short(raw: bytes, model: Model) -> Union[Plan, Shortfall]:
     try:
-        return plan_of(raw, period, shares)
+        return plan_of(raw, model)
     except Shortfall as short:
         return short
 

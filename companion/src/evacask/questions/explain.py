@@ -3,14 +3,13 @@ from __future__ import annotations
 
 import unicodedata
 from dataclasses import dataclass
-from typing import Dict, List, Optional, Tuple, Union
+from typing import Dict, List, Optional, Tuple
 
 from evacask.client.blocks import strictly
 from evacask.client.talk import Client
 from evacask.errors import Shortfall
 from evacask.model.building import model_of
-from evacask.model.codes import Meaning, Place, meaning_of
-from evacask.model.forms import COMMANDS, STATEMENTS
+from evacask.model.codes import Meaning, Place, forms_of, meaning_of
 from evacask.model.ground import Ground
 from evacask.model.lines import bytes_of, fields_of, lines_of, number_of
 from evacask.questions.summary import Short, short_of
@@ -75,17 +74,15 @@ def refusal_of(code: int, line: int, lines: List[str], end: int, mode: str, text
     word = next(iter(fields_of(there or "")), "")
     meaning = meaning_of(Place.WORDS if code == 40 else place, code, word if is_after else "")
     odd = tuple(character_name(it) for it in dict.fromkeys(there or "") if is_odd(it))
-    forms = forms_of(word, place) if code in OF_FORM and there is not None else ()
+    forms = tuple(map(quoted, forms_of(word, is_after))) if code in OF_FORM and there is not None else ()
     short = short_of(model_of(text), Shortfall(0, 0)) if code == 22 and not is_after else None
     return Refusal(code, line, there, odd, meaning, forms, short)
 
 
-def forms_of(word: str, place: Place) -> Tuple[str, ...]:
-    """How a statement or a command with this first word is written."""
-    if place is Place.BUILDING:
-        return STATEMENTS.get(word, ())
-    fields: Union[str, None] = COMMANDS.get(place.value, {}).get(word)
-    return () if fields is None else (f"`{word} {fields}`".replace(" `", "`"),)
+def quoted(form: str) -> str:
+    """A form between backquotes, its ranges after them."""
+    form, colon, ranges = form.partition(": ")
+    return f"`{form}`{colon}{ranges}"
 
 
 def is_odd(letter: str) -> bool:

@@ -17,11 +17,11 @@ from evacask.client.blocks import Outcome, Plan
 from evacask.client.talk import Client
 from evacask.errors import Broken, Refused
 from evacask.model.building import Model, Way
+from evacask.model.draft import MOST_RATE
 from evacask.model.ground import Ground
 from evacask.model.shares import Count, in_people, typed
 from evacask.questions.sweep import sweep
 
-MOST_RATE = 10_000
 Names = Tuple[str, ...]
 
 

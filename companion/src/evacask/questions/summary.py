@@ -8,7 +8,7 @@ from evacask.client.asking import session
 from evacask.client.talk import Client
 from evacask.errors import Shortfall, Span
 from evacask.model.building import Model
-from evacask.model.edits import LAST_MOMENT
+from evacask.model.draft import LAST_MOMENT
 from evacask.model.ground import Ground
 from evacask.model.shares import Count
 from evacask.model.walks import Bound, walking_bound, walks

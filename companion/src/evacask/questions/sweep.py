@@ -49,7 +49,7 @@ def quick(client: Client, model: Model, scenarios: Sequence[Tuple[int, Scenario]
         with session(client, model) as talk:
             for (number, _), replies in zip(scenarios, talk.trials(edits for _, edits in scenarios)):
                 if all(it.startswith(b"answer ") for it in replies[:-1]) and replies[-1].startswith((b"answer ", b"refused 22 ")):
-                    yield number, outcome_of(replies[-1], model.shares)
+                    yield number, outcome_of(replies[-1], model)
     except Shortfall:
         pass  # (the building itself can't be cleared, so there is no session on it)
 
@@ -57,6 +57,7 @@ def quick(client: Client, model: Model, scenarios: Sequence[Tuple[int, Scenario]
 def alone(client: Client, model: Model, edits: Scenario) -> Result:
     """A scenario of which only the last building counts, planned from nothing."""
     try:
-        return outcome_of(client.run(["solve"], edited(model, edits).bytes), model.shares)
+        wanted = edited(model, edits)
+        return outcome_of(client.run(["solve"], wanted.bytes), wanted)
     except Refused as refused:
         return refused

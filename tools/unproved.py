@@ -1,0 +1,109 @@
+"""Builds the program without a proof, in about a minute, and keeps it: an ordinary program, for as long as ./build hasn't made the proved one.
+
+`rt try` hands its module to the kit's clang and keeps nothing. Here it gets a view of the kit whose clang keeps that module and stops, and the kit's own
+clang compiles it. What `rt try` adds stays in the program: it tests for overflow, bounds and unwraps, and ends the run if one fails.
+"""
+from __future__ import annotations
+
+import contextlib
+import fcntl
+import os
+import pathlib
+import shutil
+from typing import Iterator
+
+import sources
+from kit import TOP, Kit, NotBuilt, copy_sources, put, room_for_files, run, say, show
+
+PROGRAM = TOP / sources.UNPROVED_PLACE
+# Keeps the program's module, which has more than 100 KB: what comes before it is a trial of the toolchain.
+KEEPING_CLANG = """#!/bin/sh
+for it; do case $it in *.bc) if [ "$(wc -c <"$it")" -gt 100000 ]; then cp "$it" '{module}'; exit 1; fi ;; esac done
+exec '{clang}' "$@"
+"""
+COMPILES = (
+    "--target=x86_64-unknown-linux-gnu -march=x86-64 -ffunction-sections -fdata-sections --no-default-config -no-canonical-prefixes -fPIE -O1".split()
+)
+
+
+def unproved() -> pathlib.Path:
+    """The program of these sources; if there is none, an unproved one is made. Raises NotBuilt."""
+    found = sources.found(TOP)
+    if found.is_current:
+        return found.program
+    kit = Kit()
+    with turn(), room_for_files() as room:
+        for attempt in ("first", "second"):  # (the second one if a source changed meanwhile)
+            found = sources.found(TOP)
+            if found.is_current:
+                return found.program
+            say(f"{found.why or 'no program is built yet'}; making one without a proof takes about a minute, once")
+            build(kit, room / attempt)
+    found = sources.found(TOP)
+    if not found.is_current:
+        raise NotBuilt(f"the program can't be taken: {found.why or f'{PROGRAM} can not be run'}")
+    return found.program
+
+
+def build(kit: Kit, room: pathlib.Path) -> None:
+    """Builds the unproved program of a copy of the sources, and puts it in its place."""
+    (room / "copy").mkdir(parents=True)
+    copy_sources(room / "copy")
+    clang, module = kit.folder / "toolchain/bin/clang", module_of(kit, room)
+    words = [
+        f"{clang}",
+        *COMPILES,
+        f"--sysroot={kit.folder}/toolchain",
+        "-fintegrated-cc1",
+        "-c",
+        "-x",
+        "ir",
+        f"{module}",
+        "-o",
+        f"{room}/evacplan.o",
+    ]
+    run(words, room, "the program is not compiled")
+    kit.link(room / "evacplan.o", room / "evacplan", room)
+    put(room / "evacplan", PROGRAM, kit, sources.digests_of(room / "copy"))
+
+
+def module_of(kit: Kit, room: pathlib.Path) -> pathlib.Path:
+    """The module that `rt try` makes of the program."""
+    module, view = room / "module.bc", view_of(kit.folder, room)
+    run([f"{view}/bin/rt", "try", "--", "drill", "--number", "1"], room, folder=room / "copy/crates/evacplan")  # (its clang stops it)
+    if not module.exists():
+        show(room / "said")
+        raise NotBuilt("the program could not be built")
+    return module
+
+
+def view_of(kit: pathlib.Path, room: pathlib.Path) -> pathlib.Path:
+    """A folder like the kit's, of links to it, whose clang keeps the program's module. (rt finds its kit by the place of its own file.)"""
+    view, toolchain = room / "kit", room / "toolchain"
+    for folder, seen in ((kit, view), (kit / "bin", view / "bin"), (kit / "toolchain", toolchain), (kit / "toolchain/bin", toolchain / "bin")):
+        seen.mkdir()
+        for it in folder.iterdir():
+            if it.name in ("rt", "rtlib.py"):
+                shutil.copy(it, seen)
+            elif it.name not in ("bin", "toolchain", "clang"):
+                (seen / it.name).symlink_to(it)
+    (view / "toolchain").symlink_to(toolchain)
+    clang = toolchain / "bin/clang"
+    clang.write_text(KEEPING_CLANG.format(module=room / "module.bc", clang=kit / "toolchain/bin/clang"))
+    clang.chmod(0o755)
+    return view
+
+
+@contextlib.contextmanager
+def turn() -> Iterator[None]:
+    """One such build at a time in a copy: who comes second waits, and then finds the program."""
+    try:
+        PROGRAM.parent.mkdir(parents=True, exist_ok=True)
+        folder = os.open(PROGRAM.parent, os.O_RDONLY)
+    except OSError as fault:
+        raise NotBuilt(f"nothing can be written to {PROGRAM.parent}, so no program can be kept: {fault.strerror}") from None
+    try:
+        fcntl.flock(folder, fcntl.LOCK_EX)
+        yield
+    finally:
+        os.close(folder)
