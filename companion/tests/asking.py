@@ -7,8 +7,7 @@ import sys
 from dataclasses import dataclass
 from typing import Union
 
-from companion.main import main as main_of_modules
-from evacask.faces.commands import COMMANDS, OLD_WORDS, main as main_of_package
+from evacask.faces.commands import main
 
 # The seconds after which something hangs; a machine with much else to do is slow.
 PATIENCE = 300
@@ -36,10 +35,7 @@ def ask(*words: object, text: Union[str, bytes] = "") -> Ended:
     source, out, err = (io.TextIOWrapper(io.BytesIO(it), "utf-8", "surrogateescape", newline="") for it in (given, b"", b""))
     try:
         sys.stdin, sys.stdout, sys.stderr = source, out, err
-        is_packaged = any(OLD_WORDS.get(str(word), word) in [it.name for it in COMMANDS] for word in words[:3])
-        status = (main_of_package if is_packaged else main_of_modules)([str(word) for word in words])
-    except SystemExit as ended:  # (after --help)
-        status = int(ended.code or 0)
+        status = main([str(word) for word in words])
     finally:
         sys.stdin, sys.stdout, sys.stderr = streams
     printed = []

@@ -1,7 +1,5 @@
 """How evacask ends, as a command: words, files, streams, signals, and a program that isn't there or breaks off."""
 import ast
-import contextlib
-import io
 import os
 import pathlib
 import re
@@ -13,10 +11,9 @@ import tempfile
 import time
 import unittest
 
-from companion.ending import Status
-from companion.progress import Count, Patience
 from companion.tests.asking import OFFICE, PATIENCE, TOP, TOWER, ask, program, run
-from companion.words import COMMANDS
+from evacask.faces.commands import COMMANDS
+from evacask.faces.ending import Status
 
 EVACASK = [sys.executable, "-B", str(TOP / "evacask")]
 
@@ -70,7 +67,7 @@ class Endings(unittest.TestCase):
             with self.subTest(it.name):
                 said = ask(it.name, *(TOP / word if word.startswith("examples/") else word for word in shlex.split(it.example)))
                 self.assertEqual((said.status, said.err), (0, ""))
-                self.assertEqual(bool(said.out), it.name != "doubts")
+                self.assertEqual(bool(said.out), it.name != "review")
 
     def test_files(self):
         with tempfile.TemporaryDirectory() as folder:
@@ -175,29 +172,9 @@ class Endings(unittest.TestCase):
                 self.assertEqual(ran.stderr.count(b"can't be "), 0 if closed == "2>&-" else 1)
 
 
-class Terminal(io.StringIO):
-    def isatty(self) -> bool:
-        return True
-
-
 class Progress(unittest.TestCase):
     def test_it_is_for_a_terminal_alone(self):
         self.assertEqual(ask("ways", OFFICE).err, "")
-
-    def test_a_count(self):
-        with contextlib.redirect_stderr(Terminal()) as said, Count("ways", 3) as count:
-            count.began += 1000
-            count.step()
-            self.assertEqual(said.getvalue(), "")
-            count.began -= 2000
-            count.step()
-        self.assertEqual(said.getvalue(), "\revacask: 2 of 3 ways\r\033[K")
-
-    def test_waiting_for_the_program(self):
-        with contextlib.redirect_stderr(Terminal()) as said, Patience():
-            time.sleep(1.2)
-        self.assertTrue(said.getvalue().startswith("\revacask: the program has been at work for 1 s"))
-        self.assertTrue(said.getvalue().endswith("\r\033[K"))
 
 
 class Sources(unittest.TestCase):

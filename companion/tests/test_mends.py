@@ -3,6 +3,7 @@ import csv
 import io
 import os
 import pathlib
+import re
 import shutil
 import signal
 import subprocess
@@ -13,7 +14,7 @@ import unittest
 from typing import Callable, Tuple
 
 from evacask.client import sources
-from companion.tests.asking import OFFICE, PATIENCE, TOP, ask, program
+from companion.tests.asking import OFFICE, PATIENCE, TOP, ask, program, solved
 
 # The seconds after which a reply that comes at once otherwise isn't waited for any longer.
 SOON = 10
@@ -123,6 +124,20 @@ class Names(unittest.TestCase):
         self.assertIn("Long hall to DS1.1", ask("why", "-", text=text).out)
         self.assertNotIn("architect", ask("ways", "-", text=text).out)
 
+    def test_names_can_not_act(self):
+        acting = '=HYPERLINK("http://x")'
+        text = TWO_DOORS.replace("node HA1.1", f"#: {acting}\nnode HA1.1").replace("node HA2.1", "#: \x1b]0;x\x07Hall\nnode HA2.1")
+        text = text.replace("period 5", "title \x1b[31mRed\nperiod 5").replace("# ", "#: ")
+        for words in (("summary", "-"), ("why", "-"), ("ways", "-"), ("ways", "-", "--csv"), ("tables", "fullest", "-"), ("tables", "totals", "-")):
+            with self.subTest(words):
+                said = ask(*words, text=text)
+                self.assertEqual((said.status, said.err), (0, ""))
+                self.assertTrue(all(letter.isprintable() for letter in said.out.replace("\n", "")), said.out)
+        for words in (("ways", "-", "--csv"), ("tables", "fullest", "-"), ("tables", "totals", "-")):
+            cells = [cell for row in csv.reader(io.StringIO(ask(*words, text=text).out)) for cell in row]
+            self.assertEqual([cell for cell in cells if cell.startswith(("=", "+", "-", "@"))], [])
+            self.assertTrue(any(cell.startswith(f"'{acting}") for cell in cells))
+
 
 class Programs(unittest.TestCase):
     def test_a_program_that_is_not_of_these_sources(self):
@@ -201,6 +216,55 @@ class Talk(unittest.TestCase):
         self.assertEqual((ran.returncode, ran.stderr), (0, b""))
         # One CR belongs to the end of a line, and a second one is a word.
         self.assertEqual([line.split()[0] for line in ran.stdout.splitlines()], [b"answer", b"refused", b"work", b"work"])
+
+    def test_an_input_that_can_not_be_read(self):
+        evacask = [sys.executable, "-B", str(TOP / "evacask"), "talk", str(OFFICE)]
+        for redirection in ("<&-", "0>/dev/null"):
+            with self.subTest(redirection):
+                ran = subprocess.run(["sh", "-c", f'exec "$@" {redirection}', "sh", *evacask], capture_output=True, timeout=PATIENCE)
+                self.assertEqual((ran.returncode, ran.stderr.count(b"\n")), (3, 1), ran.stderr)
+                self.assertIn(b"standard input can't be read", ran.stderr)
+
+    def test_a_refused_edit_is_explained_as_an_edit(self):
+        ran = ask("talk", OFFICE, text="rate WP1.1 LO1.1 99999\nrate WP1.1\n")
+        self.assertTrue(ran.lines[1].startswith("refused 7: ") and ran.lines[2].startswith("refused 5: "), ran.lines)
+        self.assertNotIn("For a travel below one period", ran.out)
+        self.assertNotIn("`shut`", ran.lines[2])
+
+
+class Writing(unittest.TestCase):
+    def test_a_period_that_is_not_possible_is_a_row(self):
+        # A window from moment 1 of 5 s on begins 5 s after the start, which is no whole number of periods of 2 s.
+        plan = (TOP / "examples/school.plan").read_text().replace("evacplan 1", "evacplan 2")
+        plan = plan.replace("\nend\n", "\nwindow LO2.1 DS2.1 1 3\nend\n")
+        said = ask("metres", "-", "--both", "--period", 2, "--period", 5, text=plan)
+        self.assertEqual((said.status, said.err), (0, ""))
+        self.assertRegex(said.out, r"(?m)^ +2 s .*no whole number of periods of 2 s")
+        self.assertRegex(said.out, r"(?m)^ +5 s ")
+
+    def test_names_and_comments_are_kept(self):
+        school = (TOP / "examples/school.evac").read_text()
+        said = ask("edit", TOP / "examples/school.evac", "--version", 2)
+        self.assertEqual((said.status, said.out), (0, school.replace("evacplan 1\n", "evacplan 2\n")))
+        self.assertEqual(solved(said.out.encode(), "upgrade"), solved(school.encode(), "upgrade"))
+        self.assertEqual(ask("edit", TOP / "examples/school.evac").out, school)
+        made = ask("edit", TOP / "examples/school.evac", "--edit", 'rate "Entrance lobby" "Main door" 11').out
+        self.assertEqual(made, re.sub(r"(?m)^arc LO1\.1 DS1\.1 (\d+) 9$", r"arc LO1.1 DS1.1 \1 11", school))
+
+    def test_a_file_is_written_whole_or_not_at_all(self):
+        with tempfile.TemporaryDirectory() as folder:
+            path = pathlib.Path(folder, "made.evac")
+            path.write_text("old")
+            path.chmod(0o640)
+            self.assertEqual(ask("edit", OFFICE, "--edit", "rate LO1.1 DS1.1 9", "-o", path).status, 0)
+            self.assertIn("\narc LO1.1 DS1.1 1 9\n", path.read_text())
+            self.assertEqual(path.stat().st_mode & 0o777, 0o640)
+            said = ask("edit", OFFICE, "--edit", "rate LO1.1 DS1.1 10001", "-o", path)
+            self.assertEqual((said.status, said.out), (1, ""))
+            self.assertIn("\narc LO1.1 DS1.1 1 9\n", path.read_text())
+            said = ask("edit", OFFICE, "-o", pathlib.Path(folder, "none", "made.evac"))
+            self.assertEqual((said.status, said.out, said.err.count("\n")), (4, "", 1))
+            self.assertEqual([it.name for it in pathlib.Path(folder).iterdir()], ["made.evac"])
 
 
 if __name__ == "__main__":

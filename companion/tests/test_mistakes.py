@@ -136,7 +136,7 @@ COMMANDS = [
     ("an entrant in a session", ["session"], TEXT + "entrant LO1.1 6 10\n", 31, "misspelt"),
     ("CR LF", ["session"], (TEXT + SHUT).replace("\n", "\r\n"), None, ""),
     ("a window in seconds", ["session"], TEXT + "window SW1.2 LO1.1 60 180\n", None, ""),
-    ("shutexit in a study", ["study"], TEXT + SHUT, 31, "edits to `session`"),
+    ("shutexit in a study", ["study"], TEXT + SHUT, 31, "edits belong to `session`"),
     ("least without a moment", ["study"], TEXT + "least LO1.1 DS1.1\n", 5, "number of fields"),
     ("least in seconds", ["study"], TEXT + "least LO1.1 DS1.1 140\n", 33, "up to the horizon"),
     ("advance 0", ["replan"], TEXT + "advance 0\n", 41, "Name a later moment"),

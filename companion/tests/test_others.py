@@ -10,10 +10,9 @@ import sys
 import time
 import unittest
 
-from companion.building import building_of
-from companion.metres import building_text
-from companion.terminal import candidates
 from companion.tests.asking import EXAMPLES, OFFICE, PATIENCE, SCHOOL, TOP, ask, changed, program, solved
+from evacask.faces.prompt import candidates
+from evacask.model.building import model_of
 
 
 def table(*words: object) -> list:
@@ -39,7 +38,7 @@ class Tables(unittest.TestCase):
     def test_nobody_is_lost_or_too_many(self):
         for path in EXAMPLES:
             with self.subTest(path.name):
-                building = building_of(path.read_bytes())
+                building = model_of(path.read_text())
                 nodes, arcs = table("nodes", path), table("arcs", path)
                 self.assertEqual(set(nodes[-1].values()) - {nodes[-1]["moment"], nodes[-1]["seconds"]}, {"0"})
                 for row in nodes:
@@ -60,7 +59,7 @@ class Tables(unittest.TestCase):
     def test_routes(self):
         for path in EXAMPLES:
             with self.subTest(path.name):
-                rows, building = table("routes", path), building_of(path.read_bytes())
+                rows, building = table("routes", path), model_of(path.read_text())
                 last = table("exits", path)[-1]
                 for node in building.exits:
                     self.assertEqual(sum(int(row["people"]) for row in rows if row["exit"] == node.name), int(last[node.name]))
@@ -101,12 +100,11 @@ class Metres(unittest.TestCase):
         finally:
             sys.path.pop(0)
         for name, example in (("school", figures.school()), ("corridor", figures.corridor())):
-            plan = (TOP / f"examples/{name}.plan").read_bytes()
+            plan = TOP / f"examples/{name}.plan"
             for period in (2, 3, 4, 5, 6, 8, 10, 15):
-                for is_up in (False, True):
-                    with self.subTest(name, period=period, is_up=is_up):
-                        made = building_text(plan, name, period, is_up).splitlines()
-                        self.assertEqual([line for line in made if line and line[0] != "#"], example.lines(period, not is_up))
+                with self.subTest(name, period=period):
+                    made = ask("convert", plan, "--period", period).lines
+                    self.assertEqual([line for line in made if line and line[0] != "#"], example.lines(period))
 
     def test_the_plans_become_the_examples(self):
         for name in ("school", "corridor"):
@@ -115,19 +113,14 @@ class Metres(unittest.TestCase):
             self.assertIn("\nend\n# evacask's own arithmetic, not proved: ", made.out)
             self.assertEqual([it for it in made.lines if it[:1] != "#"], [it for it in there.splitlines() if it[:1] != "#"])
 
-    def test_both_roundings(self):
-        said = ask("metres", TOP / "examples/school.plan", "--both", "--period", 2, "--period", 5, "--period", 10)
-        shown = [line.split() for line in said.lines[1:4]]
-        self.assertEqual([row[2::2] for row in shown], [["130", "86"], ["110", "85"], ["110", "100"]])
-
     def test_an_escalator_runs_at_its_own_speed(self):
-        plan = b"evacplan 1\nperiod 5\nway A B escalator 10.7 0.5 1\nend\n"
-        self.assertIn("\narc A B 5 5\n", building_text(plan, "x", None, False))
-        self.assertIn("\narc A B 4 5\n", building_text(plan, "x", None, True))
+        plan = "evacplan 1\nperiod 5\nway A B escalator 10.7 0.5 1\nend\n"
+        self.assertIn("\narc A B 5 5\n", ask("convert", "-", text=plan).out)
+        self.assertIn("\narc A B 4 5\n", ask("convert", "-", "--up", text=plan).out)
 
     def test_moments_go_over_to_another_period(self):
-        plan = b"evacplan 2\nperiod 5\nhorizon 41\nway A B free 5 door 0.9\nwindow A B 12 36\nentrant A 4 7\nend\n"
-        made = building_text(plan, "x", 10, False)
+        plan = "evacplan 2\nperiod 5\nhorizon 41\nway A B free 5 door 0.9\nwindow A B 12 36\nentrant A 4 7\nend\n"
+        made = ask("convert", "-", "--period", 10, text=plan).out
         self.assertIn("period 10\nhorizon 21\n", made)
         self.assertIn("window A B 6 18\nentrant A 2 7\n", made)
 
@@ -210,12 +203,12 @@ class TalkOverPipes(unittest.TestCase):
     def test_a_session(self):
         said = self.talk("shutexit DS2.1\n\n# no reply\nshutexit DS1.1\nundo\r\nshut HA1.3\ncut 27\nwork\nbottlenecks\nquit\r\nnot read\n", OFFICE)
         self.assertEqual((said.status, said.err), (0, ""))
-        self.assertEqual(said.lines[0], "answer 0: 240 people, cleared 28 (140 s)")
-        self.assertEqual(said.lines[1], "answer 1: 240 people, cleared 50 (250 s), 110 s later than before")
+        self.assertEqual(said.lines[0], "answer 0: 240 people, cleared 28 (140 to 145 s)")
+        self.assertEqual(said.lines[1], "answer 1: 240 people, cleared 50 (250 to 255 s), 110 s later than before")
         self.assertEqual(said.lines[2], "refused 22: at most 0 of 240 can be out by the horizon, so nothing was changed")
-        self.assertEqual(said.lines[3], "answer 2: 240 people, cleared 28 (140 s), 110 s sooner than before")
+        self.assertEqual(said.lines[3], "answer 2: 240 people, cleared 28 (140 to 145 s), 110 s sooner than before")
         self.assertTrue(said.lines[4].startswith("refused 5: The number of fields is wrong"))
-        self.assertEqual(said.lines[5], "At most 236 can be out by moment 27 (135 s). Each of them counts here:")
+        self.assertEqual(said.lines[5], "At most 236 can be out by moment 27 (135 to 140 s). Each of them counts here:")
         self.assertRegex(said.lines[10], r"^work \d+ \d+$")
         self.assertEqual([said.lines[11], said.lines[-1]], ["bottlenecks 2", "end"])
 
@@ -233,20 +226,20 @@ class TalkOverPipes(unittest.TestCase):
         said = self.talk("exits\nleast LO1.1 DS1.1 27\nleast LO1.1 DS1.1 28\nleast HA1.3 SW1.3 100\nshutexit DS2.1\n", OFFICE, "--study")
         self.assertEqual((said.status, said.err), (0, ""))
         self.assertEqual(said.lines[1], "without DS1.1: at most 180 of 240 can be out by the horizon")
-        self.assertEqual(said.lines[2], "without DS2.1: cleared 50 (250 s)")
-        self.assertRegex(said.lines[3], r"^least LO1.1 DS1.1: no rate is enough by moment 27 \(135 s\); with 10,000 at most 236 are out$")
-        self.assertRegex(said.lines[4], r"^least LO1.1 DS1.1: \d+ by moment 28 \(140 s\); with \d+ at most \d+ are out$")
+        self.assertEqual(said.lines[2], "without DS2.1: cleared 50 (250 to 255 s)")
+        self.assertRegex(said.lines[3], r"^least LO1.1 DS1.1: no rate is enough by moment 27 \(135 to 140 s\); with 10,000 at most 236 are out$")
+        self.assertRegex(said.lines[4], r"^least LO1.1 DS1.1: \d+ by moment 28 \(140 to 145 s\); with \d+ at most \d+ are out$")
         self.assertRegex(said.lines[5], r"^least HA1.3 SW1.3: it isn't needed by moment 100 ")
         self.assertRegex(said.lines[6], r"^refused 31: ")
 
     def test_a_replan(self):
         said = self.talk("advance 1\nshutexit DS1.1\nadvance 0\nundo\n", TOP / "examples/two_exits.evac", "--replan")
         self.assertEqual((said.status, said.err), (0, ""))
-        self.assertEqual(said.lines[1], "advance 1: 6 people are out by moment 3 (15 s) by the moves made")
-        self.assertEqual(said.lines[2], "answer 1: 2 people, cleared 3 (15 s)")
-        self.assertEqual(said.lines[3], "answer 2: 2 people, cleared 4 (20 s), 5 s later than before")
+        self.assertEqual(said.lines[1], "advance 1: 6 people are out by moment 3 (15 to 20 s) by the moves made")
+        self.assertEqual(said.lines[2], "answer 1: 2 people, cleared 3 (15 to 20 s)")
+        self.assertEqual(said.lines[3], "answer 2: 2 people, cleared 4 (20 to 25 s), 5 s later than before")
         self.assertRegex(said.lines[4], "^refused 41: ")
-        self.assertEqual(said.lines[5], "answer 3: 2 people, cleared 3 (15 s), 5 s sooner than before")
+        self.assertEqual(said.lines[5], "answer 3: 2 people, cleared 3 (15 to 20 s), 5 s sooner than before")
 
     def test_a_line_that_is_too_long_ends_nothing(self):
         said = self.talk("x" * 201 + "\nundo\n", OFFICE).lines
@@ -254,7 +247,7 @@ class TalkOverPipes(unittest.TestCase):
         self.assertTrue(said[2].startswith("refused 39: "))
 
     def test_what_can_follow(self):
-        building = building_of(OFFICE.read_bytes())
+        building = model_of(OFFICE.read_text())
         self.assertIn("shutexit", candidates(building, "session", []))
         self.assertIn("least", candidates(building, "study", []))
         self.assertIn("advance", candidates(building, "replan", []))
@@ -305,23 +298,23 @@ class TalkAtATerminal(unittest.TestCase):
         return os.waitstatus_to_exitcode(os.waitpid(self.child, 0)[1])
 
     def test_prompt_history_completion_and_endings(self):
-        self.until("cleared 28 (140 s)")
+        self.until("cleared 28 (140 to 145 s)")
         self.until("session> ")
         self.type("shutexit DS2.1\n")
-        self.until("answer 1: 240 people, cleared 50 (250 s)")
+        self.until("answer 1: 240 people, cleared 50 (250 to 255 s)")
         self.until("session> ")
         self.type("\x1b[A\n")
         self.until("refused 34: The arc is shut already.")
         self.until("session> ")
         self.type("openex\tDS2\t\n")
-        self.until("answer 2: 240 people, cleared 28 (140 s)")
+        self.until("answer 2: 240 people, cleared 28 (140 to 145 s)")
         self.until("session> ")
         self.type("shut HA1.3")
         self.until("shut HA1.3")
         # (A Ctrl-C that comes while a key is at work is seen with the next one.)
         self.assertTrue(any(self.type("\x03") or self.is_said("session> ", 20) for _ in range(10)))
         self.type("undo\n")
-        self.until("answer 3: 240 people, cleared 50 (250 s)")
+        self.until("answer 3: 240 people, cleared 50 (250 to 255 s)")
         self.until("session> ")
         self.type("\x04")
         self.assertEqual(self.status(), 0)

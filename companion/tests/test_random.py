@@ -5,9 +5,9 @@ import random
 import re
 import unittest
 
-from companion.building import building_of
 from companion.tests.asking import ask, solved
-from companion.walks import walking_bound, walks
+from evacask.model.building import model_of
+from evacask.model.walks import walking_bound, walks
 
 BUILDINGS = 60
 
@@ -41,7 +41,7 @@ class Random(unittest.TestCase):
     def test_walks_and_the_walking_bound(self):
         bounds = 0
         for text in self.cleared:
-            building, report = building_of(text.encode()), solved(text.encode(), "solve", "--reports")
+            building, report = model_of(text), solved(text.encode(), "solve", "--reports")
             cleared, uncongested = (int(re.search(rf"(?m)^{word} (\d+)", report)[1]) for word in ("cleared", "uncongested"))
             out = walks(building)
             self.assertEqual(max((out[it.name].periods for it in building.rooms if it.start), default=0), uncongested, text)

@@ -105,6 +105,12 @@ class Study(Dialogue):
 
     place = Place.STUDY
 
+    def answered(self, reply: bytes, command: str) -> bytes:
+        """A reply that isn't refused; `Shortfall` if the building can't be cleared, which is the one answer of a study then."""
+        if reply.startswith(b"refused 22 "):
+            plan_of(reply, self.model)
+        return super().answered(reply, command)
+
     def exits(self) -> Tuple[Exit, ...]:
         """When all are out without each exit."""
         return exits_of(self.ask("exits"), self.model.shares)

@@ -6,7 +6,7 @@ from argparse import Namespace
 from typing import List, Optional, Sequence, Tuple
 
 from evacask.errors import NoProgram, Shortfall, WordsError
-from evacask.faces import compare, convert, edit, report, review, sensitivity, summary, why, width
+from evacask.faces import compare, convert, edit, explain, report, review, sensitivity, session, summary, tables, why, width
 from evacask.faces.asked import program_of
 from evacask.faces.ending import Status, ends, say
 from evacask.faces.words import Command, parser_of
@@ -18,7 +18,10 @@ COMMANDS: Tuple[Command, ...] = (
     sensitivity.COMMAND,
     width.COMMAND,
     compare.COMMAND,
+    session.COMMAND,
+    tables.COMMAND,
     review.COMMAND,
+    explain.COMMAND,
     convert.COMMAND,
     edit.COMMAND,
     report.COMMAND,

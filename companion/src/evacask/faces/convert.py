@@ -31,10 +31,12 @@ WHAT = f"""The plan is a building in which lines `way FROM TO PART ..` are in pl
     comes 0.78               no more than so many a second come: walked at the speed of that flow, with the rate of the width
 
 Lengths and widths are metres. The rate of a way is that of its narrowest part, and each part is walked at the speed for so many people.
-Rates are rounded down and travels up, which errs towards a later clearing time if no arc has a window and nobody comes later; add one period.
+Rates are rounded down and travels up, which errs towards a later clearing time if no arc has a window and nobody comes later;
+add one period.
 
 A rate is a whole number of people a period. With --shares the building counts each person as several shares, so a rate may be a fraction:
-all commands of evacask read and print people as before. `--shares auto` takes the least number up to {MOST} that loses at most 0.5 % of each rate."""
+all commands of evacask read and print people as before. `--shares auto` takes the least number up to {MOST} that loses at most
+0.5 % of each rate."""
 
 
 def convert_sheet(answers: Tuple[Bracket, ...], narrow: Optional[int], drawn: DrawnBuilding) -> Sheet:

@@ -2,7 +2,7 @@
 from __future__ import annotations
 
 from argparse import Namespace
-from typing import Sequence
+from typing import Sequence, Tuple
 
 from evacask.faces.asked import Asked, put
 from evacask.faces.sheet import Column, Sheet, runs, seconds_of_runs
@@ -29,8 +29,12 @@ def why_sheet(answer: Why, model: Model) -> Sheet:
     if not answer.most:
         head = f"Nobody can be out {by}: no walk is so short, or the ways are closed."
     end = f"A best plan has as many out by then, and all {answer.people} by moment {model.time(answer.cleared)}."
-    rows = tuple((it.people, place(it), runs(it.moments), seconds_of_runs(it.moments, model.period), name(it, model)) for it in answer.places)
-    return Sheet(answer, (head,), COLUMNS, rows, (end,))
+    return Sheet(answer, (head,), COLUMNS, place_rows(answer.places, model), (end,))
+
+
+def place_rows(places: Sequence[Place], model: Model) -> Tuple[Tuple[object, ...], ...]:
+    """A row for each place of a cut."""
+    return tuple((it.people, place(it), runs(it.moments), seconds_of_runs(it.moments, model.period), name(it, model)) for it in places)
 
 
 def place(it: Place) -> str:

@@ -79,14 +79,23 @@ def rate(text: str) -> int:
 BUILDING = argument("building", metavar="BUILDING", help="a file with a building, or - for standard input")
 EDIT = argument("--edit", action="append", default=[], metavar="EDITS", help="ask about the building after these edits, with ; between them")
 PROGRAM = "the program to ask, in place of the built one or of what EVACPLAN names"
-FACES = (
-    [
-        argument("--text", dest="face", action="store_const", const="text", default="text", help="print lines to read, as without a word"),
-        argument("--csv", dest="face", action="store_const", const="csv", help="print the table for a spreadsheet, with all its columns"),
-        argument("--json", dest="face", action="store_const", const="json", help="print the answer as JSON"),
-    ],
-    argument("--columns", choices=("all",), default=None, help="show the columns that are left out else: all"),
-)
+
+
+def faces(default: str) -> Tuple[Union[Argument, List[Argument]], ...]:
+    """How an answer is printed, and how if no word says so."""
+    helps = {
+        "text": "print lines to read",
+        "csv": "print the table for a spreadsheet, with all its columns",
+        "json": "print the answer as JSON",
+    }
+    one = [
+        argument(f"--{name}", dest="face", action="store_const", const=name, default=default, help=what + ", as without a word" * (name == default))
+        for name, what in helps.items()
+    ]
+    return one, argument("--columns", choices=("all",), default=None, help="show the columns that are left out else, and what they rest on: all")
+
+
+FACES = faces("text")
 # What a command that asks about one building takes besides its own arguments. One that reads something else takes FACES alone.
 SHARED = (EDIT, *FACES)
 

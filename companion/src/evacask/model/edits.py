@@ -58,11 +58,23 @@ def with_windows(draft: Draft, changed: Dict[int, str]) -> str:
     ]
     lines = model.text.split("\n")
     if new:
-        first = next(number for number, line in enumerate(lines, 1) if fields_of(line) and not fields_of(line)[0].startswith("#"))
-        changed = {**changed, first: "evacplan 2"}
+        changed = {**changed, first_line(lines): "evacplan 2"}
     kept = [like(line, changed.get(number)) for number, line in enumerate(lines, 1) if number not in gone]
     at = model.end_line - 1 - len(gone)
     return "\n".join([*kept[:at], *(like(kept[at], line) for line in new), *kept[at:]])
+
+
+def first_line(lines: Sequence[str]) -> int:
+    """The number of the line that says the version: the first that is no blank and no comment."""
+    return next(number for number, line in enumerate(lines, 1) if fields_of(line) and not fields_of(line)[0].startswith("#"))
+
+
+def upgraded(model: Model) -> Model:
+    """The building in version 2 of the language, with its comments and names."""
+    lines = model.text.split("\n")
+    at = first_line(lines) - 1
+    lines[at] = like(lines[at], "evacplan 2")
+    return model_of("\n".join(lines))
 
 
 def like(old: str, new: Optional[str]) -> str:

@@ -1,0 +1,43 @@
+"""The command `tables` and its sheet."""
+from __future__ import annotations
+
+from argparse import Namespace
+
+from evacask.faces.asked import Asked, put
+from evacask.faces.sheet import Column, Sheet
+from evacask.faces.words import BUILDING, EDIT, Command, argument, faces
+from evacask.model.building import Model
+from evacask.questions.tables import KINDS, Table, tables
+
+# Columns of text; all others have numbers, which stand to the right.
+LEFT = ("from", "to", "name", "names", "exit", "way", "kind", "node", "next", "source")
+
+
+def tables_sheet(answer: Table, model: Model) -> Sheet:
+    """The table as it is."""
+    grounds = dict(answer.grounds)
+    columns = tuple(Column(head, head, head not in LEFT, ground=grounds.get(head)) for head in answer.heads)
+    return Sheet(answer, (), columns, answer.rows)
+
+
+def run(given: Namespace) -> int:
+    asked = Asked(given)
+    return put(tables_sheet(tables(asked.client, asked.model, given.kind), asked.model), "tables", given, asked.client)
+
+
+COMMAND = Command(
+    "tables",
+    run,
+    "who is where when, and who goes which way? for a spreadsheet",
+    "exits    at each moment: how many are out, and by which exit\n"
+    "nodes    at each moment: how many are in each node and stay there\n"
+    "arcs     at each moment: how many enter each arc\n"
+    "routes   of each room: how many go which way, and when the first and the last set out\n"
+    "totals   of each arc: how many enter it in all, and when\n"
+    "fullest  of each node: the most who stay in it, and when first\n"
+    "full     exits, nodes and arcs at each moment in one long table, without rows of 0\n"
+    "walks    of each node: the quickest way out with nobody in the way\n"
+    "All but walks are of the printed plan: but for `out`, other best plans may differ. Seconds are those from which on a moment is.",
+    "exits examples/office.evac",
+    (argument("kind", metavar="KIND", choices=KINDS, help=", ".join(KINDS)), BUILDING, EDIT, *faces("csv")),
+)
