@@ -5,6 +5,7 @@ and walks on from there. The greatest of these moments, over all arcs, is close 
 """
 from __future__ import annotations
 
+from dataclasses import dataclass
 from typing import Dict, Iterable, List, Mapping, Sequence, Tuple
 
 from evacask.model.building import Model, Way
@@ -13,7 +14,8 @@ from evacask.questions.assign_ways import Path, length
 
 # Who comes to an arc: the moment from which on, how many, and the periods of the walk from its begin to the exit.
 Use = Tuple[int, int, int]
-STEEPNESS = 1.15
+# By how much more an end counts than one a moment earlier, as far as 600 moments around the goal, and what an end at the goal counts.
+STEEPNESS, LATEST, UNIT = 1.15, 600, 1 << 40
 
 
 def end_of(uses: Iterable[Use], rate: int) -> int:
@@ -26,6 +28,15 @@ def end_of(uses: Iterable[Use], rate: int) -> int:
     return end
 
 
+@dataclass(frozen=True)
+class Change:
+    """By how much the sum of weights rises, and the uses by room and the ends of the arcs that change."""
+
+    rise: int
+    uses: Dict[Way, Dict[str, List[Use]]]
+    ends: Dict[Way, int]
+
+
 class Loads:
     """The uses of each arc by the rooms, and its end. `work` counts uses that were looked at."""
 
@@ -36,6 +47,7 @@ class Loads:
             self.groups.setdefault(room, []).append((moment, people))
         self.uses: Dict[Way, Dict[str, List[Use]]] = {}
         self.ends: Dict[Way, int] = {}
+        self.weights: Dict[int, int] = {}
 
     def set(self, ways: Mapping[str, Path]) -> None:
         self.uses, self.ends = {}, {}
@@ -57,12 +69,15 @@ class Loads:
         self.work += len(uses)
         return end_of(uses, self.model.arcs[way].rate) if uses else 0
 
-    def weight(self, end: int) -> float:
-        """What an arc's end counts: the later the more, so that the sum of all falls if the latest do."""
-        return STEEPNESS ** min(600, end - self.goal) if end else 0.0
+    def weight(self, end: int) -> int:
+        """What an arc's end counts: the later the more, so that the sum of all falls if the latest do. Whole, so that no sum is rounded."""
+        late = end - self.goal
+        if late not in self.weights:
+            self.weights[late] = int(UNIT * STEEPNESS ** max(-LATEST, min(LATEST, late))) if end else 0
+        return self.weights[late]
 
-    def change(self, room: str, old: Path, new: Path) -> Tuple[float, Dict[Way, Dict[str, List[Use]]], Dict[Way, int]]:
-        """By how much the sum of weights rises if a room goes another way, and the uses and ends of the arcs that change."""
+    def change(self, room: str, old: Path, new: Path) -> Change:
+        """What happens if a room goes another way."""
         changed: Dict[Way, Dict[str, List[Use]]] = {}
         for way in old:
             changed[way] = {other: uses for other, uses in self.uses[way].items() if other != room}
@@ -70,12 +85,8 @@ class Loads:
             changed[way] = {**changed.get(way, self.uses.get(way, {})), room: uses}
         ends = {way: self.end(way, rooms) for way, rooms in changed.items()}
         rise = sum(self.weight(end) - self.weight(self.ends.get(way, 0)) for way, end in ends.items())
-        return rise, changed, ends
+        return Change(rise, changed, ends)
 
-    def take(self, changed: Dict[Way, Dict[str, List[Use]]], ends: Dict[Way, int]) -> None:
-        self.uses.update(changed)
-        self.ends.update(ends)
-
-    @property
-    def last(self) -> int:
-        return max(self.ends.values(), default=0)
+    def take(self, change: Change) -> None:
+        self.uses.update(change.uses)
+        self.ends.update(change.ends)
