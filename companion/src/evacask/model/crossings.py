@@ -10,6 +10,7 @@ from typing import Dict, Iterable, List, Mapping, Set, Tuple
 
 from evacask.errors import Span
 from evacask.model.building import Model, Way
+from evacask.model.variant import whole
 
 Place = Tuple[str, ...]
 
@@ -33,7 +34,7 @@ class Crossings:
 
 def size_of(model: Model, place: Place) -> int:
     """The rate of an arc, or the capacity of a node."""
-    return model.arcs[place[0], place[1]].rate if len(place) == 2 else model.nodes[place[0]].capacity or 0
+    return whole(model.arcs[place[0], place[1]].rate if len(place) == 2 else model.nodes[place[0]].capacity)
 
 
 def crossings(model: Model, spans: Iterable[Span], moment: int) -> Crossings:
@@ -45,8 +46,8 @@ def crossings(model: Model, spans: Iterable[Span], moment: int) -> Crossings:
     for name, t in cells:
         if t < moment and (name, t + 1) not in cells:
             places[name,] = places.get((name,), 0) + 1
-    entries = sum(it.start or 0 for it in model.rooms if (it.name, 0) not in cells)
-    entries += sum(it.people for it in model.entrants if it.moment <= moment and (it.name, it.moment) not in cells)
+    entries = sum(whole(it.start) for it in model.rooms if (it.name, 0) not in cells)
+    entries += sum(whole(it.people) for it in model.entrants if it.moment <= moment and (it.name, it.moment) not in cells)
     return Crossings(moment, places, entries, {name for name, t in cells if t == 0})
 
 

@@ -15,7 +15,7 @@ from evacask.client.talk import Client
 from evacask.errors import Shortfall, WordsError
 from evacask.model.building import Model
 from evacask.model.ground import Ground
-from evacask.model.variant import MOST_PEOPLE, varied, with_starts
+from evacask.model.variant import MOST_PEOPLE, in_whole_people, varied, whole, with_starts
 from evacask.questions.rescue import rescue
 
 
@@ -68,21 +68,22 @@ class Admission:
 
 def admit_room(client: Client, model: Model, room: str, moment: int) -> RoomAdmission:
     """The most people who may start in a room, with the others as they are, for all to be out by a moment (a period up to the horizon)."""
+    in_whole_people(model)
     node = model.node(room)
     if node.capacity is None or node.start is None:
         raise WordsError(f"{node.name} is an exit: nobody starts there")
     check_moment(model, moment)
-    others = model.people - node.start
-    answer = RoomAdmission(node.name, moment, None, node.start, node.capacity, others, None)
+    others = whole(model.people - node.start)
+    answer = RoomAdmission(node.name, moment, None, whole(node.start), whole(node.capacity), others, None)
     alone = plan_or_short(client, with_room(model, node.name, 0), moment)
     if isinstance(alone, Shortfall):
-        return replace(answer, most=alone.most)
+        return replace(answer, most=whole(alone.most))
     crowd = plan_or_short(client, with_room(model, node.name, MOST_PEOPLE - others), moment)
     if isinstance(crowd, Plan):
         return replace(answer, people=MOST_PEOPLE - others)
-    people = crowd.most - others
+    people = whole(crowd.most) - others
     solve(client, with_room(model, node.name, people), moment)  # (the plan that shows that so many are out)
-    return replace(answer, people=people, most=crowd.most)
+    return replace(answer, people=people, most=whole(crowd.most))
 
 
 def with_room(model: Model, room: str, start: int) -> Model:
@@ -102,17 +103,19 @@ def admit(client: Client, model: Model, moment: int) -> Admission:
     check_moment(model, moment)
     thousandths = greatest_share(client, model, moment)
     rooms = [it for it in model.rooms if it.kind == "WP" or it.start]
-    full = with_starts(model, {it.name: it.capacity or 0 for it in rooms})
+    full = with_starts(model, {it.name: whole(it.capacity) for it in rooms})
     saved = rescue(client, full, moment)
     people = {it.room: it.saved for it in saved.groups if not it.moment}
-    shares = tuple(Share(it.name, people.get(it.name, 0), it.start or 0, it.capacity or 0) for it in rooms)
+    shares = tuple(Share(it.name, people.get(it.name, 0), whole(it.start), whole(it.capacity)) for it in rooms)
     places = sum(it.capacity for it in shares)
-    return Admission(moment, model.people, thousandths, scaled(model, thousandths).people, sum(it.people for it in shares), places, shares)
+    return Admission(
+        moment, whole(model.people), thousandths, whole(scaled(model, thousandths).people), sum(it.people for it in shares), places, shares
+    )
 
 
 def scaled(model: Model, thousandths: int) -> Model:
     """The building with its starts at so many thousandths, rounded down in each room."""
-    return with_starts(model, {it.name: (it.start or 0) * thousandths // 1000 for it in model.rooms if it.start})
+    return with_starts(model, {it.name: whole(it.start) * thousandths // 1000 for it in model.rooms if it.start})
 
 
 def greatest_share(client: Client, model: Model, moment: int) -> int:

@@ -15,6 +15,7 @@ from evacask.client.talk import Client
 from evacask.errors import Broken, NoAnswer, WordsError
 from evacask.model.building import Model
 from evacask.model.ground import Ground
+from evacask.model.variant import in_whole_people, whole
 from evacask.questions.assign_bound import lower_bound
 from evacask.questions.assign_search import Found, Search, nearest_ways
 from evacask.questions.assign_times import NEVER, Group, moves_of
@@ -64,6 +65,7 @@ def assign(client: Client, model: Model, effort: int = 1, nearest: bool = False)
     """
     if not 1 <= effort <= 1000:
         raise WordsError(f"the effort {effort} isn't from 1 to 1,000")
+    in_whole_people(model)
     with session(client, model) as talk:
         best, routes = talk.opening.cleared, routes_of(talk.report("routes"))
     choices = choices_of(model, routes)
@@ -102,7 +104,7 @@ def block_of(model: Model, moves: List[Move], cleared: int) -> bytes:
     for it in moves:
         if model.nodes[it.head].is_exit:
             moment = it.moment + model.arcs[it.tail, it.head].travel
-            arrived[moment] = arrived.get(moment, 0) + it.people
+            arrived[moment] = arrived.get(moment, 0) + whole(it.people)
     out, lines = 0, ["answer 0", f"people {model.people}", f"cleared {cleared}"]
     for moment in range(cleared + 1):
         out += arrived.get(moment, 0)

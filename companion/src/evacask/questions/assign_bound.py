@@ -13,7 +13,7 @@ from evacask.client.blocks import Plan
 from evacask.client.talk import Client
 from evacask.model.building import Model
 from evacask.model.crossings import crossings
-from evacask.model.variant import without_exits
+from evacask.model.variant import whole, without_exits
 
 # More exits than these aren't looked at, nor more sharings of the rooms: then the best plan is the bound.
 MOST_EXITS, MOST_SHARINGS = 6, 20_000
@@ -31,7 +31,7 @@ def lower_bound(client: Client, model: Model, best: int, stop: int) -> int:
     """The first moment from `best` on by which whole rooms can be shared out among the exits; `stop` if none before it is."""
     if len(model.exits) > MOST_EXITS:
         return best
-    rooms = sorted(((it.start, it.name) for it in model.rooms if it.start), reverse=True)
+    rooms = sorted(((whole(it.start), it.name) for it in model.rooms if it.start), reverse=True)
     for moment in range(best, stop):
         if can_be_shared(rooms, [limit_of(client, model, it.name, moment) for it in model.exits]):
             return moment
@@ -45,7 +45,7 @@ def limit_of(client: Client, model: Model, name: str, moment: int) -> Limit:
     if isinstance(answer, Plan):
         return Limit(None, set())
     cut = crossings(alone, answer.cut, moment)
-    return Limit(answer.most - cut.entries, cut.inside)
+    return Limit(whole(answer.most) - cut.entries, cut.inside)
 
 
 def can_be_shared(rooms: List[Tuple[int, str]], limits: List[Limit]) -> bool:

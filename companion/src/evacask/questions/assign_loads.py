@@ -9,6 +9,7 @@ from dataclasses import dataclass
 from typing import Dict, Iterable, List, Mapping, Sequence, Tuple
 
 from evacask.model.building import Model, Way
+from evacask.model.variant import whole
 from evacask.questions.assign_times import Group
 from evacask.questions.assign_ways import Path, length
 
@@ -67,7 +68,7 @@ class Loads:
     def end(self, way: Way, rooms: Mapping[str, List[Use]]) -> int:
         uses = [use for some in rooms.values() for use in some]
         self.work += len(uses)
-        return end_of(uses, self.model.arcs[way].rate) if uses else 0
+        return end_of(uses, whole(self.model.arcs[way].rate)) if uses else 0
 
     def weight(self, end: int) -> int:
         """What an arc's end counts: the later the more, so that the sum of all falls if the latest do. Whole, so that no sum is rounded."""

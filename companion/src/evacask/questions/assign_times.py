@@ -11,6 +11,7 @@ from typing import Dict, List, Mapping, Tuple
 
 from evacask.client.blocks import Move
 from evacask.model.building import Model, Way
+from evacask.model.variant import whole
 from evacask.questions.assign_ways import Path, length
 
 Group = Tuple[str, int, int]
@@ -45,12 +46,12 @@ class Timetable:
     def __init__(self, model: Model):
         self.model, self.work = model, 0
         self.span = 4 * model.horizon + 1  # (a poor choice of ways takes longer than the horizon: it is compared all the same)
-        self.rates = {way: [arc.rate] * (self.span + 1) for way, arc in model.arcs.items()}
+        self.rates = {way: [whole(arc.rate)] * (self.span + 1) for way, arc in model.arcs.items()}
         for it in model.windows:
             until = min(it.until, self.span + 1)
             self.rates[it.way][it.first : until] = [0] * max(0, until - it.first)
-        self.groups: List[Group] = [(it.name, 0, it.start) for it in model.rooms if it.start]
-        self.groups += [(it.name, it.moment, it.people) for it in model.entrants]
+        self.groups: List[Group] = [(it.name, 0, whole(it.start)) for it in model.rooms if it.start]
+        self.groups += [(it.name, it.moment, whole(it.people)) for it in model.entrants]
 
     def plan(self, ways: Mapping[str, Path], order: Order) -> Times:
         """Times of all groups whose rooms have a way."""
@@ -73,7 +74,7 @@ class Timetable:
         """Groups of a lower rank are planned first."""
         if order is Order.NEAREST_FIRST:
             return walk
-        alone = (group[2] - 1) // min(self.model.arcs[way].rate for way in path) if order is Order.LONGEST_FIRST else 0
+        alone = (group[2] - 1) // min(whole(self.model.arcs[way].rate) for way in path) if order is Order.LONGEST_FIRST else 0
         return -(group[1] + walk + alone)
 
     def leave(self, group: Group, path: Path, walk: int, free: Dict[Way, List[int]]) -> List[Tuple[int, int]]:
@@ -82,7 +83,7 @@ class Timetable:
         for way in path:
             if way not in free:
                 free[way] = self.rates[way][:]
-            legs.append((self.model.arcs[way].rate, offset, free[way]))
+            legs.append((whole(self.model.arcs[way].rate), offset, free[way]))
             offset += self.model.arcs[way].travel
         legs.sort(key=lambda it: it[0])  # (the narrowest first: a full one is found at once)
         rows = [(row, at) for _, at, row in legs]

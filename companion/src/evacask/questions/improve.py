@@ -17,7 +17,7 @@ from evacask.errors import WordsError
 from evacask.model.building import Model
 from evacask.model.crossings import Crossings, Place, crossings, size_of
 from evacask.model.ground import Ground
-from evacask.model.variant import MOST_PEOPLE, MOST_RATE, varied
+from evacask.model.variant import MOST_PEOPLE, MOST_RATE, in_whole_people, varied, whole
 from evacask.questions.cover import Cover, Row, Work, cover
 
 WORK = 40_000_000
@@ -80,6 +80,7 @@ def improve(
     client: Client, model: Model, moment: int, widenings: Optional[Sequence[Widening]] = None, work: int = WORK, solver: Solver = cover
 ) -> Improvement:
     """The cheapest of some widenings (`all_widenings`, if none are given) with which all are out by a moment, in periods."""
+    in_whole_people(model)
     if not max((it.moment for it in model.entrants), default=0) <= moment <= model.horizon:
         raise WordsError(f"all are to be out by {moment}: it has to be a moment from the last entrant's to the horizon, {model.horizon}")
     given = all_widenings(model) if widenings is None else widenings
@@ -105,9 +106,9 @@ def widened(model: Model, offers: Sequence[Widening], x: Sequence[int]) -> Model
     more: Dict[Place, int] = {}
     for it, times in zip(offers, x):
         more[it.place] = more.get(it.place, 0) + it.step * times
-    arcs = {way: replace(arc, rate=min(MOST_RATE, arc.rate + more[way])) for way, arc in model.arcs.items() if more.get(way)}
+    arcs = {way: replace(arc, rate=min(MOST_RATE, whole(arc.rate) + more[way])) for way, arc in model.arcs.items() if more.get(way)}
     rooms = [it for it in model.rooms if more.get((it.name,))]
-    nodes = {it.name: replace(it, capacity=min(MOST_PEOPLE, (it.capacity or 0) + more[it.name,])) for it in rooms}
+    nodes = {it.name: replace(it, capacity=min(MOST_PEOPLE, whole(it.capacity) + more[it.name,])) for it in rooms}
     return varied(model, nodes=nodes, arcs=arcs)
 
 
@@ -136,7 +137,7 @@ class Search:
     def demand(self, cut: Crossings) -> None:
         """What a purchase has to meet so that this cut is worth all people."""
         row = {at: cut.places[it.place] * it.step for at, it in enumerate(self.offers) if cut.places.get(it.place) and it.most}
-        self.demands.append((row, self.model.people - cut.worth(self.model)))
+        self.demands.append((row, whole(self.model.people) - cut.worth(self.model)))
 
     def improvement(self, bought: Cover, cleared: Optional[int]) -> Improvement:
         before = {it.place: size_of(self.model, it.place) for it in self.offers}
@@ -147,7 +148,7 @@ class Search:
                 purchases.append(Purchase(it.place, times, it.cost * times, before[it.place], after))
                 before[it.place] = after
         cost = bought.cost if bought.x is not None else None
-        return Improvement(self.moment, self.model.people, cost, bought.at_least, cleared, tuple(purchases), len(self.demands))
+        return Improvement(self.moment, whole(self.model.people), cost, bought.at_least, cleared, tuple(purchases), len(self.demands))
 
     def barred(self, at_least: int) -> Improvement:
         """No purchase meets all demands: if everything is bought, a cut says how many are out at most."""
@@ -155,4 +156,4 @@ class Search:
         answer = plan_or_short(self.client, everything, self.moment)
         if isinstance(answer, Plan):  # (two offers for one place are more than its limit together)
             raise WordsError("what may be bought of one place in several rows is together more than a rate or a capacity may be")
-        return Improvement(self.moment, self.model.people, None, at_least, None, (), len(self.demands), answer.most)
+        return Improvement(self.moment, whole(self.model.people), None, at_least, None, (), len(self.demands), whole(answer.most))

@@ -20,6 +20,7 @@ from evacask.client.talk import Client
 from evacask.errors import WordsError
 from evacask.model.building import Model
 from evacask.model.ground import Ground
+from evacask.model.variant import whole
 from evacask.questions.late import with_late_exit
 
 Place = Tuple[str, ...]
@@ -85,7 +86,7 @@ def losses(
         search.run(count)
     opening = search.known[frozenset()]
     worst = tuple(Loss(tuple(sorted(lost)), cost.most, cost.cleared) for lost, cost in search.worst(count))
-    return Losses(count, model.people, opening.cleared, worst, search.tried, math.comb(len(wanted), count))
+    return Losses(count, whole(model.people), opening.cleared, worst, search.tried, math.comb(len(wanted), count))
 
 
 def named(model: Model, place: Place) -> Place:
@@ -103,7 +104,7 @@ class Search:
 
     def __init__(self, model: Model, talk: Session, places: List[Place], top: int, tell: Callable[[int, int], None]):
         self.model, self.talk, self.places, self.top, self.tell = model, talk, set(places), top, tell
-        self.people = model.people
+        self.people = whole(model.people)
         self.known: Dict[Lost, Cost] = {frozenset(): self.cost_of(talk.opening)}
         self.tried, self.is_last = 0, False
         self.seen: Set[Lost] = set()

@@ -16,7 +16,7 @@ from evacask.client.talk import Client
 from evacask.errors import WordsError
 from evacask.model.building import Arc, Model, Way
 from evacask.model.ground import Ground
-from evacask.model.variant import MOST_PEOPLE, MOST_RATE, MOST_TRAVEL, people_of, varied
+from evacask.model.variant import MOST_PEOPLE, MOST_RATE, MOST_TRAVEL, in_whole_people, people_of, varied, whole
 
 Interval = Tuple[int, int]
 KINDS = ("rate", "travel", "people")
@@ -84,9 +84,9 @@ def percents(model: Model, rate: Interval = (0, 0), travel: Interval = (0, 0), p
             raise WordsError(f"{low} and {high} percent: below it is 0 to 100 of a hundred, and above 0 to 1,000")
     arcs = model.arcs.items()
     return Ranges(
-        {way: spread(arc.rate, rate, 0, MOST_RATE) for way, arc in arcs} if any(rate) else {},
+        {way: spread(whole(arc.rate), rate, 0, MOST_RATE) for way, arc in arcs} if any(rate) else {},
         {way: spread(arc.travel, travel, 1, MOST_TRAVEL) for way, arc in arcs} if any(travel) else {},
-        {it.name: spread(it.start or 0, people, 0, MOST_PEOPLE) for it in model.rooms if it.start} if any(people) else {},
+        {it.name: spread(whole(it.start), people, 0, MOST_PEOPLE) for it in model.rooms if it.start} if any(people) else {},
     )
 
 
@@ -97,27 +97,28 @@ def spread(value: int, percent: Interval, least: int, most: int) -> Interval:
 
 def ranges(client: Client, model: Model, given: Ranges) -> Range:
     """When all are out at the best and at the worst of some ranges."""
+    in_whole_people(model)
     check_ranges(model, given)
     now = plan_or_short(client, model)
     parts = [given.only(kind) for kind in given.kinds]
     spans = [span_of(client, model, part) for part in (parts if len(parts) > 1 else [])]
     spans.append(span_of(client, model, given))
     coarse = sum(1 for way in given.travels if model.arcs[way].travel < 5)
-    cleared, most = (now.cleared, now.people) if isinstance(now, Plan) else (None, now.most)
+    cleared, most = (now.cleared, whole(now.people)) if isinstance(now, Plan) else (None, whole(now.most))
     return Range(cleared, most, tuple(spans), doubt_of(model, given), coarse)
 
 
 def check_ranges(model: Model, given: Ranges) -> None:
     """`WordsError` if a range has no value, leaves out the building's own, or goes beyond what the language allows."""
     for way, interval in given.rates.items():
-        check_range(f"rate of {' '.join(way)}", model.arc(*way).rate, interval, (0, MOST_RATE))
+        check_range(f"rate of {' '.join(way)}", whole(model.arc(*way).rate), interval, (0, MOST_RATE))
     for way, interval in given.travels.items():
         check_range(f"travel of {' '.join(way)}", model.arc(*way).travel, interval, (1, MOST_TRAVEL))
     for name, interval in given.people.items():
         node = model.node(name)
         if node.start is None:
             raise WordsError(f"{node.name} is an exit: nobody starts there")
-        check_range(f"start of {name}", node.start, interval, (0, MOST_PEOPLE))
+        check_range(f"start of {name}", whole(node.start), interval, (0, MOST_PEOPLE))
 
 
 def check_range(what: str, now: int, interval: Interval, limits: Interval) -> None:
@@ -128,8 +129,8 @@ def check_range(what: str, now: int, interval: Interval, limits: Interval) -> No
 
 def span_of(client: Client, model: Model, given: Ranges) -> Span:
     best, worst = plan_or_short(client, corner(model, given, True)), plan_or_short(client, corner(model, given, False))
-    early = (best.cleared, best.people) if isinstance(best, Plan) else (None, best.most)
-    late = (worst.cleared, worst.people) if isinstance(worst, Plan) else (None, worst.most)
+    early = (best.cleared, whole(best.people)) if isinstance(best, Plan) else (None, whole(best.most))
+    late = (worst.cleared, whole(worst.people)) if isinstance(worst, Plan) else (None, whole(worst.most))
     return Span(tuple(given.kinds), *early, *late)
 
 
@@ -137,12 +138,12 @@ def corner(model: Model, given: Ranges, is_best: bool) -> Model:
     """The building in which all are out first, or last. A room holds all who may start in it at most, in both corners."""
     arcs: Dict[Way, Arc] = {}
     for way, arc in model.arcs.items():
-        rate, travel = given.rates.get(way, (arc.rate,) * 2), given.travels.get(way, (arc.travel,) * 2)
+        rate, travel = given.rates.get(way, (whole(arc.rate),) * 2), given.travels.get(way, (arc.travel,) * 2)
         arcs[way] = replace(arc, rate=rate[is_best], travel=travel[not is_best])
     nodes = {}
     for name, people in given.people.items():
         node = model.nodes[name]
-        nodes[name] = replace(node, start=people[not is_best], capacity=max(node.capacity or 0, people[1]))
+        nodes[name] = replace(node, start=people[not is_best], capacity=max(whole(node.capacity), people[1]))
     return varied(model, nodes=nodes, arcs=arcs)
 
 
@@ -152,11 +153,11 @@ def doubt_of(model: Model, given: Ranges) -> Optional[str]:
         if model.windows:
             return "longer walks can help here, as an arc has a window (docs/LAWS.md, longer walks)"
         worst = corner(model, given, False)
-        tight = [name for name, people in people_of(worst).items() if people > (worst.nodes[name].capacity or 0)]
+        tight = [name for name, people in people_of(worst).items() if people > whole(worst.nodes[name].capacity)]
         if tight:
             return f"longer walks can help here, as {tight[0]} doesn't hold all who come into it (docs/LAWS.md, longer walks)"
     if not model.is_steady:
-        small = [name for name, people in given.people.items() if people[1] > (model.nodes[name].capacity or 0)]
+        small = [name for name, people in given.people.items() if people[1] > whole(model.nodes[name].capacity)]
         if small:
             return f"{small[0]} doesn't hold the most who may start there, and with windows or late-comers a larger room can help"
     return None

@@ -15,7 +15,7 @@ from evacask.client.talk import Client
 from evacask.errors import Broken, Shortfall
 from evacask.model.building import Model
 from evacask.model.ground import Ground
-from evacask.model.variant import varied, with_starts
+from evacask.model.variant import in_whole_people, varied, whole, with_starts
 from evacask.questions.late import with_late_exit
 
 
@@ -50,19 +50,20 @@ class Rescue:
 
 def rescue(client: Client, model: Model, moment: Optional[int] = None) -> Rescue:
     """The most people who can be out by a moment (the horizon, if none is given), and a plan for them."""
+    in_whole_people(model)
     by = model.horizon if moment is None else min(moment, model.horizon)
     most: Optional[int] = None
     if all(it.moment <= by for it in model.entrants):
         try:
             plan = solve(client, model, by)
-            return Rescue(by, model.people, model.people, groups_of(model, starts_of(model)), plan)
+            return Rescue(by, whole(model.people), whole(model.people), groups_of(model, starts_of(model)), plan)
         except Shortfall as short:
-            most = short.most
+            most = whole(short.most)
     saved = saved_by(client, model, by)
     only = with_only(model, saved)
     if most is not None and only.people != most:
         raise Broken(f"{only.people} people are out by a late exit, and the program's cut says {most}")
-    return Rescue(by, only.people, model.people, groups_of(model, saved), solve(client, only, by))
+    return Rescue(by, whole(only.people), whole(model.people), groups_of(model, saved), solve(client, only, by))
 
 
 Group = Tuple[str, int]
@@ -70,8 +71,8 @@ Group = Tuple[str, int]
 
 def starts_of(model: Model) -> Dict[Group, int]:
     """All groups of people: of a room and moment 0, or of a room and the moment at which they come in."""
-    found = {(it.name, 0): it.start or 0 for it in model.rooms}
-    found.update({(it.name, it.moment): it.people for it in model.entrants})
+    found = {(it.name, 0): whole(it.start) for it in model.rooms}
+    found.update({(it.name, it.moment): whole(it.people) for it in model.entrants})
     return found
 
 
