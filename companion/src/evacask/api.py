@@ -3,6 +3,7 @@ from __future__ import annotations
 
 import os
 import pathlib
+from concurrent.futures import Executor
 from dataclasses import dataclass, field
 from typing import Any, Callable, ContextManager, List, Optional, Sequence, Union
 
@@ -71,9 +72,11 @@ class Building:
         """What each way costs and brings."""
         return of_ways.sensitivity(self.client, self.model, rate, workers, tell)
 
-    def sweep(self, scenarios: Sequence[of_scenarios.Scenario], workers: int = 4, tell: Tell = quiet) -> List[of_scenarios.Result]:
-        """The outcome of each scenario, which is some edits, or why it is refused."""
-        return of_scenarios.sweep(self.client, self.model, scenarios, workers, tell)
+    def sweep(
+        self, scenarios: Sequence[of_scenarios.Scenario], workers: int = 4, tell: Tell = quiet, executor: Optional[Executor] = None
+    ) -> List[of_scenarios.Answer]:
+        """The answer to each scenario, which is some edits. `executor` may be any of concurrent.futures, as that of a cluster."""
+        return of_scenarios.sweep(self.client, self.model, scenarios, workers, tell, executor)
 
 
 def reads(text: str, client: Optional[Client] = None, proved: bool = False) -> Building:
