@@ -5,13 +5,13 @@ Read are commas, semicolons or tabs, a byte order mark, and any line ends. The r
 from __future__ import annotations
 
 import csv
-import difflib
 import io
 import re
 from dataclasses import dataclass
-from typing import Dict, Iterable, Iterator, List, Mapping, Sequence, Tuple
+from typing import Dict, Iterator, List, Mapping, Sequence, Tuple
 
 from evacask.errors import TableError
+from evacask.model.building import near
 
 MOST_BYTES = 50_000_000
 
@@ -44,12 +44,6 @@ def shown(cell: str) -> str:
     """A cell as it is told in a message: at most 40 letters, and none that a terminal would obey."""
     plain = "".join(it if it.isprintable() else "?" for it in cell)
     return f"'{plain}'" if len(plain) <= 40 else f"'{plain[:37]}..'"
-
-
-def near(name: str, names: Iterable[str]) -> str:
-    """Words that name what is written nearly so, or nothing."""
-    found = difflib.get_close_matches(name[:40], [*names], n=3)
-    return f"; near it: {', '.join(found)}" if found else ""
 
 
 def rows_of(data: bytes, table: str, needed: Sequence[str], optional: Sequence[str] = (), most: int = 100_000) -> Iterator[Row]:
