@@ -56,7 +56,9 @@ def unforeseen(client: Client, model: Model, edits: Sequence[str], moment: int) 
         left = made(talk, edits)
     out = gone.out[-1]
     outcome = Outcome(last_out(gone, left), out + left.people) if isinstance(left, Plan) else Outcome(None, out + left.most)
-    return Unforeseen(moment, tuple(edits), model.people, out, Outcome(opening.cleared, opening.people), foreseen(client, model, edits, moment), outcome)
+    return Unforeseen(
+        moment, tuple(edits), model.people, out, Outcome(opening.cleared, opening.people), foreseen(client, model, edits, moment), outcome
+    )
 
 
 def made(talk: Replan, edits: Sequence[str]) -> "Plan | Shortfall":
