@@ -12,7 +12,7 @@ from typing import Dict, List, Optional, Tuple
 from evacask.client.asking import plan_or_short, solve
 from evacask.client.blocks import Plan
 from evacask.client.talk import Client
-from evacask.errors import Shortfall, WordsError
+from evacask.errors import NoAnswer, Shortfall, WordsError
 from evacask.model.building import Model
 from evacask.model.ground import Ground
 from evacask.model.variant import MOST_PEOPLE, in_whole_people, varied, whole, with_starts
@@ -125,8 +125,10 @@ def greatest_share(client: Client, model: Model, moment: int) -> int:
         more = scaled(model, thousandths)
         return more.people <= MOST_PEOPLE and isinstance(plan_or_short(client, more, moment), Plan)
 
-    if not any(it.start for it in model.rooms) or not fits(0):
-        return 0
+    if not any(it.start for it in model.rooms):
+        raise NoAnswer("nobody starts in this building, so there is no share of them")
+    if not fits(0):
+        raise NoAnswer(f"even if nobody starts inside, those who come in later aren't all out by {model.time(moment)}")
     low, high = 0, 1000
     while fits(high) and high < 1000 * MOST_PEOPLE:
         low, high = high, 2 * high
