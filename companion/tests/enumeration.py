@@ -22,7 +22,7 @@ from evacask.client.asking import check, plan_or_short  # noqa: E402
 from evacask.client.blocks import Plan  # noqa: E402
 from evacask.client.talk import Client  # noqa: E402
 from evacask.errors import NoAnswer  # noqa: E402
-from evacask.model.building import Entrant, Model, Window, model_of  # noqa: E402
+from evacask.model.building import Entrant, Model, model_of  # noqa: E402
 from evacask.model.variant import varied, whole  # noqa: E402
 from evacask.questions import admit, assign, assign_bound, assign_search, assign_times, improve, losses, ranges, rescue  # noqa: E402
 from evacask.questions.assign_ways import choices_of  # noqa: E402

@@ -179,7 +179,5 @@ class Tables(unittest.TestCase):
                         pass
 
 
-
-
 if __name__ == "__main__":
     unittest.main()

@@ -59,7 +59,11 @@ COMMAND = Command(
     "examples/office.evac",
     (
         BUILDING,
-        argument("--nearest", action="store_true", help="send each room the shortest way, and look for nothing better"),
+        argument(
+            "--nearest",
+            action="store_true",
+            help="send each room its shortest way (of equally short ones that of the best plan), and look for nothing better",
+        ),
         EFFORT,
         argument("--plan", metavar="FILE", default=None, help="write the plan into this file, as a block for evacplan check"),
         *SHARED,
