@@ -3,8 +3,9 @@ from __future__ import annotations
 
 import os
 import pathlib
+from concurrent.futures import Executor
 from dataclasses import dataclass, field
-from typing import Any, Callable, ContextManager, List, Optional, Sequence, Union
+from typing import Any, Callable, ContextManager, List, Mapping, Optional, Sequence, Union
 
 from evacask.client import asking
 from evacask.client.blocks import Plan
@@ -14,12 +15,23 @@ from evacask.client.reports import Verdict
 from evacask.client.talk import Client
 from evacask.errors import InputError, NotProved
 from evacask.model.building import Model
+from evacask.model.crossings import Place
 from evacask.model.edits import edited
 from evacask.model.lines import text_of
 from evacask.model.shares import Count
+from evacask.questions import admit as of_admissions
+from evacask.questions import assign as of_assignments
+from evacask.questions import improve as of_improvements
+from evacask.questions import improve_budget as of_budgets
+from evacask.questions import losses as of_losses
+from evacask.questions import observed as of_drills
+from evacask.questions import ranges as of_ranges
+from evacask.questions import rescue as of_rescues
 from evacask.questions import sensitivity as of_ways
 from evacask.questions import sweep as of_scenarios
+from evacask.questions import unforeseen as of_surprises
 from evacask.questions import why as of_cuts
+from evacask.questions.improve import Improvement, Widening
 
 Tell = Callable[[int, int], None]
 
@@ -71,9 +83,52 @@ class Building:
         """What each way costs and brings."""
         return of_ways.sensitivity(self.client, self.model, rate, workers, tell)
 
-    def sweep(self, scenarios: Sequence[of_scenarios.Scenario], workers: int = 4, tell: Tell = quiet) -> List[of_scenarios.Result]:
-        """The outcome of each scenario, which is some edits, or why it is refused."""
-        return of_scenarios.sweep(self.client, self.model, scenarios, workers, tell)
+    def sweep(
+        self, scenarios: Sequence[of_scenarios.Scenario], workers: int = 4, tell: Tell = quiet, executor: Optional[Executor] = None
+    ) -> List[of_scenarios.Answer]:
+        """The answer to each scenario, which is some edits. `executor` may be any of concurrent.futures, as that of a cluster."""
+        return of_scenarios.sweep(self.client, self.model, scenarios, workers, tell, executor)
+
+
+    def assign(self, effort: int = 1, nearest: bool = False) -> of_assignments.Assignment:
+        """One way for each room, certified by the program's check, and how near that is to the best."""
+        return of_assignments.assign(self.client, self.model, effort, nearest)
+
+    def improve(self, moment: int, widenings: Optional[Sequence[Widening]] = None) -> Improvement:
+        """The cheapest widenings by which all are out by a moment, in periods; each unit of a rate costs 1 if none are given."""
+        return of_improvements.improve(self.client, self.model, moment, widenings)
+
+    def improve_within(self, budget: int, widenings: Optional[Sequence[Widening]] = None) -> Improvement:
+        """The earliest moment for at most so much."""
+        return of_budgets.improve_within(self.client, self.model, budget, widenings)
+
+    def ranges(self, given: of_ranges.Ranges) -> of_ranges.Range:
+        """When all are out at the earliest and at the latest, if rates, travels and starts are known as intervals."""
+        return of_ranges.ranges(self.client, self.model, given)
+
+    def losses(self, count: int = 2, places: Optional[Sequence[Place]] = None, top: int = 5, tell: Tell = quiet) -> of_losses.Losses:
+        """The worst losses of so many arcs (two names each) or exits (one name) at once."""
+        return of_losses.losses(self.client, self.model, count, places, top, tell)
+
+    def admit(self, moment: int) -> of_admissions.Admission:
+        """How many people all rooms may hold for all to be out by a moment."""
+        return of_admissions.admit(self.client, self.model, moment)
+
+    def admit_room(self, room: str, moment: int) -> of_admissions.RoomAdmission:
+        """How many people one room may hold, with the others as they are."""
+        return of_admissions.admit_room(self.client, self.model, room, moment)
+
+    def rescue(self, moment: Optional[int] = None) -> of_rescues.Rescue:
+        """The most people who can be out by a moment, or by the horizon, and a best plan for them."""
+        return of_rescues.rescue(self.client, self.model, moment)
+
+    def observed(self, counts: Mapping[str, Sequence[of_drills.Counted]], start: int = 0) -> of_drills.Observed:
+        """A drill beside the best plan: of each exit the seconds and how many had come out in all up to then."""
+        return of_drills.observed(self.client, self.model, counts, start)
+
+    def unforeseen(self, edits: Sequence[str], moment: int) -> of_surprises.Unforeseen:
+        """What edits cost that are made at a moment, and that nobody knew of before."""
+        return of_surprises.unforeseen(self.client, self.model, edits, moment)
 
 
 def reads(text: str, client: Optional[Client] = None, proved: bool = False) -> Building:

@@ -6,7 +6,25 @@ from argparse import Namespace
 from typing import List, Optional, Sequence, Tuple
 
 from evacask.errors import NoProgram, Shortfall, WordsError
-from evacask.faces import compare, convert, edit, explain, report, review, sensitivity, session, summary, tables, why, width
+from evacask.faces import (
+    admit,
+    assign,
+    compare,
+    convert,
+    edit,
+    improve,
+    losses,
+    observed,
+    ranges,
+    rescue,
+    review,
+    sensitivity,
+    sheets,
+    summary,
+    sweep,
+    why,
+    width,
+)
 from evacask.faces.asked import program_of
 from evacask.faces.ending import Status, ends, say
 from evacask.faces.words import Command, parser_of
@@ -25,6 +43,15 @@ COMMANDS: Tuple[Command, ...] = (
     convert.COMMAND,
     edit.COMMAND,
     report.COMMAND,
+    assign.COMMAND,
+    improve.COMMAND,
+    ranges.COMMAND,
+    sweep.COMMAND,
+    losses.COMMAND,
+    admit.COMMAND,
+    rescue.COMMAND,
+    observed.COMMAND,
+    sheets.COMMAND,
 )
 # Words of before, which answer still and aren't in the help.
 OLD_WORDS = {"doubts": "review", "ways": "sensitivity", "wide": "width", "talk": "session", "metres": "convert"}
