@@ -9,7 +9,7 @@ unproved:           ## the program without a proof, in about a minute, unless th
 check: unproved     ## types, names and all tests that prove nothing, in about two minutes
 	@if command -v mypy >/dev/null; then MYPYPATH=tools:tests/front:companion/src/evacask/client $(MYPY) $(TYPED) && MYPYPATH=tools:companion/src $(MYPY) $(PAGES); else echo 'types: not checked, since mypy is not here'; fi
 	@if command -v pyflakes3 >/dev/null; then pyflakes3 $(TYPED) $(PAGES) tools companion/src; else echo 'names: not checked, since pyflakes3 is not here'; fi
-	python3 docs/check_promises.py
+	python3 tools/check_promises.py
 	python3 tools/pages.py
 	python3 -m unittest discover -s tests -t tests
 	companion/tests/run
@@ -18,10 +18,10 @@ prove:              ## the proved program
 gate:               ## everything from nothing: hours of processor time
 	.ci/run
 bench:              ## times on large buildings; docs/SPEED.md says how they are read
-	python3 yardstick/measure.py
+	python3 bench/measure.py
 docs:               ## the tables, figures and pages that are written by scripts
-	python3 docs/tables.py --write
-	python3 docs/figures.py --write
+	python3 tools/tables.py --write
+	python3 tools/figures.py --write
 	python3 tools/pages.py --write
 dist: prove         ## the release, in out/dist
 	python3 tools/dist.py

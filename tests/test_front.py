@@ -727,13 +727,13 @@ class Gate(unittest.TestCase):
         self.assertEqual((self.gate(), self.place.status, self.place.calls), ("gate: passed", 0, "ci,version"), self.place.err)
 
     def test_a_gate_names_the_parts_that_failed(self) -> None:
-        self.assertEqual(self.gate("docs/replay.py", "companion/tests/run"), "gate: FAILED in docs/replay.py, companion/tests/run")
+        self.assertEqual(self.gate("tools/replay.py", "companion/tests/run"), "gate: FAILED in tools/replay.py, companion/tests/run")
         self.assertEqual(self.place.status, 1)
 
     def test_a_gate_without_a_program_says_where_to_begin(self) -> None:
         self.assertEqual(
-            self.gate("docs/replay.py", RT_FAILS="proof"),
-            "gate: FAILED in rt ci, docs/replay.py. No program was built, and what runs it fails without one: begin with rt ci",
+            self.gate("tools/replay.py", RT_FAILS="proof"),
+            "gate: FAILED in rt ci, tools/replay.py. No program was built, and what runs it fails without one: begin with rt ci",
         )
 
     def test_the_program_that_rt_made_is_taken(self) -> None:
