@@ -94,7 +94,7 @@ class Tables(unittest.TestCase):
 
 class Metres(unittest.TestCase):
     def test_the_arcs_are_those_of_figures(self):
-        sys.path.insert(0, str(TOP / "docs"))
+        sys.path.insert(0, str(TOP / "tools"))
         try:
             import figures
         finally:

@@ -5,27 +5,9 @@ import sys
 from argparse import Namespace
 from typing import List, Optional, Sequence, Tuple
 
+from evacask.client.program import commit_of_release, path_of, source_of
 from evacask.errors import NoProgram, Shortfall, WordsError
-from evacask.faces import (
-    admit,
-    assign,
-    compare,
-    convert,
-    edit,
-    improve,
-    losses,
-    observed,
-    ranges,
-    rescue,
-    review,
-    sensitivity,
-    sheets,
-    summary,
-    sweep,
-    why,
-    width,
-)
-from evacask.faces.asked import program_of
+from evacask.faces import compare, convert, edit, review, sensitivity, summary, why, width
 from evacask.faces.ending import Status, ends, say
 from evacask.faces.words import Command, parser_of
 from evacask.version import VERSION
@@ -96,12 +78,14 @@ def renamed(words: Sequence[str]) -> List[str]:
 
 
 def version_line(given: Namespace) -> str:
-    """The version, and what is known of the program."""
+    """The version, the commit of a release, and what is known of the program. Nothing is built for it."""
+    made_of = commit_of_release()
+    version = f"evacask {VERSION}" + (f", commit {made_of[:16]}" if made_of else "")
     try:
-        about = program_of(given).source
+        about = source_of(path_of(given.program, makes=False))
     except NoProgram:
-        return f"evacask {VERSION}; there is no program\n"
-    return f"evacask {VERSION}; program {about.sha256[:16]}, {f'proved in logic {about.logic}' if about.logic else 'not proved'}\n"
+        return f"{version}; there is no program\n"
+    return f"{version}; program {about.sha256[:16]}, {f'proved in logic {about.logic}' if about.logic else 'not proved'}\n"
 
 
 def main(words: Optional[Sequence[str]] = None) -> int:

@@ -1,7 +1,7 @@
 #!/usr/bin/env python3
 """Prints for each promise of PROVED.md and ALGORITHM.md where it is carried, and the must-fail edits that its clauses refuse.
 
-    python3 docs/edits_of_promises.py [--missing]
+    python3 tools/edits_of_promises.py [--missing]
 
 Which clauses refuse an edit is in EDITS.md. An edit of a crate of the promise's section goes with the promise where all names of one of its clauses
 are in the promise's row, and an edit of another crate where they are definitions there. A law is a function without a body, so no edit can turn

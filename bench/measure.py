@@ -1,7 +1,7 @@
 #!/usr/bin/env python3
 """Times the built program on large buildings, whole runs of it, and beside it another solver where one is given.
 
-    yardstick/measure.py [--program PATH] [--ssp PATH] [--rounds N] [--only NAME,..] [--instructions] [--edits] [--routes] [FILE.evac ..]
+    bench/measure.py [--program PATH] [--ssp PATH] [--rounds N] [--only NAME,..] [--instructions] [--edits] [--routes] [FILE.evac ..]
 
 Without files the buildings of `buildings.py` are measured, each by its name; files are measured beside them. A round runs
 every command once, and a ratio is the median over the rounds of two times of one round, so that a busy machine slows

@@ -1,7 +1,7 @@
 #!/usr/bin/env python3
 """Counts what the trials of a study take: each exit that `exits` does without, and each rate that `least` tries.
 
-    yardstick/studies.py [--program PATH] [--most N] [--only NAME,..] [FILE.evac ..]
+    bench/studies.py [--program PATH] [--most N] [--only NAME,..] [FILE.evac ..]
 
 A trial's instructions, counted with valgrind, are divided by those of a whole run of `solve`: of the building without that exit, or of the building as it
 stands or with that rate, whichever is dearer. So a number doesn't depend on how busy a machine is. `least` is asked of two arcs, one into an exit and

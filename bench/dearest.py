@@ -1,7 +1,7 @@
 #!/usr/bin/env python3
 """Prints the bodies that are the dearest to prove, of the crates that are built, the dearest first.
 
-    yardstick/dearest.py [--count N] [--kept FOLDER | CRATE ..]
+    bench/dearest.py [--count N] [--kept FOLDER | CRATE ..]
 
 The time of a proof follows the code that the compiler makes of a body, and not its contract or its lemmas. So each body is printed with the length
 of that code in characters, and with the drops in it: each `?` and each early return drops what is owned there, field by field. A body that is long

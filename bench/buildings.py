@@ -1,7 +1,7 @@
 """Large buildings to time a planner on, each made anew from its name: the same at every call.
 
 A name that ends with `_shut` is a building whose busiest exit lets nobody out, and one that ends with `_late` has people who come in later.
-`python3 yardstick/buildings.py NAME` prints one.
+`python3 bench/buildings.py NAME` prints one.
 """
 import collections
 import heapq

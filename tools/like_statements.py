@@ -1,7 +1,7 @@
 #!/usr/bin/env python3
 """Prints the lemmas that are stated more than once, whatever their variables are called.
 
-    python3 docs/like_statements.py [CRATE ..]
+    python3 tools/like_statements.py [CRATE ..]
 
 The variables of a statement are numbered as they come, with those of the modules around it that it or its proof speaks of. Statements that
 then have the same words are printed with their files and lines, those first whose lowest crate is first in crates.txt; with crates those alone that

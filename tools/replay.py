@@ -1,7 +1,7 @@
 #!/usr/bin/env python3
 """Runs each command that the documents for users show, on the built program, and compares what it prints with what is shown below it.
 
-    python3 docs/replay.py [--program PATH] [DOCUMENT ..]
+    python3 tools/replay.py [--program PATH] [DOCUMENT ..]
 
 The first word of a fence says what its block is, and a block without one of these words is a fault:
 

@@ -1,10 +1,10 @@
 #!/usr/bin/env python3
 """Writes the table of crates, and looks names up.
 
-    python3 docs/tables.py --write      writes the table of crates in ARCHITECTURE.md
-    python3 docs/tables.py --check      prints how it differs from the crates, and which definitions have no words above them
-    python3 docs/tables.py WORD..       prints the definitions and public items whose name and words have all of these
-    python3 docs/tables.py --clauses CRATE      prints the public calls of a crate, with their words and their clauses
+    python3 tools/tables.py --write      writes the table of crates in ARCHITECTURE.md
+    python3 tools/tables.py --check      prints how it differs from the crates, and which definitions have no words above them
+    python3 tools/tables.py WORD..       prints the definitions and public items whose name and words have all of these
+    python3 tools/tables.py --clauses CRATE      prints the public calls of a crate, with their words and their clauses
 
 The table has each crate of crates.txt with those that it uses, and the first paragraph of its root file. A definition of specs/ has the
 words of the comment above it or above its group, and an item of src/ those of its `///` lines. The status is 1 where a check finds something.
@@ -87,7 +87,7 @@ def differences():
     """What a check finds."""
     table = TABLE.search(ARCHITECTURE.read_text())
     if not table or table[0] != crates_table():
-        yield "ARCHITECTURE.md: the table of crates isn't that of the crates: python3 docs/tables.py --write"
+        yield "ARCHITECTURE.md: the table of crates isn't that of the crates: python3 tools/tables.py --write"
     yield from (f"{path}: no words above {name}" for path, name, words, _ in named() if path.suffix == ".antt" and not words)
 
 

@@ -18,7 +18,7 @@ And it checks what can be told from the text alone:
 - A crate of `crates.txt` must use each crate that its line lists.
 - A source file must have at most 400 lines, and a function's body at most 50, but for those that are listed here as too long.
 
-    python3 docs/check_promises.py
+    python3 tools/check_promises.py
 
 It prints what is missing, and its status is 1 where something is.
 """

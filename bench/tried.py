@@ -1,7 +1,7 @@
 #!/usr/bin/env python3
 """Tries the laws of docs/LAWS.md on random buildings, and shows by a building that what is nearly one of them is false.
 
-    yardstick/tried.py [--program PATH] [--count N] [--seed N] [NAME ..]
+    bench/tried.py [--program PATH] [--count N] [--seed N] [NAME ..]
 
 A name is that of a law or of a near miss; without names all are tried. For a law N buildings are made that meet what it asks, planned, and compared
 with what it says. For a near miss one building is made, by the seed that LAWS.md names, and must go against it. Buildings are edited in a session

@@ -1,7 +1,7 @@
 #!/usr/bin/env python3
 """Computes the tables, buildings and answers of FIGURES.md, and compares them with the page.
 
-    python3 docs/figures.py [--program PATH] [--write]
+    python3 tools/figures.py [--program PATH] [--write]
 
 What is on the page below a line `<!-- figures: NAME -->` is what the function of that name puts out here. Every sum on the page, as
 `1.3 × 0.60 × 5 = 3.90`, is computed anew too. The answers are those of the built program. It prints each difference with its line, and its

@@ -1,8 +1,8 @@
 #!/usr/bin/env python3
 """Writes the tables of codes and of statements in FORMATS.md from the table that evacask has in its code.
 
-    python3 docs/codes.py --write      writes the tables, each below its line `<!-- codes: NAME -->`
-    python3 docs/codes.py --check      prints the lines that differ; the status is 1 where some do
+    python3 tools/codes.py --write      writes the tables, each below its line `<!-- codes: NAME -->`
+    python3 tools/codes.py --check      prints the lines that differ; the status is 1 where some do
 
 A name is a place (building, session, study, replan, check, words) or `commands`, whose table has the codes of each command of a session, a study and a
 replan. The table is companion/src/evacask/model/codes.json.

@@ -1,7 +1,7 @@
 #!/usr/bin/env python3
 """Shows how a run's time grows with the building: families of buildings, each at four sizes that double.
 
-    yardstick/families.py [--program PATH] [--rounds N] [--only NAME,..] [--write FOLDER]
+    bench/families.py [--program PATH] [--rounds N] [--only NAME,..] [--write FOLDER]
 
 The largest of a family has nearly as many cells as a building may have, (nodes + arcs) * (horizon + 1), the others a half, a quarter
 and an eighth of that. The table has the nanoseconds for each cell, the least of some rounds: where they stay as they are, the time grows with
