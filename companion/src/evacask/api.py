@@ -89,7 +89,6 @@ class Building:
         """The answer to each scenario, which is some edits. `executor` may be any of concurrent.futures, as that of a cluster."""
         return of_scenarios.sweep(self.client, self.model, scenarios, workers, tell, executor)
 
-
     def assign(self, effort: int = 1, nearest: bool = False) -> of_assignments.Assignment:
         """One way for each room, certified by the program's check, and how near that is to the best."""
         return of_assignments.assign(self.client, self.model, effort, nearest)

@@ -7,7 +7,29 @@ from typing import List, Optional, Sequence, Tuple
 
 from evacask.client.program import commit_of_release, path_of, source_of
 from evacask.errors import NoProgram, Shortfall, WordsError
-from evacask.faces import compare, convert, edit, review, sensitivity, summary, why, width
+from evacask.faces import (
+    admit,
+    assign,
+    compare,
+    convert,
+    edit,
+    explain,
+    improve,
+    losses,
+    observed,
+    ranges,
+    report,
+    rescue,
+    review,
+    sensitivity,
+    session,
+    sheets,
+    summary,
+    sweep,
+    tables,
+    why,
+    width,
+)
 from evacask.faces.ending import Status, ends, say
 from evacask.faces.words import Command, parser_of
 from evacask.version import VERSION
@@ -24,7 +46,6 @@ COMMANDS: Tuple[Command, ...] = (
     explain.COMMAND,
     convert.COMMAND,
     edit.COMMAND,
-    report.COMMAND,
     assign.COMMAND,
     improve.COMMAND,
     ranges.COMMAND,
@@ -34,6 +55,7 @@ COMMANDS: Tuple[Command, ...] = (
     rescue.COMMAND,
     observed.COMMAND,
     sheets.COMMAND,
+    report.COMMAND,
 )
 # Words of before, which answer still and aren't in the help.
 OLD_WORDS = {"doubts": "review", "ways": "sensitivity", "wide": "width", "talk": "session", "metres": "convert"}

@@ -9,7 +9,7 @@ from evacask.client.blocks import Outcome, Plan, strictly
 from evacask.client.reports import Report as RawReport
 from evacask.client.reports import Verdict
 from evacask.client.talk import Client, Source
-from evacask.errors import Broken, Refused, Shortfall
+from evacask.errors import Broken, Shortfall
 from evacask.model.building import Model
 from evacask.model.draft import MOST_RATE
 from evacask.model.drawn_building import DrawnBuilding
@@ -23,7 +23,7 @@ from evacask.questions.occupancy import Occupancy, occupancy
 from evacask.questions.review import Review, review_of
 from evacask.questions.sensitivity import Names, WayOutcome, most_sent, questions
 from evacask.questions.summary import Short, short_of
-from evacask.questions.sweep import sweep
+from evacask.questions.sweep import Answer, sweep
 from evacask.questions.why import Why, why_of
 
 # So many buildings are planned at most to say what ways are worth.
@@ -206,8 +206,8 @@ def within(asked: Dict[Tuple[Names, str], List[str]], names: Sequence[Names], mo
     return found
 
 
-def outcome(result: Union[Outcome, Refused]) -> Outcome:
+def outcome(answer: Answer) -> Outcome:
     """The outcome of a trial, which the program doesn't refuse."""
-    if isinstance(result, Refused):
-        raise Broken(f"the program refused an edit of its own building: {result}")
-    return result
+    if answer.most is None:
+        raise Broken(f"the program refused an edit of its own building with {answer.refused}")
+    return Outcome(answer.cleared, answer.most)
