@@ -1,7 +1,7 @@
 #!/usr/bin/env python3
 """Shows how straight the plans of the built program are: people who come to a place twice, move lines, and walking beside the least there is.
 
-    yardstick/straightness.py [--program PATH] [--only NAME,..] [--least] [--edits] [--each N] [FILE.evac ..]
+    bench/straightness.py [--program PATH] [--only NAME,..] [--least] [--edits] [--each N] [FILE.evac ..]
 
 The buildings are those of `buildings.py` and `two_way_halls.py`; files are measured beside them. A person comes to a place twice if two of the
 nodes on the way are the same: by the cards, and by the routes. Walking is people times travel, summed over the moves. `--least` divides it by the least walking of any plan with the same arrival curve: `least_walking.cpp`, built by g++ with

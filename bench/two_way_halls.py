@@ -2,7 +2,7 @@
 """Buildings whose halls are walked both ways, as in malls, ships and hotels: what tempts a plan to walk people to and fro.
 
 Nothing of the solver was tuned to them. Each is made anew from its name, the same at every call:
-`python3 yardstick/two_way_halls.py NAME` prints one.
+`python3 bench/two_way_halls.py NAME` prints one.
 """
 import random
 import sys

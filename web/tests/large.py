@@ -1,10 +1,10 @@
-"""Writes two large buildings of the yardstick, with nearly as many cells as the language lets a building have: large.py FOLDER"""
+"""Writes two large buildings of the bench, with nearly as many cells as the language lets a building have: large.py FOLDER"""
 from __future__ import annotations
 
 import sys
 from pathlib import Path
 
-sys.path.insert(0, str(Path(__file__).resolve().parents[2] / "yardstick"))
+sys.path.insert(0, str(Path(__file__).resolve().parents[2] / "bench"))
 import families  # noqa: E402
 
 NAMES = ("ladder", "many_exits")

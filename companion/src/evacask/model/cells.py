@@ -10,8 +10,8 @@ import re
 from dataclasses import dataclass
 from typing import Dict, Iterator, List, Mapping, Sequence, Tuple
 
+from evacask.model.lines import near
 from evacask.errors import TableError
-from evacask.model.building import near
 
 MOST_BYTES = 50_000_000
 

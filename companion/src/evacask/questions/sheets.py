@@ -10,9 +10,9 @@ from typing import Any, Dict, Iterable, List, Sequence, Tuple
 from evacask.client.asking import accepted
 from evacask.client.talk import Client
 from evacask.errors import NoAnswer, Refused, WordsError
-from evacask.model.building import Model, Way, near
+from evacask.model.building import Model, Way
 from evacask.model.cells import Row, rows_of, shown
-from evacask.model.lines import NAME_MARK
+from evacask.model.lines import NAME_MARK, near
 from evacask.model.variant import MOST_PEOPLE, MOST_RATE, MOST_TRAVEL, in_whole_people
 
 NODES, NODES_MORE = ("name", "capacity", "start"), ("floors", "own name")

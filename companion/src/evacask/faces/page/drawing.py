@@ -3,7 +3,7 @@ from __future__ import annotations
 
 import math
 from dataclasses import dataclass, field
-from typing import Dict, List, Mapping, Set, Tuple
+from typing import List, Mapping, Set, Tuple
 
 from evacask.faces.page.curve import picture
 from evacask.faces.page.layout import LEFT, WIDTH, Figure, figures_of
