@@ -22,6 +22,7 @@ from evacask.questions.sweep import Answer, Edits, answers
 KEYS = ("row", "name", "edits", "people", "cleared", "from_s", "before_s", "half_out", "out_95", "most", "refused", "building")
 COLUMNS = tuple(Column(it, it, is_right=it not in ("name", "edits", "building")) for it in KEYS)
 Given = Tuple[int, str, Edits]
+MOST_JOBS = 256
 
 
 def mark_of(model: Model) -> str:
@@ -45,10 +46,17 @@ def shard(text: str) -> Tuple[int, int]:
     return int(match[1]), int(match[2])
 
 
-def answered(asked: Asked, given: List[Given], jobs: int) -> Iterator[Tuple[Given, Answer]]:
+def jobs(text: str) -> int:
+    """How many programs are asked at once."""
+    if not 1 <= number(text) <= MOST_JOBS:
+        raise ArgumentTypeError(f"{text} is no number of jobs: 1 to {MOST_JOBS}")
+    return int(text)
+
+
+def answered(asked: Asked, given: List[Given], workers: int) -> Iterator[Tuple[Given, Answer]]:
     """The scenarios with their answers, in order."""
     with progress("scenarios") as tell:
-        found = answers(asked.client, asked.model, (edits for _, _, edits in given), workers=jobs)
+        found = answers(asked.client, asked.model, (edits for _, _, edits in given), workers=workers)
         for count, pair in enumerate(zip(given, found), 1):
             tell(count, len(given))
             yield pair
@@ -79,11 +87,11 @@ def status_of(pairs: List[Tuple[Given, Answer]]) -> int:
     return Status.REFUSED if any(it.refused is not None for _, it in pairs) else Status.ANSWERED
 
 
-def written_out(asked: Asked, scenarios: List[Given], jobs: int, mark: str) -> int:
+def written_out(asked: Asked, scenarios: List[Given], workers: int, mark: str) -> int:
     """Writes the answers to standard output, each as soon as it is there."""
     sys.stdout.write(csv_line(KEYS))
     status: int = Status.ANSWERED
-    for number_, pair in zip(itertools.count(1), answered(asked, scenarios, jobs)):
+    for number_, pair in zip(itertools.count(1), answered(asked, scenarios, workers)):
         LINE.erase()
         sys.stdout.write(csv_line(row_of(*pair, asked.model, mark)))
         status = status if pair[1].refused is None else Status.REFUSED
@@ -102,7 +110,7 @@ COMMAND = Command(
     (
         BUILDING,
         argument("scenarios", metavar="SCENARIOS.csv", help="the table of scenarios"),
-        argument("--jobs", type=number, default=4, metavar="N", help="how many programs are asked at once; without it 4"),
+        argument("--jobs", type=jobs, default=4, metavar="N", help="how many programs are asked at once; without it 4"),
         argument("--shard", type=shard, default=(1, 1), metavar="I/N", help="answer every N-th scenario alone, from the I-th on"),
         argument("-o", "--output", metavar="FILE", default=None, help="write into this file, after the answers that are in it"),
         EDIT,
