@@ -56,10 +56,19 @@ class Planned(unittest.TestCase):
 
     def test_sweeps_by_hand(self) -> None:
         told: List[int] = []
-        scenarios = [["shutexit DS2.1"], [], ["shut a b"], ["rate WP1.1 DS1.1 8"], ["shutexit DS1.1", "shutexit DS2.1", "openexit DS1.1"], ["room WP1.1 9"] * 65]
+        scenarios: List[List[str]] = [
+            ["shutexit DS2.1"],
+            [],
+            ["shut a b"],
+            ["rate WP1.1 DS1.1 8"],
+            ["shutexit DS1.1", "shutexit DS2.1", "openexit DS1.1"],
+            ["room WP1.1 9"] * 65,
+        ]
         outcomes = reads(ROOM, PLANNER).sweep(scenarios, workers=3, tell=lambda done, of: told.append(done))
         # Eight by the narrow way alone take 8 periods, and by both 3; in the third step of the fifth nobody could be out in between.
-        self.assertEqual([it for it in outcomes if isinstance(it, Outcome)], [Outcome(8, 8), Outcome(3, 8), Outcome(1, 8), Outcome(8, 8), Outcome(3, 8)])
+        self.assertEqual(
+            [it for it in outcomes if isinstance(it, Outcome)], [Outcome(8, 8), Outcome(3, 8), Outcome(1, 8), Outcome(8, 8), Outcome(3, 8)]
+        )
         self.assertIsInstance(outcomes[2], Refused)
         self.assertEqual((max(told), reads(ROOM, PLANNER).sweep([])), (6, []))
         short = reads(ROOM.replace("horizon 20", "horizon 2"), PLANNER).sweep([["leave WP1.1 6"], ["leave WP1.1 1"]])
@@ -79,7 +88,11 @@ class Planned(unittest.TestCase):
 
     def test_reports(self) -> None:
         with reads(ROOM, PLANNER).session() as session:
-            for word, line in (("clearing", ("node", "WP1.1", "2")), ("routes", ("step", "0", "WP1.1", "DS2.1")), ("bottlenecks", ("arc", "WP1.1", "DS1.1", "2"))):
+            for word, line in (
+                ("clearing", ("node", "WP1.1", "2")),
+                ("routes", ("step", "0", "WP1.1", "DS2.1")),
+                ("bottlenecks", ("arc", "WP1.1", "DS1.1", "2")),
+            ):
                 self.assertIn(line, session.report(word).lines)
             # One is out at 1, one at 2, and six at 3.
             self.assertEqual(session.report("summary").people("personperiods"), 21)

@@ -13,7 +13,7 @@ from evacask.client.program import UNPROVED, found_program
 from evacask.client.sources import NOT_PROVED
 from evacask.client.talk import Program
 from evacask.errors import InputError, Refused, WordsError
-from evacask.faces.ending import Status
+from evacask.faces.ending import Status, say
 from evacask.faces.progress import LINE, waiting
 from evacask.faces.sheet import Sheet, as_csv, as_json, as_text
 from evacask.model.building import Model
