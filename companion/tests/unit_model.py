@@ -8,7 +8,7 @@ from evacask.model.edits import edited
 from evacask.model.forms import plain, words_of
 from evacask.model.ground import Ground
 from evacask.model.lines import fields_of, is_number, lines_of, near, number_of, printable
-from evacask.model.seconds import interval, seconds_text
+from evacask.model.seconds import interval, last_moment_within, seconds_text
 from evacask.model.walks import walking_bound, walks
 
 TEXT = """# A comment.
@@ -103,7 +103,8 @@ class Models(unittest.TestCase):
         self.assertEqual(printable("a\x1b[0m\u202eb\n"), "a[0mb")
 
     def test_seconds(self) -> None:
-        self.assertEqual((interval(28, 5), seconds_text(28, 5)), ((140, 145), "140 to 145 s"))
+        self.assertEqual((interval(28, 5), seconds_text(28, 5), seconds_text(28, 5, False)), ((140, 145), "140 to 145 s", "from 140 s"))
+        self.assertEqual((last_moment_within(145, 5), last_moment_within(144, 5), last_moment_within(4, 5)), (28, 27, -1))
         self.assertEqual(str(Ground.CUTS), "by the cuts")
 
 

@@ -56,7 +56,7 @@ class Planned(unittest.TestCase):
 
     def test_sweeps_by_hand(self) -> None:
         told: List[int] = []
-        scenarios = [
+        scenarios: List[List[str]] = [
             ["shutexit DS2.1"],
             [],
             ["shut a b"],

@@ -12,7 +12,7 @@ from evacask.client.blocks import Plan
 from evacask.client.dialogue import Replan, Session, Study
 from evacask.client.program import found_program
 from evacask.client.reports import Verdict
-from evacask.client.talk import Client
+from evacask.client.talk import Client, Source
 from evacask.errors import InputError, NotProved
 from evacask.model.building import Model
 from evacask.model.crossings import Place
@@ -27,11 +27,15 @@ from evacask.questions import losses as of_losses
 from evacask.questions import observed as of_drills
 from evacask.questions import ranges as of_ranges
 from evacask.questions import rescue as of_rescues
+from evacask.questions import compare as of_edits
+from evacask.questions import review as of_doubts
 from evacask.questions import sensitivity as of_ways
+from evacask.questions import summary as of_building
 from evacask.questions import sweep as of_scenarios
 from evacask.questions import unforeseen as of_surprises
 from evacask.questions import why as of_cuts
 from evacask.questions.improve import Improvement, Widening
+from evacask.questions import width as of_width
 
 Tell = Callable[[int, int], None]
 
@@ -50,6 +54,11 @@ class Building:
     @property
     def text(self) -> str:
         return self.model.text
+
+    @property
+    def source(self) -> Source:
+        """What answers: the sum of the program, and the logic in which it is proved."""
+        return self.client.source
 
     def edited(self, *edits: str) -> "Building":
         """The building after some edits, as `rate WP1.1 LO1.1 8`; `Refused` for the first that can't be made."""
@@ -78,6 +87,22 @@ class Building:
     def why(self, period: Optional[int] = None) -> of_cuts.Why:
         """The cut of a period, or of the one before all are out."""
         return of_cuts.why(self.client, self.model, period)
+
+    def summary(self) -> Union[of_building.Summary, of_building.Short]:
+        """How soon all can be out, what congestion costs, and what decides; or how many can be out by the horizon."""
+        return of_building.summary(self.client, self.model)
+
+    def review(self) -> of_doubts.Review:
+        """What is often a mistake."""
+        return of_doubts.review(self.client, self.model)
+
+    def width(self, tail: str, head: str, seconds: int) -> of_width.Width:
+        """The least rate of an arc at which all are out within some seconds, and the clear widths for it."""
+        return of_width.width(self.client, self.model, tail, head, seconds)
+
+    def compare(self, *groups: Sequence[str]) -> of_edits.Comparison:
+        """The building, and the building after each group of edits, side by side."""
+        return of_edits.compare(self.client, self.model, groups)
 
     def sensitivity(self, rate: Optional[Count] = None, workers: int = 4, tell: Tell = quiet) -> of_ways.Sensitivity:
         """What each way costs and brings."""

@@ -19,6 +19,7 @@ from evacask.errors import Broken
 from evacask.model.building import Model, Way
 from evacask.model.draft import MOST_RATE
 from evacask.model.ground import Ground
+from evacask.model.records import Records
 from evacask.model.shares import Count, in_people, typed
 from evacask.questions.sweep import sweep
 
@@ -41,7 +42,7 @@ class WayOutcome:
 
 
 @dataclass(frozen=True)
-class Sensitivity:
+class Sensitivity(Records):
     """All ways of a building, what costs most first, and when all are out as it is. `asked` counts the buildings that had to be planned."""
 
     cleared: int
