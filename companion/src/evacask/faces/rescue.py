@@ -5,10 +5,10 @@ from argparse import Namespace
 
 from evacask.faces.asked import Asked, put
 from evacask.faces.ending import Status
-from evacask.faces.files import write_whole
 from evacask.faces.given import moment_within
 from evacask.faces.sheet import Column, Sheet
 from evacask.faces.words import BUILDING, SHARED, Command, argument, number
+from evacask.faces.writing import write_file
 from evacask.model.building import Model
 from evacask.model.ground import Ground
 from evacask.questions.rescue import Rescue, rescue
@@ -42,7 +42,7 @@ def run(given: Namespace) -> int:
     moment = None if given.seconds is None else moment_within(asked.model, given.seconds)
     answer = rescue(asked.client, asked.model, moment)
     if given.plan is not None:
-        write_whole(given.plan, answer.plan.raw)
+        write_file(given.plan, answer.plan.raw)
     status = Status.ANSWERED if answer.most == answer.people else Status.REFUSED
     return put(rescue_sheet(answer, asked.model), "rescue", given, asked.client, status)
 
