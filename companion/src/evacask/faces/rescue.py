@@ -5,7 +5,7 @@ from argparse import Namespace
 
 from evacask.faces.asked import Asked, put
 from evacask.faces.ending import Status
-from evacask.faces.given import moment_within
+from evacask.faces.given import EARLIER, moment_within
 from evacask.faces.sheet import Column, Sheet
 from evacask.faces.words import BUILDING, SHARED, Command, argument, number
 from evacask.faces.writing import write_file
@@ -39,7 +39,7 @@ def name(moment: int, model: Model, room: str) -> str:
 
 def run(given: Namespace) -> int:
     asked = Asked(given)
-    moment = None if given.seconds is None else moment_within(asked.model, given.seconds)
+    moment = None if given.seconds is None else moment_within(asked.model, given.seconds, given.end)
     answer = rescue(asked.client, asked.model, moment)
     if given.plan is not None:
         write_file(given.plan, answer.plan.raw)
@@ -56,6 +56,7 @@ COMMAND = Command(
     (
         BUILDING,
         argument("--seconds", type=number, metavar="SECONDS", default=None, help="within so many seconds; without it by the horizon"),
+        EARLIER,
         argument("--plan", metavar="FILE", default=None, help="write the plan for those who are saved into this file"),
         *SHARED,
     ),

@@ -120,7 +120,6 @@ def report(
             plan, cleared = talk.opening, talk.opening.cleared
             walk = talk.report("summary").number("uncongested")
             routes = talk.report("routes")
-            items = talk.cut() if cleared else None
             cut = why_of(talk, None) if cleared else None
     except Shortfall as short:
         return ShortReport(model, client.source, short_of(model, short), review_of(model, None, 0))
@@ -132,7 +131,7 @@ def report(
         check(client, model, plan.raw),
         walk,
         cut,
-        by_hand(model, plan, items) if items else None,
+        by_hand(model, plan, cut) if cut else None,
         bracket(client, drawn, drawn.period, model.shares) if drawn else None,
         where,
         full(model, plan),
