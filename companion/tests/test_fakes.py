@@ -6,7 +6,7 @@ import tempfile
 import unittest
 from typing import List, Tuple
 
-from companion.tests.fakes import ALL, OTHERS, script
+from companion.tests.fakes import ALL, script
 from companion.tests.package import Ended, ask, program
 from evacask.client import talk
 from evacask.client.processes import PROCESSES
@@ -14,9 +14,7 @@ from evacask.faces.commands import COMMANDS
 from evacask.faces.ending import Status
 
 TOP = pathlib.Path(__file__).resolve().parent.parent.parent
-# The command that reads no program's answer, or one that isn't told wrong answers from right ones: see the test below.
 STATUSES = {int(it) for it in Status}
-PLACES = {1: "refused", 5: "no memory"}
 
 
 def words_of(example: str) -> List[str]:
@@ -51,7 +49,7 @@ class Fakes(unittest.TestCase):
             fake.chmod(0o755)
             return [(it.name, ask("--program", fake, it.name, *words_of(it.example))) for it in COMMANDS]
 
-    def test_no_traceback_and_a_listed_status(self) -> None:
+    def test_no_traceback_a_listed_status_and_no_process_left(self) -> None:
         for name in ALL:
             for command, said in self.answers(name):
                 with self.subTest(fake=name, command=command):
@@ -59,10 +57,6 @@ class Fakes(unittest.TestCase):
                     self.assertRegex(said.err, r"\A(evacask: [^\n]+\n)?\Z")
                     self.assertEqual(bool(said.err), said.status not in (Status.ANSWERED, Status.REVIEW))
                     self.assertEqual(PROCESSES.running, set())
-
-    def test_no_process_is_left(self) -> None:
-        for name in OTHERS:
-            self.answers(name)
         self.assertEqual([it for it in running(self.mark) if "unittest" not in it], [])
 
 
