@@ -12,7 +12,7 @@ from evacask.faces.sheet import Column, Sheet
 from evacask.faces.summary import remedies
 from evacask.faces.wording import indented
 from evacask.faces.words import FACES, Command, argument
-from evacask.model.building import near
+from evacask.model.lines import near
 from evacask.model.codes import Meaning, meanings
 from evacask.model.lines import is_number, number_of
 from evacask.questions.explain import MODES, Explained, Refusal, code_point, explain, is_odd

@@ -10,7 +10,7 @@ from typing import IO, Any, Callable, Dict, List, NoReturn, Optional, Sequence, 
 
 from evacask.errors import WordsError
 from evacask.faces.ending import STATUSES
-from evacask.model.building import near
+from evacask.model.lines import near
 from evacask.model.draft import MOST_RATE
 
 WIDTH = 118

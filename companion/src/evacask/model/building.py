@@ -1,13 +1,12 @@
 """A building as data: the statements of a text that the program accepts, with the numbers of their lines and the user's own names."""
 from __future__ import annotations
 
-import difflib
 from dataclasses import dataclass, field
 from types import MappingProxyType
-from typing import Dict, Iterable, List, Mapping, Optional, Tuple
+from typing import Dict, List, Mapping, Optional, Tuple
 
 from evacask.errors import UnknownName
-from evacask.model.lines import bytes_of, fields_of, lines_of, number_of, own_name_of, printable
+from evacask.model.lines import bytes_of, fields_of, lines_of, near, number_of, own_name_of, printable
 from evacask.model.seconds import interval, seconds_text
 from evacask.model.shares import Count, in_people, shares_of
 
@@ -166,12 +165,6 @@ class Model:
             return arc.own_name
         known = [self.nodes[name] for name in names if name in self.nodes]
         return " to ".join(it.own_name or it.name for it in known) if any(it.own_name for it in known) else ""
-
-
-def near(name: str, names: Iterable[str]) -> str:
-    """Words that name what is written nearly so, or nothing."""
-    found = difflib.get_close_matches(name, list(dict.fromkeys(names)), n=3)
-    return f"; near it: {', '.join(found)}" if found else ""
 
 
 @dataclass

@@ -1,7 +1,8 @@
 """Lines and fields of a text, as the program reads them."""
 from __future__ import annotations
 
-from typing import List
+import difflib
+from typing import Iterable, List
 
 # A comment that begins so, right above a node or an arc, is the user's own name for it.
 NAME_MARK = "#:"
@@ -51,3 +52,9 @@ def own_name_of(line: str) -> str:
     """The own name that a line states for the line below, or nothing."""
     line = line.strip(" \t")
     return printable(line[len(NAME_MARK) :]).strip() if line.startswith(NAME_MARK) else ""
+
+
+def near(name: str, names: Iterable[str]) -> str:
+    """Words that name what is written nearly so, or nothing."""
+    found = difflib.get_close_matches(name, list(dict.fromkeys(names)), n=3)
+    return f"; near it: {', '.join(found)}" if found else ""
