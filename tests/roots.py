@@ -84,8 +84,10 @@ def debian_root(root: pathlib.Path, packages: Dict[str, pathlib.Path], suite: st
     """Debian with Python, the package installed by dpkg, the wheel by this machine's pip."""
     if not shutil.which("debootstrap"):
         return None
+    # (in name spaces of its own, so that all its processes and mounts go with it)
+    apart = ("unshare", "--mount", "--pid", "--fork", "--kill-child", "--")
     try:
-        if ran("debootstrap", "--variant=minbase", "--include=python3", suite, root, MIRROR, seconds=PATIENCE).returncode:
+        if ran(*apart, "debootstrap", "--variant=minbase", "--include=python3", suite, root, MIRROR, seconds=PATIENCE).returncode:
             return None
     except subprocess.TimeoutExpired:
         return None

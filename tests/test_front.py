@@ -17,10 +17,11 @@ import tempfile
 import time
 import unittest
 from dataclasses import dataclass, field
-from typing import Callable, Dict, List, Optional, Tuple
+from typing import Any, Callable, Dict, List, Optional, Tuple
 
-sys.path.insert(0, str(pathlib.Path(__file__).resolve().parent / "front"))
-from place import CRATES, LOGIC, TOP, TWO_BELOW, Place, await_true, sources  # noqa: E402
+sys.path[:0] = [str(pathlib.Path(__file__).resolve().parent / name) for name in ("front", "../companion/src/evacask/client")]
+import sources  # noqa: E402
+from place import CRATES, LOGIC, TOP, TWO_BELOW, Place, await_true  # noqa: E402
 
 NOTE = "evacplan: not proved on this machine; ./build proves it"
 FIRST = "no program is built yet"
@@ -54,8 +55,11 @@ class Row:
         place = Place(here, self.rows)
         self.before(place)
         place.forget_calls()
-        how = {"given": "a building\n", **self.how} if not self.at_terminal else self.how
-        (place.run_at_terminal if self.at_terminal else place.run)(*self.words, **how)  # type: ignore[arg-type]
+        how: Dict[str, Any] = {**({} if self.at_terminal else {"given": "a building\n"}), **self.how}
+        if self.at_terminal:
+            place.run_at_terminal(*self.words, **how)
+        else:
+            place.run(*self.words, **how)
         lines = place.err.count("\n")
         faults = [f"status {place.status} and not {self.status}"] if place.status != self.status else []
         faults += [f"printed {place.out[:300]!r} and not {self.out!r}"] if self.out is not None and place.out != self.out else []
@@ -139,7 +143,7 @@ def read_only(place: Place) -> None:
         path.chmod(0o777)
     os.chmod(place.repo, 0o555)
     if os.getuid() == 0:
-        place.write("../as_nobody", f'#!/bin/sh\nshift\nexec setpriv --reuid=65534 --regid=65534 --clear-groups "$@"\n').chmod(0o755)
+        place.write("../as_nobody", '#!/bin/sh\nshift\nexec setpriv --reuid=65534 --regid=65534 --clear-groups "$@"\n').chmod(0o755)
 
 
 def program_is(state: sources.State) -> Callable[[Place], str]:
@@ -664,7 +668,7 @@ class Acting(unittest.TestCase):
         small.mkdir()
         if subprocess.run(["mount", "-t", "tmpfs", "-o", "size=64k", "none", str(small)], stderr=subprocess.DEVNULL).returncode:
             self.skipTest("nothing can be mounted here")
-        self.addCleanup(subprocess.run, ["umount", str(small)], check=True)
+        self.addCleanup(os.system, f"umount {small}")
         (small / "filled").write_bytes(bytes(60_000))
         for words, fault in ((("build",), "evacplan.new can't be written: No space left"), (SOLVE, "No space left")):
             with self.subTest(words):
@@ -723,13 +727,13 @@ class Gate(unittest.TestCase):
         self.assertEqual((self.gate(), self.place.status, self.place.calls), ("gate: passed", 0, "ci,version"), self.place.err)
 
     def test_a_gate_names_the_parts_that_failed(self) -> None:
-        self.assertEqual(self.gate("docs/replay.py", "companion/tests/run"), "gate: FAILED in docs/replay.py, companion/tests/run")
+        self.assertEqual(self.gate("tools/replay.py", "companion/tests/run"), "gate: FAILED in tools/replay.py, companion/tests/run")
         self.assertEqual(self.place.status, 1)
 
     def test_a_gate_without_a_program_says_where_to_begin(self) -> None:
         self.assertEqual(
-            self.gate("docs/replay.py", RT_FAILS="proof"),
-            "gate: FAILED in rt ci, docs/replay.py. No program was built, and what runs it fails without one: begin with rt ci",
+            self.gate("tools/replay.py", RT_FAILS="proof"),
+            "gate: FAILED in rt ci, tools/replay.py. No program was built, and what runs it fails without one: begin with rt ci",
         )
 
     def test_the_program_that_rt_made_is_taken(self) -> None:

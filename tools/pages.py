@@ -14,7 +14,7 @@ import json
 import pathlib
 import re
 import sys
-from typing import Dict, Iterable, List
+from typing import Dict, List
 
 TOP = pathlib.Path(__file__).resolve().parent.parent
 sys.path.insert(0, str(TOP / "companion/src"))

@@ -175,7 +175,9 @@ class Programs(unittest.TestCase):
         for number in (signal.SIGTERM, signal.SIGHUP, signal.SIGINT):
             with self.subTest(number), tempfile.TemporaryDirectory() as folder:
                 slow, began = pathlib.Path(folder, "program"), pathlib.Path(folder, "began")
-                slow.write_text(f'#!/bin/sh\n[ "$1" != upgrade ] || exec {program()} upgrade\nsleep 600 &\necho $$ $! >{began}.new\nmv {began}.new {began}\nwait\n')
+                slow.write_text(
+                    f'#!/bin/sh\n[ "$1" != upgrade ] || exec {program()} upgrade\nsleep 600 &\necho $$ $! >{began}.new\nmv {began}.new {began}\nwait\n'
+                )
                 slow.chmod(0o755)
                 command = [sys.executable, "-B", str(TOP / "evacask"), "--program", str(slow), "why", str(OFFICE)]
                 asked = subprocess.Popen(command, stdout=subprocess.DEVNULL, stderr=subprocess.DEVNULL)

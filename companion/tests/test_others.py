@@ -1,5 +1,6 @@
 """Tables, metres, explanations of codes, own names, and talks."""
 import csv
+import importlib.util
 import io
 import os
 import pathlib
@@ -93,7 +94,7 @@ class Tables(unittest.TestCase):
 
 class Metres(unittest.TestCase):
     def test_the_arcs_are_those_of_figures(self):
-        sys.path.insert(0, str(TOP / "docs"))
+        sys.path.insert(0, str(TOP / "tools"))
         try:
             import figures
         finally:
@@ -261,11 +262,10 @@ class TalkAtATerminal(unittest.TestCase):
     """With a pseudo-terminal in place of a person's."""
 
     def setUp(self):
-        try:
-            import pty
-            import readline  # noqa: F401
-        except ImportError:
+        if not all(map(importlib.util.find_spec, ("pty", "readline"))):
             self.skipTest("no pseudo-terminal, or no readline")
+        import pty
+
         child, self.terminal = pty.fork()
         if not child:
             settings = {**os.environ, "TERM": "dumb", "EVACPLAN": program()}

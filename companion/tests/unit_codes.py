@@ -26,12 +26,12 @@ OF_EDITS = {
 
 class Codes(unittest.TestCase):
     def test_the_tables_of_formats(self) -> None:
-        spec = importlib.util.spec_from_file_location("codes_of_formats", TOP / "docs/codes.py")
+        spec = importlib.util.spec_from_file_location("codes_of_formats", TOP / "tools/codes.py")
         assert spec and spec.loader
         script = importlib.util.module_from_spec(spec)
         spec.loader.exec_module(script)
         page = script.PAGE.read_text(encoding="utf-8")
-        self.assertEqual(page, script.written(page), "python3 docs/codes.py --write writes the tables")
+        self.assertEqual(page, script.written(page), "python3 tools/codes.py --write writes the tables")
         self.assertEqual(page.count("<!-- codes: "), 7)
 
     def test_the_table_of_statements(self) -> None:

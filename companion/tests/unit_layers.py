@@ -2,11 +2,11 @@
 import ast
 import pathlib
 import unittest
-from typing import Iterator, List
+from typing import Dict, Iterator, List, Tuple
 
 SOURCES = pathlib.Path(__file__).resolve().parent.parent / "src/evacask"
 # What each layer may import, besides itself.
-BELOW = {
+BELOW: Dict[str, List[str]] = {
     "errors": [],
     "version": [],
     "model": ["errors"],
@@ -49,7 +49,7 @@ def wrong_uses(tree: ast.AST) -> Iterator[str]:
 
 
 class Layers(unittest.TestCase):
-    def sources(self) -> "List[tuple[pathlib.Path, ast.AST]]":
+    def sources(self) -> List[Tuple[pathlib.Path, ast.AST]]:
         return [(path, ast.parse(path.read_text(encoding="utf-8"), feature_version=(3, 9))) for path in sorted(SOURCES.rglob("*.py"))]
 
     def test_no_step_upwards(self) -> None:

@@ -28,7 +28,7 @@ class Questions(unittest.TestCase):
         lines = [f"node WP{it}.1 1 1\narc WP{it}.1 DS1.1 1 1" for it in range(1, 500)]
         text = "evacplan 1\nperiod 5\nhorizon 0\nfloor 1 G\nnode DS1.1\n" + "\n".join(lines) + "\narc WP1.1 WP2.1 1 1\nend\n"
         answer = summary(Table({"session": "refused 22 1\npeople 499\nmost 0\nend\n"}), model_of(text))
-        self.assertIsInstance(answer, Short)
+        assert isinstance(answer, Short)
         self.assertEqual((answer.greatest, answer.most, answer.people), (999, 0, 499))
 
     def test_endings(self) -> None:

@@ -2,11 +2,16 @@
 _evacask() {
   local word=${COMP_WORDS[COMP_CWORD]} command='' words it
   for it in "${COMP_WORDS[@]:1:COMP_CWORD-1}"; do
-    case $it in why|convert|edit) command=$it && break ;; esac
+    case $it in summary|why|sensitivity|width|compare|review|convert|edit) command=$it && break ;; esac
   done
   case $command in
-    '') words='why convert edit --help --program --proved --version' ;;
+    '') words='summary why sensitivity width compare review convert edit --help --program --proved --version' ;;
+    summary) words='--columns --csv --edit --help --json --program --proved --text' ;;
     why) words='--columns --csv --edit --help --json --program --proved --text' ;;
+    sensitivity) words='--columns --csv --edit --help --json --program --proved --rate --text' ;;
+    width) words='--columns --csv --edit --help --json --program --proved --text' ;;
+    compare) words='--columns --csv --edit --help --json --program --proved --text' ;;
+    review) words='--columns --csv --edit --help --json --program --proved --text' ;;
     convert) words='--both --columns --csv --down --help --json --period --program --proved --shares --text --up' ;;
     edit) words='--edit --help --output --program --proved' ;;
   esac

@@ -11,7 +11,7 @@ import subprocess
 import sys
 import termios
 import time
-from typing import Callable, Dict, List, Optional
+from typing import Any, Callable, Dict, List, Optional
 
 TOP = pathlib.Path(__file__).resolve().parents[2]
 sys.path.insert(0, str(TOP / "companion/src/evacask/client"))
@@ -86,9 +86,9 @@ class Place:
                 command, stdin=stdin, stdout=out, stderr=err, env={**self.env, **env}, preexec_fn=prepare, text=True, cwd=self.here
             )
 
-    def run(self, *words: str, **how: "str | int | None") -> None:
+    def run(self, *words: str, **how: Any) -> None:
         """Runs a command to its end, and keeps its status and what it printed."""
-        self.ended(self.start(*words, **how))  # type: ignore[arg-type]
+        self.ended(self.start(*words, **how))
 
     def ended(self, process: "subprocess.Popen[str]") -> None:
         try:

@@ -19,6 +19,7 @@ from evacask.errors import (
     Broken,
     EvacaskError,
     InputError,
+    NoAnswer,
     NoMemory,
     NoProgram,
     NotProved,
@@ -30,6 +31,8 @@ from evacask.errors import (
 )
 from evacask.model.building import Arc, Entrant, Model, Node, Window
 from evacask.model.ground import Ground
+from evacask.questions.improve import Widening
+from evacask.questions.ranges import Ranges, percents
 from evacask.version import VERSION as __version__
 
 __all__ = [
@@ -49,6 +52,7 @@ __all__ = [
     "Least",
     "Model",
     "Move",
+    "NoAnswer",
     "NoMemory",
     "NoProgram",
     "Node",
@@ -57,6 +61,7 @@ __all__ = [
     "Plan",
     "Program",
     "Refused",
+    "Ranges",
     "Replan",
     "Report",
     "Session",
@@ -66,10 +71,12 @@ __all__ = [
     "TableError",
     "UnknownName",
     "Verdict",
+    "Widening",
     "Window",
     "WordsError",
     "__version__",
     "found_program",
+    "percents",
     "read",
     "reads",
 ]

@@ -79,3 +79,7 @@ class TableError(EvacaskError):
 
 class WordsError(EvacaskError):
     """The words of a command, or the arguments of a call, are wrong."""
+
+
+class NoAnswer(EvacaskError):
+    """A question has no answer that could be found: the building is right, and what is asked isn't there."""

@@ -1,6 +1,6 @@
 //! What a search for shortest paths knows of each pair.
 //!
-//! The distance label of a pair is meant to be at most the number of backward steps on any residual path from unsent people to it.
+//! The distance label of a pair is meant to be at most what any residual path from unsent people to it weighs.
 ghost use Rattle.std.specs.Prelude.{◌≡◌, ◌+◌, ◌<◌, ◌≤◌, IfOk, length, vec_len};
 ghost use Rattle.residual_ways.specs.Steps.{IsStepWithin};
 ghost use Rattle.guided_search.specs.Labelled.{HasLabels};
@@ -56,6 +56,15 @@ impl Distances {
         ensures { result ≤ 65535 }
     {
         self.labels[pair as usize] as u32
+    }
+
+    /// The distance labels of some pairs from one on.
+    pub fn labels_from(&self, pair: u32, count: u32) -> &[u16]
+        requires { pair + count ≤ self.now.sizes.pairs }
+        ensures { length result.now ≡ count }
+    {
+        let first = pair as usize;
+        &self.labels[first..first + count as usize]
     }
 
     /// Gives a pair a distance label and a current arc.

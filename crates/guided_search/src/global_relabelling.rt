@@ -5,11 +5,13 @@
 //! pairs that it doesn't reach are dead. At times all ancestors of theirs are relabelled with them; or, where others were sent before, all
 //! pairs are, from the unsent people on.
 ghost use Rattle.std.specs.Prelude.{◌≡◌, ◌<◌, ◌≤◌};
+ghost use Rattle.residual_ways.specs.Ways.{IsWayWithin};
 
-use crate::look::least_label;
+use crate::look::{least_label, run_label};
 use crate::search::BackwardSearch;
-use crate::tuning::FAR;
-use residual_ways::{Residual, is_open, room_in, unsent};
+use crate::tuning::{FAR, RUN_LENGTH, RUN_LIMIT};
+use crate::weights::label_after;
+use residual_ways::{Residual, Way, is_open, room_in, unsent};
 
 impl BackwardSearch {
     /// Computes the labels of the relabelled pairs anew, leaves those of them that aren't dead, and lets the search begin anew.
@@ -126,7 +128,11 @@ impl BackwardSearch {
             return 0;
         }
         let incoming = residual.incoming(node, moment);
-        least_label(&incoming, &self.distances, 0).0
+        let (least, _) = least_label(&incoming, &self.distances, 0);
+        if least <= RUN_LIMIT + 1 {
+            return least;
+        }
+        least.min(run_label(&incoming, &self.distances, 0))
     }
 
     // Hands the labels on, level by level.
@@ -194,21 +200,57 @@ impl BackwardSearch {
             let Some(begun) = way.begun(incoming.sizes, incoming.moment) else {
                 continue;
             };
-            let other = way.first_pair + begun;
-            let label = self.distances.get(other);
             if way.back {
                 let ahead = residual.cells[(way.first_cell + incoming.moment) as usize];
-                if level < label && room_in(ahead) > 0 {
-                    self.distances.set(other, level, 0);
-                    self.levels.frontier.add(other);
+                if room_in(ahead) > 0 {
+                    let after = label_after(way.course, level);
+                    self.lower(way.first_pair + begun, after, level);
                 }
+            } else if level >= RUN_LIMIT && way.is_wait(incoming.sizes) {
+                self.scan_run(residual, *way, begun, level);
             } else {
                 let before = residual.cells[(way.first_cell + begun) as usize];
-                if level + 1 < label && before.flow > 0 {
-                    self.distances.set(other, level + 1, 0);
-                    self.levels.next.add(other);
+                if before.flow > 0 {
+                    self.lower(way.first_pair + begun, level + 1, level);
                 }
             }
+        }
+    }
+
+    // Lets the pairs to which a run of waits is taken back, from the one that begins at a moment on, have no higher label than it allows. A pair
+    // that is as low as the level hands it on itself.
+    fn scan_run(&mut self, residual: Residual<'_>, way: Way, begun: u32, level: u32)
+        requires residual { residual.ways.now.sizes ≡ self.old.sizes }
+        requires way { IsWayWithin self.old.sizes way }
+        requires begun { begun < self.old.sizes.moments }
+        requires level { level < 65535 }
+        ensures { self.new.sizes ≡ self.old.sizes }
+    {
+        for passed in 0..RUN_LENGTH.min(begun + 1) {
+            let at = begun - passed;
+            let pair = way.first_pair + at;
+            let wait = residual.cells[(way.first_cell + at) as usize];
+            if wait.flow == 0 || self.distances.get(pair) <= level {
+                return;
+            }
+            self.lower(pair, level + 1, level);
+        }
+    }
+
+    // Lets a pair have no higher label than one of a level or of the next.
+    fn lower(&mut self, pair: u32, label: u32, level: u32)
+        requires pair { pair < self.old.sizes.pairs }
+        requires label { label ≤ 65535 }
+        ensures { self.new.sizes ≡ self.old.sizes }
+    {
+        if label >= self.distances.get(pair) {
+            return;
+        }
+        self.distances.set(pair, label, 0);
+        if label == level {
+            self.levels.frontier.add(pair);
+        } else {
+            self.levels.next.add(pair);
         }
     }
 

@@ -21,11 +21,14 @@ mod look;
 mod partial_path;
 mod path_finder;
 mod relabelled;
+mod runs;
 mod search;
 mod shortest_paths;
+mod straight_path;
 mod surplus;
 mod target_flow;
 mod tuning;
 mod waits;
+mod weights;
 
 pub use path_finder::PathFinder;

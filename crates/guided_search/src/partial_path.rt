@@ -1,12 +1,13 @@
 //! The path of a search, as far as it has come.
-ghost use Rattle.std.specs.Prelude.{◌≡◌, ◌<◌, ◌≤◌, IfOk, IfSome, length, vec_capacity, vec_len};
+ghost use Rattle.std.specs.Prelude.{◌≡◌, ◌<◌, ◌≤◌, IfOk, IfSome, length, vec_len};
 ghost use Rattle.std.specs.List.{All};
 ghost use Rattle.residual_ways.specs.Steps.{IsStayWithin, IsStepWithin};
+ghost use Rattle.residual_ways.specs.Ways.{IsWayWithin};
 
-use crate::lists::add;
+use crate::straight_path::StraightPath;
 use crate::waits::have_room;
-use residual_net::{Cell, Leg};
-use residual_ways::{Sizes, Stay, Step, is_open, room, room_in, send};
+use residual_net::Cell;
+use residual_ways::{Sizes, Stay, Step, Way, is_open};
 use std::alloc::{AllocError, Global};
 
 /// The path of a search, as far as it has come. Memory past its stays isn't touched.
@@ -16,7 +17,10 @@ pub struct PartialPath {
     sizes: Sizes,
     /// Its stays, from its exit way on.
     list: Vec<Stay>,
+    /// Of each node the index of the last of the stays in it.
+    last_at: Vec<usize>,
     ghost within: { All (IsStayWithin sizes) list.items },
+    ghost last_fits: { vec_len last_at ≡ sizes.nodes },
 }
 
 impl PartialPath {
@@ -25,7 +29,12 @@ impl PartialPath {
         ensures { IfOk result (λ path. path.sizes ≡ sizes) }
     {
         let list = Vec::with_capacity(alloc, room)?;
-        Ok(PartialPath { sizes, list })
+        let last_at = vec![in alloc; 0usize; sizes.nodes as usize]?;
+        Ok(PartialPath {
+            sizes,
+            list,
+            last_at,
+        })
     }
 
     /// The last stay.
@@ -58,6 +67,69 @@ impl PartialPath {
         }
     }
 
+    /// Takes waits back one after another, from a later moment on up to that of the last pair. Whether there was room for them.
+    #[inline(never)]
+    pub fn take_back(&mut self, way: Way, moment: u32, since: u32) -> bool
+        requires way { IsWayWithin self.old.sizes way }
+        requires moment { moment ≤ since }
+        requires since { since < self.old.sizes.moments }
+        ensures { self.new.sizes ≡ self.old.sizes }
+    {
+        let from = self.cut_circle(way.node, moment, since);
+        for later in from..since {
+            if !self.push(way.step_between(later + 1, later)) {
+                return false;
+            }
+        }
+        true
+    }
+
+    // Where the path comes to a node at a moment of a run already, all that comes after is a circle: ends the path there. The answer is the
+    // moment from which on the run is left to be taken back.
+    fn cut_circle(&mut self, node: u32, moment: u32, since: u32) -> u32
+        requires { moment ≤ since }
+        ensures path { self.new.sizes ≡ self.old.sizes }
+        ensures moment { result ≤ since }
+    {
+        for at in 0..self.list.len() {
+            let stay = self.list[at];
+            if stay.step.node == node && stay.step.moment > moment && stay.since <= since {
+                let from = stay.step.moment.min(since);
+                self.list[at].since = from;
+                self.list.truncate(at + 1);
+                return from;
+            }
+        }
+        moment
+    }
+
+    // Leaves the last stay, and the whole of a run of waits that is taken back.
+    fn leave_last(&mut self)
+        ensures { self.new.sizes ≡ self.old.sizes }
+    {
+        for _ in 0..self.sizes.moments {
+            let count = self.list.len();
+            if count == 0 {
+                return;
+            }
+            let step = self.list[count - 1].step;
+            self.list.truncate(count - 1);
+            if !self.is_run_before(step) {
+                return;
+            }
+        }
+    }
+
+    // Whether the last stay takes back the wait before that of a step.
+    fn is_run_before(&self, step: Step) -> bool {
+        let Some(stay) = self.last() else {
+            return false;
+        };
+        stay.step.takes_wait_back(self.sizes)
+            && stay.step.node == step.node
+            && stay.since + 1 == step.moment
+    }
+
     /// Goes back a step: from the last stay to its next moment, or to the stay before.
     pub fn retreat(&mut self)
         ensures { self.new.sizes ≡ self.old.sizes }
@@ -70,7 +142,7 @@ impl PartialPath {
         if stay.since < stay.step.moment {
             stay.since += 1;
         } else {
-            self.list.truncate(count - 1);
+            self.leave_last();
         }
     }
 
@@ -89,7 +161,8 @@ impl PartialPath {
         for at in 0..self.list.len() {
             let stay = self.list[at];
             if !is_open(cells, stay.step) {
-                self.list.truncate(at);
+                self.list.truncate(at + 1);
+                self.leave_last();
                 return;
             }
             if let Some(since) = full_wait(cells, self.sizes, stay) {
@@ -100,57 +173,59 @@ impl PartialPath {
         }
     }
 
-    // The step by which people come in where the path begins.
-    fn supply(&self) -> Option<Step>
-        ensures { IfSome result (IsStepWithin self.now.sizes) }
+    /// Lays the path without the circles that can be waited out.
+    #[inline(never)]
+    pub fn straighten(&mut self, cells: &[Cell], straight: &mut StraightPath)
+        requires cells { length cells.now ≡ self.old.sizes.cells }
+        requires straight { straight.old.sizes ≡ self.old.sizes }
+        ensures path { self.new.sizes ≡ self.old.sizes }
+        ensures straight { straight.new.sizes ≡ straight.old.sizes }
     {
-        let first = self.last()?;
-        Some(Step::supply(self.sizes, first.step.node, first.since))
-    }
-
-    /// Fills a list with the legs of the path.
-    pub fn lay(&self, legs: &mut Vec<Leg>)
-        ensures { vec_capacity legs.new ≡ vec_capacity legs.old }
-    {
-        legs.clear();
-        if let Some(supply) = self.supply() {
-            let step = supply.path_step(self.sizes);
-            add(legs, Leg { since: 0, step });
-        }
-        for stay in self.list.as_slice().iter().rev() {
-            add(legs, stay.step.leg_since(self.sizes, stay.since));
+        self.find_last();
+        straight.clear();
+        let mut next = 0;
+        for at in 0..self.list.len() {
+            if at >= next {
+                let (stay, after) = self.without_circle(cells, at);
+                straight.add(stay);
+                next = after;
+            }
         }
     }
 
-    // The most people who may go along the stays.
-    fn most(&self, cells: &[Cell]) -> u32
-        requires { length cells.now ≡ self.now.sizes.cells }
+    // Finds the last stay in each node.
+    fn find_last(&mut self)
+        ensures { self.new.sizes ≡ self.old.sizes }
     {
-        let mut people = u32::MAX;
-        for stay in self.list.as_slice() {
-            let (first, end) = stay.waits(self.sizes);
-            let most = people.min(room(cells, stay.step));
-            let waits = cells[first..end].iter();
-            people = waits.fold(most, |least, wait| least.min(room_in(*wait)));
+        for at in 0..self.list.len() {
+            let node = self.list[at].step.node;
+            self.last_at[node as usize] = at;
         }
-        people
     }
 
-    /// Sends as many people as may go along the path. The answer is how many.
-    pub fn carry(&self, cells: &mut [Cell]) -> u32
-        requires { length cells.old ≡ self.now.sizes.cells }
+    // A stay of the path that lasts for the longest circle before it that can be waited out, and the index of the stay after that.
+    fn without_circle(&self, cells: &[Cell], at: usize) -> (Stay, usize)
+        requires cells { length cells.now ≡ self.now.sizes.cells }
+        requires at { at < vec_len self.now.list }
+        ensures { IsStayWithin self.now.sizes result.0 }
     {
-        let Some(supply) = self.supply() else {
-            return 0;
-        };
-        let people = self.most(cells).min(room(cells, supply));
-        send(cells, supply, people);
-        for stay in self.list.as_slice() {
-            send(cells, stay.step, people);
-            let (first, end) = stay.waits(self.sizes);
-            send_waits(&mut cells[first..end], people);
+        let stay = self.list[at];
+        let last = self.last_at[stay.step.node as usize];
+        if last <= at || last >= self.list.len() || stay.step.takes_wait_back(self.sizes) {
+            return (stay, at + 1);
         }
-        people
+        let lowest = room_from(cells, self.sizes, stay);
+        for later in (at + 1..=last).rev() {
+            let other = self.list[later];
+            if other.step.node == stay.step.node
+                && lowest <= other.since
+                && other.since <= stay.since
+            {
+                let since = other.since;
+                return (Stay { since, ..stay }, later + 1);
+            }
+        }
+        (stay, at + 1)
     }
 }
 
@@ -170,9 +245,17 @@ fn full_wait(cells: &[Cell], sizes: Sizes, stay: Stay) -> Option<u32>
     Some(stay.step.moment - passed as u32)
 }
 
-// Sends people over waits.
-fn send_waits(waits: &mut [Cell], people: u32) {
-    for wait in waits.iter_mut() {
-        wait.flow = wait.flow.saturating_add(people);
+// The moment from which on all waits before a stay have room.
+fn room_from(cells: &[Cell], sizes: Sizes, stay: Stay) -> u32
+    requires cells { length cells.now ≡ sizes.cells }
+    requires stay { IsStayWithin sizes stay }
+    ensures { result ≤ stay.since }
+{
+    let before = Stay { since: 0, ..stay };
+    let (first, _) = before.waits(sizes);
+    let mut waits = cells[first..first + stay.since as usize].iter().rev();
+    match waits.position(|wait| wait.flow >= wait.limit) {
+        Some(passed) => stay.since - passed as u32,
+        None => 0,
     }
 }

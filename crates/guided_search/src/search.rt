@@ -1,10 +1,10 @@
-//! A search back from an arrival along admissible steps: backward ones over which the distance label falls by 1, and others over which it
-//! stays the same.
+//! A search back from an arrival along admissible steps: those over which the distance label rises by what they weigh.
 //!
 //! It advances while there is one. Where there is none it relabels the pair, and retreats a step.
 ghost use Rattle.std.specs.Prelude.{◌≡◌, ◌<◌, ◌≤◌, IfOk};
 ghost use Rattle.std.specs.Coded.{Coded-set};
 ghost use Rattle.residual_ways.specs.Steps.{IsStepWithin};
+ghost use Rattle.residual_ways.specs.Ways.{IsWayWithin};
 
 use crate::distances::Distances;
 use crate::levels::Levels;
@@ -12,7 +12,7 @@ use crate::look::{Look, look_from};
 use crate::partial_path::PartialPath;
 use crate::relabelled::Relabelled;
 use crate::tuning::{FAR, PATH_LIMIT, RELABEL_FACTOR, RELABEL_LIMIT};
-use residual_ways::{Residual, Sizes, Step};
+use residual_ways::{Residual, Sizes, Step, Way};
 use std::alloc::{AllocError, Global};
 
 /// What comes of a step of a search.
@@ -105,6 +105,10 @@ impl BackwardSearch {
                     self.distances.set_current_arc(pair, index);
                     return self.advance(residual, index, step);
                 }
+                Look::Run { index, way, since } => {
+                    self.distances.set_current_arc(pair, index);
+                    return self.take_back(way, last.since, since);
+                }
                 Look::Least { label, index } => self.relabel(pair, label, index),
             }
         }
@@ -138,6 +142,20 @@ impl BackwardSearch {
         };
         self.path.wait_since(since);
         Progress::Going
+    }
+
+    // Takes back a run of waits into the last pair.
+    fn take_back(&mut self, way: Way, moment: u32, since: u32) -> Progress
+        requires way { IsWayWithin self.old.sizes way }
+        requires moment { moment ≤ since }
+        requires since { since < self.old.sizes.moments }
+        ensures { self.new.sizes ≡ self.old.sizes }
+    {
+        if self.path.take_back(way, moment, since) {
+            Progress::Going
+        } else {
+            Progress::Full
+        }
     }
 
     // Raises the distance label of a pair to what its ways allow.

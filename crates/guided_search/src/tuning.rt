@@ -7,7 +7,22 @@ pub const FAR: u32 = 65_535;
 
 /// The most stays of an augmenting path. A longer one ends the search, and others take over. Memory past the longest path isn't
 /// touched.
-pub const PATH_LIMIT: usize = 8_192;
+pub const PATH_LIMIT: usize = 65_536;
+
+/// The distance label up to which a step over a detour weighs 1. With 0 for this and the next, people walk in circles: nine of ten in a
+/// mall or a ship whose halls are two-way. With 1 and 2 it is one of ten in half of such buildings, and one of two in a market hall.
+pub const DETOUR_LIMIT: u32 = 8;
+
+/// The distance label up to which a step over an arc that leads away from the exits weighs 1. With 4 for both, one of four comes to a place
+/// twice in an airport, and with 8 one of ten; but a search on a zigzag or in a crowd takes half as long again.
+pub const AWAY_LIMIT: u32 = 8;
+
+/// The distance label from which on a run of waits that is taken back counts as one step. With less than the two before, pairs that weights
+/// keep from the exits look along runs in vain: eight million times in a ring.
+pub const RUN_LIMIT: u32 = 8;
+
+/// The most waits that count as one step.
+pub const RUN_LENGTH: u32 = 128;
 
 /// How many times pairs may be relabelled one by one without a push, for each that was relabelled, until there is a global relabelling: one
 /// after another they can go on for long, where many pairs raise each other by 1. With once in place of twice a hospital took 12 in 100 more

@@ -49,6 +49,11 @@ impl Step {
         !self.back && self.cell == sizes.wait(self.pair)
     }
 
+    /// Whether it takes a wait back.
+    pub fn takes_wait_back(&self, sizes: Sizes) -> bool {
+        self.back && self.cell >= sizes.wait(0)
+    }
+
     /// The step as the net has it.
     pub fn path_step(&self, sizes: Sizes) -> PathStep
         ensures cell { (site : Site) → AreSizesOf site sizes → cell_of site result.place ≡ self.now.cell }

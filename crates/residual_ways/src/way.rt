@@ -15,6 +15,17 @@ pub enum Rank {
     ByRow,
 }
 
+/// Where an arc leads, by the shortest ways out.
+#[derive(Clone, Copy, PartialEq, Eq, PartialOrd, Ord)]
+pub enum Course {
+    /// It is the first on a shortest way out. A wait counts as straight too.
+    Straight,
+    /// It leads to a node nearer to the exits, but another way out is shorter.
+    Detour,
+    /// It leads to a node that isn't nearer to the exits.
+    Away,
+}
+
 /// A residual arc into a node: over an arc of the building or a wait, forwards or backwards. At each moment it is a step.
 ///
 /// The order of the fields is that of the ways.
@@ -39,6 +50,8 @@ pub struct Way {
     /// Whether it leads over an arc forwards that somebody may enter at some moment, by the limits of the net for which the ways were put
     /// in order.
     pub(crate) may_enter: bool,
+    /// Where its arc leads, forwards, by the same limits.
+    pub course: Course,
 }
 
 impl Way {
@@ -58,6 +71,7 @@ impl Way {
             first_pair: sizes.first_pair(node),
             shift: -(travel as i32),
             may_enter: false,
+            course: Course::Straight,
         }
     }
 
@@ -79,6 +93,11 @@ impl Way {
         ensures { IsTrue result → (self.now.row < sizes.arcs) }
     {
         !self.back && self.row < sizes.arcs
+    }
+
+    /// Whether it leads over waits, forwards or backwards.
+    pub fn is_wait(&self, sizes: Sizes) -> bool {
+        self.row >= sizes.arcs
     }
 
     /// How many periods lie between its ends.

@@ -9,6 +9,7 @@ from typing import Callable, Collection, Container, Iterator, List, Optional, Tu
 from evacask.errors import Broken, Refused, Shortfall, Span
 from evacask.model.building import Model
 from evacask.model.lines import number_of
+from evacask.model.records import Record, Records
 from evacask.model.seconds import interval
 from evacask.model.shares import Count, in_people
 
@@ -83,7 +84,7 @@ class Outcome:
 
 
 @dataclass(frozen=True)
-class Plan:
+class Plan(Records):
     """An answer block about `model`. Lists are read when they are asked for, so that a plan of a megabyte costs nothing before.
 
     `cleared` is in periods; `arrivals[k]` counts who is out by period k, from 0 to `cleared`. The block itself, `raw`, counts in the model's shares.
@@ -109,6 +110,10 @@ class Plan:
     def seconds(self) -> int:
         """The seconds from which on all may be out: the earlier end of the interval."""
         return self.interval[0]
+
+    def records(self) -> List[Record]:
+        """A dict for each move of the printed plan: another best plan may have others."""
+        return [{"moment": it.moment, "from": it.tail, "to": it.head, "people": it.people} for it in self.moves]
 
     def rows(self, word: str) -> Iterator[List[str]]:
         """The fields after the word of each line that begins with it."""

@@ -3,6 +3,7 @@ from __future__ import annotations
 
 import functools
 import hashlib
+import json
 import os
 import pathlib
 import sys
@@ -13,10 +14,23 @@ from evacask.client.sources import State, state_of
 from evacask.client.talk import Program, Source, Tell, silent
 from evacask.errors import NoProgram, NotProved
 
-__all__ = ["BUILT", "PACKAGED", "TOP", "UNPROVED", "State", "found_program", "is_program", "path_of", "run", "source_of", "state_of"]
+__all__ = [
+    "BUILT",
+    "PACKAGED",
+    "TOP",
+    "UNPROVED",
+    "State",
+    "commit_of_release",
+    "found_program",
+    "is_program",
+    "path_of",
+    "run",
+    "source_of",
+    "state_of",
+]
 PACKAGED = pathlib.Path(__file__).resolve().parent.parent / "bin/evacplan"
 # The repository's top, if the package stands in one.
-TOP = pathlib.Path(__file__).resolve().parents[4]
+TOP = (pathlib.Path(__file__).resolve().parent / "../../../..").resolve()
 # The programs of its sources: the proved one, and the one that isn't.
 BUILT, UNPROVED = TOP / sources.PROVED_PLACE, TOP / sources.UNPROVED_PLACE
 
@@ -46,26 +60,35 @@ def found_program(given: Optional[str] = None, proved: bool = False, waiting: Te
 
     `NoProgram` if there is none, and `NotProved` if a proved one is asked for and it isn't.
     """
-    program = Program(path_of(given, proved), waiting)
+    program = Program(path_of(given, makes=not proved), waiting)
     if proved and not program.source.is_proved:
         raise NotProved(f"{program.path} isn't proved on this machine: ./build makes the proved program")
     return program
 
 
-def path_of(given: Optional[str], proved: bool = False) -> pathlib.Path:
-    """The file of the program. The script `evacplan` stands for the program of its sources, as no name does; one is made unless it is to be proved."""
+def path_of(given: Optional[str], makes: bool = True) -> pathlib.Path:
+    """The file of the program. The script `evacplan` stands for the program of its sources, as no name does; if there is none, an unproved one may be made."""
     named = given or os.environ.get("EVACPLAN")
     if named and pathlib.Path(named).resolve() != TOP / "evacplan":
         if is_program(pathlib.Path(named)):
             return pathlib.Path(named).resolve()
         raise NoProgram(f"there is no program {named}: --program and EVACPLAN name the file of the program")
     if (TOP / "crates.txt").is_file() and is_program(TOP / "build"):
-        now = sources.found(TOP) if proved else sources.made(TOP)
+        now = sources.made(TOP) if makes else sources.found(TOP)
         if now.is_current:
             return now.program
     elif is_program(PACKAGED):
         return PACKAGED
     raise NoProgram("there is no program: ./build makes the proved one, and --program and EVACPLAN name another")
+
+
+def commit_of_release() -> Optional[str]:
+    """The commit of which the package was made, from the manifest of its release."""
+    try:
+        made_of = json.loads((PACKAGED.parent.parent / "MANIFEST.json").read_text("utf-8"))["commit"]
+    except (OSError, ValueError, KeyError, TypeError):
+        return None
+    return str(made_of)
 
 
 def run() -> NoReturn:

@@ -34,7 +34,7 @@ class State(enum.Enum):
 
 @dataclass(frozen=True)
 class Found:
-    """A program and its state. If it can't be taken, `why` says so in words that follow `it can't be taken, since`."""
+    """A program and its state. If there is one that isn't of these sources, `why` says what is wrong with it."""
 
     state: State
     program: pathlib.Path

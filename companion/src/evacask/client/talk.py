@@ -26,7 +26,7 @@ FIRST_WORDS = tuple(
     for it in words.split()
 )
 # Milliseconds between two looks at a program that says nothing, and the seconds in which one ends that has closed its output.
-PATIENCE, LAST_PATIENCE = 1000, 10
+PATIENCE, LAST_PATIENCE = 1000, 10.0
 Tell = Callable[[int], None]
 
 

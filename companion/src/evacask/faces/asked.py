@@ -13,7 +13,7 @@ from evacask.client.program import UNPROVED, found_program
 from evacask.client.sources import NOT_PROVED
 from evacask.client.talk import Program
 from evacask.errors import InputError, Refused, WordsError
-from evacask.faces.ending import Status
+from evacask.faces.ending import Status, say
 from evacask.faces.progress import LINE, waiting
 from evacask.faces.sheet import Sheet, as_csv, as_json, as_text
 from evacask.model.building import Model
@@ -74,8 +74,7 @@ def program_of(given: Namespace) -> Program:
 @functools.lru_cache(maxsize=None)
 def tell_that_unproved() -> None:
     """Says once that the program isn't proved. (Of a program that is named, it is said at a terminal alone.)"""
-    if sys.stderr is not None:
-        sys.stderr.write(f"evacask: {NOT_PROVED}\n")
+    say(f"evacask: {NOT_PROVED}\n")
 
 
 def named(name: str, client: Program, text: str) -> Model:

@@ -5,9 +5,31 @@ import sys
 from argparse import Namespace
 from typing import List, Optional, Sequence, Tuple
 
+from evacask.client.program import commit_of_release, path_of, source_of
 from evacask.errors import NoProgram, Shortfall, WordsError
-from evacask.faces import compare, convert, edit, explain, review, sensitivity, session, summary, tables, why, width
-from evacask.faces.asked import program_of
+from evacask.faces import (
+    admit,
+    assign,
+    compare,
+    convert,
+    edit,
+    explain,
+    improve,
+    losses,
+    observed,
+    ranges,
+    report,
+    rescue,
+    review,
+    sensitivity,
+    session,
+    sheets,
+    summary,
+    sweep,
+    tables,
+    why,
+    width,
+)
 from evacask.faces.ending import Status, ends, say
 from evacask.faces.words import Command, parser_of
 from evacask.version import VERSION
@@ -24,6 +46,16 @@ COMMANDS: Tuple[Command, ...] = (
     explain.COMMAND,
     convert.COMMAND,
     edit.COMMAND,
+    assign.COMMAND,
+    improve.COMMAND,
+    ranges.COMMAND,
+    sweep.COMMAND,
+    losses.COMMAND,
+    admit.COMMAND,
+    rescue.COMMAND,
+    observed.COMMAND,
+    sheets.COMMAND,
+    report.COMMAND,
 )
 # Words of before, which answer still and aren't in the help.
 OLD_WORDS = {"doubts": "review", "ways": "sensitivity", "wide": "width", "talk": "session", "metres": "convert"}
@@ -68,12 +100,14 @@ def renamed(words: Sequence[str]) -> List[str]:
 
 
 def version_line(given: Namespace) -> str:
-    """The version, and what is known of the program."""
+    """The version, the commit of a release, and what is known of the program. Nothing is built for it."""
+    made_of = commit_of_release()
+    version = f"evacask {VERSION}" + (f", commit {made_of[:16]}" if made_of else "")
     try:
-        about = program_of(given).source
+        about = source_of(path_of(given.program, makes=False))
     except NoProgram:
-        return f"evacask {VERSION}; there is no program\n"
-    return f"evacask {VERSION}; program {about.sha256[:16]}, {f'proved in logic {about.logic}' if about.logic else 'not proved'}\n"
+        return f"{version}; there is no program\n"
+    return f"{version}; program {about.sha256[:16]}, {f'proved in logic {about.logic}' if about.logic else 'not proved'}\n"
 
 
 def main(words: Optional[Sequence[str]] = None) -> int:

@@ -4,10 +4,11 @@ from __future__ import annotations
 from argparse import Namespace
 from typing import Any, Optional, Tuple
 
+from evacask.faces import unforeseen as of_surprises
 from evacask.faces.asked import Asked, edits_of, named, put, read
 from evacask.faces.ending import Status
 from evacask.faces.sheet import Column, Sheet
-from evacask.faces.words import BUILDING, FACES, Command, argument
+from evacask.faces.words import BUILDING, FACES, Command, argument, number
 from evacask.model.seconds import interval, seconds_text
 from evacask.questions.compare import Comparison, Scenario, compare
 
@@ -68,6 +69,8 @@ def data_cells(it: Scenario) -> Tuple[Any, ...]:
 
 
 def run(given: Namespace) -> int:
+    if given.unforeseen is not None:
+        return of_surprises.run(given)
     groups = [edits_of([words]) for words in given.edit]
     given.edit = []
     asked = Asked(given)
@@ -86,6 +89,9 @@ COMMAND = Command(
         BUILDING,
         argument("others", metavar="OTHER", nargs="*", help="another building"),
         argument("--edit", action="append", default=[], metavar="EDITS", help="the building after these edits"),
+        argument(
+            "--unforeseen", type=number, metavar="SECONDS", default=None, help="the edits happen after so many seconds, and nobody knew of them"
+        ),
         *FACES,
     ),
 )

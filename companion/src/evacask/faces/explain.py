@@ -12,9 +12,8 @@ from evacask.faces.sheet import Column, Sheet
 from evacask.faces.summary import remedies
 from evacask.faces.wording import indented
 from evacask.faces.words import FACES, Command, argument
-from evacask.model.lines import near
 from evacask.model.codes import Meaning, meanings
-from evacask.model.lines import is_number, number_of
+from evacask.model.lines import is_number, near, number_of
 from evacask.questions.explain import MODES, Explained, Refusal, code_point, explain, is_odd
 
 REFUSALS = tuple(Column("", key, is_shown=False) for key in ("code", "line", "text", "meaning", "remedy"))

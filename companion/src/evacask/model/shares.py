@@ -38,6 +38,9 @@ class People(Fraction):
     def __rsub__(self, other: Any) -> Any:
         return whole_or_people(Fraction.__rsub__(self, other))
 
+    def __neg__(self) -> Any:
+        return whole_or_people(Fraction.__neg__(self))
+
     def __mul__(self, other: Any) -> Any:
         return whole_or_people(Fraction.__mul__(self, other))
 

@@ -10,6 +10,7 @@ from evacask.errors import Refused, Shortfall
 from evacask.model.building import Model
 from evacask.model.edits import edited
 from evacask.model.ground import Ground
+from evacask.model.records import Records
 from evacask.model.shares import Count
 
 
@@ -37,7 +38,7 @@ class Scenario:
 
 
 @dataclass(frozen=True)
-class Comparison:
+class Comparison(Records):
     """Scenarios, each compared with the first."""
 
     scenarios: Tuple[Scenario, ...]

@@ -10,6 +10,7 @@ from evacask.client.talk import Client
 from evacask.errors import Shortfall
 from evacask.model.building import Arc, Model, Node
 from evacask.model.ground import Ground
+from evacask.model.records import Records
 from evacask.model.shares import Count
 from evacask.model.walks import walks
 
@@ -29,7 +30,7 @@ class Doubt:
 
 
 @dataclass(frozen=True)
-class Review:
+class Review(Records):
     """All doubts about a building, by line."""
 
     doubts: Tuple[Doubt, ...]

@@ -15,10 +15,11 @@ from typing import Callable, Dict, List, Optional, Tuple
 from evacask.client.asking import session
 from evacask.client.blocks import Outcome, Plan
 from evacask.client.talk import Client
-from evacask.errors import Broken, Refused
+from evacask.errors import Broken
 from evacask.model.building import Model, Way
 from evacask.model.draft import MOST_RATE
 from evacask.model.ground import Ground
+from evacask.model.records import Records
 from evacask.model.shares import Count, in_people, typed
 from evacask.questions.sweep import sweep
 
@@ -41,7 +42,7 @@ class WayOutcome:
 
 
 @dataclass(frozen=True)
-class Sensitivity:
+class Sensitivity(Records):
     """All ways of a building, what costs most first, and when all are out as it is. `asked` counts the buildings that had to be planned."""
 
     cleared: int
@@ -75,12 +76,12 @@ def sensitivity(
     crossed = {it.names for it in cut.items if it.word == "arc"}
     same = Outcome(opening.cleared, opening.people)
     asked = questions(model, rate, most_sent(opening), {(it[0], it[1]) for it in crossed})
-    outcomes = sweep(client, model, list(asked.values()), workers, tell)
+    answers = sweep(client, model, list(asked.values()), workers, tell)
     found: Dict[Tuple[Names, str], Outcome] = {}
-    for key, outcome in zip(asked, outcomes):
-        if isinstance(outcome, Refused):
-            raise Broken(f"the program refused {asked[key]}: {outcome}")
-        found[key] = outcome
+    for key, answer in zip(asked, answers):
+        if answer.most is None:
+            raise Broken(f"the program refused {asked[key]} with {answer.refused}")
+        found[key] = Outcome(answer.cleared, answer.most)
     names: List[Names] = [*model.arcs, *((it.name,) for it in model.exits)]
     ways = [WayOutcome(it, found.get((it, "without"), same), found.get((it, "wide"), same)) for it in names]
     return Sensitivity(opening.cleared, opening.people, rate, tuple(sorted(ways, key=lambda it: it.order)), len(asked))

@@ -10,6 +10,7 @@ from evacask.errors import Shortfall, Span
 from evacask.model.building import Model
 from evacask.model.draft import LAST_MOMENT
 from evacask.model.ground import Ground
+from evacask.model.records import Records
 from evacask.model.shares import Count
 from evacask.model.walks import Bound, walking_bound, walks
 from evacask.questions.review import review_of
@@ -20,7 +21,7 @@ MOST_CELLS = 1_000_000
 
 
 @dataclass(frozen=True)
-class Summary:
+class Summary(Records):
     """A building from which everybody gets out. Moments are in periods; `person_periods` is the sum of the moments at which people are out.
 
     `cut` is that of the period before clearing, if there is one. `bound` is own arithmetic, and so is the number of `doubts`.
@@ -54,7 +55,7 @@ class Summary:
 
 
 @dataclass(frozen=True)
-class Short:
+class Short(Records):
     """A building from which at most `most` of `people` can be out by the horizon; `cut` shows it.
 
     Own arithmetic says what to do: `caught` are nodes with people from which no way leads out; `enough` is a horizon that the walking bound makes

@@ -10,6 +10,7 @@ from evacask.client.dialogue import Session
 from evacask.client.talk import Client
 from evacask.model.building import Model
 from evacask.model.ground import Ground
+from evacask.model.records import Records
 from evacask.model.shares import Count
 
 
@@ -28,7 +29,7 @@ class Place:
 
 
 @dataclass(frozen=True)
-class Why:
+class Why(Records):
     """At most `most` of `people` can be out by `period`; `places` add up to `most`. All are out by `cleared`. Moments are in periods."""
 
     period: int

@@ -11,6 +11,7 @@ from evacask.errors import Broken, Refused
 from evacask.model.building import Model
 from evacask.model.ground import Ground
 from evacask.model.passages import DOOR, GREATEST_FLOWS, LEAF, LEVEL, SIDES, STAIRS
+from evacask.model.records import Records
 from evacask.model.shares import Count
 from evacask.model.seconds import last_moment_within
 
@@ -36,7 +37,7 @@ class Widths:
 
 
 @dataclass(frozen=True)
-class Width:
+class Width(Records):
     """The least `rate` of an arc at which all are out within `seconds`, which is by `moment`; None if no rate up to 10,000 is enough.
 
     `most` is how many can be out by then with one less, or with 10,000 if no rate is enough; None of rate 0. `now` is the rate that the arc has.

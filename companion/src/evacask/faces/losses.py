@@ -1,0 +1,57 @@
+"""The command `losses` and its sheet."""
+from __future__ import annotations
+
+from argparse import Namespace
+
+from evacask.faces.asked import Asked, put
+from evacask.faces.progress import progress
+from evacask.faces.sheet import Column, Sheet
+from evacask.faces.words import BUILDING, SHARED, Command, argument, number
+from evacask.model.building import Model
+from evacask.questions.losses import Losses, losses
+
+COLUMNS = (
+    Column("all out", "", is_right=True),
+    Column("out", "out", is_right=True),
+    Column("lost together", "lost"),
+    Column("", "name"),
+    Column("", "cleared_moment", is_shown=False),
+)
+
+
+def losses_sheet(answer: Losses, model: Model) -> Sheet:
+    """The worst losses, the worst first."""
+    rows = []
+    for it in answer.worst:
+        names = "; ".join(filter(None, (model.named(*place) for place in it.places)))
+        span = "" if it.cleared is None else model.span(it.cleared)
+        rows.append((span, f"{it.most} of {answer.people}", ", ".join(" ".join(place) for place in it.places), names, it.cleared))
+    what = "place" if answer.count == 1 else f"{answer.count} places"
+    after = (
+        f"{answer.tried} losses planned; of the {answer.possible:,} of {what} all others cost less than these, or no more than a part of them alone."
+    )
+    return Sheet(answer, (), COLUMNS, tuple(rows), (after,))
+
+
+def run(given: Namespace) -> int:
+    asked = Asked(given)
+    places = [(it.name,) for it in asked.model.exits] if given.exits else None
+    with progress("losses") as tell:
+        answer = losses(asked.client, asked.model, given.k, places, given.top, tell)
+    return put(losses_sheet(answer, asked.model), "losses", given, asked.client)
+
+
+COMMAND = Command(
+    "losses",
+    run,
+    "the worst two or three ways to lose at once",
+    "A loss is listed if it costs more than each part of it. A row without a time keeps people inside: `out` says how many are out by the horizon.",
+    "examples/metro.evac -k 2",
+    (
+        BUILDING,
+        argument("-k", type=number, default=2, metavar="N", help="how many are lost at once: 1, 2 (without a word) or 3"),
+        argument("--exits", action="store_true", help="lose exits, and not single ways"),
+        argument("--top", type=number, default=5, metavar="N", help="how many losses to list; without it 5"),
+        *SHARED,
+    ),
+)

@@ -1,0 +1,148 @@
+"""The pictures of the building: nodes as boxes, ways as wide as people use them, and red if every best plan fills them at some moment."""
+from __future__ import annotations
+
+import math
+from dataclasses import dataclass, field
+from typing import List, Mapping, Set, Tuple
+
+from evacask.faces.page.curve import picture
+from evacask.faces.page.layout import LEFT, WIDTH, Figure, figures_of
+from evacask.faces.page.markup import Markup, empty, joined, tag
+from evacask.model.building import Arc, Model, Way
+from evacask.model.shares import Count
+
+Point = Tuple[float, float]
+BOX_WIDTH, BOX_HEIGHT = 60, 31
+FULL, USED, UNUSED, EXIT = "#b3261e", "#1a1a1a", "#767676", "#1b6e3c"
+ARROW = Markup(
+    '<defs><marker id="arrow" viewBox="0 0 8 8" refX="7" refY="4" markerWidth="7" markerHeight="7" markerUnits="userSpaceOnUse" orient="auto">'
+    '<path d="M0 0L8 4L0 8z" fill="#1a1a1a"/></marker></defs>'
+)
+
+
+@dataclass
+class Boxes:
+    """The boxes that are taken in a picture, so that no text stands over another."""
+
+    taken: List[Tuple[float, float, float, float]] = field(default_factory=list)
+
+    def take(self, x: float, y: float, width: float, height: float) -> bool:
+        """Takes a box by its middle, if it is free."""
+        box = (x - width / 2, y - height / 2, x + width / 2, y + height / 2)
+        if any(box[0] < it[2] and it[0] < box[2] and box[1] < it[3] and it[1] < box[3] for it in self.taken):
+            return False
+        self.taken.append(box)
+        return True
+
+
+@dataclass(frozen=True)
+class Drawing:
+    """A building with how many go each way in all, and the ways that every best plan fills."""
+
+    model: Model
+    through: Mapping[Way, Count]
+    full: Set[Way]
+
+    def pictures(self) -> List[Markup]:
+        """The building in one picture or several."""
+        return [self.picture(at, it) for at, it in enumerate(figures_of(self.model))]
+
+    def picture(self, number: int, shown: Figure) -> Markup:
+        boxes, drawn = Boxes(), []
+        for x, y in shown.places.values():
+            boxes.take(x, y, BOX_WIDTH + 6, BOX_HEIGHT + 4)
+        drawn += [self.storey(floor, y) for floor, y in shown.storeys.items()]
+        drawn += [told(y, count) for y, count in shown.folds]
+        ways = [it for it in self.model.arcs.values() if it.tail in shown.places or it.head in shown.places]
+        drawn += [self.way(it, shown.places) for it in ways]
+        drawn += [self.count(it, shown.places, boxes) for it in sorted(ways, key=lambda it: -self.through[it.way]) if self.through[it.way]]
+        drawn += [self.node(name, place) for name, place in shown.places.items()]
+        title = "The building by storeys. The tables have the same numbers."
+        return picture(f"building-{number}", WIDTH, shown.height, title, joined([ARROW, *drawn]))
+
+    def storey(self, floor: int, y: float) -> Markup:
+        """The name of a storey, at the left."""
+        name = self.model.floors.get(floor) or f"{floor}"
+        return tag("text", tag("title", name), name[:14], x=4, y=f"{y + 4:.0f}", font_weight=600)
+
+    def way(self, arc: Arc, places: Mapping[str, Point]) -> Markup:
+        """A way as a curve with an arrow, or as a stub if one of its ends isn't in the picture."""
+        people, line = self.through[arc.way], self.line(arc, places)
+        colour = FULL if arc.way in self.full else USED if people else UNUSED
+        width = 1 + 6 * float(people) / max(1.0, float(max(self.through.values(), default=1)))
+        (x1, y1), (mx, my), (x2, y2) = line
+        what = f"{arc.tail} to {arc.head}: {people:,} people{', full in every best plan at some moments' if arc.way in self.full else ''}"
+        return tag(
+            "path",
+            tag("title", what),
+            d=f"M{x1:.0f} {y1:.0f}Q{mx:.0f} {my:.0f} {x2:.0f} {y2:.0f}",
+            fill="none",
+            stroke=colour,
+            stroke_width=f"{width:.1f}",
+            stroke_opacity=0.75,
+            stroke_dasharray=None if people else "4 4",
+            marker_end="url(#arrow)",
+        )
+
+    def line(self, arc: Arc, places: Mapping[str, Point]) -> Tuple[Point, Point, Point]:
+        """The begin, the bend and the end of a way."""
+        if arc.tail not in places or arc.head not in places:
+            return stub(arc, self.model, places)
+        (x1, y1), (x2, y2) = places[arc.tail], places[arc.head]
+        is_both = (arc.head, arc.tail) in self.model.arcs
+        bend = 0.0
+        if y1 == y2:
+            bend = min(44.0, 12 + abs(x1 - x2) / 12) * (-1 if is_both and x1 > x2 else 1)
+        middle = ((x1 + x2) / 2 + (9 if is_both and y1 != y2 else 0), (y1 + y2) / 2 + bend)
+        return (x1, y1), middle, at_box((x2, y2), middle)
+
+    def count(self, arc: Arc, places: Mapping[str, Point], boxes: Boxes) -> Markup:
+        """How many go a way, beside its middle, if there is room."""
+        first, middle, last = self.line(arc, places)
+        x = 0.25 * first[0] + 0.5 * middle[0] + 0.25 * last[0]
+        y = 0.25 * first[1] + 0.5 * middle[1] + 0.25 * last[1]
+        text = f"{self.through[arc.way]:,}"
+        if not boxes.take(x + 4, y - 1, 7 * len(text) + 4, 14):
+            return Markup("")
+        return tag("text", text, x=f"{x + 4:.0f}", y=f"{y + 4:.0f}", text_anchor="middle", stroke="#fff", stroke_width=3, paint_order="stroke")
+
+    def node(self, name: str, place: Point) -> Markup:
+        """A node as a box: its name, and its people and capacity."""
+        node, (x, y) = self.model.nodes[name], place
+        ink = "fill:#fff" if node.is_exit else None
+        box = empty(
+            "rect",
+            x=f"{x - BOX_WIDTH / 2:.0f}",
+            y=f"{y - BOX_HEIGHT / 2:.0f}",
+            width=BOX_WIDTH,
+            height=BOX_HEIGHT,
+            rx=4,
+            fill=EXIT if node.is_exit else "#fff",
+            stroke="#1a1a1a",
+        )
+        first = tag("text", name, x=f"{x:.0f}", y=f"{y - 2:.0f}", text_anchor="middle", style=ink)
+        said = "exit" if node.is_exit else f"{node.start}/{node.capacity}"
+        second = tag("text", said, x=f"{x:.0f}", y=f"{y + 11:.0f}", text_anchor="middle", style=f"{ink + ';' if ink else ''}font-size:10px")
+        return tag("g", tag("title", f"{name} {node.own_name}".strip()), box, first, second)
+
+
+def at_box(end: Point, middle: Point) -> Point:
+    """Where a line from a bend to a node meets the node's box."""
+    x, y = end[0] - middle[0], end[1] - middle[1]
+    away = math.hypot(x, y) or 1.0
+    inside = min((BOX_WIDTH / 2 + 2) / abs(x) if x else math.inf, (BOX_HEIGHT / 2 + 2) / abs(y) if y else math.inf) * away
+    return end[0] - x / away * min(inside, away), end[1] - y / away * min(inside, away)
+
+
+def stub(arc: Arc, model: Model, places: Mapping[str, Point]) -> Tuple[Point, Point, Point]:
+    """A short line between a node and the edge beyond which the other end of a way is."""
+    inner = arc.tail if arc.tail in places else arc.head
+    outer = arc.head if arc.tail in places else arc.tail
+    x, y = places[inner]
+    down = 1 if model.nodes[outer].floor < model.nodes[inner].floor else -1
+    near, far = (x, y + down * (BOX_HEIGHT / 2 + 2)), (x, y + down * (BOX_HEIGHT / 2 + 24))
+    return (near, far, far) if arc.tail in places else (far, near, near)
+
+
+def told(y: float, count: int) -> Markup:
+    return tag("text", f".. and {count} more {'storey' if count == 1 else 'storeys'} like this one ..", x=LEFT, y=f"{y:.0f}", fill="#595959")

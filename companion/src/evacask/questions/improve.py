@@ -1,0 +1,159 @@
+"""The cheapest widenings with which all are out in time: exact, by cuts that the program prints.
+
+Buy x. All are out by a moment exactly if each cut at that moment is worth at least the people. The worth of a cut is linear in x: its worth now, and
+for each place how often it counts, times what was bought of it. So each printed cut is a demand that every purchase has to meet. The cheapest x that
+meets the demands so far is put to the program. If that clears, it is enough, and it is the cheapest for fewer demands, so the cheapest at all. Else
+the program prints a cut that it misses, which is the next demand.
+"""
+from __future__ import annotations
+
+from dataclasses import dataclass, replace
+from typing import Callable, Dict, List, Optional, Sequence, Tuple
+
+from evacask.client.asking import plan_or_short
+from evacask.client.blocks import Plan
+from evacask.client.talk import Client
+from evacask.errors import WordsError
+from evacask.model.building import Model
+from evacask.model.crossings import Crossings, Place, crossings, size_of
+from evacask.model.ground import Ground
+from evacask.model.variant import MOST_PEOPLE, MOST_RATE, in_whole_people, varied, whole
+from evacask.questions.cover import Cover, Row, Work, cover
+
+WORK = 40_000_000
+Solver = Callable[[Sequence[Tuple[Row, int]], Sequence[int], Sequence[int], Work], Optional[Cover]]
+
+
+@dataclass(frozen=True)
+class Widening:
+    """What can be bought up to `most` times: `step` more rate of an arc (two names), or more capacity of a node (one), each time for `cost`."""
+
+    place: Place
+    step: int = 1
+    cost: int = 1
+    most: int = MOST_PEOPLE
+
+
+@dataclass(frozen=True)
+class Purchase:
+    """A widening that is bought `times`: what was `before`, and is `after`."""
+
+    place: Place
+    times: int
+    cost: int
+    before: int
+    after: int
+
+
+@dataclass(frozen=True)
+class Improvement:
+    """For `cost` all are out by `cleared`, within `moment`, and no purchase for less than `at_least` is enough. `cuts` show that.
+
+    No `cost`: nothing was found; with `most` because at most so many are out by `moment` whatever is bought, else because the work ran out.
+    """
+
+    moment: int
+    people: int
+    cost: Optional[int]
+    at_least: int
+    cleared: Optional[int]
+    purchases: Tuple[Purchase, ...]
+    cuts: int
+    most: Optional[int] = None
+    ground: Ground = Ground.CUTS
+
+    @property
+    def is_exact(self) -> bool:
+        return self.cost == self.at_least or self.most is not None
+
+    def records(self) -> List[Dict[str, object]]:
+        return [{"place": " ".join(it.place), "times": it.times, "cost": it.cost, "before": it.before, "after": it.after} for it in self.purchases]
+
+
+def all_widenings(model: Model) -> List[Widening]:
+    """Each arc by 1 for 1; each node too if a capacity can matter at all: if an arc has a window or people come later (law: capacities)."""
+    arcs = [Widening(way) for way in model.arcs]
+    return arcs if model.is_steady else arcs + [Widening((it.name,)) for it in model.rooms]
+
+
+def improve(
+    client: Client, model: Model, moment: int, widenings: Optional[Sequence[Widening]] = None, work: int = WORK, solver: Solver = cover
+) -> Improvement:
+    """The cheapest of some widenings (`all_widenings`, if none are given) with which all are out by a moment, in periods."""
+    in_whole_people(model)
+    if not max((it.moment for it in model.entrants), default=0) <= moment <= model.horizon:
+        raise WordsError(f"all are to be out by {moment}: it has to be a moment from the last entrant's to the horizon, {model.horizon}")
+    given = all_widenings(model) if widenings is None else widenings
+    offers = [limited(model, it) for it in given]
+    return Search(client, model, moment, offers, Work(work), solver).run()
+
+
+def limited(model: Model, it: Widening) -> Widening:
+    """A widening of the building's own names that stays within the limits of rates and capacities."""
+    if it.step < 1 or it.cost < 0 or it.most < 0:
+        raise WordsError(
+            f"a widening of {' '.join(it.place)} has step {it.step}, cost {it.cost}, most {it.most}: a step is at least 1, and none is below 0"
+        )
+    place: Place = model.arc(*it.place).way if len(it.place) == 2 else (model.node(*it.place).name,)
+    if len(place) == 1 and model.nodes[place[0]].is_exit:
+        raise WordsError(f"{place[0]} is an exit, which has no capacity")
+    limit = MOST_RATE if len(place) == 2 else MOST_PEOPLE
+    return replace(it, place=place, most=min(it.most, (limit - size_of(model, place)) // it.step))
+
+
+def widened(model: Model, offers: Sequence[Widening], x: Sequence[int]) -> Model:
+    """The building with what was bought."""
+    more: Dict[Place, int] = {}
+    for it, times in zip(offers, x):
+        more[it.place] = more.get(it.place, 0) + it.step * times
+    arcs = {way: replace(arc, rate=min(MOST_RATE, whole(arc.rate) + more[way])) for way, arc in model.arcs.items() if more.get(way)}
+    rooms = [it for it in model.rooms if more.get((it.name,))]
+    nodes = {it.name: replace(it, capacity=min(MOST_PEOPLE, whole(it.capacity) + more[it.name,])) for it in rooms}
+    return varied(model, nodes=nodes, arcs=arcs)
+
+
+class Search:
+    """The demands so far, and the purchase that is to be put to the program next."""
+
+    def __init__(self, client: Client, model: Model, moment: int, offers: List[Widening], work: Work, solver: Solver):
+        self.client, self.model, self.moment, self.offers, self.work, self.solver = client, model, moment, offers, work, solver
+        self.demands: List[Tuple[Row, int]] = []
+
+    def run(self) -> Improvement:
+        """Buys, asks and adds a demand, until a purchase is enough or none can be."""
+        bought = Cover(0, 0, (0,) * len(self.offers))
+        while bought.x is not None:
+            now = widened(self.model, self.offers, bought.x)
+            answer = plan_or_short(self.client, now, self.moment)
+            if isinstance(answer, Plan):
+                return self.improvement(bought, answer.cleared)
+            self.demand(crossings(now, answer.cut, self.moment))
+            found = self.solver(self.demands, [it.cost for it in self.offers], [it.most for it in self.offers], self.work)
+            if found is None:
+                return self.barred(bought.at_least)
+            bought = replace(found, at_least=max(found.at_least, bought.at_least))
+        return self.improvement(bought, None)
+
+    def demand(self, cut: Crossings) -> None:
+        """What a purchase has to meet so that this cut is worth all people."""
+        row = {at: cut.places[it.place] * it.step for at, it in enumerate(self.offers) if cut.places.get(it.place) and it.most}
+        self.demands.append((row, whole(self.model.people) - cut.worth(self.model)))
+
+    def improvement(self, bought: Cover, cleared: Optional[int]) -> Improvement:
+        before = {it.place: size_of(self.model, it.place) for it in self.offers}
+        purchases = []
+        for it, times in zip(self.offers, bought.x or ()):
+            if times:
+                after = before[it.place] + it.step * times
+                purchases.append(Purchase(it.place, times, it.cost * times, before[it.place], after))
+                before[it.place] = after
+        cost = bought.cost if bought.x is not None else None
+        return Improvement(self.moment, whole(self.model.people), cost, bought.at_least, cleared, tuple(purchases), len(self.demands))
+
+    def barred(self, at_least: int) -> Improvement:
+        """No purchase meets all demands: if everything is bought, a cut says how many are out at most."""
+        everything = widened(self.model, self.offers, [it.most for it in self.offers])
+        answer = plan_or_short(self.client, everything, self.moment)
+        if isinstance(answer, Plan):  # (two offers for one place are more than its limit together)
+            raise WordsError("what may be bought of one place in several rows is together more than a rate or a capacity may be")
+        return Improvement(self.moment, whole(self.model.people), None, at_least, None, (), len(self.demands), whole(answer.most))

@@ -1,0 +1,163 @@
+"""How sure a clearing time is: between which moments all are out, if rates, travels and starts are only known as intervals.
+
+Wider ways, shorter walks and fewer people never make all out later. So two corners bound every building whose numbers lie in the intervals, also if
+each number varies by itself: the one with all numbers at their best, and the one with all at their worst. What the laws ask for is looked at first.
+"""
+from __future__ import annotations
+
+import math
+from dataclasses import dataclass, field, replace
+from fractions import Fraction
+from typing import Dict, List, Mapping, Optional, Tuple
+
+from evacask.client.asking import plan_or_short
+from evacask.client.blocks import Plan
+from evacask.client.talk import Client
+from evacask.errors import WordsError
+from evacask.model.building import Arc, Model, Way
+from evacask.model.ground import Ground
+from evacask.model.variant import MOST_PEOPLE, MOST_RATE, MOST_TRAVEL, in_whole_people, people_of, varied, whole
+
+Interval = Tuple[int, int]
+KINDS = ("rate", "travel", "people")
+
+
+@dataclass(frozen=True)
+class Ranges:
+    """The least and the greatest value of some rates, travels (periods) and starts; what isn't named is as it is in the building."""
+
+    rates: Mapping[Way, Interval] = field(default_factory=dict)
+    travels: Mapping[Way, Interval] = field(default_factory=dict)
+    people: Mapping[str, Interval] = field(default_factory=dict)
+
+    def only(self, kind: str) -> "Ranges":
+        """One kind of these ranges."""
+        return replace(
+            self,
+            rates=self.rates if kind == "rate" else {},
+            travels=self.travels if kind == "travel" else {},
+            people=self.people if kind == "people" else {},
+        )
+
+    @property
+    def kinds(self) -> List[str]:
+        return [kind for kind, given in zip(KINDS, (self.rates, self.travels, self.people)) if given]
+
+
+@dataclass(frozen=True)
+class Span:
+    """If these inputs vary, all are out from `earliest` to `latest` (moments). None: not all by the horizon; then at most so many (`.._most`)."""
+
+    varied: Tuple[str, ...]
+    earliest: Optional[int]
+    earliest_most: int
+    latest: Optional[int]
+    latest_most: int
+
+
+@dataclass(frozen=True)
+class Range:
+    """The spans of each kind of input by itself and of all together, the last. `doubt` says what keeps the bounds from being certain, if anything.
+
+    `depends` are the kinds that change the answer at all. `coarse` counts the travels below 5 periods, in which rounding may be most of the interval.
+    """
+
+    cleared: Optional[int]
+    most: int
+    spans: Tuple[Span, ...]
+    doubt: Optional[str]
+    coarse: int
+    ground: Ground = Ground.PROVED
+
+    @property
+    def depends(self) -> Tuple[str, ...]:
+        return tuple(it.varied[0] for it in self.spans[:-1] if (it.earliest, it.earliest_most) != (it.latest, it.latest_most))
+
+    def records(self) -> List[Dict[str, object]]:
+        return [{"varied": list(it.varied), "earliest": it.earliest, "latest": it.latest} for it in self.spans]
+
+
+def percents(model: Model, rate: Interval = (0, 0), travel: Interval = (0, 0), people: Interval = (0, 0)) -> Ranges:
+    """Ranges by percents below and above each number, rounded outwards to whole numbers."""
+    for low, high in (rate, travel, people):
+        if not (0 <= low <= 100 and 0 <= high <= 1000):
+            raise WordsError(f"{low} and {high} percent: below it is 0 to 100 of a hundred, and above 0 to 1,000")
+    arcs = model.arcs.items()
+    return Ranges(
+        {way: spread(whole(arc.rate), rate, 0, MOST_RATE) for way, arc in arcs} if any(rate) else {},
+        {way: spread(arc.travel, travel, 1, MOST_TRAVEL) for way, arc in arcs} if any(travel) else {},
+        {it.name: spread(whole(it.start), people, 0, MOST_PEOPLE) for it in model.rooms if it.start} if any(people) else {},
+    )
+
+
+def spread(value: int, percent: Interval, least: int, most: int) -> Interval:
+    low, high = Fraction(value * (100 - percent[0]), 100), Fraction(value * (100 + percent[1]), 100)
+    return max(least, math.floor(low)), min(most, math.ceil(high))
+
+
+def ranges(client: Client, model: Model, given: Ranges) -> Range:
+    """When all are out at the best and at the worst of some ranges."""
+    in_whole_people(model)
+    check_ranges(model, given)
+    now = plan_or_short(client, model)
+    parts = [given.only(kind) for kind in given.kinds]
+    spans = [span_of(client, model, part) for part in (parts if len(parts) > 1 else [])]
+    spans.append(span_of(client, model, given))
+    coarse = sum(1 for way in given.travels if model.arcs[way].travel < 5)
+    cleared, most = (now.cleared, whole(now.people)) if isinstance(now, Plan) else (None, whole(now.most))
+    return Range(cleared, most, tuple(spans), doubt_of(model, given), coarse)
+
+
+def check_ranges(model: Model, given: Ranges) -> None:
+    """`WordsError` if a range has no value, leaves out the building's own, or goes beyond what the language allows."""
+    for way, interval in given.rates.items():
+        check_range(f"rate of {' '.join(way)}", whole(model.arc(*way).rate), interval, (0, MOST_RATE))
+    for way, interval in given.travels.items():
+        check_range(f"travel of {' '.join(way)}", model.arc(*way).travel, interval, (1, MOST_TRAVEL))
+    for name, interval in given.people.items():
+        node = model.node(name)
+        if node.start is None:
+            raise WordsError(f"{node.name} is an exit: nobody starts there")
+        check_range(f"start of {name}", whole(node.start), interval, (0, MOST_PEOPLE))
+
+
+def check_range(what: str, now: int, interval: Interval, limits: Interval) -> None:
+    low, high = interval
+    if not limits[0] <= low <= now <= high <= limits[1]:
+        raise WordsError(f"the {what} is {now}, and the interval from {low} to {high} has to hold it, from {limits[0]} to {limits[1]:,}")
+
+
+def span_of(client: Client, model: Model, given: Ranges) -> Span:
+    best, worst = plan_or_short(client, corner(model, given, True)), plan_or_short(client, corner(model, given, False))
+    early = (best.cleared, whole(best.people)) if isinstance(best, Plan) else (None, whole(best.most))
+    late = (worst.cleared, whole(worst.people)) if isinstance(worst, Plan) else (None, whole(worst.most))
+    return Span(tuple(given.kinds), *early, *late)
+
+
+def corner(model: Model, given: Ranges, is_best: bool) -> Model:
+    """The building in which all are out first, or last. A room holds all who may start in it at most, in both corners."""
+    arcs: Dict[Way, Arc] = {}
+    for way, arc in model.arcs.items():
+        rate, travel = given.rates.get(way, (whole(arc.rate),) * 2), given.travels.get(way, (arc.travel,) * 2)
+        arcs[way] = replace(arc, rate=rate[is_best], travel=travel[not is_best])
+    nodes = {}
+    for name, people in given.people.items():
+        node = model.nodes[name]
+        nodes[name] = replace(node, start=people[not is_best], capacity=max(whole(node.capacity), people[1]))
+    return varied(model, nodes=nodes, arcs=arcs)
+
+
+def doubt_of(model: Model, given: Ranges) -> Optional[str]:
+    """What keeps the corners from being certain, None if nothing does."""
+    if any(low < high for low, high in given.travels.values()):
+        if model.windows:
+            return "longer walks can help here, as an arc has a window (docs/LAWS.md, longer walks)"
+        worst = corner(model, given, False)
+        tight = [name for name, people in people_of(worst).items() if people > whole(worst.nodes[name].capacity)]
+        if tight:
+            return f"longer walks can help here, as {tight[0]} doesn't hold all who come into it (docs/LAWS.md, longer walks)"
+    if not model.is_steady:
+        small = [name for name, people in given.people.items() if people[1] > whole(model.nodes[name].capacity)]
+        if small:
+            return f"{small[0]} doesn't hold the most who may start there, and with windows or late-comers a larger room can help"
+    return None

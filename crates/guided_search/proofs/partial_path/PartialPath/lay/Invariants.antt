@@ -1,5 +1,0 @@
-use Rattle.std.proofs.Common.{◌≡◌, vec_capacity}
-use Rattle.guided_search.proofs.partial_path.PartialPath.lay.Given as goal
-
-abbrev pub invariant-loop-stay : goal.invariant-loop-stay
-invariant-loop-stay l = vec_capacity l.legs ≡ vec_capacity l.fn.legs

@@ -1,0 +1,136 @@
+"""Packs the page into one file: pack.py MODULE.wasm OUT.html packs a module by hand; web/build says what may be claimed of it, and what it was made from.
+
+The modules of page/ become one script: each is a value of what it exports, after those that it imports. The worker is packed alike, and goes into the page
+as a text. The page's policy names the script and the style by their sums, so it runs no other.
+"""
+from __future__ import annotations
+
+import base64
+import hashlib
+import json
+import re
+import sys
+from pathlib import Path
+from typing import Dict, List, Tuple
+
+HERE = Path(__file__).resolve().parent
+PAGE = HERE / "page"
+FORMATS = HERE.parent / "docs" / "FORMATS.md"
+EXAMPLES = ("office", "school", "two_exits", "stair_repair", "theatre", "metro", "tower")
+
+IMPORT = re.compile(r"^import (\{[^}]*\}) from '\./([a-z_]+)\.js';$", re.MULTILINE)
+EXPORT = re.compile(r"^export ((?:async )?(?:function\*?|class|const|let) ([A-Za-z_]+))", re.MULTILINE)
+COMMENT = re.compile(r"^[ \t]*(?:/\*\*(?:[^*]|\*(?!/))*\*/|//[^\n]*)\n", re.MULTILINE)
+
+
+def text_of_module(name: str) -> str:
+    return (PAGE / f"{name}.js").read_text(encoding="utf-8")
+
+
+def order(name: str, done: List[str]) -> None:
+    """Adds a module to those that are done, after all that it needs and that aren't."""
+    if name in done:
+        return
+    for _, other in IMPORT.findall(text_of_module(name)):
+        order(other, done)
+    done.append(name)
+
+
+def packed(text: str) -> str:
+    """A module's text without comments, whose imports are parts of other modules' values."""
+    return EXPORT.sub(r"\1", COMMENT.sub("", IMPORT.sub(r"const \1 = \2_module;", text))).strip()
+
+
+def bundle(name: str, given: Dict[str, str]) -> str:
+    """A module and all that it imports as one script: of each other one a value of what it exports. The texts that are given stand for modules."""
+    names: List[str] = []
+    order(name, names)
+    scripts = []
+    for other in names[:-1]:
+        text = given.get(other) or text_of_module(other)
+        exported = ", ".join(it for _, it in EXPORT.findall(text))
+        scripts.append(f"const {other}_module = (() => {{\n{packed(text)}\nreturn {{ {exported} }};\n}})();")
+    return "\n".join([*scripts, packed(text_of_module(name))]) + "\n"
+
+
+def plain(cell: str) -> str:
+    """A cell of a table without the marks of code and links."""
+    return re.sub(r"\[([^]]*)\]\([^)]*\)", r"\1", cell).replace("`", "").strip()
+
+
+def rows_after(mark: str) -> List[List[str]]:
+    """The rows of the first table after a mark in docs/FORMATS.md."""
+    text = FORMATS.read_text(encoding="utf-8")
+    after = text[text.index(f"\n{mark}\n") :]
+    lines = after[after.index("\n|") + 1 :].split("\n")
+    return [[plain(cell) for cell in line.strip()[1:-1].split("|")] for line in lines[2 : lines.index("")]]
+
+
+def codes() -> List[Tuple[int, str, str]]:
+    """The codes of a building: what each means, and what to do."""
+    return [(int(code), what, remedy) for code, what, remedy in rows_after("<!-- codes: building -->")]
+
+
+def edit_codes() -> List[Tuple[str, int, str, str]]:
+    """The codes of an edit: its word, or nothing if it is any, and then the same."""
+    of_edits = [(word, int(code), what, remedy) for word, code, what, remedy in rows_after("<!-- codes: commands -->")]
+    return of_edits + [("", int(code), what, remedy) for code, what, remedy in rows_after("<!-- codes: session -->")]
+
+
+def statements() -> List[Tuple[str, str]]:
+    """The statements of the language: the form of each, and its ranges."""
+    return [(form, "; ".join(filter(None, (ranges.strip(), often)))) for form, ranges, often in rows_after("## The statements")]
+
+
+def parts(module: bytes, claim: str, origin: str) -> str:
+    """The module parts.js of the page, filled in."""
+    examples = [(name, (HERE.parent / "examples" / f"{name}.evac").read_text(encoding="utf-8")) for name in EXAMPLES]
+    values = {
+        "MODULE": base64.b64encode(module).decode(),
+        "WORKER": bundle("worker", {}),
+        "EXAMPLES": examples,
+        "CODES": codes(),
+        "EDIT_CODES": edit_codes(),
+        "STATEMENTS": statements(),
+        "CLAIM": claim,
+        "ORIGIN": origin,
+    }
+    return "".join(f"export const {name} = {text_of(value)};\n" for name, value in values.items())
+
+
+def text_of(value: object) -> str:
+    """A value as JavaScript that holds no end of a script."""
+    return json.dumps(value, ensure_ascii=False).replace("<", "\\u003c").replace("\u2028", "\\u2028").replace("\u2029", "\\u2029")
+
+
+def sum_of(text: str) -> str:
+    return base64.b64encode(hashlib.sha256(text.encode()).digest()).decode()
+
+
+def policy(script: str, style: str) -> str:
+    """The page's policy: its own script, style and worker, WebAssembly, and nothing else. Nothing is loaded or sent, no form and no frame."""
+    return (
+        f"default-src 'none'; script-src 'sha256-{sum_of(script)}' 'wasm-unsafe-eval'; style-src 'sha256-{sum_of(style)}'; "
+        "worker-src blob:; connect-src 'none'; form-action 'none'; base-uri 'none'"
+    )
+
+
+def page_of(module: bytes, claim: str, origin: str) -> str:
+    """The page of a module, with what may be claimed of it and what it was made from, in words."""
+    script = bundle("main", {"parts": parts(module, claim, origin)})
+    style = (PAGE / "style.css").read_text(encoding="utf-8")
+    if "</" in style or re.search(r"</script|<!--", script, re.IGNORECASE):
+        raise SystemExit("the script or the style would end too early")
+    page = (PAGE / "index.html").read_text(encoding="utf-8")
+    for name, text in (("@POLICY@", policy(script, style)), ("@STYLE@", style), ("@SCRIPT@", script)):
+        page = page.replace(name, text)
+    return page
+
+
+def main(module: str, out: str) -> None:
+    page = page_of(Path(module).read_bytes(), "This page was packed by hand, and nothing is claimed of its module.", "a module that was given by hand")
+    Path(out).write_text(page, encoding="utf-8")
+
+
+if __name__ == "__main__":
+    main(*sys.argv[1:])
