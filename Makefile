@@ -8,7 +8,7 @@ unproved:           ## the program without a proof, in about a minute, unless th
 	@./build --unproved
 check: unproved     ## types, names and all tests that prove nothing, in about two minutes
 	@if command -v mypy >/dev/null; then MYPYPATH=tools:tests/front:companion/src/evacask/client $(MYPY) $(TYPED) && MYPYPATH=tools:companion/src $(MYPY) $(PAGES); else echo 'types: not checked, since mypy is not here'; fi
-	@if command -v pyflakes3 >/dev/null; then pyflakes3 $(TYPED) $(PAGES) tools companion/src; else echo 'names: not checked, since pyflakes3 is not here'; fi
+	@if command -v pyflakes3 >/dev/null; then pyflakes3 $(TYPED) $(PAGES); else echo 'names: not checked, since pyflakes3 is not here'; fi
 	python3 tools/check_promises.py
 	python3 tools/pages.py
 	python3 -m unittest discover -s tests -t tests

@@ -18,7 +18,7 @@ import sys
 from typing import Dict, List, Optional
 
 from kit import TOP, Kit, NotBuilt, room_for_files, run, say
-from packing import File, Files, deb_of, digest, files_in, tar_of, wheel_of
+from packing import File, Files, deb_of, digest, tar_of, wheel_of
 import sources
 
 NOT_BUILT, WRONG_WORDS = 70, 64
@@ -110,7 +110,8 @@ def document_files(to: str) -> Files:
 
 def packages(program: bytes, said: bytes, at: str, time: int) -> Dict[str, bytes]:
     """The three packages by name, of a program and a manifest, in a version, with a time for each file."""
-    package = {**files_in(PACKAGE, (".py", ".json", ".typed", ".css", ".js", ".html")), "evacask/MANIFEST.json": File(said)}
+    package = {name: File((PACKAGE / name).read_bytes()) for name in git("-C", str(PACKAGE), "ls-files").splitlines()}
+    package["evacask/MANIFEST.json"] = File(said)
     runs, manifest = File(program, 0o755), File(said)
     top = f"evacplan-{at}-linux-x86_64"
     tree: Files = {"evacplan": runs, "lib/evacask/bin/evacplan": File(link="../../../evacplan"), "MANIFEST.json": manifest}
