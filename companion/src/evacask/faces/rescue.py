@@ -52,7 +52,7 @@ COMMAND = Command(
     run,
     "who can be saved, if not all can",
     "The number is the most of all plans. Who they are differs between best plans; the printed one is for as many as can be.",
-    "examples/office.evac --edit 'shutexit DS1.1'",
+    "examples/school.evac --seconds 115",
     (
         BUILDING,
         argument("--seconds", type=number, metavar="SECONDS", default=None, help="within so many seconds; without it by the horizon"),

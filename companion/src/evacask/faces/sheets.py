@@ -40,9 +40,9 @@ COMMAND = Command(
     "sheet",
     run,
     "a building from two tables of a spreadsheet, and back",
-    "Nodes have the columns name,capacity,start and perhaps floors, own name; ways have from,to,travel,rate and perhaps floors, both ways, own name.\n"
-    "floors 1-20 makes a row into twenty: WP1 is then on each of them, and SW1.-1 on the one below. A fault is told with table, row and column.",
-    "nodes.csv ways.csv --period 5 --horizon 400 -o tower.evac",
+    "Nodes have the columns name,capacity,start and perhaps floors, own name; ways have from,to,travel,rate and perhaps floors, both ways,\n"
+    "own name. floors 1-20 makes a row into twenty: WP1 is then on each of them, and SW1.-1 on the one below. A fault is told with table, row and column.",
+    "examples/tower_nodes.csv examples/tower_ways.csv --period 5 --horizon 400",
     (
         argument("nodes", metavar="NODES.csv", help="the table of nodes"),
         argument("ways", metavar="WAYS.csv", help="the table of ways"),
