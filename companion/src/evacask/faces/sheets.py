@@ -41,7 +41,8 @@ COMMAND = Command(
     run,
     "a building from two tables of a spreadsheet, and back",
     "Nodes have the columns name,capacity,start and perhaps floors, own name; ways have from,to,travel,rate and perhaps floors, both ways,\n"
-    "own name. floors 1-20 makes a row into twenty: WP1 is then on each of them, and SW1.-1 on the one below. A fault is told with table, row and column.",
+    "own name. floors 1-20 makes a row into twenty: WP1 is then on each of them, and SW1.-1 on the one below. A fault is told with table,\n"
+    "row and column.",
     "examples/tower_nodes.csv examples/tower_ways.csv --period 5 --horizon 400",
     (
         argument("nodes", metavar="NODES.csv", help="the table of nodes"),
