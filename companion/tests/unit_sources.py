@@ -7,7 +7,19 @@ import unittest
 from unittest import mock
 
 from evacask.client import program, sources
-from evacask.client.sources import PROVED_PLACE, UNPROVED_PLACE, State, changed_after, crates_of, digests_of, found, index_of, keep_index, made, mark_of
+from evacask.client.sources import (
+    PROVED_PLACE,
+    UNPROVED_PLACE,
+    State,
+    changed_after,
+    crates_of,
+    digests_of,
+    found,
+    index_of,
+    keep_index,
+    made,
+    mark_of,
+)
 
 LOGIC = "0123456789abcdef"
 MARK = f"\0rattle logic={LOGIC}\0\n"
