@@ -65,7 +65,8 @@ class Widths(unittest.TestCase):
         widths = widths_of(4, 5)
         self.assertEqual((widths.door, widths.level, widths.ground), (0.92, 1.02, Ground.OWN))
         self.assertEqual((widths.leaves.leaves, widths.leaves.doors), (1, 1))
-        self.assertTrue(all(it > widths.level for _, it in widths.stairs))
+        # Stairs, of 0.94 to 1.16 a second and metre, with sides of 0.30 m: 0.8 / 0.94 + 0.30 = 1.151 m, and so on.
+        self.assertEqual(widths.stairs, (("191/254", 1.16), ("178/279", 1.10), ("165/305", 1.04), ("165/330", 0.99)))
 
     def test_times_that_no_plan_has(self) -> None:
         for seconds, what in ((4, "The first period ends after 5 s"), (110, "The plan looks 105 s ahead")):
