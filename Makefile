@@ -1,6 +1,6 @@
 # What is made and tried here, a goal a line; each is a command that also runs by itself.
 .PHONY: unproved check prove gate bench docs dist roots help
-TYPED = build web/module/no_table.py tools/dist.py tests/roots.py tests/test_front.py tests/test_release.py
+TYPED = build web/module/no_table.py tools/dist.py tests/roots.py tests/test_front.py tests/test_release.py tests/validation.py
 PAGES = tools/pages.py tests/test_pages.py
 MYPY = mypy --strict --python-version 3.9 --explicit-package-bases
 
@@ -23,6 +23,7 @@ docs:               ## the tables, figures and pages that are written by scripts
 	python3 tools/tables.py --write
 	python3 tools/figures.py --write
 	python3 tools/pages.py --write
+	tests/validation.py --write
 dist: prove         ## the release, in out/dist
 	python3 tools/dist.py
 roots:              ## the release made twice and tried in roots of busybox and Debian
