@@ -9,7 +9,7 @@ _evacask() {
     summary) words='--columns --csv --edit --help --json --program --proved --text' ;;
     why) words='--columns --csv --edit --help --json --program --proved --text' ;;
     sensitivity) words='--columns --csv --edit --help --json --program --proved --rate --text' ;;
-    width) words='--columns --csv --edit --help --json --program --proved --text' ;;
+    width) words='--columns --csv --earlier --edit --help --json --program --proved --text' ;;
     compare) words='--columns --csv --edit --help --json --program --proved --text --unforeseen' ;;
     session) words='--edit --help --program --proved --replan --study' ;;
     tables) words='exits nodes arcs routes totals fullest full walks --columns --csv --edit --help --json --program --proved --text' ;;
@@ -18,12 +18,12 @@ _evacask() {
     convert) words='--both --columns --csv --down --help --json --period --program --proved --shares --text --up' ;;
     edit) words='--edit --help --output --program --proved --version' ;;
     assign) words='--columns --csv --edit --effort --help --json --nearest --plan --program --proved --text' ;;
-    improve) words='--budget --columns --costs --csv --edit --effort --help --highs --json --program --proved --text' ;;
+    improve) words='--budget --columns --costs --csv --earlier --edit --effort --help --highs --json --program --proved --text' ;;
     range) words='--columns --csv --edit --help --json --people --program --proved --rate --table --text --travel' ;;
     sweep) words='--columns --csv --edit --help --jobs --json --output --program --proved --shard --text' ;;
     losses) words='--columns --csv --edit --exits --help --json --program --proved --text --top' ;;
-    admit) words='--columns --csv --edit --help --json --program --proved --room --text' ;;
-    rescue) words='--columns --csv --edit --help --json --plan --program --proved --seconds --text' ;;
+    admit) words='--columns --csv --earlier --edit --help --json --program --proved --room --text' ;;
+    rescue) words='--columns --csv --earlier --edit --help --json --plan --program --proved --seconds --text' ;;
     observed) words='--columns --csv --edit --help --json --program --proved --start --text' ;;
     sheet) words='--back --force --help --horizon --output --period --program --proved --title' ;;
     report) words='--against --edit --help --json --output --program --proved --title --trials' ;;
