@@ -9,8 +9,9 @@ from companion.tests.table import BLOCK, Table
 from companion.tests.table import ROOM as HALL
 from evacask import Broken, Plan, Shortfall, WordsError
 from evacask.client.asking import plan_or_short, solve
-from evacask.model.building import Model, Window, model_of
+from evacask.model.building import Model, Way, Window, model_of
 from evacask.model.drawn_building import drawn_building
+from evacask.model.edits import edited
 from evacask.model.ground import Ground
 from evacask.model.variant import varied
 from evacask.questions.full import full
@@ -40,6 +41,18 @@ window WP1.1 LO1.1 0 1
 entrant WP1.1 2 1
 end
 """
+HALLWAY = """evacplan 2
+period 5
+horizon 20
+floor 1 G
+node WP1.1 5 4
+node HA1.1 1 0
+node DS1.1
+arc WP1.1 HA1.1 1 1
+arc HA1.1 DS1.1 1 5
+window HA1.1 DS1.1 0 3
+end
+"""
 PLAN = "evacplan 1\nperiod 5\nhorizon 60\nfloor 1 G\nnode WP1.1 50 20\nnode DS1.1\nway WP1.1 DS1.1 free 11 door 0.90\nend\n"
 
 
@@ -50,6 +63,11 @@ def cleared_models(count: int) -> Iterator[Tuple[Model, Plan]]:
         plan = plan_or_short(PLANNER, model)
         if isinstance(plan, Plan):
             yield model, plan
+
+
+def with_closure(model: Model, way: Way, moment: int) -> Model:
+    """The building with a way shut at one more moment, at which it is open."""
+    return varied(model, windows=[*model.windows, Window(way, moment, moment + 1, 0)])
 
 
 class Tables(unittest.TestCase):
@@ -67,7 +85,8 @@ class Tables(unittest.TestCase):
             "fullest": [("WP1.1", "=Hall", 10, 1, 0, 0)],
             "routes": [("WP1.1", "=Hall", 3, "DS1.1", 0, 1, "WP1.1 DS1.1")],
             "walks": [("WP1.1", "=Hall", 3, 1, 5, "DS1.1", own)],
-            "full": [
+            "full": [(0, 0, "arc", "WP1.1", "DS1.1", walk, 2)],
+            "all": [
                 (0, 0, "node", "WP1.1", "", "=Hall", 1),
                 (0, 0, "arc", "WP1.1", "DS1.1", walk, 2),
                 (1, 5, "exit", "DS1.1", "", "", 2),
@@ -80,7 +99,7 @@ class Tables(unittest.TestCase):
             with self.subTest(kind):
                 table = tables(client, model, kind)
                 self.assertEqual((table.kind, list(table.rows)), (kind, rows))
-                self.assertEqual(table.ground, Ground.OWN if kind == "walks" else Ground.PRINTED)
+                self.assertEqual(table.ground, {"walks": Ground.OWN, "full": Ground.CUTS}.get(kind, Ground.PRINTED))
                 self.assertEqual(table.records()[0][table.heads[0]], rows[0][0])
 
     def test_random_buildings_add_up(self) -> None:
@@ -125,33 +144,45 @@ class Occupancies(unittest.TestCase):
                 self.assertTrue(all(people <= model.arcs[way].rate for people in entered.values()), model.text)
 
 
-class FullWays(unittest.TestCase):
+class FullPlaces(unittest.TestCase):
     def test_two_ways_by_hand(self) -> None:
         # At most 1 is out by 1 and 2 by 2, all by the short way: so it is full at moments 0 and 1. By 3 all eight are, with one to spare.
         model = model_of(ROOM)
         answer = full(model, solve(PLANNER, model))
-        self.assertEqual([(it.way, it.rate, it.moments, it.closed) for it in answer.ways], [(("WP1.1", "DS1.1"), 1, (0, 1), ())])
-        self.assertEqual((answer.records()[1]["moment"], answer.ground), (1, Ground.CUTS))
+        self.assertEqual([(it.names, it.people, it.moments) for it in answer.places], [(("WP1.1", "DS1.1"), 1, (0, 1))])
+        self.assertEqual((answer.records()[1]["moment"], answer.ground, answer.ways), (1, Ground.CUTS, {("WP1.1", "DS1.1")}))
 
     def test_a_full_way_that_is_shut_for_that_moment_costs_somebody(self) -> None:
         checked = 0
-        for model, plan in cleared_models(25):
-            for it in full(model, plan).ways:
-                shut = set(moment for at in model.windows if at.way == it.way for moment in range(at.first - 1, at.until + 1))
-                for moment in (t for t in it.moments if t not in shut):
-                    closed = varied(model, windows=[*model.windows, Window(it.way, moment, moment + 1, 0)])
-                    left = plan_or_short(PLANNER, closed)
-                    self.assertTrue(isinstance(left, Shortfall) or left.arrivals != plan.arrivals, f"{it} at {moment}\n{model.text}")
+        for model, plan in cleared_models(20):
+            for it in (it for it in full(model, plan).places if len(it.names) == 2):
+                for moment in it.moments:
+                    self.assert_costs(with_closure(model, (it.names[0], it.names[1]), moment), plan)
                     checked += 1
         self.assertGreater(checked, 30)
 
-    def test_moments_of_a_window_are_told_apart(self) -> None:
+    def test_a_full_node_by_hand(self) -> None:
+        # One a period comes into a hall that holds one, and its door opens at 3: who came at 2 waits, so that two are out at 4.
+        model = model_of(HALLWAY)
+        plan = solve(PLANNER, model)
+        self.assertEqual(plan.arrivals, (0, 0, 0, 0, 2, 3, 4))
+        places = {it.names: (it.people, it.moments) for it in full(model, plan).places}
+        self.assertEqual(places, {("WP1.1", "HA1.1"): (1, (2, 3)), ("HA1.1",): (1, (2,))})
+        self.assertEqual(tables(PLANNER, model, "full").rows[1], (2, 10, "node", "HA1.1", "", "", 1))
+        self.assert_costs(edited(model, ["room HA1.1 0"]), plan)
+
+    def assert_costs(self, changed: Model, plan: Plan) -> None:
+        """Fewer are out by some period of a changed building."""
+        left = plan_or_short(PLANNER, changed)
+        self.assertTrue(isinstance(left, Shortfall) or left.arrivals != plan.arrivals, changed.text)
+
+    def test_a_closed_way_is_not_called_full(self) -> None:
         model = model_of(HOUSE.replace("WP1.1 5 2", "WP1.1 5 3"))
         plan = solve(PLANNER, model)
         self.assertEqual(plan.arrivals, (0, 0, 0, 2, 4, 6, 8))
-        below = {it.way: it for it in full(model, plan).ways}["WP1.1", "LO1.1"]
-        # Of three two can be out at 3, as they enter at 1, the first moment at which the door is open. At 0 its window lets nobody in: that isn't called full.
-        self.assertEqual((below.rate, below.moments[0], below.closed), (2, 1, (0,)))
+        below = {it.names: it for it in full(model, plan).places}["WP1.1", "LO1.1"]
+        # Of three two can be out at 3, as they enter at 1, the first moment at which the door is open.
+        self.assertEqual((below.people, below.moments[0]), (2, 1))
 
 
 class Reports(unittest.TestCase):
@@ -159,13 +190,13 @@ class Reports(unittest.TestCase):
         answer = report(PLANNER, model_of(ROOM))
         assert isinstance(answer, Report) and answer.cut is not None
         self.assertEqual((answer.plan.cleared, answer.uncongested, answer.verdict.is_right, answer.bracket), (3, 1, True, None))
-        self.assertEqual((answer.moment_of(0.25), answer.moment_of(0.5), answer.moment_of(1)), (2, 3, 3))
+        self.assertEqual((answer.moment_of(25), answer.moment_of(26), answer.moment_of(100)), (2, 3, 3))
         # Without the short way five are out at 3 and all at 4; without the long way one a period is. With 10,000 all take the short way, or still 3 periods.
         worth = {it.names: (it.without.cleared, it.wide.cleared) for it in answer.worth.ways}
         short, long = (4, 1), (8, 3)
         self.assertEqual(worth, {("WP1.1", "DS1.1"): short, ("DS1.1",): short, ("WP1.1", "DS2.1"): long, ("DS2.1",): long})
         (storey,) = answer.storeys
-        self.assertEqual((storey.number, storey.name, storey.stay[3], storey.last < 3), (1, "G", 0, True))
+        self.assertEqual((storey.number, storey.name, storey.stay[3], storey.left <= 3), (1, "G", 0, True))
         self.assertEqual((storey.stay[storey.first], sum(it.people for it in answer.rooms)), (storey.most, 8))
 
     def test_a_house_adds_up(self) -> None:
@@ -182,7 +213,7 @@ class Reports(unittest.TestCase):
         self.assertTrue(all(it.first <= it.last for it in answer.rooms))
 
     def test_as_many_trials_as_are_allowed(self) -> None:
-        none, some = (report(PLANNER, model_of(ROOM), most_trials=most) for most in (0, 2))
+        none, some = (report(PLANNER, model_of(ROOM), trials=most) for most in (0, 2))
         assert isinstance(none, Report) and isinstance(some, Report)
         self.assertEqual((len(none.worth.ways), none.worth.untried), (0, 4))
         self.assertEqual(len(some.worth.ways) + some.worth.untried, 4)
@@ -198,10 +229,13 @@ class Reports(unittest.TestCase):
     def test_nobody_and_too_few_periods(self) -> None:
         nobody = report(PLANNER, model_of(ROOM.replace("10 8", "10 0")))
         assert isinstance(nobody, Report)
-        self.assertEqual((nobody.plan.cleared, nobody.cut, nobody.by_hand, nobody.storeys[0].last), (0, None, None, 0))
+        self.assertEqual((nobody.plan.cleared, nobody.cut, nobody.by_hand, nobody.storeys[0].left), (0, None, None, 0))
         short = report(PLANNER, model_of(ROOM.replace("horizon 20", "horizon 2")))
         assert isinstance(short, ShortReport)
         self.assertEqual((short.short.most, short.short.people, short.source), (2, 8, PLANNER.source))
+        # By 2 the short way lets one in at each of the moments 0 and 1, and nobody is out by the long one.
+        self.assertEqual([(it.names, it.people, it.periods) for it in short.crossed], [(("WP1.1", "DS1.1"), 2, 2)])
+        self.assertEqual(short.free, 0)
 
 
 if __name__ == "__main__":
