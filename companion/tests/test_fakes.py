@@ -15,6 +15,13 @@ from evacask.faces.ending import Status
 
 TOP = pathlib.Path(__file__).resolve().parent.parent.parent
 STATUSES = {int(it) for it in Status}
+# The tables that examples of commands name.
+FILES = {
+    "scenarios.csv": "name,edits\nwide,rate SW2.2 DS2.1 3\nlost,shutexit DS2.1\nboth,rate SW2.2 DS2.1 3; leave WP1.1 10\n",
+    "drill.csv": "seconds,DS1.1,DS2.1\n0,0,0\n60,20,10\n",
+    "nodes.csv": "name,capacity,start\nWP1.1,10,8\nDS1.1,,\n",
+    "ways.csv": "from,to,travel,rate\nWP1.1,DS1.1,1,2\n",
+}
 
 
 def words_of(example: str) -> List[str]:
@@ -43,11 +50,18 @@ class Fakes(unittest.TestCase):
         self.addCleanup(os.environ.pop, self.mark)
 
     def answers(self, name: str) -> "List[Tuple[str, Ended]]":
+        """What each command says of its example, if it asks a fake. What it writes goes into an empty folder."""
         with tempfile.TemporaryDirectory() as folder:
             fake = pathlib.Path(folder, "program")
             fake.write_text(script(program(), name), encoding="utf-8")
             fake.chmod(0o755)
-            return [(it.name, ask("--program", fake, it.name, *words_of(it.example))) for it in COMMANDS]
+            os.chdir(folder)
+            for file, text in FILES.items():
+                pathlib.Path(file).write_text(text, encoding="utf-8")
+            try:
+                return [(it.name, ask("--program", fake, it.name, *words_of(it.example))) for it in COMMANDS]
+            finally:
+                os.chdir(TOP)
 
     def test_no_traceback_a_listed_status_and_no_process_left(self) -> None:
         for name in ALL:
