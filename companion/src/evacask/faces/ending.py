@@ -156,6 +156,7 @@ def ends(run: Callable[[], int]) -> int:
         if signals.came is not None:
             signals.die()
         signals.give_back()
+        PROCESSES.reopen()  # (whoever called a command in this process may go on asking)
     return status
 
 
