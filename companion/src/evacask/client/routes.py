@@ -10,13 +10,14 @@ from evacask.client.reports import Report
 from evacask.client.talk import Client
 from evacask.model.building import Model, Way
 from evacask.model.lines import number_of
+from evacask.model.shares import Count, in_people
 
 
 @dataclass(frozen=True)
 class Route:
     """`people` who start in `origin`, or come into it at moment `entered` (0 for those inside at first), enter these arcs at these moments."""
 
-    people: int
+    people: Count
     origin: str
     entered: int
     steps: Tuple[Tuple[int, Way], ...]
@@ -39,14 +40,17 @@ def routes_of(report: Report) -> Tuple[Route, ...]:
 
 
 def read_routes(report: Report) -> List[Route]:
-    found: List[Tuple[int, str, int, List[Tuple[int, Way]]]] = []
+    found: List[Tuple[Count, str, int, List[Tuple[int, Way]]]] = []
     for word, *rest in report.lines:
         if word == "route":
             people, origin, *entered = rest
-            found.append((number_of(people), origin, number_of(entered[0]) if entered else 0, []))
+            found.append((in_people(number_of(people), report.shares), origin, number_of(entered[0]) if entered else 0, []))
         elif word == "step":
             moment, tail, head = rest
-            found[-1][3].append((number_of(moment), (tail, head)))
+            _, origin, _, steps = found[-1]
+            if tail != (steps[-1][1][1] if steps else origin):
+                raise ValueError(f"a step from {tail}, where nobody is")
+            steps.append((number_of(moment), (tail, head)))
         else:
             raise ValueError(word)
     return [Route(people, origin, entered, tuple(steps)) for people, origin, entered, steps in found]

@@ -4,16 +4,19 @@ from __future__ import annotations
 import pathlib
 import sys
 from argparse import Namespace
-from typing import Tuple
+from typing import Dict, Optional
 
-from evacask.errors import OutputError
 from evacask.faces.asked import Asked, source
 from evacask.faces.ending import Status
-from evacask.faces.page.page import Any, page
+from evacask.faces.page.page import AnyReport, Other, page
 from evacask.faces.progress import LINE, progress
 from evacask.faces.sheet import Sheet, as_json
+from evacask.faces.writing import write_file
 from evacask.faces.words import BUILDING, EDIT, Command, argument, number
-from evacask.questions.report import MOST_TRIALS, Report, report
+from evacask.questions.report import Report, report
+from evacask.questions.worth import MOST_BYTES, MOST_TRIALS
+
+TRIALS = f"plan at most N buildings to say what ways are worth ({MOST_TRIALS}, or fewer if their plans are longer than {MOST_BYTES // 1_000_000} MB)"
 
 
 def run(given: Namespace) -> int:
@@ -30,27 +33,26 @@ def run(given: Namespace) -> int:
     return Status.ANSWERED if isinstance(answer, Report) else Status.REFUSED
 
 
-def beside(given: Namespace, name: str) -> Tuple[str, Any]:
+def beside(given: Namespace, name: str) -> Other:
     """Another building with its report, on which nothing is tried."""
     other = Asked(Namespace(**{**vars(given), "edit": []}), name)
     return other.model.title or name, report(other.client, other.model, other.drawn, 0)
 
 
-def data_of(answer: Any) -> object:
-    """The answer without the statements of the model, which are its text."""
-    left = ("model", "occupancy")
-    return {key: value for key, value in vars(answer).items() if key not in left} | {"text": answer.model.text}
+def data_of(answer: AnyReport) -> Dict[str, object]:
+    """The answer, with the text of the building in place of its statements, and with the curve of its plan in place of the block."""
+    found = {key: value for key, value in vars(answer).items() if key not in ("model", "source", "plan", "occupancy")}
+    if isinstance(answer, Report):
+        found.update(people=answer.plan.people, cleared=answer.plan.cleared, arrivals=answer.plan.arrivals)
+    return {"text": answer.model.text, **found}
 
 
-def write(text: str, output: "str | None") -> None:
+def write(text: str, output: Optional[str]) -> None:
     """Writes a page to a file, or to the output."""
     if output is None:
         sys.stdout.write(text)
-        return
-    try:
-        pathlib.Path(output).write_text(text, encoding="utf-8", errors="replace")
-    except OSError as fault:
-        raise OutputError(f"{output} can't be written: {fault.strerror}") from None
+    else:
+        write_file(output, text.encode("utf-8", "replace"))
 
 
 COMMAND = Command(
@@ -65,9 +67,7 @@ COMMAND = Command(
         EDIT,
         argument("--title", default=None, help="the title of the page, and not that of the building"),
         argument("--against", action="append", default=[], metavar="OTHER", help="another building beside it"),
-        argument(
-            "--trials", type=number, default=MOST_TRIALS, metavar="N", help=f"plan at most N buildings to say what ways are worth ({MOST_TRIALS})"
-        ),
+        argument("--trials", type=number, default=None, metavar="N", help=TRIALS),
         argument("-o", "--output", default=None, metavar="FILE", help="write the page to a file"),
         argument("--json", action="store_true", help="print the data of the page as JSON"),
     ),

@@ -7,6 +7,7 @@ from typing import Dict, Iterator, List, Sequence, Tuple
 
 from evacask.client.routes import Route
 from evacask.model.building import Arc, Model, Way
+from evacask.model.variant import whole
 
 Path = Tuple[Way, ...]
 PLANNED, SHORTEST, EXITS, TRIES = 3, 2, 8, 3_000
@@ -28,7 +29,7 @@ def choices_of(model: Model, routes: Sequence[Route]) -> Dict[str, List[Path]]:
     gone: Dict[str, "Counter[Path]"] = {room: Counter() for room in rooms_with_people(model)}
     for route in routes:
         if len(set(route.nodes)) == len(route.nodes):
-            gone[route.origin][tuple(way for _, way in route.steps)] += route.people
+            gone[route.origin][tuple(way for _, way in route.steps)] += whole(route.people)
     far = {it.name: distances(model, it.name) for it in model.exits}
     found: Dict[str, List[Path]] = {}
     for room, paths in gone.items():

@@ -5,7 +5,7 @@ from dataclasses import dataclass
 from typing import Dict, List, Optional, Tuple
 
 from evacask.client.asking import session
-from evacask.client.blocks import Cut
+from evacask.client.blocks import Cut, Plan
 from evacask.client.dialogue import Session
 from evacask.client.talk import Client
 from evacask.model.building import Model
@@ -55,8 +55,12 @@ def why(client: Client, model: Model, period: Optional[int] = None) -> Why:
 
 def why_of(talk: Session, period: Optional[int]) -> Why:
     """The same of the building of a session."""
-    cut = talk.cut(period)
-    return Why(cut.period, cut.people, talk.plan.people, talk.plan.cleared, tuple(places_of(cut)))
+    return why_by(talk.cut(period), talk.plan)
+
+
+def why_by(cut: Cut, plan: Plan) -> Why:
+    """What a cut says of a plan of the same building."""
+    return Why(cut.period, cut.people, plan.people, plan.cleared, tuple(places_of(cut)))
 
 
 def places_of(cut: Cut) -> List[Place]:

@@ -3,11 +3,11 @@ from __future__ import annotations
 
 import math
 from dataclasses import dataclass, field
-from typing import List, Mapping, Set, Tuple
+from typing import Dict, List, Mapping, Set, Tuple
 
-from evacask.faces.page.curve import picture
-from evacask.faces.page.layout import LEFT, WIDTH, Figure, figures_of
-from evacask.faces.page.markup import Markup, empty, joined, tag
+from evacask.faces.page.layout import LEFT, WIDTH, Figure, StoreyRow, figures_of
+from evacask.faces.page.markup import Content, Markup, empty, joined, tag
+from evacask.faces.page.picture import fitted, picture
 from evacask.model.building import Arc, Model, Way
 from evacask.model.shares import Count
 
@@ -15,9 +15,11 @@ Point = Tuple[float, float]
 BOX_WIDTH, BOX_HEIGHT = 60, 31
 FULL, USED, UNUSED, EXIT = "#b3261e", "#1a1a1a", "#767676", "#1b6e3c"
 ARROW = Markup(
-    '<defs><marker id="arrow" viewBox="0 0 8 8" refX="7" refY="4" markerWidth="7" markerHeight="7" markerUnits="userSpaceOnUse" orient="auto">'
+    '<defs><marker id="arrow" viewBox="0 0 8 8" refX="7" refY="4" markerWidth="11" markerHeight="11" markerUnits="userSpaceOnUse" orient="auto">'
     '<path d="M0 0L8 4L0 8z" fill="#1a1a1a"/></marker></defs>'
 )
+# White around a text that stands on a line.
+HALO: Dict[str, Content] = {"stroke": "#fff", "stroke_width": 3, "paint_order": "stroke"}
 
 
 @dataclass
@@ -52,7 +54,7 @@ class Drawing:
         for x, y in shown.places.values():
             boxes.take(x, y, BOX_WIDTH + 6, BOX_HEIGHT + 4)
         drawn += [self.storey(floor, y) for floor, y in shown.storeys.items()]
-        drawn += [told(y, count) for y, count in shown.folds]
+        drawn += [self.told(y, row, boxes) for y, row in shown.folds]
         ways = [it for it in self.model.arcs.values() if it.tail in shown.places or it.head in shown.places]
         drawn += [self.way(it, shown.places) for it in ways]
         drawn += [self.count(it, shown.places, boxes) for it in sorted(ways, key=lambda it: -self.through[it.way]) if self.through[it.way]]
@@ -63,7 +65,17 @@ class Drawing:
     def storey(self, floor: int, y: float) -> Markup:
         """The name of a storey, at the left."""
         name = self.model.floors.get(floor) or f"{floor}"
-        return tag("text", tag("title", name), name[:14], x=4, y=f"{y + 4:.0f}", font_weight=600)
+        return tag("text", tag("title", name), fitted(name, LEFT - 14), x=4, y=f"{y + 4:.0f}", font_weight=600)
+
+    def told(self, y: float, row: StoreyRow, boxes: Boxes) -> Markup:
+        """What is left out below a storey, and how many ways there decide."""
+        count, floors = len(row.folded), set(row.folded)
+        like = "like this one" if row.same else "with the same rooms and ways, but other numbers"
+        full = sum(self.model.nodes[tail].floor in floors for tail, _ in self.full)
+        ways = f"; {full:,} of their ways are full in every best plan at some moment" if full else ""
+        text = f".. and {count:,} more {'storey' if count == 1 else 'storeys'} {like}{ways} .."
+        boxes.take(LEFT + 3.3 * len(text), y - 4, 6.6 * len(text), 16)
+        return tag("text", text, x=LEFT, y=f"{y:.0f}", class_="soft", **HALO)
 
     def way(self, arc: Arc, places: Mapping[str, Point]) -> Markup:
         """A way as a curve with an arrow, or as a stub if one of its ends isn't in the picture."""
@@ -104,12 +116,12 @@ class Drawing:
         text = f"{self.through[arc.way]:,}"
         if not boxes.take(x + 4, y - 1, 7 * len(text) + 4, 14):
             return Markup("")
-        return tag("text", text, x=f"{x + 4:.0f}", y=f"{y + 4:.0f}", text_anchor="middle", stroke="#fff", stroke_width=3, paint_order="stroke")
+        return tag("text", text, x=f"{x + 4:.0f}", y=f"{y + 4:.0f}", text_anchor="middle", **HALO)
 
     def node(self, name: str, place: Point) -> Markup:
         """A node as a box: its name, and its people and capacity."""
         node, (x, y) = self.model.nodes[name], place
-        ink = "fill:#fff" if node.is_exit else None
+        ink = "light" if node.is_exit else None
         box = empty(
             "rect",
             x=f"{x - BOX_WIDTH / 2:.0f}",
@@ -120,9 +132,9 @@ class Drawing:
             fill=EXIT if node.is_exit else "#fff",
             stroke="#1a1a1a",
         )
-        first = tag("text", name, x=f"{x:.0f}", y=f"{y - 2:.0f}", text_anchor="middle", style=ink)
+        first = tag("text", name, x=f"{x:.0f}", y=f"{y - 2:.0f}", text_anchor="middle", class_=ink)
         said = "exit" if node.is_exit else f"{node.start}/{node.capacity}"
-        second = tag("text", said, x=f"{x:.0f}", y=f"{y + 11:.0f}", text_anchor="middle", style=f"{ink + ';' if ink else ''}font-size:10px")
+        second = tag("text", said, x=f"{x:.0f}", y=f"{y + 11:.0f}", text_anchor="middle", class_="small light" if node.is_exit else "small")
         return tag("g", tag("title", f"{name} {node.own_name}".strip()), box, first, second)
 
 
@@ -142,7 +154,3 @@ def stub(arc: Arc, model: Model, places: Mapping[str, Point]) -> Tuple[Point, Po
     down = 1 if model.nodes[outer].floor < model.nodes[inner].floor else -1
     near, far = (x, y + down * (BOX_HEIGHT / 2 + 2)), (x, y + down * (BOX_HEIGHT / 2 + 24))
     return (near, far, far) if arc.tail in places else (far, near, near)
-
-
-def told(y: float, count: int) -> Markup:
-    return tag("text", f".. and {count} more {'storey' if count == 1 else 'storeys'} like this one ..", x=LEFT, y=f"{y:.0f}", fill="#595959")

@@ -10,16 +10,19 @@ from evacask.model.lines import fields_of, is_number, lines_of
 # A comment `#@ x y` right above a node, or above its name, places it within its storey: any whole numbers, from the left.
 PLACE_MARK = "#@"
 MOST_IN_LINE, MOST_STOREYS, SWEEPS = 14, 5, 8
+# Storeys of the same form but other numbers are folded too if more rows than this are left.
+MANY_ROWS = 8
 WIDTH, LEFT, RIGHT = 800, 110, 20
-ROOMS_HEIGHT, HALLS_HEIGHT, FOLD_HEIGHT = 66, 92, 30
+ROOMS_HEIGHT, HALLS_HEIGHT, FOLD_HEIGHT = 66, 92, 34
 
 
 @dataclass(frozen=True)
 class StoreyRow:
-    """A storey that is drawn, and how many more like it are left out below it."""
+    """A storey that is drawn, and the numbers of those like it that are left out below it; `same` if their people and rates are like its own too."""
 
     number: int
-    folded: int
+    folded: Tuple[int, ...] = ()
+    same: bool = True
 
 
 @dataclass(frozen=True)
@@ -28,7 +31,7 @@ class Figure:
 
     places: Mapping[str, Tuple[float, float]]
     storeys: Mapping[int, float]
-    folds: Tuple[Tuple[float, int], ...]
+    folds: Tuple[Tuple[float, StoreyRow], ...]
     height: float
 
 
@@ -40,22 +43,28 @@ def figures_of(model: Model) -> List[Figure]:
 
 
 def rows_of(model: Model) -> List[StoreyRow]:
+    """The storeys from the top, those that are alike folded."""
+    rows = folded(model, True)
+    return rows if len(rows) <= MANY_ROWS else folded(model, False)
+
+
+def folded(model: Model, same: bool) -> List[StoreyRow]:
     """The storeys from the top. Of four or more alike in a row the first and the last are drawn."""
     found: List[StoreyRow] = []
-    for group in alike(model):
+    for group in alike(model, same):
         if len(group) > 3:
-            found += [StoreyRow(group[0], len(group) - 2), StoreyRow(group[-1], 0)]
+            found += [StoreyRow(group[0], tuple(group[1:-1]), same), StoreyRow(group[-1])]
         else:
-            found += [StoreyRow(it, 0) for it in group]
+            found += [StoreyRow(it) for it in group]
     return found
 
 
-def alike(model: Model) -> List[List[int]]:
+def alike(model: Model, same: bool) -> List[List[int]]:
     """The storeys from the top, those of the same form that follow one another together."""
     groups: List[List[int]] = []
     forms: Dict[int, object] = {}
     for floor in sorted({it.floor for it in model.nodes.values()}, reverse=True):
-        forms[floor] = form(model, floor)
+        forms[floor] = form(model, floor, same)
         if groups and forms[groups[-1][-1]] == forms[floor]:
             groups[-1].append(floor)
         else:
@@ -63,12 +72,15 @@ def alike(model: Model) -> List[List[int]]:
     return groups
 
 
-def form(model: Model, floor: int) -> object:
-    """What a storey is like, whatever its number: its nodes, and the ways out of them relative to it."""
-    nodes = tuple((it.name.partition(".")[0], it.capacity, it.start) for it in model.nodes.values() if it.floor == floor)
-    arcs = (it for it in model.arcs.values() if model.nodes[it.tail].floor == floor)
-    ways = ((it.tail.partition(".")[0], it.head.partition(".")[0], model.nodes[it.head].floor - floor, it.travel, it.rate) for it in arcs)
-    return nodes, tuple(sorted(ways))
+def form(model: Model, floor: int, same: bool) -> object:
+    """What a storey is like, whatever its number: its nodes and the ways out of them relative to it, with their numbers if these must be the same."""
+    nodes = [it for it in model.nodes.values() if it.floor == floor]
+    arcs = [it for it in model.arcs.values() if model.nodes[it.tail].floor == floor]
+    ways = ((it, it.tail.partition(".")[0], it.head.partition(".")[0], model.nodes[it.head].floor - floor) for it in arcs)
+    return (
+        [(it.name.partition(".")[0], *((it.capacity, it.start) if same else ())) for it in nodes],
+        sorted((tail, head, down, *((it.travel, it.rate) if same else ())) for it, tail, head, down in ways),
+    )
 
 
 def lines_on(model: Model, floor: int) -> List[List[str]]:
@@ -126,7 +138,7 @@ def figure(model: Model, rows: Sequence[StoreyRow], at: Mapping[str, float]) -> 
     """The picture of some storeys."""
     places: Dict[str, Tuple[float, float]] = {}
     storeys: Dict[int, float] = {}
-    folds: List[Tuple[float, int]] = []
+    folds: List[Tuple[float, StoreyRow]] = []
     y = 34.0
     for row in rows:
         storeys[row.number] = y
@@ -134,6 +146,6 @@ def figure(model: Model, rows: Sequence[StoreyRow], at: Mapping[str, float]) -> 
             places.update({name: (LEFT + at[name] * (WIDTH - LEFT - RIGHT), y) for name in line})
             y += ROOMS_HEIGHT if is_room(model.nodes[line[0]]) else HALLS_HEIGHT
         if row.folded:
-            folds.append((y - 30, row.folded))
+            folds.append((y - 20, row))
             y += FOLD_HEIGHT
     return Figure(places, storeys, tuple(folds), y - 10)

@@ -3,7 +3,7 @@ from __future__ import annotations
 
 import html
 import unicodedata
-from typing import Iterable, Union
+from typing import Iterable, Optional, Union
 
 # Letters that turn the direction of a line, or that nobody sees, by their category; each becomes a sign of replacement.
 UNSEEN = ("Cc", "Cf", "Co", "Cs", "Cn", "Zl", "Zp")
@@ -49,10 +49,13 @@ def own(text: object) -> Markup:
     return tag("bdi", str(text))
 
 
-def table(heads: Iterable[Content], rows: Iterable[Iterable[Content]], caption: Content = None, texts: int = 1) -> Markup:
+def table(heads: Iterable[Content], rows: Iterable[Iterable[Content]], texts: int = 1) -> Markup:
     """A table whose first columns, `texts` of them, are text, and all others numbers."""
-    side = ["text" if at < texts else None for at in range(100)]
-    head = joined(tag("th", it, scope="col", class_=side[at]) for at, it in enumerate(heads))
-    body = joined(tag("tr", *(tag("td", it, class_=side[at]) for at, it in enumerate(row))) for row in rows)
-    titled = tag("caption", caption) if caption is not None else None
-    return tag("div", tag("table", titled, tag("thead", tag("tr", head)), tag("tbody", body)), class_="wide")
+    head = tag("tr", *(tag("th", it, scope="col", class_=side(at, texts)) for at, it in enumerate(heads)))
+    body = (tag("tr", *(tag("td", it, class_=side(at, texts)) for at, it in enumerate(row))) for row in rows)
+    return tag("div", tag("table", tag("thead", head), tag("tbody", *body)), class_="wide")
+
+
+def side(at: int, texts: int) -> Optional[str]:
+    """The class of a column."""
+    return "text" if at < texts else None

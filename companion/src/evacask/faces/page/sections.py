@@ -1,7 +1,6 @@
 """The sections of the page about a building from which everybody gets out."""
 from __future__ import annotations
 
-import hashlib
 from typing import List, Optional, Sequence, Tuple
 
 from evacask.client.blocks import Outcome
@@ -9,15 +8,16 @@ from evacask.faces.page.curve import Curve, curve_picture
 from evacask.faces.page.drawing import Drawing
 from evacask.faces.page.marks import heading, mark, said
 from evacask.faces.page.markup import Content, Markup, joined, own, table, tag
+from evacask.faces.page.numbers import by, seconds, spans, when
 from evacask.faces.page.strips import MOST_STOREYS, strips_picture
-from evacask.faces.sheet import runs_of, seconds_of_runs
 from evacask.model.building import Model
 from evacask.model.ground import Ground
-from evacask.model.lines import lines_of
-from evacask.questions.report import Report, RoomWay
+from evacask.questions.report import Report
+from evacask.questions.room_ways import RoomWay
 from evacask.questions.why import Place
 
-MOST_ROWS, MOST_EXITS, MOST_TIMES = 40, 7, 21
+MOST_ROWS, MOST_EXITS, MOST_TIMES, MOST_ROOMS = 40, 7, 21, 4
+Row = Tuple[Content, ...]
 
 
 def named(model: Model, names: Sequence[str]) -> Content:
@@ -26,62 +26,66 @@ def named(model: Model, names: Sequence[str]) -> Content:
     return joined((" to ".join(names), *((" (", own(own_names), ")") if own_names else ())))
 
 
-def limited(rows: List[Tuple[Content, ...]], what: str) -> Tuple[List[Tuple[Content, ...]], Optional[Markup]]:
-    """The first rows of a table, and how many more there are."""
-    if len(rows) <= MOST_ROWS:
-        return rows, None
-    return rows[:MOST_ROWS], tag("p", f"{len(rows) - MOST_ROWS:,} more {what} aren't listed.", class_="note")
+def rows_of(heads: Sequence[Content], rows: Sequence[Row], what: str, texts: int = 1) -> Markup:
+    """A table of the first rows, and how many more there are; nothing without rows."""
+    if not rows:
+        return Markup("")
+    more = len(rows) - MOST_ROWS
+    note = tag("p", f"{more:,} more {what} aren't listed.", class_="note") if more > 0 else None
+    return joined((table(heads, rows[:MOST_ROWS], texts), note))
 
 
 def answer(report: Report) -> Markup:
     """When all are out, and the figures beside it."""
     model, plan = report.model, report.plan
-    first = f"All {plan.people:,} people can be out {between(model, plan.cleared)}." if plan.people else "Nobody is inside."
-    figures: List[Tuple[str, Content, Ground]] = [
-        (between(model, report.uncongested), "the longest walk with nobody in the way", Ground.PROVED),
-        (f"{(plan.cleared - report.uncongested) * model.period:,} s", "more than that walk, for congestion and closures", Ground.CUTS),
-    ]
-    if plan.people:
-        figures.append((between(model, report.moment_of(0.5)), "half of the people are out", Ground.PROVED))
-        figures.append((between(model, report.moment_of(0.95)), "95 % of the people are out", Ground.PROVED))
-    figures.append(("yes" if report.verdict.is_right else f"no {report.verdict.code}", "says evacplan check of the plan on this page", Ground.PROVED))
+    first = f"All {plan.people:,} people can be out {when(model, plan.cleared)}." if plan.people else "Nobody is inside."
     grid = tag(
-        "dl", *(tag("div", tag("dt", number), tag("dd", what, Markup(" "), mark(ground))) for number, what, ground in figures), class_="figures"
+        "dl", *(tag("div", tag("dt", it), tag("dd", what, Markup(" "), mark(ground))) for it, what, ground in figures(report)), class_="figures"
     )
     later = "" if model.has_later_end else " People come in where not everybody has room, so no later end of a period is claimed."
-    return joined((tag("p", first, class_="answer"), said(f"No plan has them all out sooner.{later}", ground=Ground.PROVED), grid, *extras(report)))
+    sooner = said(f"No plan has them all out sooner.{later}", ground=Ground.PROVED) if plan.people else None
+    return joined((tag("p", first, class_="answer"), sooner, grid, bracket(report), by_hand(report)))
 
 
-def between(model: Model, moment: int) -> str:
-    """The seconds for which a moment stands."""
-    first, last = moment * model.period, (moment + 1) * model.period
-    return f"after {first:,} to {last:,} s" if model.has_later_end else f"from {first:,} s on"
+def figures(report: Report) -> List[Tuple[str, str, Ground]]:
+    """The figures beside the answer, what each is, and what it rests on."""
+    model, plan = report.model, report.plan
+    verdict = "yes" if report.verdict.is_right else f"no {report.verdict.code}"
+    checked = (verdict, "says evacplan check of the plan on this page", Ground.PROVED)
+    if not plan.people:
+        return [checked]
+    late = ", and for those who come in later" if model.entrants else ""
+    return [
+        (when(model, report.uncongested), "the longest walk of those inside at first, with nobody in the way", Ground.PROVED),
+        (f"{(plan.cleared - report.uncongested) * model.period:,} s", f"more than that walk, for congestion and closures{late}", Ground.CUTS),
+        (when(model, report.moment_of(50)), "half of the people are out", Ground.PROVED),
+        (when(model, report.moment_of(95)), "95 % of the people are out", Ground.PROVED),
+        checked,
+    ]
 
 
-def extras(report: Report) -> List[Markup]:
-    """The bracket of a building that was drawn in metres, and the calculation by hand."""
-    found = []
-    bracket, hand = report.bracket, report.by_hand
-    if bracket and bracket.latest is not None:
-        before = f"not before {bracket.earliest:,} s and " if bracket.earliest is not None else ""
-        found.append(
-            said(
-                f"As the building is drawn in metres, whichever way its numbers are rounded, all are out {before}before {bracket.latest:,} s.",
-                ground=bracket.ground,
-            )
-        )
-    if hand:
-        flow = f"{float(hand.people):,.0f} / {hand.flow:.2f} a second = {hand.passing:,.0f} s"
-        walk = f"{hand.before} s of walk to it, and {hand.after} s over it and on"
-        found.append(
-            said(
-                "By hand: ",
-                named(report.model, hand.way),
-                f" lets its people through in {flow}; with {walk} that is {hand.seconds:,.0f} s.",
-                ground=hand.ground,
-            )
-        )
-    return found
+def bracket(report: Report) -> Optional[Markup]:
+    """Between which seconds all are out of a building as it is drawn in metres."""
+    found = report.bracket
+    if not found:
+        return None
+    if found.latest is None:
+        why = found.refused or "; ".join(found.silent) or "not everybody can be out by the horizon if its numbers are rounded to the later side"
+        return said(f"Of the building as it is drawn in metres nothing more is claimed: {why}.", ground=found.ground)
+    first = f"not before {found.earliest:,} s and " if found.earliest is not None else ""
+    text = f"Whichever way the numbers of the drawing in metres are rounded, all can be out {first}before {found.latest:,} s."
+    return said(text, ground=found.ground)
+
+
+def by_hand(report: Report) -> Optional[Markup]:
+    """The calculation by hand for the way that lets most people through."""
+    hand = report.by_hand
+    if not hand:
+        return None
+    flow = f"{hand.people:,} people / {hand.flow:.2f} a second = {hand.passing:,.0f} s"
+    walk = f"{hand.before:,} s of walk to it, and {hand.after:,} s over it and on"
+    text = f" lets its people through in {flow}; with {walk} that is {hand.seconds:,.0f} s."
+    return said("By hand: ", named(report.model, hand.way), text, ground=hand.ground)
 
 
 def why(report: Report) -> Markup:
@@ -89,147 +93,112 @@ def why(report: Report) -> Markup:
     cut, model = report.cut, report.model
     if not cut:
         return Markup("")
-    rows: List[Tuple[Content, ...]] = [(place(model, it), f"{it.people:,}", seconds_of_runs(it.moments, model.period)) for it in cut.places]
-    shown, more = limited(rows, "places")
-    by = f"by moment {model.time(cut.period)}"
-    head = said(f"At most {cut.most:,} of {cut.people:,} can be out {by}. Each of them counts in one of these lines:")
-    foot = (
-        "At these moments the ways listed are full in every best plan. Ways that aren't listed bring nobody more out by then, however wide they are."
-    )
+    rows: List[Row] = [(place(model, it), f"{it.people:,}", spans(model, it.moments)) for it in cut.places if it.people]
+    head = f"At most {cut.most:,} of {cut.people:,} can be out {by(model, cut.period)}. Each of them counts in one of these lines:"
+    foot = "At these moments the places listed are full in every best plan. Ways that aren't listed bring nobody more out by then, however wide they are."
+    if not cut.most:
+        head, foot = f"Nobody can be out {by(model, cut.period)}: no walk is so short, or the ways are closed.", ""
+    heads = ("place", "people", "seconds")
     return joined(
-        (heading("Why not sooner", Ground.PROVED), head, table(("place", "people", "seconds"), shown), more, said(foot, ground=Ground.CUTS))
+        (heading("Why not sooner", Ground.PROVED), said(head), rows_of(heads, rows, "places"), said(foot, ground=Ground.CUTS) if foot else None)
     )
 
 
 def place(model: Model, it: Place) -> Content:
     if not it.names:
-        rooms = ", ".join(it.rooms[:4]) + (f" and {len(it.rooms) - 4} more" if len(it.rooms) > 4 else "")
-        return f"not held up: {rooms}"
+        more = len(it.rooms) - MOST_ROOMS
+        return f"not held up: {', '.join(it.rooms[:MOST_ROOMS])}" + (f" and {more:,} more" if more > 0 else "")
     return joined(("wait in " if len(it.names) == 1 else "", named(model, it.names)))
 
 
 def exits_of(report: Report) -> List[Curve]:
     """The exits of the printed plan, those of most people first; all beyond some together."""
-    names = [it.name for it in report.model.exits]
-    curves = [Curve(name, tuple(report.occupancy.stay(name))) for name in names]
+    period = report.model.period
+    curves = [Curve(it.name, tuple(report.occupancy.stay(it.name)), period) for it in report.model.exits]
     used = sorted((it for it in curves if it.arrivals[-1]), key=lambda it: (-it.arrivals[-1], it.name))
     if len(used) <= MOST_EXITS + 1:
         return used
     rest = [it.arrivals for it in used[MOST_EXITS:]]
-    return [*used[:MOST_EXITS], Curve(f"{len(rest)} other exits", tuple(sum(row) for row in zip(*rest)))]
+    return [*used[:MOST_EXITS], Curve(f"{len(rest):,} other exits", tuple(sum(row) for row in zip(*rest)), period)]
 
 
 def curve(report: Report, others: Sequence[Curve] = ()) -> Markup:
     """The arrival curve, by exit, with a table of some moments."""
-    exits, period, arrivals = exits_of(report), report.model.period, report.plan.arrivals
-    drawn = curve_picture(Curve("all", arrivals), exits, period, others)
-    caption = tag("figcaption", "Line: people out by time, the same in every best plan. Areas: by exit, in the ", mark(Ground.PRINTED), ".")
+    exits, model, arrivals = exits_of(report), report.model, report.plan.arrivals
+    drawn = curve_picture(Curve("all", arrivals, model.period), exits, others)
+    dashes = " Dashed: the other buildings." if others else ""
+    caption = tag("figcaption", "Line: people out by time, the same in every best plan. Areas: by exit, in the ", mark(Ground.PRINTED), f".{dashes}")
     step = -(-len(arrivals) // MOST_TIMES)
     moments = sorted({*range(0, len(arrivals), step), len(arrivals) - 1})
-    rows = [(f"{it * period:,} to {(it + 1) * period:,}", f"{arrivals[it]:,}", *(f"{one.arrivals[it]:,}" for one in exits)) for it in moments]
+    rows = [(seconds(model, it), f"{arrivals[it]:,}", *(f"{one.arrivals[it]:,}" for one in exits)) for it in moments]
+    note = tag("p", "The table has some moments; evacask tables exits has all.", class_="note") if step > 1 else None
     heads = ("seconds", "out", *(it.name for it in exits))
-    note = "Some moments; evacask tables exits has all."
-    return joined((heading("People out by time", Ground.PROVED), tag("figure", drawn, caption), table(heads, rows, note)))
+    return joined((heading("People out by time", Ground.PROVED), tag("figure", drawn, caption), note, table(heads, rows)))
 
 
 def building(report: Report) -> Markup:
     """The building drawn by storeys."""
-    drawing = Drawing(report.model, report.occupancy.through(), {it.way for it in report.full.ways})
+    drawing = Drawing(report.model, report.occupancy.through(), report.full.ways)
     caption = (
         "A line is as wide as people go there in the ",
         mark(Ground.PRINTED),
         ", with their number if there is room, and red if every best plan fills the way at some moment ",
         mark(Ground.CUTS),
-        ". In a room: people / capacity. Dashed: nobody goes there.",
+        ". In a room: people at first / capacity. Dashed: nobody goes there.",
     )
     pictures = [tag("figure", it) for it in drawing.pictures()]
     return joined((heading("The building", Ground.OWN), *pictures, tag("p", *caption, class_="note")))
 
 
 def full(report: Report) -> Markup:
-    """The ways that every best plan fills."""
+    """The ways and rooms that every best plan fills."""
     model = report.model
-    ways = sorted(report.full.ways, key=lambda it: -len(it.moments))
-    rows: List[Tuple[Content, ...]] = [(named(model, it.way), f"{it.rate:,}", len(it.moments), spans(it.moments, model.period)) for it in ways]
-    shown, more = limited(rows, "ways")
-    text = "Every plan that is best at every moment fills these ways at these moments. Widening one of them alone may still bring nothing, if another is as full."
+    places = sorted(report.full.places, key=lambda it: -len(it.moments))
+    rows: List[Row] = [(named(model, it.names), f"{it.people:,}", f"{len(it.moments):,}", spans(model, it.moments)) for it in places]
+    text = "Every plan that is best at every moment fills these places at these moments. A wider one alone may still bring nothing, if another is as full."
     if not rows:
-        text = "No way is full at any moment in every best plan."
-    heads = ("way", "rate", "moments", "seconds")
-    return joined((heading("Full in every best plan", Ground.CUTS), said(text), table(heads, shown) if rows else None, more))
-
-
-def spans(moments: Sequence[int], period: int) -> str:
-    """The seconds of moments, the first few spans of them."""
-    found = runs_of(moments)
-    shown = ", ".join(f"{it[0] * period:,} to {it.stop * period:,}" for it in found[:6])
-    return shown + (f" and {len(found) - 6} more spans" if len(found) > 6 else "")
+        text = "No way and no room is full at any moment in every best plan."
+    heads = ("way or room", "people at a moment", "moments", "seconds")
+    return joined((heading("Full in every best plan", Ground.CUTS), said(text), rows_of(heads, rows, "places")))
 
 
 def storeys(report: Report) -> Markup:
     """Who stays on which storey, over time."""
-    some, period = report.storeys, report.model.period
+    model, some = report.model, [it for it in report.storeys if it.most]
     if not some:
-        return Markup("")
-    shown = some if len(some) <= MOST_STOREYS else (*some[: MOST_STOREYS // 2], *some[-MOST_STOREYS // 2 :])
-    rows = [(own(it.name or f"{it.number}"), f"{it.most:,}", f"{it.first * period:,}", f"{it.last * period:,}") for it in shown]
-    heads = ("storey", "most who stay", "from, in seconds", "last one stays until, in seconds")
-    left = f" {len(some) - len(shown)} storeys between are left out." if len(some) > len(shown) else ""
-    note = f"Who stays on a storey at the end of a moment.{left}"
-    return joined((heading("Storeys over time", Ground.PRINTED), tag("figure", strips_picture(shown, period)), table(heads, rows, note)))
+        return joined((heading("Storeys over time", Ground.PRINTED), said("Nobody stays on any storey: all go on at once.")))
+    shown = some if len(some) <= MOST_STOREYS else [*some[: MOST_STOREYS // 2], *some[-MOST_STOREYS // 2 :]]
+    rows = [(own(it.name or f"{it.number}"), f"{it.most:,}", seconds(model, it.first), seconds(model, it.left)) for it in shown]
+    heads = ("storey", "most who stay", "first, in seconds", "last one leaves, in seconds")
+    left = f" {len(some) - len(shown):,} storeys between are left out." if len(some) > len(shown) else ""
+    note = tag("p", f"Who is on a storey at a moment and doesn't go on then; storeys on which nobody stays are left out.{left}", class_="note")
+    return joined((heading("Storeys over time", Ground.PRINTED), tag("figure", strips_picture(shown, model.period)), note, table(heads, rows)))
 
 
 def rooms(report: Report) -> Markup:
     """Rooms and their ways out."""
-    model = report.model
-    rows: List[Tuple[Content, ...]] = [room_row(model, it) for it in report.rooms]
-    shown, more = limited(rows, "ways of rooms")
+    rows = [room_row(report.model, it) for it in report.rooms]
     heads = ("room", "way", "people", "set out, in seconds")
-    return joined((heading("Rooms and their ways", Ground.PRINTED), table(heads, shown, texts=2), more))
+    return joined((heading("Rooms and their ways", Ground.PRINTED), rows_of(heads, rows, "ways of rooms", texts=2)))
 
 
-def room_row(model: Model, it: RoomWay) -> Tuple[Content, ...]:
-    when = f"{it.first * model.period:,} to {(it.last + 1) * model.period:,}"
-    return named(model, it.nodes[:1]), " ".join(it.nodes[1:]), f"{it.people:,}", when
+def room_row(model: Model, it: RoomWay) -> Row:
+    set_out = f"{it.first * model.period:,} to {(it.last + 1) * model.period:,}"
+    return named(model, it.nodes[:1]), " ".join(it.nodes[1:]), f"{it.people:,}", set_out
 
 
 def worth(report: Report) -> Markup:
     """What the loss of a way costs, and what a wider one brings."""
     model, same = report.model, Outcome(report.plan.cleared, report.plan.people)
     changed = [it for it in report.worth.ways if (it.without, it.wide) != (same, same)]
-    rows: List[Tuple[Content, ...]] = [(named(model, it.names), *(cell(model, one) for one in (it.without, same, it.wide))) for it in changed]
-    shown, more = limited(rows, "ways")
-    text = "All other ways that were looked at change nothing if they are lost, and bring nothing if they are wider."
+    rows: List[Row] = [(named(model, it.names), *(cell(model, one) for one in (it.without, same, it.wide))) for it in changed]
+    text = "Of the other ways neither a loss nor a greater rate changes when all are out."
     if report.worth.untried:
-        text += f" {report.worth.untried:,} ways that fewer people use weren't tried: evacask sensitivity tries all."
-    heads = ("way or exit", "without it", "as it is", "at any rate")
-    return joined((heading("What each way is worth", Ground.PROVED), table(heads, shown) if rows else None, more, said(text)))
+        text = f"{report.worth.untried:,} ways that fewer people use weren't tried: evacask sensitivity tries all. {text[:-1]}, as far as they were tried."
+    heads = ("way or exit", "all out without it, in seconds", "as it is", "at any rate")
+    return joined((heading("What each way is worth", Ground.PROVED), rows_of(heads, rows, "ways"), said(text, ground=Ground.CUTS)))
 
 
 def cell(model: Model, outcome: Outcome) -> str:
-    """The seconds between which all are out, or how many can be."""
-    if outcome.cleared is None:
-        return f"at most {outcome.most:,} out"
-    return f"{outcome.cleared * model.period:,} to {(outcome.cleared + 1) * model.period:,} s"
-
-
-def assumptions(model: Model) -> List[str]:
-    """What the page takes for granted."""
-    counted = f" Each person is counted as {model.shares} shares, so that a rate may be a fraction." if model.shares > 1 else ""
-    return [
-        f"A period lasts {model.period} s, and the plan looks {model.seconds(model.horizon):,} s ahead.{counted}",
-        f"The building has {len(model.nodes):,} nodes, {len(model.arcs):,} ways, {len(model.windows):,} closures, and {len(model.entrants):,} groups of people who come in later.",
-        "Everybody follows the plan from the first moment, and knows each closure beforehand. People don't: add the time before they set out.",
-        "Rates, travel times and capacities are those listed below. Nobody has proved that they are true of the building.",
-    ]
-
-
-def listing(model: Model, sha256: str, logic: Optional[str]) -> Markup:
-    """The input, line for line, and the program."""
-    lines = lines_of(model.text)
-    given = hashlib.sha256(model.bytes).hexdigest()
-    proved = f"It is proved in logic {logic}." if logic else "It isn't proved on this machine."
-    text = tag("pre", *(f"{line}\n" for line in lines[:2000]))
-    left = tag("p", f"{len(lines) - 2000:,} more lines aren't shown.", class_="note") if len(lines) > 2000 else None
-    head = tag("p", f"The building has {len(lines):,} lines, SHA-256 {given}. The program's SHA-256 is {sha256}. {proved}")
-    return joined((tag("h2", "Input and program"), head, text, left))
+    """The seconds at which all are out, or how many can be."""
+    return f"at most {outcome.most:,} out" if outcome.cleared is None else seconds(model, outcome.cleared)

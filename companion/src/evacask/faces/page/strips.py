@@ -3,8 +3,8 @@ from __future__ import annotations
 
 from typing import List, Sequence, Tuple
 
-from evacask.faces.page.curve import picture
 from evacask.faces.page.markup import Markup, empty, joined, tag
+from evacask.faces.page.picture import fitted, picture
 from evacask.model.shares import Count
 from evacask.questions.report import Storey
 
@@ -18,7 +18,7 @@ def strips_picture(storeys: Sequence[Storey], period: int) -> Markup:
     most = max([*(it.most for it in storeys), 1])
     drawn: List[Markup] = []
     for at, it in enumerate(storeys):
-        drawn.append(tag("text", (it.name or f"{it.number}")[:16], x=4, y=at * ROW + 13))
+        drawn.append(tag("text", fitted(it.name or f"{it.number}", LEFT - 14), x=4, y=at * ROW + 13))
         drawn += [cell(at, place, float(people) / float(most)) for place, people in bins(it.stay) if people]
     y = ROW * len(storeys) + 16
     drawn += [
