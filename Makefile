@@ -1,6 +1,6 @@
 # What is made and tried here, a goal a line; each is a command that also runs by itself.
 .PHONY: unproved check prove gate bench docs dist roots help
-TYPED = build web/module/no_table.py tools/dist.py tests/roots.py tests/test_front.py tests/test_release.py tests/validation.py
+TYPED = build web/module/no_table.py tools/dist.py tests/roots.py tests/test_front.py tests/test_release.py tests/validation.py tests/notebook.py
 PAGES = tools/pages.py tests/test_pages.py
 MYPY = mypy --strict --python-version 3.9 --explicit-package-bases
 

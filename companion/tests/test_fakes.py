@@ -69,7 +69,8 @@ class Fakes(unittest.TestCase):
                 with self.subTest(fake=name, command=command):
                     self.assertIn(said.status, STATUSES)
                     self.assertRegex(said.err, r"\A(evacask: [^\n]+\n)?\Z")
-                    self.assertEqual(bool(said.err), said.status not in (Status.ANSWERED, Status.REVIEW))
+                    self.assertTrue(said.out or said.err or command == "review" or said.status == Status.ANSWERED)
+                    self.assertFalse(said.err and said.status in (Status.ANSWERED, Status.REVIEW))
                     self.assertEqual(PROCESSES.running, set())
         self.assertEqual([it for it in running(self.mark) if "unittest" not in it], [])
 

@@ -12,7 +12,7 @@ _evacask() {
     width) words='--columns --csv --earlier --edit --help --json --program --proved --text' ;;
     compare) words='--columns --csv --edit --help --json --program --proved --text --unforeseen' ;;
     session) words='--edit --help --program --proved --replan --study' ;;
-    tables) words='exits nodes arcs routes totals fullest full walks --columns --csv --edit --help --json --program --proved --text' ;;
+    tables) words='exits nodes arcs routes totals fullest full all walks --columns --csv --edit --help --json --program --proved --text' ;;
     review) words='--columns --csv --edit --help --json --program --proved --text' ;;
     explain) words='--columns --csv --help --json --program --proved --text' ;;
     convert) words='--both --columns --csv --down --help --json --period --program --proved --shares --text --up' ;;
