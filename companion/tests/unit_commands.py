@@ -158,13 +158,9 @@ class Commands(unittest.TestCase):
         self.assertEqual((ended.status, ended.err), (0, ""))
         self.assertIn("cleared 3 (15 to 20 s)", ended.out)
         self.assertIn("refused 39", ended.out)
-<<<<<<< HEAD
         ended = ask(
             "session", "room.evac", "--study", text="exits\nleast WP1.1 DS1.1 3\nleast WP1.1 DS1.1 99\nleast WP1.1 DS2.1 2\nleast WP1.1 DS1.1 8\n"
         )
-=======
-        ended = ask("session", "room.evac", "--study", text="exits\nleast WP1.1 DS1.1 3\nleast WP1.1 DS1.1 99\nleast WP1.1 DS2.1 2\nleast WP1.1 DS1.1 8\n")
->>>>>>> fc2d02ccdf874e17e0bc7585ed6048863ec2cfaa
         self.assertEqual((ended.status, ended.err), (0, ""))
         self.assertIn("DS2.1", ended.out)
 

