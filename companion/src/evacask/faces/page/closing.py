@@ -48,4 +48,4 @@ def listing(model: Model, source: Source) -> Markup:
     proved = f"It is proved in logic {source.logic}." if source.logic else "It isn't proved on this machine."
     digest = hashlib.sha256(model.bytes).hexdigest()
     head = tag("p", f"The input has {len(lines):,} lines, SHA-256 {digest}. The program's SHA-256 is {source.sha256}. {proved}")
-    return joined((tag("h2", "Input and program"), head, tag("pre", Markup("\n").join(map(escaped, lines[:MOST_LINES]))), left))
+    return joined((tag("h2", "Input and program"), head, tag("pre", Markup("\n".join(map(escaped, lines[:MOST_LINES])))), left))
