@@ -108,7 +108,7 @@ def curve(held: Held, plan: Planned) -> None:
     of = held.of
     exits = sorted(plan.exits().items(), key=lambda it: (-it[1][-1], it[0]))
     if len(exits) > 8:
-        exits = [*exits[:7], (f"{len(exits) - 7:,} other exits", [sum(row) for row in zip(*(it[1] for it in exits[7:]))])]
+        exits = [*exits[:7], (f"{len(exits) - 7:,} others", [sum(row) for row in zip(*(it[1] for it in exits[7:]))])]
     step = -(-len(plan.out) // 21)
     moments = sorted({*range(0, len(plan.out), step), len(plan.out) - 1})
     held.rows("People out by time", ((of.seconds(k), of.count(plan.out[k]), *(of.count(it[1][k]) for it in exits)) for k in moments))

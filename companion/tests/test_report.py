@@ -1,5 +1,7 @@
 """Pages of `evacask report`, read back by a reader that shares no code with the package, and looked at by a browser if there is one."""
+import csv
 import html
+import io
 import json
 import pathlib
 import random
@@ -16,14 +18,10 @@ from companion.tests.package import EXAMPLES, OFFICE, PATIENCE, SCHOOL, TOP, ask
 from companion.tests.page_check import held
 from companion.tests.page_reader import Page
 from companion.tests.planned_page import Building, Names, Planned
-from evacask.client.asking import accepted, plan_or_short
-from evacask.client.blocks import Plan
-from evacask.client.talk import Program
 from evacask.faces.page import marks
 from evacask.faces.page.curve import COLOURS
 from evacask.faces.page.drawing import EXIT, FULL, UNUSED, USED
 from evacask.model.ground import Ground
-from evacask.questions.full import full
 
 METRO = TOP / "examples/metro.evac"
 BROWSER = shutil.which("chromium") or shutil.which("chromium-browser") or shutil.which("google-chrome")
@@ -158,12 +156,12 @@ class FullInEveryBestPlan(unittest.TestCase):
         chance, tried = random.Random(671), 0
         while tried < number:
             text = random_building(chance)
-            model = accepted(Program(program()), text)
-            plan = plan_or_short(Program(program()), model)
-            if isinstance(plan, Plan) and plan.cleared:
+            said = ask("tables", "full", "-", "--csv", text=text)
+            if said.status == 0 and "\ncleared 0\n" not in Building(program(), text.encode()).ask(["solve"], text.encode()):
                 tried += 1
+                rows = csv.DictReader(io.StringIO(said.out))
                 with self.subTest(text):
-                    self.compare(text, {(it.names, t) for it in full(model, plan).places for t in it.moments}, chance)
+                    self.compare(text, {((it["from"], it["to"]) if it["to"] else (it["from"],), int(it["moment"])) for it in rows}, chance)
 
     def compare(self, text: str, marked: Set[Tuple[Names, int]], chance: random.Random) -> None:
         of = Building(program(), text.encode())
@@ -240,7 +238,7 @@ class InABrowser(unittest.TestCase):
 
     def test_nothing_overflows_and_no_text_is_over_another(self) -> None:
         for name, page in {"office": page_of(OFFICE.read_bytes()), "metro": page_of(METRO.read_bytes(), "--trials", "0")}.items():
-            for width in (1000, 500):  # (no window of Chromium is narrower than 500)
+            for width in (1000, 400):
                 with self.subTest(f"{name} {width}"):
                     found = self.measured(page, width)
                     self.assertEqual((found["wide"], found["over"]), (0, []))
