@@ -3,7 +3,7 @@
 
     tools/dist.py [FOLDER]        (make dist: into out/dist)
 
-It writes a tar.gz, a Debian package and a wheel, each with the program and evacask, and MANIFEST.json and SHA256SUMS. The program is linked statically, so
+It writes a tar.gz, a Debian package and a wheel, each with the program and evacask, the page if web/build made it, and MANIFEST.json and SHA256SUMS. The program is linked statically, so
 it needs nothing of the system that it runs on. A release is made of a commit: nothing else may be in the tree, and the program must be that of its sources
 and bear the mark of a proof. Making it takes gcc, strip and git.
 """
@@ -18,7 +18,10 @@ import sys
 from typing import Dict, List, Optional
 
 from kit import TOP, Kit, NotBuilt, room_for_files, run, say
-from packing import File, Files, deb_of, digest, files_in, tar_of, wheel_of
+
+sys.path.insert(0, str(TOP / "web"))
+import pack  # noqa: E402
+from packing import File, Files, deb_of, digest, tar_of, wheel_of
 import sources
 
 NOT_BUILT, WRONG_WORDS = 70, 64
@@ -110,7 +113,8 @@ def document_files(to: str) -> Files:
 
 def packages(program: bytes, said: bytes, at: str, time: int) -> Dict[str, bytes]:
     """The three packages by name, of a program and a manifest, in a version, with a time for each file."""
-    package = {**files_in(PACKAGE, (".py", ".json", ".typed", ".css", ".js", ".html")), "evacask/MANIFEST.json": File(said)}
+    package = {name: File((PACKAGE / name).read_bytes()) for name in git("-C", str(PACKAGE), "ls-files").splitlines()}
+    package["evacask/MANIFEST.json"] = File(said)
     runs, manifest = File(program, 0o755), File(said)
     top = f"evacplan-{at}-linux-x86_64"
     tree: Files = {"evacplan": runs, "lib/evacask/bin/evacplan": File(link="../../../evacplan"), "MANIFEST.json": manifest}
@@ -141,6 +145,15 @@ def packages(program: bytes, said: bytes, at: str, time: int) -> Dict[str, bytes
     return {**made, name: data}
 
 
+def page_of(at: str, kit: Kit) -> Dict[str, bytes]:
+    """The page of the proved program by its name in a version, if what web/build left is that of these sources; else none, which is said."""
+    page, module = (sources.bytes_of(TOP / "web/out" / name) for name in ("evacplan.html", "evacplan.wasm"))
+    if page and page == pack.page_of(module, pack.CLAIM, pack.origin(sources.digests_of(TOP), kit.name, module)).encode():
+        return {f"evacplan-{at}.html": page}
+    say("the release is without the page, which isn't there or isn't of these sources: web/build makes it")
+    return {}
+
+
 def release(to: pathlib.Path, made_of: str, time: int) -> None:
     """Writes the release of a commit, with a time for each file, into a folder. Raises NotBuilt and OSError."""
     at, kit = version(), Kit()
@@ -154,7 +167,7 @@ def release(to: pathlib.Path, made_of: str, time: int) -> None:
         "gate_passed_on": gate_passed(made_of),
     }
     said = json.dumps(manifest, indent=1).encode() + b"\n"
-    made = {**packages(program, said, at, time), "MANIFEST.json": said}
+    made = {**packages(program, said, at, time), **page_of(at, kit), "MANIFEST.json": said}
     to.mkdir(parents=True, exist_ok=True)
     for name, data in made.items():
         (to / name).write_bytes(data)

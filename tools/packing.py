@@ -34,12 +34,6 @@ def digest(data: bytes) -> str:
     return hashlib.sha256(data).hexdigest()
 
 
-def files_in(folder: pathlib.Path, kinds: Tuple[str, ...]) -> Files:
-    """The files of some kinds in a folder, by their paths from there."""
-    found = (it for it in folder.rglob("*") if it.suffix in kinds and it.is_file() and "__pycache__" not in it.parts)
-    return {str(it.relative_to(folder)): File(it.read_bytes()) for it in found}
-
-
 def tar_of(files: Files, time: int, front: str = "") -> bytes:
     """A tar.gz. Each name begins with the front."""
     plain, packed = io.BytesIO(), io.BytesIO()

@@ -39,7 +39,7 @@ def table(head: str) -> List[List[str]]:
     found = re.search(rf"(?m)^\| {re.escape(head)} .*\n\|[-|]+\n((?:\|.*\n)+)", FORMATS.read_text("utf-8"))
     if not found:
         raise SystemExit(f"pages: docs/FORMATS.md has no table {head}")
-    return [[it.strip() for it in line.strip("|").split(" | ")] for line in found[1].splitlines()]
+    return [[it.strip() for it in re.split(r"(?<!\\)\|", line)[1:-1]] for line in found[1].splitlines()]
 
 
 def plain(text: str) -> str:
@@ -65,7 +65,10 @@ def page(name: str, section: int, what: str, parts: Dict[str, str]) -> str:
 
 
 def program_page() -> str:
-    words = "".join(item(marked(it[0]), f"reads {marked(it[1])}; prints {marked(it[2])}") for it in table("Words"))
+    read, words = "", ""
+    for row in table("Words"):
+        read = read if row[1] == "the same" else "nothing" if row[1] == "nothing is read" else row[1]
+        words += item(marked(row[0]), f"reads {marked(read)}; prints {marked(row[2])}")
     statuses = "".join(item(rf"\fB{it[0]}\fR", marked(it[1])) for it in table("Status"))
     example = ".nf\nevacplan solve < office.evac\n.fi"
     parts = {

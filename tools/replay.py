@@ -35,7 +35,8 @@ sys.dont_write_bytecode = True
 import figures
 
 TOP = pathlib.Path(__file__).resolve().parent.parent
-DOCUMENTS = ("README.md", "docs/GUIDE.md", "docs/RECIPES.md", "docs/CALLING.md", "docs/FORMATS.md", "docs/FIGURES.md", "docs/LAWS.md")
+PAGES = ("GUIDE", "RECIPES", "ASSUMPTIONS", "CALLING", "FORMATS", "FIGURES", "LAWS")
+DOCUMENTS = ("README.md", *(f"docs/{it}.md" for it in PAGES))
 # What the commands find in their folder, besides the program.
 LINKED = ("examples", "docs", "evacask", "companion")
 KINDS = ("console", "evac", "python", "rust", "antt", "sh", "text")

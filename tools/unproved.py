@@ -103,7 +103,11 @@ def turn() -> Iterator[None]:
     except OSError as fault:
         raise NotBuilt(f"nothing can be written to {PROGRAM.parent}, so no program can be kept: {fault.strerror}") from None
     try:
+        fcntl.flock(folder, fcntl.LOCK_EX | fcntl.LOCK_NB)
+    except OSError:
+        say("another first run is at work in this copy; waiting for its program")
         fcntl.flock(folder, fcntl.LOCK_EX)
+    try:
         yield
     finally:
         os.close(folder)

@@ -16,6 +16,8 @@ from typing import Dict, List, Tuple
 HERE = Path(__file__).resolve().parent
 PAGE = HERE / "page"
 FORMATS = HERE.parent / "docs" / "FORMATS.md"
+CLAIM = "This page runs the proved program's code, compiled for WebAssembly by steps that no proof covers and that the kit doesn't offer."
+NO_CLAIM = "This page was made for a first look, from a module of which nothing says that it is proved."
 EXAMPLES = ("office", "school", "two_exits", "stair_repair", "theatre", "metro", "tower")
 
 IMPORT = re.compile(r"^import (\{[^}]*\}) from '\./([a-z_]+)\.js';$", re.MULTILINE)
@@ -82,7 +84,7 @@ def statements() -> List[Tuple[str, str]]:
     return [(form, "; ".join(filter(None, (ranges.strip(), often)))) for form, ranges, often in rows_after("## The statements")]
 
 
-def parts(module: bytes, claim: str, origin: str) -> str:
+def parts(module: bytes, claim: str, made_from: str) -> str:
     """The module parts.js of the page, filled in."""
     examples = [(name, (HERE.parent / "examples" / f"{name}.evac").read_text(encoding="utf-8")) for name in EXAMPLES]
     values = {
@@ -93,7 +95,7 @@ def parts(module: bytes, claim: str, origin: str) -> str:
         "EDIT_CODES": edit_codes(),
         "STATEMENTS": statements(),
         "CLAIM": claim,
-        "ORIGIN": origin,
+        "ORIGIN": made_from,
     }
     return "".join(f"export const {name} = {text_of(value)};\n" for name, value in values.items())
 
@@ -115,9 +117,15 @@ def policy(script: str, style: str) -> str:
     )
 
 
-def page_of(module: bytes, claim: str, origin: str) -> str:
+def origin(digests: str, kit: str, module: bytes) -> str:
+    """What a page was made from, in words: the sources by the sum of their digests, the kit by its name, and the module."""
+    of_sources = hashlib.sha256(digests.encode("utf-8", "surrogateescape")).hexdigest()
+    return f"sources SHA-256 {of_sources}, {kit}, module SHA-256 {hashlib.sha256(module).hexdigest()}"
+
+
+def page_of(module: bytes, claim: str, made_from: str) -> str:
     """The page of a module, with what may be claimed of it and what it was made from, in words."""
-    script = bundle("main", {"parts": parts(module, claim, origin)})
+    script = bundle("main", {"parts": parts(module, claim, made_from)})
     style = (PAGE / "style.css").read_text(encoding="utf-8")
     if "</" in style or re.search(r"</script|<!--", script, re.IGNORECASE):
         raise SystemExit("the script or the style would end too early")
@@ -128,7 +136,7 @@ def page_of(module: bytes, claim: str, origin: str) -> str:
 
 
 def main(module: str, out: str) -> None:
-    page = page_of(Path(module).read_bytes(), "This page was packed by hand, and nothing is claimed of its module.", "a module that was given by hand")
+    page = page_of(Path(module).read_bytes(), NO_CLAIM, "a module that was given by hand")
     Path(out).write_text(page, encoding="utf-8")
 
 

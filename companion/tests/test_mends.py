@@ -1,4 +1,4 @@
-"""What was wrong once: each test failed before its mend. All of them run evacask as a command."""
+"""What was wrong once: each test failed before its mend. Nearly all of them run evacask as a command."""
 import csv
 import io
 import os
@@ -13,8 +13,9 @@ import time
 import unittest
 from typing import Callable, Tuple
 
-from evacask.client import sources
+import evacask
 from companion.tests.asking import OFFICE, PATIENCE, TOP, ask, program, solved
+from evacask.client import sources
 
 # The seconds after which a reply that comes at once otherwise isn't waited for any longer.
 SOON = 10
@@ -170,6 +171,10 @@ class Programs(unittest.TestCase):
         command = [sys.executable, "-B", str(top / "evacask"), "why", str(OFFICE)]
         ran = subprocess.run(command, capture_output=True, text=True, env=settings, timeout=PATIENCE)
         return ran.returncode, ran.stderr
+
+    def test_the_package_answers_after_a_command_in_the_same_process(self):
+        self.assertEqual(ask("why", OFFICE).status, 0)
+        self.assertEqual(evacask.reads(OFFICE.read_text()).solve().cleared, 28)
 
     def test_signals_end_the_program_and_what_it_started(self):
         for number in (signal.SIGTERM, signal.SIGHUP, signal.SIGINT):

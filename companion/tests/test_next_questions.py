@@ -16,6 +16,8 @@ import unittest
 from typing import Dict, List
 
 from companion.tests.asking import TOP, Ended, run
+from evacask import Ground, NoAnswer, percents, read, reads
+from evacask.questions.improve import improve
 
 ROOM, EXITS, OFFICE = (TOP / f"examples/{name}.evac" for name in ("one_room", "two_exits", "office"))
 TABLES = {
@@ -175,6 +177,27 @@ class Questions(unittest.TestCase):
         self.assertEqual(self.ask("assign EXITS", "--plan", str(plan)).status, 0)
         said = subprocess.run([program, "check"], input=EXITS.read_bytes() + plan.read_bytes(), capture_output=True)
         self.assertTrue(said.stdout.startswith(b"no 57 "), said.stdout)
+
+    def test_what_is_found_and_what_is_proved_when_the_work_runs_out(self) -> None:
+        school = read(TOP / "examples/school.evac")
+        exact, quick = (improve(school.client, school.model, 14, work=work) for work in (10**8, 60_000))
+        self.assertTrue(exact.is_exact)
+        self.assertFalse(quick.is_exact)
+        self.assertLess(quick.at_least, exact.cost or 0)
+        self.assertLessEqual(exact.cost or 0, quick.cost or 0)
+        self.assertIsNone(improve(school.client, school.model, 14, work=1).cost)
+
+    def test_a_range_that_is_not_certain_says_why(self) -> None:
+        window = read(EXITS).model.text.replace("evacplan 1", "evacplan 2").replace("end\n", "window WP1.1 DS1.1 1 2\nend\n")
+        answer = reads(window).ranges(percents(reads(window).model, travel=(50, 50)))
+        self.assertIn("an arc has a window", answer.doubt or "")
+        self.assertEqual(answer.ground, Ground.OWN)
+
+    def test_shares_are_told(self) -> None:
+        shares = reads(ROOM.read_text().replace("period 5", "#shares 2\nperiod 5"))
+        for ask in (shares.assign, shares.losses, shares.rescue, lambda: shares.admit(2), lambda: shares.improve(2)):
+            with self.assertRaises(NoAnswer):
+                ask()
 
     def test_the_same_building_has_the_same_answer(self) -> None:
         school = TOP / "examples/school.evac"

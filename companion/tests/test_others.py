@@ -304,7 +304,7 @@ class TalkAtATerminal(unittest.TestCase):
         self.until("answer 1: 240 people, cleared 50 (250 to 255 s)")
         self.until("session> ")
         self.type("\x1b[A\n")
-        self.until("refused 34: The arc is shut already.")
+        self.until("refused 34: The exit is shut already.")
         self.until("session> ")
         self.type("openex\tDS2\t\n")
         self.until("answer 2: 240 people, cleared 28 (140 to 145 s)")

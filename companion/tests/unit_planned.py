@@ -14,6 +14,7 @@ from evacask.model.edits import edited
 from evacask.questions.bracket import brackets, narrow_period
 from evacask.questions.by_hand import by_hand
 from evacask.questions.sensitivity import Names
+from evacask.questions.why import why_of
 
 ROOM = "evacplan 1\nperiod 5\nhorizon 20\nfloor 1 G\nnode WP1.1 10 8\nnode DS1.1\nnode DS2.1\narc WP1.1 DS1.1 1 1\narc WP1.1 DS2.1 3 5\nend\n"
 PLAN = "evacplan 1\nperiod 5\nhorizon 60\nfloor 1 Ground\nnode WP1.1 50 20\nnode DS1.1\nway WP1.1 DS1.1 free 11 door 0.90\nend\n"
@@ -103,7 +104,7 @@ class Planned(unittest.TestCase):
         self.assertIsNone(narrow_period(PLANNER, drawn, 1))
         building = reads(ROOM, PLANNER)
         with building.session() as session:
-            self.assertIsNotNone(by_hand(building.model, session.plan, session.cut()))
+            self.assertIsNotNone(by_hand(building.model, session.plan, why_of(session, None)))
 
 
 def lost(names: Names) -> List[str]:

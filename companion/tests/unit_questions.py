@@ -27,7 +27,7 @@ class Questions(unittest.TestCase):
         # 1,000 nodes and arcs: 1,000,000 / 1,000 moments, of which 0 is the first.
         lines = [f"node WP{it}.1 1 1\narc WP{it}.1 DS1.1 1 1" for it in range(1, 500)]
         text = "evacplan 1\nperiod 5\nhorizon 0\nfloor 1 G\nnode DS1.1\n" + "\n".join(lines) + "\narc WP1.1 WP2.1 1 1\nend\n"
-        answer = summary(Table({"session": "refused 22 1\npeople 499\nmost 0\nend\n"}), model_of(text))
+        answer = summary(Table({"session": "refused 22 1\npeople 499\nmost 0\nin WP1.1 0 0\nend\n"}), model_of(text))
         assert isinstance(answer, Short)
         self.assertEqual((answer.greatest, answer.most, answer.people), (999, 0, 499))
 

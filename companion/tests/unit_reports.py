@@ -25,7 +25,16 @@ WRONG: Tuple[Tuple[Callable[[bytes], Any], Tuple[bytes, ...]], ...] = (
             SHORT[:-5],
         ),
     ),
-    (lambda it: plan_of(it, MODEL), (SHORT.replace(b"in ", b"on "), SHORT.replace(b" 1\nend", b" x\nend"), SHORT.replace(b" 0 1", b" 0"))),
+    (
+        lambda it: plan_of(it, MODEL),
+        (
+            SHORT.replace(b"in WP1.1 0 1\n", b""),
+            SHORT.replace(b"WP1.1", b"WP2.1"),
+            SHORT.replace(b"in ", b"on "),
+            SHORT.replace(b" 1\nend", b" x\nend"),
+            SHORT.replace(b" 0 1", b" 0"),
+        ),
+    ),
     (
         lambda it: plan_of(it, MODEL).arrivals,
         (BLOCK.replace("out 1 2\n", "").encode(), BLOCK.replace("out 2 3", "out 2 2").encode(), BLOCK.replace("out 1 2", "out 1").encode()),
@@ -147,7 +156,7 @@ class Talks(unittest.TestCase):
             {
                 "cut 1": "cut 2 2\narc 0 WP1.1 DS1.1 2\nend\n",
                 "cut 21": "refused 33 9\n",
-                "rate WP1.1 DS1.1 0": "refused 22 9\npeople 3\nmost 0\nend\n",
+                "rate WP1.1 DS1.1 0": "refused 22 9\npeople 3\nmost 0\nin WP1.1 0 20\nend\n",
                 "shut a b": "refused 8 9\n",
             }
         )

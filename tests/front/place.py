@@ -30,7 +30,12 @@ class Place:
     def __init__(self, here: pathlib.Path, rows: str = CRATES):
         self.here, self.repo, self.tmp = here, here / "repo", here / "tmp"
         self.status, self.out, self.err = 0, "", ""
-        self.env: Dict[str, str] = {**os.environ, "PATH": f"{here}/bin:{os.environ['PATH']}", "TMPDIR": str(self.tmp), "RT_ROOM": str(here)}
+        self.env: Dict[str, str] = {
+            **{it: os.environ[it] for it in os.environ if it != "EVACPLAN"},
+            "PATH": f"{here}/bin:{os.environ['PATH']}",
+            "TMPDIR": str(self.tmp),
+            "RT_ROOM": str(here),
+        }
         self.tmp.mkdir(parents=True)
         for name in SCRIPTS:
             self.copy(TOP / name, self.repo / name)

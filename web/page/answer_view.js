@@ -217,11 +217,12 @@ function whereWords({ building, block }, held, moment) {
  * Who is where, with a slider of moments.
  * @param {Answer} answer
  * @param {Map<string, Int32Array>} held
+ * @param {Map<string, number[]>} full
  * @param {(names: string[]) => void} chosen
  */
-function whereSection(answer, held, chosen) {
+function whereSection(answer, held, full, chosen) {
   const { building, block } = answer;
-  const { picture, show } = drawing(building, peopleByWay(block), fullMoments(building, block), held, chosen);
+  const { picture, show } = drawing(building, peopleByWay(block), full, held, chosen);
   const said = html('output', { for: 'moment', class: 'where' });
   const turn = /** @param {number} moment */ (moment) => {
     said.textContent = whereWords(answer, held, moment);
@@ -251,9 +252,10 @@ function storeySection(building, held) {
 /**
  * The ways that every best plan fills.
  * @param {Answer} answer
+ * @param {Map<string, number[]>} full
  */
-function fullSection({ building, block }) {
-  const people = peopleByWay(block), ways = [...fullMoments(building, block)].sort(([, a], [, b]) => b.length - a.length), [rows, more] = firstRows(ways, 'way');
+function fullSection({ building, block }, full) {
+  const people = peopleByWay(block), ways = [...full].sort(([, a], [, b]) => b.length - a.length), [rows, more] = firstRows(ways, 'way');
   if (ways.length === 0) return null;
   const cells = rows.map(([way, moments]) => [named(building, way.split(' ')), String(building.arcs.get(way)?.rate), count(people.get(way) ?? 0), runsWords(building, moments)]);
   return section('Full in every best plan', 'cuts', html('p', {}, 'At these moments every best plan has these ways as full as can be. To widen one of them alone may still bring nothing: try it above.'),
@@ -293,9 +295,9 @@ export function firstParts(answer) {
  * @returns {Child[]}
  */
 export function moreParts(answer, given, chosen) {
-  const { building, block } = answer, held = heldByNode(building, block);
+  const { building, block } = answer, held = heldByNode(building, block), full = fullMoments(building, block);
   if (block.people === 0) return [];
-  return [curveSection(answer, held, given), whereSection(answer, held, chosen), storeySection(building, held), fullSection(answer), assumptions(building)];
+  return [curveSection(answer, held, given), whereSection(answer, held, full, chosen), storeySection(building, held), fullSection(answer, full), assumptions(building)];
 }
 
 /**

@@ -116,7 +116,7 @@ function readLabels(reader, name, cleared) {
  * A move, which comes after the one before it by moment and then by arc.
  * @param {Reader} reader
  * @param {Building} building
- * @param {Map<string, number>} places
+ * @param {Map<Arc, number>} places of the arcs in their order
  * @param {Move | undefined} before
  * @returns {Move}
  */
@@ -125,8 +125,8 @@ function readMove(reader, building, places, before) {
   const moment = numberAt(line, 1, 0, building.horizon), arc = building.arcs.get(way);
   if (!arc) throw new Fault(line.number, `there is no arc from ${line.fields[2]} to ${line.fields[3]}`);
   const people = numberAt(line, 4, 1, MOST_NUMBER);
-  const place = /** @param {Arc} it */ (it) => places.get(wayOf(it.tail, it.head)) ?? 0;
-  if (before && (moment < before.moment || (moment === before.moment && place(arc) <= place(before.arc)))) {
+  const isLater = /** @param {Move} it */ (it) => moment > it.moment || (moment === it.moment && (places.get(arc) ?? 0) > (places.get(it.arc) ?? 0));
+  if (before && !isLater(before)) {
     throw new Fault(line.number, "the moves aren't in their order");
   }
   return { moment, arc, people, line: line.number };
@@ -146,7 +146,7 @@ export function readBlock(building, text) {
   const outLine = reader.lines[reader.at]?.number ?? clearedLine.number;
   const out = readOut(reader, cleared);
   const labels = new Map((cleared > 0 ? roomsOf(building) : []).map(({ name }) => [name, readLabels(reader, name, cleared)]));
-  const places = new Map([...building.arcs.keys()].map((way, at) => [way, at]));
+  const places = new Map([...building.arcs.values()].map((arc, at) => [arc, at]));
   /** @type {Move[]} */
   const moves = [];
   while (reader.isNext('move')) moves.push(readMove(reader, building, places, moves.at(-1)));

@@ -6,7 +6,7 @@ import { count, seconds } from './times.js';
 
 /** @typedef {{name: string, out: ArrayLike<number>}} Part an exit, with the people out by it at each moment */
 
-const WIDTH = 760, HEIGHT = 300, LEFT = 56, RIGHT = 16, TOP = 14, BOTTOM = 40;
+const WIDTH = 760, HEIGHT = 300, LEFT = 56, RIGHT = 28, TOP = 14, BOTTOM = 40;
 const MOST_POINTS = 400;
 const MOST_EXITS = 7;
 const COLOURS = ['#1f5a99', '#a34400', '#1b6e3c', '#7a2d8c', '#8a1538', '#4b5320', '#00606b', '#5c4033'];

@@ -21,7 +21,7 @@ import { roomsOf } from './block.js';
  * @property {number} last
  */
 
-/** @typedef {(name: string, moment: number) => number} LabelAt the label of a node that is no exit */
+/** @typedef {(name: string) => ArrayLike<number>} LabelsOf the labels of a node that is no exit, by moment */
 
 /**
  * Wants something to hold.
@@ -128,36 +128,37 @@ function entriesOf(building) {
 /**
  * The items of all cuts that labels state, each with its periods, of which none is above `last`.
  * @param {Building} building
- * @param {LabelAt} label
+ * @param {LabelsOf} labelsAt
  * @param {number} last
  * @returns {Generator<Item>}
  */
-export function* itemsOf(building, label, last) {
+export function* itemsOf(building, labelsAt, last) {
   for (const { name, moment, people } of entriesOf(building)) {
-    if (moment <= last) yield { kind: 'entry', names: [name], moment, people, first: Math.max(moment, label(name, moment)), last };
+    if (moment <= last) yield { kind: 'entry', names: [name], moment, people, first: Math.max(moment, labelsAt(name)[moment]), last };
   }
   for (const { name, capacity } of roomsOf(building)) {
+    const labels = labelsAt(name);
     for (let moment = 0; moment < last; moment++) {
-      const first = Math.max(moment + 1, label(name, moment + 1)), end = Math.min(last, label(name, moment) - 1);
+      const first = Math.max(moment + 1, labels[moment + 1]), end = Math.min(last, labels[moment] - 1);
       if (first <= end) yield { kind: 'hold', names: [name], moment, people: capacity, first, last: end };
     }
   }
-  for (const arc of building.arcs.values()) yield* itemsOfArc(building, arc, label, last);
+  for (const arc of building.arcs.values()) yield* itemsOfArc(building, arc, labelsAt, last);
 }
 
 /**
  * The items that an arc makes.
  * @param {Building} building
  * @param {Arc} arc
- * @param {LabelAt} label
+ * @param {LabelsOf} labelsAt
  * @param {number} last
  * @returns {Generator<Item>}
  */
-function* itemsOfArc(building, arc, label, last) {
-  const isOut = building.nodes.get(arc.head)?.isExit;
+function* itemsOfArc(building, arc, labelsAt, last) {
+  const tail = labelsAt(arc.tail), head = building.nodes.get(arc.head)?.isExit ? null : labelsAt(arc.head);
   for (let moment = 0; moment + arc.travel <= last; moment++) {
     const arrival = moment + arc.travel;
-    const first = isOut ? arrival : Math.max(arrival, label(arc.head, arrival)), end = Math.min(last, label(arc.tail, moment) - 1);
+    const first = head ? Math.max(arrival, head[arrival]) : arrival, end = Math.min(last, tail[moment] - 1);
     if (first <= end) yield { kind: 'arc', names: [arc.tail, arc.head], moment, people: rateAt(building, arc, moment), first, last: end };
   }
 }
@@ -165,12 +166,12 @@ function* itemsOfArc(building, arc, label, last) {
 /**
  * What the cut of each period is worth, up to one.
  * @param {Building} building
- * @param {LabelAt} label
+ * @param {LabelsOf} labelsAt
  * @param {number} last
  */
-function valuesOf(building, label, last) {
+function valuesOf(building, labelsAt, last) {
   const rises = new Float64Array(last + 2);
-  for (const item of itemsOf(building, label, last)) {
+  for (const item of itemsOf(building, labelsAt, last)) {
     if (item.first > item.last) continue;
     rises[item.first] += item.people;
     rises[item.last + 1] -= item.people;
@@ -182,10 +183,10 @@ function valuesOf(building, label, last) {
 /**
  * The labels of a block as a function.
  * @param {Block} block
- * @returns {LabelAt}
+ * @returns {LabelsOf}
  */
 export function labelsOf(block) {
-  return (name, moment) => /** @type {Int32Array} */ (block.labels.get(name))[moment];
+  return (name) => /** @type {Int32Array} */ (block.labels.get(name));
 }
 
 /**
@@ -220,10 +221,10 @@ export function checkBlock(building, block) {
  * The labels that state the cut of a shortfall: above the horizon inside of it, and 0 outside.
  * @param {Building} building
  * @param {Shortfall} shortfall
- * @returns {LabelAt}
+ * @returns {LabelsOf}
  */
 export function labelsOfShortfall(building, shortfall) {
-  return (name, moment) => (shortfall.inside.get(name)?.[moment] ? building.horizon + 1 : 0);
+  return (name) => (shortfall.inside.get(name) ?? []).map((isInside) => (isInside ? building.horizon + 1 : 0));
 }
 
 /**

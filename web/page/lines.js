@@ -24,7 +24,7 @@ export class Fault extends Error {
  * @param {string} text
  */
 export function fieldsOf(text) {
-  return text.split(/[ \t]+/).filter((field) => field !== '');
+  return text.match(/[^ \t]+/g) ?? [];
 }
 
 /**
@@ -33,7 +33,10 @@ export function fieldsOf(text) {
  * @returns {Line[]}
  */
 export function linesOf(text) {
-  const lines = text.split('\n').map((line, at) => ({ number: at + 1, text: line.replace(/\r$/, ''), fields: fieldsOf(line.replace(/\r$/, '')) }));
+  const lines = text.split('\n').map((line, at) => {
+    const said = line.endsWith('\r') ? line.slice(0, -1) : line;
+    return { number: at + 1, text: said, fields: fieldsOf(said) };
+  });
   return lines.filter(({ fields }) => fields.length > 0 && !fields[0].startsWith('#'));
 }
 

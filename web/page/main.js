@@ -15,7 +15,7 @@ import { fileName, save } from './save.js';
 /** @typedef {import('./edits.js').Edit} Edit */
 /** @typedef {import('./dom.js').Child} Child */
 
-const EXCERPT = 80;
+const EXCERPT = 80, SHOWN_MS = 20;
 
 /** The page at work. */
 class Page {
@@ -88,7 +88,7 @@ class Page {
     return this.work('Planning ..', async () => {
       const began = performance.now(), outcome = await this.desk.plan(this.input.text);
       if (outcome.kind === 'stopped') this.say('Stopped. Nothing was changed.');
-      else this.show(outcome, performance.now() - began);
+      else await this.show(outcome, performance.now() - began);
     });
   }
 
@@ -101,26 +101,30 @@ class Page {
    * @param {Outcome} outcome
    * @param {number} took milliseconds
    */
-  show(outcome, took) {
+  async show(outcome, took) {
     this.chosen = [];
     at('result').hidden = outcome.kind !== 'answer' && outcome.kind !== 'short';
     at('begin').hidden = true;
     fill(at('changes-part'));
     fill(at('change-buttons'));
-    if (outcome.kind === 'answer') this.showAnswer();
-    else if (outcome.kind === 'short') this.showShort(outcome);
-    else this.showRefusal(outcome);
-    if (outcome.kind === 'answer' || outcome.kind === 'short') this.say(`Answered and checked in ${(took / 1000).toFixed(1)} s.`);
-    if (outcome.kind === 'answer' || outcome.kind === 'short') at('sentence').focus();
+    if (outcome.kind === 'short') this.showShort(outcome);
+    else if (outcome.kind === 'answer') await this.showAnswer();
+    else {
+      this.showRefusal(outcome);
+      return;
+    }
+    this.say(`Answered and checked in ${(took / 1000).toFixed(1)} s.`);
+    at('sentence').focus();
     this.textChanged();
   }
 
-  /** Shows the answer that stands. */
-  showAnswer() {
+  /** Shows the answer that stands: the words first, so that they are there to read, and then the pictures. */
+  async showAnswer() {
     const answer = /** @type {Answer} */ (this.desk.current), given = this.desk.answers[0];
     this.head(answer.building.title, sentence(answer));
     at('changing').hidden = answer.block.people === 0;
     fill(at('first-parts'), ...firstParts(answer));
+    await new Promise((done) => setTimeout(done, SHOWN_MS));
     fill(at('parts'), ...moreParts(answer, given === answer ? null : given, (names) => this.choose(names)));
     fill(at('changes-part'), ...(given === answer ? [] : changeTable(this.desk.answers)));
     fill(at('choice'), ...choices(answer.building));
@@ -203,7 +207,7 @@ class Page {
     return this.work('Planning the change ..', async () => {
       const outcome = await this.desk.edit(edit);
       if (outcome.kind === 'answer') {
-        this.showAnswer();
+        await this.showAnswer();
         this.say('The change is made, and its answer is checked.');
         at('change-words').scrollIntoView({ block: 'nearest' });
       } else if (outcome.kind === 'short') this.say(html('strong', {}, 'The change is not made. '), `With it, not everybody gets out. ${shortSentence(outcome)} The building stays as it was.`);
@@ -222,7 +226,7 @@ class Page {
   undo() {
     return this.work('Taking the last change back ..', async () => {
       await this.desk.undo();
-      this.showAnswer();
+      await this.showAnswer();
       this.say('The last change is taken back.');
       this.focusAgain();
     });

@@ -37,14 +37,22 @@ function placesOf(items) {
 }
 
 /**
+ * Those items that are in the cut of a period.
+ * @param {Iterable<Item>} items
+ * @param {number} period
+ */
+function* itemsAt(items, period) {
+  for (const item of items) if (item.first <= period && period <= item.last) yield item;
+}
+
+/**
  * The places of the cut of a period before all are out.
  * @param {Building} building
  * @param {Block} block
  * @param {number} period
  */
 export function cutPlaces(building, block, period) {
-  const items = [...itemsOf(building, labelsOf(block), block.cleared - 1)];
-  return placesOf(items.filter((item) => item.first <= period && period <= item.last));
+  return placesOf(itemsAt(itemsOf(building, labelsOf(block), block.cleared - 1), period));
 }
 
 /**
@@ -53,8 +61,7 @@ export function cutPlaces(building, block, period) {
  * @param {Shortfall} shortfall
  */
 export function shortfallPlaces(building, shortfall) {
-  const items = [...itemsOf(building, labelsOfShortfall(building, shortfall), building.horizon)];
-  return placesOf(items.filter((item) => item.first <= building.horizon && building.horizon <= item.last));
+  return placesOf(itemsAt(itemsOf(building, labelsOfShortfall(building, shortfall), building.horizon), building.horizon));
 }
 
 /**

@@ -44,7 +44,8 @@ export function stripPicture(building, storeys) {
   });
   const step = roundStep((moments - 1) * building.period, 6);
   for (let second = 0; second <= (moments - 1) * building.period; second += step) {
-    picture.append(svg('text', { x: LEFT + ((second / building.period + 0.5) * (WIDTH - LEFT)) / moments, y: height - 4, 'text-anchor': 'middle' }, `${count(second)} s`));
+    const x = LEFT + ((second / building.period + 0.5) * (WIDTH - LEFT)) / moments;
+    picture.append(svg('text', { x, y: height - 4, 'text-anchor': x > WIDTH - 30 ? 'end' : 'middle' }, `${count(second)} s`));
   }
   return picture;
 }

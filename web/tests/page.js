@@ -27,16 +27,17 @@ async function openFile(browser, file) {
   await browser.until("document.getElementById('file-name').textContent !== ''", 'the file');
 }
 
-/** Opens a file, and plans it by a click. Gives the milliseconds from the click to the answer that is shown. */
+/** Opens a file, and plans it by a click. Gives the milliseconds from the click to the sentence of the answer, and waits for all of it. */
 async function planFile(browser, file) {
   await openFile(browser, file);
   await browser.value(`(() => { let began = 0; window.took = null;
     document.getElementById('plan').addEventListener('click', () => { began = performance.now(); }, { once: true, capture: true });
-    const watch = new MutationObserver(() => { if (began && ${IDLE}) { window.took = performance.now() - began; watch.disconnect(); } });
-    watch.observe(document.body, { attributes: true }); return 1; })()`);
+    const said = new MutationObserver(() => { if (began) { window.said = performance.now() - began; said.disconnect(); } });
+    const watch = new MutationObserver(() => { if (began && ${IDLE}) { window.took = performance.now() - began; watch.disconnect(); said.disconnect(); } });
+    window.said = null, said.observe(document.getElementById('sentence'), { childList: true }), watch.observe(document.body, { attributes: true }); return 1; })()`);
   await browser.click('#plan');
   await browser.until('window.took !== null', 'the answer', 120000);
-  return browser.value('window.took');
+  return browser.value('window.said ?? window.took');
 }
 
 /** Chooses an exit, a way or a room by keys. */
@@ -142,8 +143,8 @@ async function testStop(browser) {
   await sleep(700);
   if (await browser.value(IDLE)) return 'the slow building was answered too soon to be stopped';
   const pause = await browser.value("new Promise((done) => { const began = performance.now(); setTimeout(() => done(performance.now() - began), 0) })");
-  const took = await browser.value(`new Promise((done) => { const began = performance.now(); new MutationObserver(() => done(performance.now() - began)).observe(document.body, { attributes: true }); document.getElementById('stop').click(); })`);
-  assert.match(await browser.text('#status'), /^Stopped/);
+  const took = await browser.value(`new Promise((done) => { const began = performance.now(); new MutationObserver(() => done(performance.now() - began)).observe(document.body, { attributes: true }); setTimeout(() => done(1e6), 5000); document.getElementById('stop').click(); })`);
+  if (!/^Stopped/.test(await browser.text('#status'))) return 'the slow building was answered just before it was stopped';
   assert.ok(took < 500, `stop took ${took} ms`);
   await planFile(browser, path.join(examples, 'two_exits.evac'));
   assert.match(await browser.text('#sentence'), /^All 8 people/);
@@ -153,7 +154,11 @@ async function testStop(browser) {
 /** The page's policy refuses each way out that it can name: a server on this computer hears of none, and the page is told of each script that is refused. */
 async function testPrivate(browser) {
   let heard = 0;
-  const server = http.createServer((_, reply) => reply.end()).on('connection', () => { heard += 1; });
+  // (a browser may open a connection ahead of what it then refuses to send, so requests are counted)
+  const server = http.createServer((_, reply) => {
+    heard += 1;
+    reply.end();
+  });
   await new Promise((done) => server.listen(0, '127.0.0.1', done));
   const address = `http://127.0.0.1:${server.address().port}/`;
   await fetch(address);
@@ -163,7 +168,7 @@ async function testPrivate(browser) {
     fetch: `fetch('${address}').catch(() => 0)`, image: `(new Image().src = '${address}', 0)`, socket: `(() => { try { new WebSocket('${address.replace('http', 'ws')}') } catch { } })()`,
     beacon: `navigator.sendBeacon('${address}', 'x')`, frame: add('iframe', `{ src: '${address}' }`), script: add('script', `{ src: '${address}' }`), inline: add('script', "{ text: 'window.ran = 1' }"),
     style: add('link', `{ rel: 'stylesheet', href: '${address}' }`), events: `(() => { try { new EventSource('${address}') } catch { } })()`,
-    form: `(() => { const it = Object.assign(document.createElement('form'), { action: '${address}', method: 'post' }); document.body.append(it); it.submit() })()`,
+    form: `(() => { const it = Object.assign(document.createElement('form'), { action: '${address}', method: 'post' }); document.body.append(it); try { it.submit() } catch { } })()`,
   };
   const told = {};
   for (const [name, way] of Object.entries(ways)) {
@@ -173,6 +178,7 @@ async function testPrivate(browser) {
   assert.match(told.inline, /^script-src/);
   assert.equal(await browser.value('window.ran ?? null'), null);
   assert.equal(heard, 1, `something was sent: ${JSON.stringify(told)}`);
+  server.closeAllConnections();
   server.close();
   browser.errors = [];
 }

@@ -18,6 +18,7 @@ from evacask.model.building import Model
 from evacask.model.crossings import Place
 from evacask.model.edits import edited
 from evacask.model.lines import text_of
+from evacask.model.seconds import End
 from evacask.model.shares import Count
 from evacask.questions import admit as of_admissions
 from evacask.questions import assign as of_assignments
@@ -96,9 +97,9 @@ class Building:
         """What is often a mistake."""
         return of_doubts.review(self.client, self.model)
 
-    def width(self, tail: str, head: str, seconds: int) -> of_width.Width:
+    def width(self, tail: str, head: str, seconds: int, end: End = End.LATER) -> of_width.Width:
         """The least rate of an arc at which all are out within some seconds, and the clear widths for it."""
-        return of_width.width(self.client, self.model, tail, head, seconds)
+        return of_width.width(self.client, self.model, tail, head, seconds, end)
 
     def compare(self, *groups: Sequence[str]) -> of_edits.Comparison:
         """The building, and the building after each group of edits, side by side."""

@@ -4,8 +4,9 @@ from __future__ import annotations
 import re
 from dataclasses import dataclass, field
 from functools import cached_property
-from typing import Callable, Collection, Container, Iterator, List, Optional, Tuple, TypeVar
+from typing import Callable, Iterator, List, Optional, Tuple, TypeVar
 
+from evacask.client.names import check_known, check_names
 from evacask.errors import Broken, Refused, Shortfall, Span
 from evacask.model.building import Model
 from evacask.model.lines import number_of
@@ -158,13 +159,6 @@ class Plan(Records):
         return strictly(read, "a label")
 
 
-def check_known(names: Collection[T], known: Container[T]) -> None:
-    """`ValueError` for a name that the building doesn't have."""
-    for name in names:
-        if name not in known:
-            raise ValueError(f"the building has no {name}")
-
-
 def plan_of(raw: bytes, model: Model) -> Plan:
     """A block about a model, or `Shortfall`. A clearing moment above its horizon is `Broken`."""
     head = HEAD.match(raw)
@@ -175,6 +169,7 @@ def plan_of(raw: bytes, model: Model) -> Plan:
         return Plan(raw, number, in_people(people, model.shares), cleared, model)
     short = SHORT.match(raw)
     if short and raw.endswith(b"\nend\n"):
+        check_names(raw, model)
         most, all_people = (in_people(int(it), model.shares) for it in (short[3], short[2]))
         raise Shortfall(most, all_people, strictly(lambda: spans_of(lines_of_reply(raw)[3:]), "a shortfall"))
     raise Broken(f"the program printed {raw[:40]!r} in place of a block: {NOT_UNDERSTOOD}")
@@ -205,12 +200,14 @@ def understood(refused: Refused) -> Refused:
 
 
 def spans_of(lines: List[List[str]]) -> Tuple[Span, ...]:
-    """The lines `in NAME p q` of a cut."""
-    found = []
+    """The lines `in NAME p q` of a cut that is worth fewer than all people, so there are some."""
+    found: List[Span] = []
     for word, name, first, last in lines:
         if word != "in":
             raise ValueError(word)
         found.append((name, number_of(first), number_of(last)))
+    if not found:
+        raise ValueError("an empty cut")
     return tuple(found)
 
 

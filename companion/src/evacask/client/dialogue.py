@@ -4,6 +4,7 @@ from __future__ import annotations
 from typing import Iterable, Iterator, List, Optional, Sequence, Tuple
 
 from evacask.client.blocks import ONE_LINE, Cut, Plan, cut_of, opening_of, plan_of, understood
+from evacask.client.names import check_names
 from evacask.client.reports import Exit, Gone, Least, Report, exits_of, gone_of, least_of, report_of, work_of
 from evacask.client.talk import Line
 from evacask.errors import Broken, WordsError
@@ -36,6 +37,8 @@ class Dialogue:
         refused = ONE_LINE.match(reply)
         if refused:
             raise understood(refusal(self.place, int(refused[1]), 0, command))
+        if not reply.startswith(b"answer "):
+            check_names(reply, self.model)
         return reply
 
 

@@ -47,7 +47,10 @@ def read_routes(report: Report) -> List[Route]:
             found.append((in_people(number_of(people), report.shares), origin, number_of(entered[0]) if entered else 0, []))
         elif word == "step":
             moment, tail, head = rest
-            found[-1][3].append((number_of(moment), (tail, head)))
+            _, origin, _, steps = found[-1]
+            if tail != (steps[-1][1][1] if steps else origin):
+                raise ValueError(f"a step from {tail}, where nobody is")
+            steps.append((number_of(moment), (tail, head)))
         else:
             raise ValueError(word)
     return [Route(people, origin, entered, tuple(steps)) for people, origin, entered, steps in found]

@@ -5,7 +5,7 @@ from argparse import Namespace
 
 from evacask.faces.asked import Asked, put
 from evacask.faces.ending import Status
-from evacask.faces.given import SECONDS, moment_within
+from evacask.faces.given import EARLIER, SECONDS, moment_within
 from evacask.faces.sheet import Column, Sheet
 from evacask.faces.wording import some
 from evacask.faces.words import BUILDING, SHARED, Command, argument
@@ -52,7 +52,7 @@ def all_sheet(answer: Admission, model: Model) -> Sheet:
 
 def run(given: Namespace) -> int:
     asked = Asked(given)
-    moment = moment_within(asked.model, given.seconds)
+    moment = moment_within(asked.model, given.seconds, given.end)
     if given.room is not None:
         answer = admit_room(asked.client, asked.model, given.room, moment)
         status = Status.REFUSED if answer.people is None else Status.ANSWERED
@@ -66,5 +66,5 @@ COMMAND = Command(
     "how many people a room or the building may hold, for all to be out in time",
     "With --room the others stay as they are. Without it all rooms are asked about: the same share of each, and as is best.",
     "examples/school.evac 120 --room WP1.2",
-    (BUILDING, SECONDS, argument("--room", metavar="NAME", default=None, help="one room, by its name or its own name"), *SHARED),
+    (BUILDING, SECONDS, EARLIER, argument("--room", metavar="NAME", default=None, help="one room, by its name or its own name"), *SHARED),
 )

@@ -107,7 +107,7 @@ def run(given: Namespace) -> int:
     shares = chosen(given, drawn, period)
     text = building_text(drawn, Scale(period, shares.number, given.rounding))
     sys.stdout.write(f"{text}# evacask's own arithmetic, not proved: ways in metres became arcs by docs/FIGURES.md, {given.rounding.value}.\n")
-    if given.shares and sys.stderr is not None:
+    if given.shares == "auto" and sys.stderr is not None:
         sys.stderr.write(f"evacask: {shares.number} shares of a person; the rates lose {100 * shares.loss:.2f} % at most\n")
     return Status.ANSWERED
 

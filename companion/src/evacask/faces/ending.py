@@ -102,6 +102,8 @@ class Signals:
                 self.before[number] = signal.signal(number, self.come)
 
     def give_back(self) -> None:
+        """Leaves this process as it was, in which the package may be asked on."""
+        PROCESSES.reopen()
         PROCESSES.after_start = lambda: None
         sys.unraisablehook = sys.__unraisablehook__
         for number, handler in self.before.items():
@@ -154,6 +156,7 @@ def ends(run: Callable[[], int]) -> int:
         if signals.came is not None:
             signals.die()
         signals.give_back()
+        PROCESSES.reopen()  # (whoever called a command in this process may go on asking)
     return status
 
 

@@ -8,15 +8,25 @@ from typing import Tuple
 from evacask.errors import WordsError
 from evacask.faces.words import argument, number
 from evacask.model.building import Model
-from evacask.model.seconds import last_moment_within
+from evacask.model.seconds import End, last_moment_within
 
 SECONDS = argument("seconds", type=number, metavar="SECONDS", help="all are to be out within so many seconds")
 MOST_EFFORT = 1000
 
 
-def moment_within(model: Model, seconds: int) -> int:
-    """The last moment that is over within some seconds. `WordsError` if none is, or if it lies behind the horizon."""
-    moment = last_moment_within(seconds, model.period)
+EARLIER = argument(
+    "--earlier",
+    dest="end",
+    action="store_const",
+    const=End.EARLIER,
+    default=End.LATER,
+    help="ask for the earlier end of the last period, not the later",
+)
+
+
+def moment_within(model: Model, seconds: int, end: End) -> int:
+    """The last moment whose end is within some seconds. `WordsError` if none is, or if it lies behind the horizon."""
+    moment = last_moment_within(seconds, model.period, end)
     if moment < 0:
         raise WordsError(f"{seconds} s is less than the period of {model.period} s")
     if moment > model.horizon:

@@ -8,7 +8,7 @@ from evacask.errors import WordsError
 from evacask.faces.asked import Asked, put
 from evacask.faces.ending import Status
 from evacask.faces.files import read_bytes
-from evacask.faces.given import EFFORT, moment_within
+from evacask.faces.given import EARLIER, EFFORT, moment_within
 from evacask.faces.sheet import Column, Sheet
 from evacask.faces.wording import some
 from evacask.faces.words import BUILDING, SHARED, Command, argument, number
@@ -63,7 +63,7 @@ def run(given: Namespace) -> int:
     if given.budget is not None:
         answer = improve_within(asked.client, model, given.budget, widenings, WORK * given.effort, solver)
     else:
-        answer = improve(asked.client, model, moment_within(model, given.seconds), widenings, WORK * given.effort, solver)
+        answer = improve(asked.client, model, moment_within(model, given.seconds, given.end), widenings, WORK * given.effort, solver)
     too_dear = given.budget is not None and answer.cost is not None and answer.cost > given.budget
     status = Status.REFUSED if answer.cost is None or too_dear else Status.ANSWERED
     return put(improve_sheet(answer, model, given.budget, given.highs), "improve", given, asked.client, status)
@@ -79,6 +79,7 @@ COMMAND = Command(
     (
         BUILDING,
         argument("seconds", type=number, nargs="?", metavar="SECONDS", help="all are to be out within so many seconds"),
+        EARLIER,
         argument("--costs", metavar="FILE", default=None, help="a table of what can be bought"),
         argument("--budget", type=number, metavar="COST", default=None, help="the earliest moment for at most this cost, in place of SECONDS"),
         argument("--highs", action="store_true", help="let HiGHS choose, an extra that is installed by itself: for hard choices"),

@@ -45,7 +45,8 @@ COMMAND = Command(
     "losses",
     run,
     "the worst two or three ways to lose at once",
-    "A loss is listed if it costs more than each part of it. A row without a time keeps people inside: `out` says how many are out by the horizon.",
+    "A loss is listed if it costs more than each part of it. A row without a time keeps people inside: `out` says how many are out by the\n"
+    "horizon.",
     "examples/metro.evac -k 2",
     (
         BUILDING,

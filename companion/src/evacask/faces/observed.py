@@ -74,8 +74,9 @@ COMMAND = Command(
     "observed",
     run,
     "a drill that was counted, beside the best: where time was lost",
-    "The table has a column `seconds`, and one for each exit with those who had come out up to then in all. Status 10 if more were out than by any plan.",
-    "examples/school.evac drill.csv",
+    "The table has a column `seconds`, and one for each exit with those who had come out up to then in all. Status 10 if more were out than\n"
+    "by any plan.",
+    "examples/school.evac examples/school_drill.csv",
     (
         BUILDING,
         argument("counts", metavar="COUNTS.csv", help="the table of counts"),

@@ -59,8 +59,9 @@ COMMAND = Command(
     "report",
     run,
     "a page to hand in: the answer, what decides, pictures and the input",
-    "One HTML file that loads nothing and runs no script. Each statement is marked by what it rests on: proved, by the cuts, printed plan, evacask.",
-    "examples/office.evac -o office.html",
+    "One HTML file that loads nothing and runs no script. Each statement is marked by what it rests on: proved, by the cuts, printed plan,\n"
+    "evacask.",
+    "examples/office.evac",
     (
         BUILDING,
         EDIT,

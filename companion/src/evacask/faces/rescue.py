@@ -5,10 +5,10 @@ from argparse import Namespace
 
 from evacask.faces.asked import Asked, put
 from evacask.faces.ending import Status
-from evacask.faces.files import write_whole
-from evacask.faces.given import moment_within
+from evacask.faces.given import EARLIER, moment_within
 from evacask.faces.sheet import Column, Sheet
 from evacask.faces.words import BUILDING, SHARED, Command, argument, number
+from evacask.faces.writing import write_file
 from evacask.model.building import Model
 from evacask.model.ground import Ground
 from evacask.questions.rescue import Rescue, rescue
@@ -39,10 +39,10 @@ def name(moment: int, model: Model, room: str) -> str:
 
 def run(given: Namespace) -> int:
     asked = Asked(given)
-    moment = None if given.seconds is None else moment_within(asked.model, given.seconds)
+    moment = None if given.seconds is None else moment_within(asked.model, given.seconds, given.end)
     answer = rescue(asked.client, asked.model, moment)
     if given.plan is not None:
-        write_whole(given.plan, answer.plan.raw)
+        write_file(given.plan, answer.plan.raw)
     status = Status.ANSWERED if answer.most == answer.people else Status.REFUSED
     return put(rescue_sheet(answer, asked.model), "rescue", given, asked.client, status)
 
@@ -52,10 +52,11 @@ COMMAND = Command(
     run,
     "who can be saved, if not all can",
     "The number is the most of all plans. Who they are differs between best plans; the printed one is for as many as can be.",
-    "examples/office.evac --edit 'shutexit DS1.1'",
+    "examples/school.evac --seconds 115",
     (
         BUILDING,
         argument("--seconds", type=number, metavar="SECONDS", default=None, help="within so many seconds; without it by the horizon"),
+        EARLIER,
         argument("--plan", metavar="FILE", default=None, help="write the plan for those who are saved into this file"),
         *SHARED,
     ),

@@ -8,8 +8,9 @@ from argparse import Namespace
 from evacask.errors import OutputError, WordsError
 from evacask.faces.asked import program_of, named, read
 from evacask.faces.ending import Status
-from evacask.faces.files import read_bytes, write_whole
+from evacask.faces.files import read_bytes
 from evacask.faces.words import Command, argument, number
+from evacask.faces.writing import write_file
 from evacask.model.lines import bytes_of
 from evacask.questions.sheets import Table, model_of_tables, tables_of
 
@@ -21,8 +22,8 @@ def run(given: Namespace) -> int:
         for name in (given.nodes, given.ways):
             if os.path.exists(name) and not given.force:
                 raise OutputError(f"{name} is there already: --force writes over it")
-        write_whole(given.nodes, bytes_of(nodes))
-        write_whole(given.ways, bytes_of(ways))
+        write_file(given.nodes, bytes_of(nodes))
+        write_file(given.ways, bytes_of(ways))
         return Status.ANSWERED
     if given.nodes == given.ways == "-":
         raise WordsError("one of the two tables can come from standard input, and not both")
@@ -31,7 +32,7 @@ def run(given: Namespace) -> int:
     if given.output is None:
         sys.stdout.write(model.text)
     else:
-        write_whole(given.output, model.bytes)
+        write_file(given.output, model.bytes)
     return Status.ANSWERED
 
 
@@ -39,9 +40,10 @@ COMMAND = Command(
     "sheet",
     run,
     "a building from two tables of a spreadsheet, and back",
-    "Nodes have the columns name,capacity,start and perhaps floors, own name; ways have from,to,travel,rate and perhaps floors, both ways, own name.\n"
-    "floors 1-20 makes a row into twenty: WP1 is then on each of them, and SW1.-1 on the one below. A fault is told with table, row and column.",
-    "nodes.csv ways.csv --period 5 --horizon 400 -o tower.evac",
+    "Nodes have the columns name,capacity,start and perhaps floors, own name; ways have from,to,travel,rate and perhaps floors, both ways,\n"
+    "own name. floors 1-20 makes a row into twenty: WP1 is then on each of them, and SW1.-1 on the one below. A fault is told with table,\n"
+    "row and column.",
+    "examples/tower_nodes.csv examples/tower_ways.csv --period 5 --horizon 400",
     (
         argument("nodes", metavar="NODES.csv", help="the table of nodes"),
         argument("ways", metavar="WAYS.csv", help="the table of ways"),

@@ -2,7 +2,7 @@
 from __future__ import annotations
 
 from argparse import Namespace
-from typing import List, Tuple, Union
+from typing import List, Optional, Tuple, Union
 
 from evacask.faces.asked import Asked, put
 from evacask.faces.ending import Status
@@ -13,6 +13,8 @@ from evacask.faces.words import BUILDING, SHARED, Command
 from evacask.model.building import Model
 from evacask.model.ground import Ground
 from evacask.model.walks import Bound
+from evacask.questions.bracket import Bracket
+from evacask.questions.by_hand import ByHand
 from evacask.questions.summary import Short, Summary, summary
 
 FIGURES = (Column("", "figure", is_shown=False), Column("", "value", is_shown=False), Column("", "ground", is_shown=False))
@@ -26,7 +28,30 @@ def summary_sheet(answer: Summary, model: Model, name: str = "-") -> Sheet:
     if answer.cut:
         drawn = why_sheet(answer.cut, model)
         lines += [*drawn.before, *table_lines(drawn)]
-    return Sheet(answer, (*lines, *bound_lines(answer.bound, model), *doubts_line(answer.doubts, name)), FIGURES, figure_rows(answer, model))
+    lines += [*hand_lines(answer.hand, model), *bracket_lines(answer.bracket), *bound_lines(answer.bound, model), *doubts_line(answer.doubts, name)]
+    return Sheet(answer, tuple(lines), FIGURES, figure_rows(answer, model))
+
+
+def hand_lines(hand: Optional[ByHand], model: Model) -> List[str]:
+    """The calculation by hand: people over the flow of the way that decides, and the walk to it and on."""
+    if hand is None:
+        return []
+    passing = f"{hand.people} people pass {' '.join(hand.way)} at {hand.flow:.2f} a second in {hand.passing:.0f} s"
+    walk = f"they walk {hand.before} s to it, and {hand.after} s over it and out"
+    return [f"By hand: {passing};", f"{walk}: {hand.seconds:.0f} s ({hand.ground})."]
+
+
+def bracket_lines(bracket: Optional[Bracket]) -> List[str]:
+    """Between which seconds all are out of the building as it is drawn in metres, or why nothing is claimed."""
+    if bracket is None:
+        return []
+    if bracket.latest is None:
+        return [f"As it is drawn in metres: {it}." for it in bracket.silent]
+    earliest = f"not before {bracket.earliest} s, and " if bracket.earliest is not None else ""
+    lines = [
+        f"As it is drawn in metres all are out {earliest}before {bracket.latest} s, to whichever side its numbers are rounded ({bracket.ground})."
+    ]
+    return lines + [f"{it[0].upper()}{it[1:]}." for it in bracket.silent]
 
 
 def figures(answer: Summary, model: Model) -> List[List[str]]:
@@ -104,7 +129,7 @@ def sheet_of(answer: Union[Summary, Short], model: Model, name: str) -> Sheet:
 
 def run(given: Namespace) -> int:
     asked = Asked(given)
-    answer = summary(asked.client, asked.model)
+    answer = summary(asked.client, asked.model, asked.drawn)
     status = Status.REFUSED if isinstance(answer, Short) else Status.ANSWERED
     return put(sheet_of(answer, asked.model, asked.name), "summary", given, asked.client, status)
 

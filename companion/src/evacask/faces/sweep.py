@@ -104,9 +104,10 @@ COMMAND = Command(
     "sweep",
     run,
     "many scenarios at once: a table of edits to a table of answers",
-    "The table has the columns name,edits, with ; between edits. A row of the answers depends on its scenario alone, so parts of them by --shard can be\n"
-    "worked out on several machines and joined: sort -t, -k1,1n -u PART.. > ALL. With -o a sweep that was broken off goes on from its last row.",
-    "examples/office.evac scenarios.csv -o answers.csv",
+    "The table has the columns name,edits, with ; between edits. A row of the answers depends on its scenario alone, so parts of them by\n"
+    "--shard can be worked out on several machines and joined: sort -t, -k1,1n -u PART.. > ALL. With -o a sweep that was broken off goes on\n"
+    "from its last row.",
+    "examples/office.evac examples/office_scenarios.csv",
     (
         BUILDING,
         argument("scenarios", metavar="SCENARIOS.csv", help="the table of scenarios"),

@@ -7,6 +7,7 @@ from typing import Any, List, Tuple
 from evacask.faces.asked import Asked, put
 from evacask.faces.sheet import Column, Sheet, aligned
 from evacask.faces.wording import OWN, some
+from evacask.faces.given import EARLIER
 from evacask.faces.words import BUILDING, SHARED, Command, argument, number
 from evacask.model.building import Model
 from evacask.model.draft import MOST_RATE
@@ -68,7 +69,7 @@ def rows(answer: Width) -> Tuple[Tuple[Any, ...], ...]:
 
 def run(given: Namespace) -> int:
     asked = Asked(given)
-    answer = width(asked.client, asked.model, given.tail, given.head, given.seconds)
+    answer = width(asked.client, asked.model, given.tail, given.head, given.seconds, given.end)
     return put(width_sheet(answer, asked.model), "width", given, asked.client)
 
 
@@ -83,6 +84,7 @@ COMMAND = Command(
         argument("tail", metavar="A", help="the node from which the arc leads"),
         argument("head", metavar="B", help="the node to which it leads"),
         argument("seconds", type=number, metavar="SECONDS", help="by when all are to be out"),
+        EARLIER,
         *SHARED,
     ),
 )

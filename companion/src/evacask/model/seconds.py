@@ -5,7 +5,15 @@ C d s on and before (C + 1) d s. A requirement is tested against the later end.
 """
 from __future__ import annotations
 
+import enum
 from typing import Tuple
+
+
+class End(enum.Enum):
+    """Which end of a moment's period is asked for, where all are to be out within some seconds."""
+
+    LATER = "later"
+    EARLIER = "earlier"
 
 
 def interval(moment: int, period: int) -> Tuple[int, int]:
@@ -18,6 +26,6 @@ def seconds_text(moment: float, period: int, has_later_end: bool = True) -> str:
     return f"{moment * period:.0f} to {(moment + 1) * period:.0f} s" if has_later_end else f"from {moment * period:.0f} s"
 
 
-def last_moment_within(seconds: int, period: int) -> int:
-    """The last moment whose later end is within some seconds, as a requirement asks; -1 where there is none."""
-    return seconds // period - 1
+def last_moment_within(seconds: int, period: int, end: End = End.LATER) -> int:
+    """The last moment whose end is within some seconds, the later one if a requirement is tested; -1 if there is none."""
+    return seconds // period - (1 if end is End.LATER else 0)

@@ -5,11 +5,12 @@ import heapq
 from dataclasses import dataclass
 from typing import Dict, List, Optional, Tuple
 
-from evacask.client.blocks import Cut, Plan
+from evacask.client.blocks import Plan
 from evacask.model.building import Model, Way
 from evacask.model.ground import Ground
 from evacask.model.shares import Count
 from evacask.model.walks import walks
+from evacask.questions.why import Why
 
 
 @dataclass(frozen=True)
@@ -34,13 +35,9 @@ class ByHand:
         return self.before + self.passing + self.after
 
 
-def by_hand(model: Model, plan: Plan, cut: Cut) -> Optional[ByHand]:
+def by_hand(model: Model, plan: Plan, cut: Why) -> Optional[ByHand]:
     """The sum for the way that lets most people through in a cut; None if no way is in it."""
-    counted: Dict[Way, Count] = {}
-    for item in cut.items:
-        if item.word == "arc":
-            way = item.names[0], item.names[1]
-            counted[way] = counted.get(way, 0) + item.people
+    counted: Dict[Way, Count] = {(it.names[0], it.names[1]): it.people for it in cut.places if len(it.names) == 2}
     if not any(counted.values()):
         return None
     way = max(counted, key=lambda it: counted[it])

@@ -120,9 +120,9 @@ class Search:
         self.demands: List[Tuple[Row, int]] = []
 
     def run(self) -> Improvement:
-        """Buys, asks and adds a demand, until a purchase is enough or none can be."""
-        bought = Cover(0, 0, (0,) * len(self.offers))
-        while bought.x is not None:
+        """Buys, asks and adds a demand, until a purchase is enough or none can be, or as much work again is done without an end."""
+        bought, last = Cover(0, 0, (0,) * len(self.offers)), -self.work.left
+        while bought.x is not None and self.work.left > last:
             now = widened(self.model, self.offers, bought.x)
             answer = plan_or_short(self.client, now, self.moment)
             if isinstance(answer, Plan):
@@ -132,7 +132,7 @@ class Search:
             if found is None:
                 return self.barred(bought.at_least)
             bought = replace(found, at_least=max(found.at_least, bought.at_least))
-        return self.improvement(bought, None)
+        return self.improvement(Cover(bought.at_least, None, None), None)
 
     def demand(self, cut: Crossings) -> None:
         """What a purchase has to meet so that this cut is worth all people."""
@@ -147,8 +147,8 @@ class Search:
                 after = before[it.place] + it.step * times
                 purchases.append(Purchase(it.place, times, it.cost * times, before[it.place], after))
                 before[it.place] = after
-        cost = bought.cost if bought.x is not None else None
-        return Improvement(self.moment, whole(self.model.people), cost, bought.at_least, cleared, tuple(purchases), len(self.demands))
+        people, ground = whole(self.model.people), Ground.CUTS if self.solver is cover else Ground.OWN
+        return Improvement(self.moment, people, bought.cost, bought.at_least, cleared, tuple(purchases), len(self.demands), ground=ground)
 
     def barred(self, at_least: int) -> Improvement:
         """No purchase meets all demands: if everything is bought, a cut says how many are out at most."""

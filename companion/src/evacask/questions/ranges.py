@@ -105,7 +105,8 @@ def ranges(client: Client, model: Model, given: Ranges) -> Range:
     spans.append(span_of(client, model, given))
     coarse = sum(1 for way in given.travels if model.arcs[way].travel < 5)
     cleared, most = (now.cleared, whole(now.people)) if isinstance(now, Plan) else (None, whole(now.most))
-    return Range(cleared, most, tuple(spans), doubt_of(model, given), coarse)
+    doubt = doubt_of(model, given)
+    return Range(cleared, most, tuple(spans), doubt, coarse, Ground.OWN if doubt else Ground.PROVED)
 
 
 def check_ranges(model: Model, given: Ranges) -> None:

@@ -50,8 +50,8 @@ class Tableau:
         """The variable that enters: the steepest at first, and later the first, by which no pivot comes twice. -1 at the end."""
         variables = range(len(self.goal) - 1)
         if step < STEEPEST_PIVOTS:
-            at = min(variables, key=self.goal.__getitem__)
-            return at if self.goal[at] < -TINY else -1
+            at = min(variables, key=self.goal.__getitem__, default=-1)
+            return at if at >= 0 and self.goal[at] < -TINY else -1
         return next((it for it in variables if self.goal[it] < -TINY), -1)
 
     def leaving(self, enter: int) -> int:

@@ -107,7 +107,7 @@ def report(
             cut = talk.cut() if plan.cleared else None
     except Shortfall as short:
         return short_report(client, model, short)
-    where = occupancy(model, plan)
+    where, reason = occupancy(model, plan), why_by(cut, plan) if cut else None
     crossed = {(it.names[0], it.names[1]) for it in cut.items if it.word == "arc"} if cut else set()
     return Report(
         model,
@@ -115,8 +115,8 @@ def report(
         plan,
         check(client, model, plan.raw),
         walk,
-        why_by(cut, plan) if cut else None,
-        by_hand(model, plan, cut) if cut else None,
+        reason,
+        by_hand(model, plan, reason) if reason else None,
         bracket(client, drawn, drawn.period, model.shares) if drawn else None,
         where,
         full(model, plan),

@@ -9,10 +9,13 @@ from evacask.client.talk import Client
 from evacask.errors import Shortfall, Span
 from evacask.model.building import Model
 from evacask.model.draft import LAST_MOMENT
+from evacask.model.drawn_building import DrawnBuilding
 from evacask.model.ground import Ground
 from evacask.model.records import Records
 from evacask.model.shares import Count
 from evacask.model.walks import Bound, walking_bound, walks
+from evacask.questions.bracket import Bracket, bracket
+from evacask.questions.by_hand import ByHand, by_hand
 from evacask.questions.review import review_of
 from evacask.questions.why import Why, why_of
 
@@ -24,7 +27,8 @@ MOST_CELLS = 1_000_000
 class Summary(Records):
     """A building from which everybody gets out. Moments are in periods; `person_periods` is the sum of the moments at which people are out.
 
-    `cut` is that of the period before clearing, if there is one. `bound` is own arithmetic, and so is the number of `doubts`.
+    `cut` is that of the period before clearing, if there is one, and `hand` the calculation by hand for its widest way. `bound` is own arithmetic, and
+    so is the number of `doubts`. `bracket` is of a building that was drawn in metres.
     """
 
     title: str
@@ -33,6 +37,8 @@ class Summary(Records):
     uncongested: int
     person_periods: Count
     cut: Optional[Why]
+    hand: Optional[ByHand]
+    bracket: Optional[Bracket]
     bound: Optional[Bound]
     doubts: int
     ground: Ground = Ground.PROVED
@@ -77,18 +83,27 @@ class Short(Records):
         return [{"node": name, "first": first, "last": last} for name, first, last in self.cut]
 
 
-def summary(client: Client, model: Model) -> Union[Summary, Short]:
-    """The short answer."""
+def summary(client: Client, model: Model, drawn: Optional[DrawnBuilding] = None) -> Union[Summary, Short]:
+    """The short answer; with a bracket, if the building is that of a plan in metres."""
     try:
         with session(client, model) as talk:
-            people, cleared = talk.opening.people, talk.opening.cleared
-            report = talk.report("summary")
-            cut = why_of(talk, None) if people and cleared else None
+            plan, report = talk.opening, talk.report("summary")
+            cut = why_of(talk, None) if plan.people and plan.cleared else None
     except Shortfall as short:
         return short_of(model, short)
     walk = report.number("uncongested")
-    doubts = len(review_of(model, cleared, walk).doubts)
-    return Summary(model.title, people, cleared, walk, report.people("personperiods"), cut, walking_bound(model), doubts)
+    return Summary(
+        model.title,
+        plan.people,
+        plan.cleared,
+        walk,
+        report.people("personperiods"),
+        cut,
+        by_hand(model, plan, cut) if cut else None,
+        bracket(client, drawn, drawn.period, model.shares) if drawn else None,
+        walking_bound(model),
+        len(review_of(model, plan.cleared, walk).doubts),
+    )
 
 
 def short_of(model: Model, short: Shortfall) -> Short:

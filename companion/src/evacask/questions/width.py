@@ -13,7 +13,7 @@ from evacask.model.ground import Ground
 from evacask.model.passages import DOOR, GREATEST_FLOWS, LEAF, LEVEL, SIDES, STAIRS
 from evacask.model.records import Records
 from evacask.model.shares import Count
-from evacask.model.seconds import last_moment_within
+from evacask.model.seconds import End, last_moment_within
 
 
 @dataclass(frozen=True)
@@ -59,9 +59,9 @@ class Width(Records):
         return [{"from": self.tail, "to": self.head, "moment": self.moment, "now": self.now, "rate": self.rate, "most": self.most}]
 
 
-def width(client: Client, model: Model, tail: str, head: str, seconds: int) -> Width:
+def width(client: Client, model: Model, tail: str, head: str, seconds: int, end: End = End.LATER) -> Width:
     """The least rate of the arc between two nodes. `Refused` by 33 if the time is above the horizon, or ends before the first period."""
-    arc, moment = model.arc(tail, head), asked_moment(model, seconds)
+    arc, moment = model.arc(tail, head), asked_moment(model, seconds, end)
     with study(client, model) as talk:
         least = talk.least(arc.tail, arc.head, moment)
     if (least.tail, least.head, least.moment) != (arc.tail, arc.head, moment):
@@ -70,9 +70,9 @@ def width(client: Client, model: Model, tail: str, head: str, seconds: int) -> W
     return Width(arc.tail, arc.head, seconds, moment, arc.rate, model.people, least.rate, least.most, widths)
 
 
-def asked_moment(model: Model, seconds: int) -> int:
-    """The last moment whose period has ended within some seconds."""
-    moment, greatest = last_moment_within(seconds, model.period), model.seconds(model.horizon + 1)
+def asked_moment(model: Model, seconds: int, end: End) -> int:
+    """The last moment whose end is within some seconds."""
+    moment, greatest = last_moment_within(seconds, model.period, end), model.seconds(model.horizon + 1)
     if moment > model.horizon:
         raise Refused(33, 0, f"{seconds} s", "Ask for at most that, or raise the horizon.", f"The plan looks {greatest} s ahead.")
     if moment < 0:
