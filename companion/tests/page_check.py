@@ -3,7 +3,7 @@ import heapq
 import os
 import re
 import sys
-from typing import Dict, Iterable, List, Tuple
+from typing import Callable, Dict, Iterable, List, Tuple
 
 sys.path.insert(0, os.path.join(os.path.dirname(os.path.abspath(__file__)), "..", ".."))
 from companion.tests.page_reader import MARKS, Page, numbers_in
@@ -26,7 +26,9 @@ class Held:
         shown = wanted if not what else wanted[:40] if are_sorted else [it for it in wanted if it in found]
         if what and len(wanted) > 40:
             self.tell(f"{len(wanted) - 40:,} more {what} aren't listed.")
-        if (shown if are_sorted else sorted(shown)) != (found if are_sorted else sorted(found)) or len(found) != min(len(wanted), 40 if what else len(wanted)):
+        if (shown if are_sorted else sorted(shown)) != (found if are_sorted else sorted(found)) or len(found) != min(
+            len(wanted), 40 if what else len(wanted)
+        ):
             self.wrong.append(f"{heading}: {[it for it in found if it not in wanted][:3]} in place of {[it for it in shown if it not in found][:3]}")
         self.count += sum(numbers_in(cell) for row in found for cell in row)
 
@@ -220,7 +222,7 @@ def short(held: Held) -> None:
     held.tell(f"Together that is {of.count(most)}.")
     inside = {(name, t) for _, name, first, last in (it for it in lines if it[0] == "in") for t in range(int(first), int(last) + 1)}
     shut = {((it[1], it[2]), t) for it in of.statements("window") for t in range(int(it[3]), int(it[4]))}
-    rows = []
+    rows: List[Tuple[int, Names, int]] = []
     for (a, b), (travel, rate) in of.arcs.items():
         open_ = range(of.horizon - travel + 1)
         periods = sum((a, t) in inside and (b, t + travel) not in inside and ((a, b), t) not in shut for t in open_)
@@ -254,7 +256,8 @@ def held(program: str, text: bytes, page_text: str) -> Held:
     else:
         plan = Planned(of)
         if of.people:
-            for part in (answer, why, curve, drawing, full, storeys, rooms, worth):
+            parts: List[Callable[[Held, Planned], None]] = [answer, why, curve, drawing, full, storeys, rooms, worth]
+            for part in parts:
                 part(found, plan)
             if plan.cleared:
                 by_hand(found, plan)
