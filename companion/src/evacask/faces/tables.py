@@ -35,9 +35,10 @@ COMMAND = Command(
     "routes   of each room: how many go which way, and when the first and the last set out\n"
     "totals   of each arc: how many enter it in all, and when\n"
     "fullest  of each node: the most who stay in it, and when first\n"
-    "full     exits, nodes and arcs at each moment in one long table, without rows of 0\n"
+    "full     the moments at which every best plan fills an arc or a node (by the cuts)\n"
+    "all      exits, nodes and arcs at each moment in one long table, without rows of 0\n"
     "walks    of each node: the quickest way out with nobody in the way\n"
-    "All but walks are of the printed plan: but for `out`, other best plans may differ. Seconds are those from which on a moment is.",
+    "All but full and walks are of the printed plan: but for `out`, other best plans may differ. Seconds are those from which on a moment is.",
     "exits examples/office.evac",
     (argument("kind", metavar="KIND", choices=KINDS, help=", ".join(KINDS)), BUILDING, EDIT, *faces("csv")),
 )

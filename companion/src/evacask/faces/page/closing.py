@@ -6,7 +6,7 @@ from typing import List, Union
 
 from evacask.client.talk import Source
 from evacask.faces.page.marks import heading, meanings
-from evacask.faces.page.markup import Markup, joined, tag
+from evacask.faces.page.markup import Markup, escaped, joined, tag
 from evacask.model.building import Model
 from evacask.model.ground import Ground
 from evacask.model.lines import lines_of
@@ -48,4 +48,4 @@ def listing(model: Model, source: Source) -> Markup:
     proved = f"It is proved in logic {source.logic}." if source.logic else "It isn't proved on this machine."
     digest = hashlib.sha256(model.bytes).hexdigest()
     head = tag("p", f"The input has {len(lines):,} lines, SHA-256 {digest}. The program's SHA-256 is {source.sha256}. {proved}")
-    return joined((tag("h2", "Input and program"), head, tag("pre", *(f"{line}\n" for line in lines[:MOST_LINES])), left))
+    return joined((tag("h2", "Input and program"), head, tag("pre", Markup("\n".join(map(escaped, lines[:MOST_LINES])))), left))

@@ -8,11 +8,11 @@ from typing import Dict, List, Mapping, Set, Tuple
 from evacask.faces.page.layout import LEFT, WIDTH, Figure, StoreyRow, figures_of
 from evacask.faces.page.markup import Content, Markup, empty, joined, tag
 from evacask.faces.page.picture import fitted, picture
-from evacask.model.building import Arc, Model, Way
+from evacask.model.building import Arc, Model, Node, Way
 from evacask.model.shares import Count
 
 Point = Tuple[float, float]
-BOX_WIDTH, BOX_HEIGHT = 60, 31
+BOX_WIDTH, BOX_HEIGHT = 64, 31
 FULL, USED, UNUSED, EXIT = "#b3261e", "#1a1a1a", "#767676", "#1b6e3c"
 ARROW = Markup(
     '<defs><marker id="arrow" viewBox="0 0 8 8" refX="7" refY="4" markerWidth="11" markerHeight="11" markerUnits="userSpaceOnUse" orient="auto">'
@@ -70,11 +70,11 @@ class Drawing:
     def told(self, y: float, row: StoreyRow, boxes: Boxes) -> Markup:
         """What is left out below a storey, and how many ways there decide."""
         count, floors = len(row.folded), set(row.folded)
-        like = "like this one" if row.same else "with the same rooms and ways, but other numbers"
+        like = "like this one" if row.same else "of the same form"
         full = sum(self.model.nodes[tail].floor in floors for tail, _ in self.full)
-        ways = f"; {full:,} of their ways are full in every best plan at some moment" if full else ""
+        ways = f"; {full:,} of their ways are full in every best plan" if full else ""
         text = f".. and {count:,} more {'storey' if count == 1 else 'storeys'} {like}{ways} .."
-        boxes.take(LEFT + 3.3 * len(text), y - 4, 6.6 * len(text), 16)
+        boxes.take(LEFT + 3.5 * len(text), y - 4, 7 * len(text), 16)
         return tag("text", text, x=LEFT, y=f"{y:.0f}", class_="soft", **HALO)
 
     def way(self, arc: Arc, places: Mapping[str, Point]) -> Markup:
@@ -102,10 +102,9 @@ class Drawing:
             return stub(arc, self.model, places)
         (x1, y1), (x2, y2) = places[arc.tail], places[arc.head]
         is_both = (arc.head, arc.tail) in self.model.arcs
-        bend = 0.0
         if y1 == y2:
-            bend = min(44.0, 12 + abs(x1 - x2) / 12) * (-1 if is_both and x1 > x2 else 1)
-        middle = ((x1 + x2) / 2 + (9 if is_both and y1 != y2 else 0), (y1 + y2) / 2 + bend)
+            return beside((x1, y1), x2, -1 if is_both and x1 > x2 else 1)
+        middle = ((x1 + x2) / 2 + (9 if is_both else 0), (y1 + y2) / 2)
         return (x1, y1), middle, at_box((x2, y2), middle)
 
     def count(self, arc: Arc, places: Mapping[str, Point], boxes: Boxes) -> Markup:
@@ -121,21 +120,25 @@ class Drawing:
     def node(self, name: str, place: Point) -> Markup:
         """A node as a box: its name, and its people and capacity."""
         node, (x, y) = self.model.nodes[name], place
-        ink = "light" if node.is_exit else None
-        box = empty(
-            "rect",
-            x=f"{x - BOX_WIDTH / 2:.0f}",
-            y=f"{y - BOX_HEIGHT / 2:.0f}",
-            width=BOX_WIDTH,
-            height=BOX_HEIGHT,
-            rx=4,
-            fill=EXIT if node.is_exit else "#fff",
-            stroke="#1a1a1a",
-        )
-        first = tag("text", name, x=f"{x:.0f}", y=f"{y - 2:.0f}", text_anchor="middle", class_=ink)
-        said = "exit" if node.is_exit else f"{node.start}/{node.capacity}"
-        second = tag("text", said, x=f"{x:.0f}", y=f"{y + 11:.0f}", text_anchor="middle", class_="small light" if node.is_exit else "small")
+        corner = {"x": f"{x - BOX_WIDTH / 2:.0f}", "y": f"{y - BOX_HEIGHT / 2:.0f}"}
+        box = empty("rect", **corner, width=BOX_WIDTH, height=BOX_HEIGHT, rx=4, fill=EXIT if node.is_exit else "#fff", stroke="#1a1a1a")
+        first = tag("text", name, x=f"{x:.0f}", y=f"{y - 2:.0f}", text_anchor="middle", class_=kind_of(node, 8 if len(name) > 8 else 12))
+        people = "exit" if node.is_exit else f"{node.start}/{node.capacity}"
+        second = tag("text", people, x=f"{x:.0f}", y=f"{y + 11:.0f}", text_anchor="middle", class_=kind_of(node, 7 if len(people) > 9 else 10))
         return tag("g", tag("title", f"{name} {node.own_name}".strip()), box, first, second)
+
+
+def kind_of(node: Node, size: int) -> str:
+    """The class of a text in a node's box: its size, and light on the ground of an exit."""
+    return f"size{size}{' light' if node.is_exit else ''}"
+
+
+def beside(begin: Point, x2: float, side: int) -> Tuple[Point, Point, Point]:
+    """A bow between two nodes of a line, below them, or above them if `side` is -1: from the edge of the one box to that of the other."""
+    x1, y = begin[0], begin[1] + side * BOX_HEIGHT / 2
+    onward = math.copysign(10, x2 - x1)
+    bend = min(44.0, 18 + abs(x1 - x2) / 12)
+    return (x1 + onward, y), ((x1 + x2) / 2, y + side * bend), (x2 - onward, y + side * 2)
 
 
 def at_box(end: Point, middle: Point) -> Point:

@@ -9,7 +9,7 @@ from evacask.model.lines import fields_of, is_number, lines_of
 
 # A comment `#@ x y` right above a node, or above its name, places it within its storey: any whole numbers, from the left.
 PLACE_MARK = "#@"
-MOST_IN_LINE, MOST_STOREYS, SWEEPS = 14, 5, 8
+MOST_IN_LINE, MOST_STOREYS, SWEEPS = 9, 5, 8
 # Storeys of the same form but other numbers are folded too if more rows than this are left.
 MANY_ROWS = 8
 WIDTH, LEFT, RIGHT = 800, 110, 20

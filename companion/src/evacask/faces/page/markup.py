@@ -18,8 +18,8 @@ Content = Union[Markup, str, int, float, None]
 
 
 def plain(text: object) -> str:
-    """A text without letters that nobody sees or that turn the direction of a line, and without bytes that are no letter."""
-    return "".join(REPLACEMENT if unicodedata.category(it) in UNSEEN else it for it in str(text))
+    """A text without letters that nobody sees or that turn the direction of a line, and without bytes that are no letter. A tab is a blank."""
+    return "".join(REPLACEMENT if unicodedata.category(it) in UNSEEN else it for it in str(text).replace("\t", " "))
 
 
 def escaped(content: Content) -> Markup:

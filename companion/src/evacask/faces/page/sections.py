@@ -119,7 +119,7 @@ def exits_of(report: Report) -> List[Curve]:
     if len(used) <= MOST_EXITS + 1:
         return used
     rest = [it.arrivals for it in used[MOST_EXITS:]]
-    return [*used[:MOST_EXITS], Curve(f"{len(rest):,} other exits", tuple(sum(row) for row in zip(*rest)), period)]
+    return [*used[:MOST_EXITS], Curve(f"{len(rest):,} others", tuple(sum(row) for row in zip(*rest)), period)]
 
 
 def curve(report: Report, others: Sequence[Curve] = ()) -> Markup:
