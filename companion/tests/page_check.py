@@ -3,7 +3,7 @@ import heapq
 import os
 import re
 import sys
-from typing import Dict, Iterable, List, Tuple
+from typing import Callable, Dict, Iterable, List, Tuple
 
 sys.path.insert(0, os.path.join(os.path.dirname(os.path.abspath(__file__)), "..", ".."))
 from companion.tests.page_reader import MARKS, Page, numbers_in
@@ -26,7 +26,9 @@ class Held:
         shown = wanted if not what else wanted[:40] if are_sorted else [it for it in wanted if it in found]
         if what and len(wanted) > 40:
             self.tell(f"{len(wanted) - 40:,} more {what} aren't listed.")
-        if (shown if are_sorted else sorted(shown)) != (found if are_sorted else sorted(found)) or len(found) != min(len(wanted), 40 if what else len(wanted)):
+        if (shown if are_sorted else sorted(shown)) != (found if are_sorted else sorted(found)) or len(found) != min(
+            len(wanted), 40 if what else len(wanted)
+        ):
             self.wrong.append(f"{heading}: {[it for it in found if it not in wanted][:3]} in place of {[it for it in shown if it not in found][:3]}")
         self.count += sum(numbers_in(cell) for row in found for cell in row)
 
@@ -178,10 +180,10 @@ def rooms(held: Held, plan: Planned) -> None:
     held.rows("Rooms and their ways", rows, "ways of rooms")
 
 
-def worth(held: Held, plan: Planned, most: int = 60) -> None:
+def worth(held: Held, plan: Planned) -> None:
     """Each way that is listed, planned again without it and with the greatest rate."""
     of = held.of
-    for row in held.page.rows("What each way is worth")[:most]:
+    for row in held.page.rows("What each way is worth"):
         names: Names = tuple(row[0].split(" (")[0].split(" to "))
         into = [way for way in of.arcs if way == names or way[1:] == names]
         lost = f"shut {names[0]} {names[1]}" if len(names) == 2 else f"shutexit {names[0]}"
@@ -220,7 +222,7 @@ def short(held: Held) -> None:
     held.tell(f"Together that is {of.count(most)}.")
     inside = {(name, t) for _, name, first, last in (it for it in lines if it[0] == "in") for t in range(int(first), int(last) + 1)}
     shut = {((it[1], it[2]), t) for it in of.statements("window") for t in range(int(it[3]), int(it[4]))}
-    rows = []
+    rows: List[Tuple[int, Names, int]] = []
     for (a, b), (travel, rate) in of.arcs.items():
         open_ = range(of.horizon - travel + 1)
         periods = sum((a, t) in inside and (b, t + travel) not in inside and ((a, b), t) not in shut for t in open_)
@@ -244,6 +246,9 @@ def short(held: Held) -> None:
         held.wrong += [] if of.ask(["solve"], again).startswith("answer 0\n") else ["the horizon isn't enough"]
 
 
+PARTS: Tuple[Callable[[Held, Planned], None], ...] = (answer, why, curve, drawing, full, storeys, rooms, worth)
+
+
 def held(program: str, text: bytes, page_text: str) -> Held:
     """A page held against the program."""
     page, of = Page(page_text), Building(program, text)
@@ -254,7 +259,7 @@ def held(program: str, text: bytes, page_text: str) -> Held:
     else:
         plan = Planned(of)
         if of.people:
-            for part in (answer, why, curve, drawing, full, storeys, rooms, worth):
+            for part in PARTS:
                 part(found, plan)
             if plan.cleared:
                 by_hand(found, plan)

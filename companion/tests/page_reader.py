@@ -4,7 +4,9 @@ import re
 from dataclasses import dataclass, field
 from typing import Dict, List, Optional, Tuple
 
-TAGS = set("html head meta title style body main section h1 h2 p span dl div dt dd ul li bdi table thead tbody tr th td figure figcaption pre".split())
+TAGS = set(
+    "html head meta title style body main section h1 h2 p span dl div dt dd ul li bdi table thead tbody tr th td figure figcaption pre".split()
+)
 PICTURE_TAGS = set("svg title g rect line path polyline polygon text defs marker".split())
 ATTRIBUTES = set("lang charset name content http-equiv class scope".split())
 PICTURE_ATTRIBUTES = set(

@@ -3,7 +3,7 @@ import hashlib
 import subprocess
 from collections import Counter
 from fractions import Fraction
-from typing import Dict, Iterable, List, Sequence, Set, Tuple
+from typing import Dict, Iterable, Iterator, List, Sequence, Set, Tuple
 
 Names = Tuple[str, ...]
 Row = Tuple[str, ...]
@@ -25,10 +25,12 @@ class Building:
         self.people = sum(it[1] for it in self.nodes.values() if it) + sum(it[2] for it in self.entrants)
         self.has_end = not self.entrants or all(it[0] >= self.people for it in self.nodes.values() if it)
         self.owns = {
-            self.lines[at + 1][1]: " ".join(it[1:]) for at, it in enumerate(self.lines[:-1]) if it[:1] == ["#:"] and self.lines[at + 1][:1] == ["node"]
+            self.lines[at + 1][1]: " ".join(it[1:])
+            for at, it in enumerate(self.lines[:-1])
+            if it[:1] == ["#:"] and self.lines[at + 1][:1] == ["node"]
         }
 
-    def statements(self, word: str) -> "Iterable[List[str]]":
+    def statements(self, word: str) -> Iterator[List[str]]:
         return (it for it in self.lines if it[:1] == [word])
 
     def ask(self, words: Sequence[str], data: bytes) -> str:
@@ -132,16 +134,11 @@ class Planned:
     def rooms(self) -> "Counter[Tuple[Names, int, int, int]]":
         """The ways of rooms: nodes, people, and the first and the last moment of setting out."""
         found: Dict[Names, List[Tuple[int, int]]] = {}
-        nodes: List[str] = []
-        for line in [*self.routes, ["route", "0", ""]]:
-            if line[0] == "step":
-                nodes.append(line[3])
-                moments.append(int(line[1]))
-                continue
-            if nodes:
-                found.setdefault(tuple(nodes), []).append((people, moments[0]))
-            people, nodes, moments = int(line[1]), [line[2]], []  # type: int, List[str], List[int]
-        return Counter((nodes_, sum(n for n, _ in it), min(t for _, t in it), max(t for _, t in it)) for nodes_, it in found.items())
+        starts = [at for at, line in enumerate(self.routes) if line[0] == "route"]
+        for begin, end in zip(starts, [*starts[1:], len(self.routes)]):
+            (_, people, room, *_), *steps = self.routes[begin:end]
+            found.setdefault((room, *(it[3] for it in steps)), []).append((int(people), int(steps[0][1])))
+        return Counter((nodes, sum(n for n, _ in it), min(t for _, t in it), max(t for _, t in it)) for nodes, it in found.items())
 
     def outcome(self, *edits: str) -> str:
         """When all are out after some edits, or how many can be, as the page writes it."""
