@@ -180,10 +180,10 @@ def rooms(held: Held, plan: Planned) -> None:
     held.rows("Rooms and their ways", rows, "ways of rooms")
 
 
-def worth(held: Held, plan: Planned, most: int = 60) -> None:
+def worth(held: Held, plan: Planned) -> None:
     """Each way that is listed, planned again without it and with the greatest rate."""
     of = held.of
-    for row in held.page.rows("What each way is worth")[:most]:
+    for row in held.page.rows("What each way is worth"):
         names: Names = tuple(row[0].split(" (")[0].split(" to "))
         into = [way for way in of.arcs if way == names or way[1:] == names]
         lost = f"shut {names[0]} {names[1]}" if len(names) == 2 else f"shutexit {names[0]}"
@@ -246,6 +246,9 @@ def short(held: Held) -> None:
         held.wrong += [] if of.ask(["solve"], again).startswith("answer 0\n") else ["the horizon isn't enough"]
 
 
+PARTS: Tuple[Callable[[Held, Planned], None], ...] = (answer, why, curve, drawing, full, storeys, rooms, worth)
+
+
 def held(program: str, text: bytes, page_text: str) -> Held:
     """A page held against the program."""
     page, of = Page(page_text), Building(program, text)
@@ -256,8 +259,7 @@ def held(program: str, text: bytes, page_text: str) -> Held:
     else:
         plan = Planned(of)
         if of.people:
-            parts: List[Callable[[Held, Planned], None]] = [answer, why, curve, drawing, full, storeys, rooms, worth]
-            for part in parts:
+            for part in PARTS:
                 part(found, plan)
             if plan.cleared:
                 by_hand(found, plan)

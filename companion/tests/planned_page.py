@@ -134,18 +134,11 @@ class Planned:
     def rooms(self) -> "Counter[Tuple[Names, int, int, int]]":
         """The ways of rooms: nodes, people, and the first and the last moment of setting out."""
         found: Dict[Names, List[Tuple[int, int]]] = {}
-        people = 0
-        nodes: List[str] = []
-        moments: List[int] = []
-        for line in [*self.routes, ["route", "0", ""]]:
-            if line[0] == "step":
-                nodes.append(line[3])
-                moments.append(int(line[1]))
-                continue
-            if nodes:
-                found.setdefault(tuple(nodes), []).append((people, moments[0]))
-            people, nodes, moments = int(line[1]), [line[2]], []
-        return Counter((nodes_, sum(n for n, _ in it), min(t for _, t in it), max(t for _, t in it)) for nodes_, it in found.items())
+        starts = [at for at, line in enumerate(self.routes) if line[0] == "route"]
+        for begin, end in zip(starts, [*starts[1:], len(self.routes)]):
+            (_, people, room, *_), *steps = self.routes[begin:end]
+            found.setdefault((room, *(it[3] for it in steps)), []).append((int(people), int(steps[0][1])))
+        return Counter((nodes, sum(n for n, _ in it), min(t for _, t in it), max(t for _, t in it)) for nodes, it in found.items())
 
     def outcome(self, *edits: str) -> str:
         """When all are out after some edits, or how many can be, as the page writes it."""

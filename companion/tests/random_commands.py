@@ -147,9 +147,9 @@ def check_tables(text: str, block: str, curve: List[int]) -> None:
     said = rows("tables", "exits", "-", text=text)
     same("tables exits", [int(row["out"]) for row in said], curve, text)
     entered = [line.split() for line in block.split("\n") if line.startswith("move ")]
-    full = rows("tables", "full", "-", text=text)
-    mine = sorted((row["moment"], row["from"], row["to"], row["people"]) for row in full if row["kind"] == "arc")
-    same("tables full, arcs", mine, sorted((t, tail, head, people) for _, t, tail, head, people in entered), text)
+    everything = rows("tables", "all", "-", text=text)
+    mine = sorted((row["moment"], row["from"], row["to"], row["people"]) for row in everything if row["kind"] == "arc")
+    same("tables all, arcs", mine, sorted((t, tail, head, people) for _, t, tail, head, people in entered), text)
     totals = {(row["from"], row["to"]): int(row["people"]) for row in rows("tables", "totals", "-", text=text)}
     wanted = {way: sum(int(it[4]) for it in entered if (it[2], it[3]) == way) for way in arcs(text)}
     same("tables totals", totals, wanted, text)

@@ -234,8 +234,8 @@ class InABrowser(unittest.TestCase):
         path.write_text(re.sub(r"<meta http-equiv[^>]*>", "", page).replace("</body>", f"<script>{MEASURE}</script></body>"), encoding="utf-8")
         found = re.search(r"MEASURED(.*?)MEASURED", self.chromium(f"--window-size={width},2000", "--dump-dom", path.as_uri()), re.S)
         self.assertIsNotNone(found)
-        values: Dict[str, Any] = json.loads(html.unescape(found[1])) if found else {}
-        return values
+        said: Dict[str, Any] = json.loads(html.unescape(found[1])) if found else {}
+        return said
 
     def test_nothing_overflows_and_no_text_is_over_another(self) -> None:
         for name, page in {"office": page_of(OFFICE.read_bytes()), "metro": page_of(METRO.read_bytes(), "--trials", "0")}.items():
@@ -277,7 +277,7 @@ def light(colour: str) -> float:
     """The relative luminance of a colour, by WCAG 2."""
     digits = colour[1:] if len(colour) == 7 else "".join(it * 2 for it in colour[1:])
     parts = [int(digits[at : at + 2], 16) / 255 for at in (0, 2, 4)]
-    red, green, blue = (it / 12.92 if it <= 0.03928 else float(((it + 0.055) / 1.055) ** 2.4) for it in parts)
+    red, green, blue = (float(it / 12.92 if it <= 0.03928 else ((it + 0.055) / 1.055) ** 2.4) for it in parts)
     return 0.2126 * red + 0.7152 * green + 0.0722 * blue
 
 
