@@ -145,7 +145,8 @@ class Commands(unittest.TestCase):
 
     def test_json_can_be_read(self) -> None:
         for words, ended, _, _ in self.rows("--json"):
-            if ended.status in (0, 10) and not words.startswith(("edit", "sheet")):
+            is_building = words.startswith(("edit", "sheet", "convert")) and "--both" not in words
+            if ended.status in (0, 10) and not is_building:
                 with self.subTest(words):
                     self.assertIsInstance(json.loads(ended.out), dict)
 
