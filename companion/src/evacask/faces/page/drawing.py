@@ -123,7 +123,7 @@ class Drawing:
         corner = {"x": f"{x - BOX_WIDTH / 2:.0f}", "y": f"{y - BOX_HEIGHT / 2:.0f}"}
         box = empty("rect", **corner, width=BOX_WIDTH, height=BOX_HEIGHT, rx=4, fill=EXIT if node.is_exit else "#fff", stroke="#1a1a1a")
         first = tag("text", name, x=f"{x:.0f}", y=f"{y - 2:.0f}", text_anchor="middle", class_=kind_of(node, 8 if len(name) > 8 else 12))
-        people = "exit" if node.is_exit else f"{node.start}/{node.capacity}"
+        people = "exit" if node.is_exit else f"{node.start:,}/{node.capacity:,}"
         second = tag("text", people, x=f"{x:.0f}", y=f"{y + 11:.0f}", text_anchor="middle", class_=kind_of(node, 7 if len(people) > 9 else 10))
         return tag("g", tag("title", f"{name} {node.own_name}".strip()), box, first, second)
 
