@@ -42,7 +42,8 @@ def varied(
 def in_whole_people(model: Model) -> None:
     """`NoAnswer` about a building in shares: the questions that vary a building count whole people."""
     if model.shares != 1:
-        raise NoAnswer(f"this question counts whole people, and the building counts {model.shares} shares of each: write it without the line #shares")
+        counted = f"this question counts whole people, and the building counts {model.shares} shares of each"
+        raise NoAnswer(f"{counted}. Write it in whole people, as convert does of a plan in metres")
 
 
 def whole(count: Optional[Count]) -> int:
