@@ -335,6 +335,9 @@ def main(words: List[str]) -> int:
     if words not in ([], ["--write"]):
         print(__doc__)
         return 2
+    if not pathlib.Path(PROGRAM).is_file():
+        print(f"the field's tests weren't tried: there is no program {PROGRAM}; ./build makes it, and EVACPLAN may name another")
+        return 1
     faults: List[str] = []
     found: List[List[int]] = []
     for case in CASES:

@@ -297,6 +297,11 @@ class Answers:
 ANSWERS = Answers(PROGRAM)
 
 
+def moment(periods):
+    """A moment of periods of 5 s, with the seconds that it stands for."""
+    return f"{periods} ({5 * periods} to {5 * periods + 5} s)"
+
+
 def answer_row(lines, periods, *shown):
     """The last row of a reckoning by hand: what the program answers, which is to be the same."""
     answer = ANSWERS.number(lines, "cleared")
@@ -319,7 +324,7 @@ def corridor_by_hand():
     rows.append(["60 people pass the door", f"60 / 0.78 = {float(60 / ROOM_DOOR):.1f} s", in_groups])
     rows += [[it.name, f"{it.seconds:.1f} s", f"{it.travel}"] for it in others]
     periods = room.travel + sum(it.travel for it in others) + groups - 1
-    rows.append(["everybody is out", f"{corridor_hand():.0f} s", f"{periods} periods, {5 * periods} s"])
+    rows.append(["everybody is out", f"{corridor_hand():.0f} s", moment(periods)])
     return table(["", "By hand", "In periods"], [*rows, answer_row(corridor().lines(), periods)], "lrr")
 
 
@@ -364,7 +369,7 @@ def school_by_hand():
         ["and the door at stair 2, from when the first come to it", f"{float(foot.door):.2f} a second", f"{foot.rate} a period"],
         ["from the two places to outside", f"{lobby.seconds:.1f} s, {foot.seconds:.1f} s", f"{lobby.travel}, {foot.travel}"],
         [f"out by period {last}", "", by_last],
-        ["all 200 are out", f"{school_hand():.0f} s", f"{periods} periods, {5 * periods} s"],
+        ["all 200 are out", f"{school_hand():.0f} s", moment(periods)],
         answer_row(school().lines(), periods, f"out {last} {out(last)}"),
     ]
     return table(["", "By hand", "In periods"], rows, "lrr")
@@ -408,7 +413,7 @@ def metro_by_hand():
         ["the stair lets up", f"{float(stair.most):.3f} a second", f"{stair.rate} a period"],
         ["both escalators let up", f"{flows[0]:.2f} + {flows[1]:.3f} = {sum(flows):.3f} a second", f"{running.rate} + {still.rate} = {both} a period"],
         [f"out by period {last}", "", f"{stair.rate} × {last - by_stair + 1} + {both} × {last - by_escalator + 1} = {out(last)}"],
-        ["all 1,090 are out", f"{metro_hand():.0f} s", f"{periods} periods, {5 * periods} s"],
+        ["all 1,090 are out", f"{metro_hand():.0f} s", moment(periods)],
         answer_row(metro().lines(), periods, f"out {last} {out(last)}"),
     ]
     return table(["", "By hand", "In periods"], rows, "lrr")
@@ -449,7 +454,7 @@ def tower_by_hand():
         ["from the landing to outside, by stair 2", f"{stair.seconds:.1f} s", f"{short}"],
         ["by stair 1, with the lobby", f"{stair.seconds:.1f} + {lobby.seconds:.1f} = {stair.seconds + lobby.seconds:.1f} s", f"{stair.travel} + {lobby.travel} = {long}"],
         [f"out by period {last}", "", by_last],
-        ["all 1,600 are out", f"{tower_hand():.0f} s", f"{periods} periods, {5 * periods} s"],
+        ["all 1,600 are out", f"{tower_hand():.0f} s", moment(periods)],
         answer_row(tower().lines(), periods, f"out {last} {out(last)}"),
     ]
     return table(["", "By hand", "In periods"], rows, "lrr")
@@ -548,9 +553,8 @@ def school_choices():
     for name, is_held in (("rate 7 and the speed of that flow, as above", True), ("the greatest flow and its speed, 0.70 m/s", False)):
         example = school(is_held)
         along, lines = example.passages()["corridor, to its end"], example.lines()
-        answer = [f"`cleared {ANSWERS.number(lines, 'cleared')}`", f"{ANSWERS.number(lines, 'seconds')} s"]
-        rows.append([name, f"{along.rate}", f"{along.travel}", *answer])
-    return table(["Corridors", "Rate", "Travel, 12 m", "Answer", ""], rows, "lrrrr")
+        rows.append([name, f"{along.rate}", f"{along.travel}", moment(ANSWERS.number(lines, "cleared"))])
+    return table(["Corridors", "Rate", "Travel, 12 m", "Cleared"], rows, "lrrr")
 
 
 NAMED = {

@@ -12,7 +12,7 @@ import pathlib
 import random
 import sys
 import time
-from typing import Callable, Dict, Iterator, List, Optional, Tuple
+from typing import Any, Callable, Dict, FrozenSet, Iterator, List, Optional, Tuple
 from unittest import mock
 
 sys.path.insert(0, str(pathlib.Path(__file__).resolve().parents[2]))
@@ -22,10 +22,11 @@ from evacask.client.asking import check, plan_or_short  # noqa: E402
 from evacask.client.blocks import Plan  # noqa: E402
 from evacask.client.talk import Client  # noqa: E402
 from evacask.errors import NoAnswer  # noqa: E402
-from evacask.model.building import Entrant, Model, model_of  # noqa: E402
+from evacask.model.building import Entrant, Model, Way, model_of  # noqa: E402
+from evacask.model.crossings import Crossings  # noqa: E402
 from evacask.model.variant import varied, whole  # noqa: E402
 from evacask.questions import admit, assign, assign_bound, assign_search, assign_times, improve, losses, ranges, rescue  # noqa: E402
-from evacask.questions.assign_ways import choices_of  # noqa: E402
+from evacask.questions.assign_ways import Path, choices_of  # noqa: E402
 from evacask.questions.losses import Place  # noqa: E402
 
 # (Kept here, as one of the breaks below replaces it.)
@@ -127,7 +128,7 @@ def try_losses(client: Client, dice: random.Random) -> None:
     model = small(dice)
     needs(len(model.arcs) >= 3)
     places: List[Place] = [*model.arcs, *((it.name,) for it in model.exits)]
-    truth: Dict[frozenset, Tuple[float, float]] = {}
+    truth: Dict[FrozenSet[Place], Tuple[float, float]] = {}
     for count in range(4):
         for lost in itertools.combinations(places, count):
             found = outcome(client, without(model, lost))
@@ -261,32 +262,34 @@ def trial(client: Client, name: str, count: int, seed: int = 7) -> int:
     return made
 
 
-def broken() -> Dict[str, List["mock._patch"]]:
+def broken() -> Dict[str, List["mock._patch[Any]"]]:
     """For each trial the ways in which an answer is broken on purpose."""
     demand, cost_of, lower_bound, leave = improve.Search.demand, losses.Search.cost_of, assign_bound.lower_bound, assign_times.Timetable.leave
 
-    def demands_one_more(self, cut):
+    def demands_one_more(self: improve.Search, cut: Crossings) -> None:
         demand(self, cut)
         self.demands[-1] = (self.demands[-1][0], self.demands[-1][1] + 1)
 
-    def forgets_a_use(self, plan):
+    def forgets_a_use(self: losses.Search, plan: Plan) -> losses.Cost:
         cost = cost_of(self, plan)
         return losses.Cost(cost.most, cost.cleared, dict(itertools.islice(cost.used.items(), 1, None)))
 
-    def admits_one_fewer(client, model, room, moment):
+    def admits_one_fewer(client: Client, model: Model, room: str, moment: int) -> admit.RoomAdmission:
         answer = admit_room(client, model, room, moment)
         return dataclasses.replace(answer, people=answer.people and answer.people - 1)
 
-    def saves_late_ones(client, model, by):
+    def saves_late_ones(client: Client, model: Model, by: int) -> Dict[rescue.Group, int]:
         return saved_by(client, model, by + 1)
 
-    def bounds_one_late(client, model, best, stop):
+    def bounds_one_late(client: Client, model: Model, best: int, stop: int) -> int:
         return lower_bound(client, model, best, stop) + 1
 
-    def sends_all_at_once(self, group, path, walk, free):
+    def sends_all_at_once(
+        self: assign_times.Timetable, group: assign_times.Group, path: Path, walk: int, free: Dict[Way, List[int]]
+    ) -> List[Tuple[int, int]]:
         return [(group[1], group[2])] if leave(self, group, path, walk, free) else []
 
-    def takes_the_middle(model, given, is_best):
+    def takes_the_middle(model: Model, given: ranges.Ranges, is_best: bool) -> Model:
         return model if is_best else CORNER(model, given, is_best)
 
     admit_room, saved_by = admit.admit_room, rescue.saved_by

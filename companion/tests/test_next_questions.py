@@ -13,7 +13,7 @@ import shutil
 import subprocess
 import tempfile
 import unittest
-from typing import Dict, List
+from typing import Callable, Dict, List, Tuple
 
 from companion.tests.asking import TOP, Ended, run
 from evacask import Ground, NoAnswer, percents, read, reads
@@ -195,7 +195,14 @@ class Questions(unittest.TestCase):
 
     def test_shares_are_told(self) -> None:
         shares = reads(ROOM.read_text().replace("period 5", "#shares 2\nperiod 5"))
-        for ask in (shares.assign, shares.losses, shares.rescue, lambda: shares.admit(2), lambda: shares.improve(2)):
+        questions: Tuple[Callable[[], object], ...] = (
+            shares.assign,
+            shares.losses,
+            shares.rescue,
+            lambda: shares.admit(2),
+            lambda: shares.improve(2),
+        )
+        for ask in questions:
             with self.assertRaises(NoAnswer):
                 ask()
 

@@ -72,7 +72,7 @@ class Sweeps(unittest.TestCase):
         return path
 
     def test_rows_are_those_of_fresh_runs(self) -> None:
-        rows = [[], *scenarios(ROWS)]
+        rows: List[List[str]] = [[], *scenarios(ROWS)]
         self.assertEqual(self.office.sweep(rows), [fresh(self.office, it) for it in rows])
 
     def test_any_executor(self) -> None:

@@ -29,7 +29,7 @@ def cheapest(problem: Problem) -> Optional[int]:
     rows, costs, most = problem
     choices = itertools.product(*(range(it + 1) for it in most))
     enough = (x for x in choices if is_enough(rows, x))
-    return min((sum(price * count for price, count in zip(costs, x)) for x in enough), default=None)
+    return min((cost_of(costs, x) for x in enough), default=None)
 
 
 def is_enough(rows: List[Tuple[Row, int]], x: Sequence[int]) -> bool:
@@ -50,7 +50,7 @@ class Covers(unittest.TestCase):
             self.assertIsNone(found)
             return
         assert found is not None and found.x is not None
-        self.assertEqual((found.cost, found.at_least, sum(a * b for a, b in zip(problem[1], found.x))), (wanted, wanted, wanted))
+        self.assertEqual((found.cost, found.at_least, cost_of(problem[1], found.x)), (wanted, wanted, wanted))
         self.assertTrue(is_enough(problem[0], found.x) and all(0 <= it <= most for it, most in zip(found.x, problem[2])))
 
     def test_by_hand(self) -> None:
@@ -93,14 +93,18 @@ class Covers(unittest.TestCase):
         self.assertEqual((tableau.entering(10_000), Tableau([], [0.0, 0.0], []).entering(10_000)), (0, -1))
 
 
+def cost_of(costs: Sequence[int], x: Sequence[int]) -> int:
+    return sum(price * count for price, count in zip(costs, x))
+
+
 def milp(costs: List[int], constraints: Any, integrality: Any, bounds: Any, options: Dict[str, Any]) -> Any:
     """What scipy's milp answers, by enumeration."""
     matrix, needs = constraints
-    rows = [({column: amount for (row, column), amount in matrix.items() if row == at}, need) for at, need in enumerate(needs)]
+    rows: List[Tuple[Row, int]] = [({it: n for (row, it), n in matrix.items() if row == at}, need) for at, need in enumerate(needs)]
     low, most = bounds
     choices = [x for x in itertools.product(*(range(low, it + 1) for it in most)) if is_enough(rows, x)]
-    x = min(choices, key=lambda it: sum(a * b for a, b in zip(costs, it)), default=None)
-    bound = sum(a * b for a, b in zip(costs, x)) if x else 0
+    x = min(choices, key=lambda it: cost_of(costs, it), default=None)
+    bound = cost_of(costs, x) if x else 0
     return types.SimpleNamespace(x=x and [it + 1e-7 for it in x], status=0 if x else 2, mip_dual_bound=bound - 1e-8)
 
 

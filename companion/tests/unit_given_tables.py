@@ -2,13 +2,14 @@
 import pathlib
 import random
 import unittest
-from typing import Union
+from typing import Tuple, Type, Union
 from unittest import mock
 
 from companion.tests.planner import Planner
 from companion.tests.table import ROOM
 from companion.tests.table import Table as Replies
 from evacask import EvacaskError, NoAnswer, Refused, TableError, WordsError, read, reads
+from evacask.client.talk import Client
 from evacask.model import cells
 from evacask.model.building import Model
 from evacask.questions.given import counts_of, ranges_of, scenarios_of, widenings_of
@@ -93,7 +94,7 @@ PIECES = (
 
 class Tables(unittest.TestCase):
     def setUp(self) -> None:
-        self.client = Planner()
+        self.client: Client = Planner()
         self.school = read(EXAMPLES / "school.evac", self.client).model
 
     def taken(self, kind: str, data: bytes) -> object:
@@ -109,8 +110,8 @@ class Tables(unittest.TestCase):
         return self.building(data) if kind == "nodes" else self.building(NODES.encode(), data)
 
     def building(self, nodes: Union[bytes, str] = NODES, ways: Union[bytes, str] = WAYS, title: str = "") -> Model:
-        both = (it if isinstance(it, bytes) else it.encode() for it in (nodes, ways))
-        return model_of_tables(self.client, *(Table(name, it) for name, it in zip(("nodes.csv", "ways.csv"), both)), 5, 400, title)
+        given, led = (it if isinstance(it, bytes) else it.encode() for it in (nodes, ways))
+        return model_of_tables(self.client, Table("nodes.csv", given), Table("ways.csv", led), 5, 400, title)
 
     def test_faults_are_named(self) -> None:
         for kind, text, what in HOSTILE:
@@ -193,8 +194,9 @@ class Tables(unittest.TestCase):
 
     def test_a_refusal_of_the_program_names_the_row(self) -> None:
         # Lines 1 to 3 are `evacplan`, `period` and `horizon`; 4 to 24 floors; 25 is the lobby's own name, and 26 the lobby of row 2.
-        for line, error, what in ((26, TableError, "nodes.csv, row 2: "), (3, Refused, "line 3: refused 7")):
-            self.client = Replies({"upgrade": f"refused 7 {line}\n"})  # type: ignore[assignment]
+        cases: Tuple[Tuple[int, Type[EvacaskError], str], ...] = ((26, TableError, "nodes.csv, row 2: "), (3, Refused, "line 3: refused 7"))
+        for line, error, what in cases:
+            self.client = Replies({"upgrade": f"refused 7 {line}\n"})
             with self.subTest(line), self.assertRaises(error) as fault:
                 self.building()
             self.assertTrue(str(fault.exception).startswith(what), fault.exception)

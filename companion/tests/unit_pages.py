@@ -1,7 +1,7 @@
 """Tables of a plan and the data of a page: by hand for one room and two ways, and by what has to add up for random buildings."""
 import random
 import unittest
-from typing import Iterator, Tuple
+from typing import Any, Dict, Iterator, List, Tuple
 
 from companion.tests.buildings import random_building
 from companion.tests.planner import Planner
@@ -77,7 +77,7 @@ class Tables(unittest.TestCase):
         routes = "routes 0\nroute 2 WP1.1\nstep 0 WP1.1 DS1.1\nroute 1 WP1.1\nstep 1 WP1.1 DS1.1\nend\n"
         client, model = Table({"routes": routes}), model_of(HALL)
         own, walk = "evacask's own arithmetic, not proved", "=Hall to DS1.1"
-        wanted = {
+        wanted: Dict[str, List[Tuple[Any, ...]]] = {
             "exits": [(0, 0, 0, 0), (1, 5, 2, 2), (2, 10, 3, 3)],
             "nodes": [(0, 0, 1), (1, 5, 0), (2, 10, 0)],
             "arcs": [(0, 0, 2), (1, 5, 1), (2, 10, 0)],

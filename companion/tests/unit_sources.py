@@ -3,6 +3,7 @@ import json
 import pathlib
 import subprocess
 import tempfile
+import time
 import unittest
 from unittest import mock
 
@@ -108,7 +109,7 @@ class States(Repository):
 class Index(Repository):
     def test_no_source_is_read_while_the_index_stays(self) -> None:
         self.put()
-        with mock.patch.object(sources.time, "time", return_value=1e11):
+        with mock.patch.object(time, "time", return_value=1e11):
             self.assert_found(State.PROVED)
         with mock.patch.object(sources, "digests_of", side_effect=AssertionError("a source was read")):
             self.assert_found(State.PROVED)
@@ -119,14 +120,14 @@ class Index(Repository):
         file = self.put()
         keep_index(file, index_of(self.top))
         self.assertFalse(file.with_suffix(".index").exists())
-        with mock.patch.object(sources.time, "time", return_value=1e11):
+        with mock.patch.object(time, "time", return_value=1e11):
             keep_index(file, b"")
             keep_index(self.top / "nowhere/evacplan", index_of(self.top))
         self.assertFalse(file.with_suffix(".index").exists())
 
     def test_without_find(self) -> None:
         self.put()
-        with mock.patch.object(sources.subprocess, "run", side_effect=OSError):
+        with mock.patch.object(subprocess, "run", side_effect=OSError):
             self.assertEqual(index_of(self.top), b"")
             self.assert_found(State.PROVED)
 

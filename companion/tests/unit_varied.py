@@ -3,7 +3,7 @@ import unittest
 from unittest import mock
 
 from companion.tests.planner import Planner
-from evacask import NoAnswer, reads
+from evacask import NoAnswer, WordsError, reads
 from evacask.client.asking import solve
 from evacask.model.building import Model, model_of
 from evacask.model.ground import Ground
@@ -56,6 +56,14 @@ class Bought(unittest.TestCase):
         text = "evacplan 2\nperiod 5\nhorizon 20\nfloor 1 G\nnode WP1.1 5 3\nnode HA1.1 1 0\nnode DS1.1\narc WP1.1 HA1.1 1 1\narc HA1.1 DS1.1 1 5\nwindow HA1.1 DS1.1 0 3\nend\n"
         answer = improve(PLANNER, model_of(text), 4, [Widening(("HA1.1",), 1, 2)])
         self.assertEqual([(it.place, it.before, it.after) for it in answer.purchases], [(("HA1.1",), 1, 2)])
+
+    def test_more_than_a_rate_may_be(self) -> None:
+        # 10,001 people through a door for 9,999 a period, by moment 1: a rate of 10,000, the greatest, leaves one inside.
+        crowd = model_of(ROOM.replace("10 8", "20000 10001").replace("arc WP1.1 DS2.1 3 5\n", "").replace("1 1\nend", "1 9999\nend"))
+        answer = improve(PLANNER, crowd, 1, [Widening(SHORT, 1, 5)])
+        self.assertEqual((answer.cost, answer.most), (None, 10_000))
+        with self.assertRaisesRegex(WordsError, "WP1.1 DS1.1 .* together more than a rate or a capacity may be"):
+            improve(PLANNER, crowd, 1, [Widening(SHORT, 1, 5, 1), Widening(SHORT, 1, 9)])
 
 
 class Lost(unittest.TestCase):

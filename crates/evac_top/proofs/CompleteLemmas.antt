@@ -1,6 +1,7 @@
 -- A run in which neither count of faults rose answers its input.
-use Rattle.std.proofs.Common.{◌≡◌, ℕ, ◌+◌, ◌≤◌, List, [], ◌∷◌, ◌++◌, length, Result, Ok, Err, Some, None, refl, sym, ap, ◌∙◌, arith, inl, inr}
+use Rattle.std.proofs.Common.{◌≡◌, ℕ, ◌+◌, ◌≤◌, ◌⊎◌, List, [], ◌∷◌, ◌++◌, length, Result, Ok, Err, Some, None, refl, sym, ap, ◌∙◌, arith, inl, inr}
 use Rattle.std.specs.declared.option.Option.{Option}
+use Rattle.std.proofs.lemmas.Bool.{cases_eq}
 use Rattle.evac_law.specs.declared.code.Code.{Code}
 use Rattle.evac_law.specs.declared.model.Model.{Model}
 use Rattle.evac_law.specs.Building.{IsValid}
@@ -34,20 +35,22 @@ use Rattle.evac_top.proofs.SolveLemmas.{opening-clears}
 use Rattle.evac_top.proofs.TellLemmas.{of-input}
 
 plans-all : (flags : Flags) (names : NameTable) (m : Model) (line : ℕ) (x : Account) → IsPlannedOrShort flags names m line x → PlansAll m line x
-plans-all flags names m line x (inl h) =
-    let clearable = opening-clears m h.opening h.begins in
-    (λ can. h.done, λ cannot. absurd (cannot clearable), λ one. absurd (omega (arith, h.done, one)))
-plans-all flags names m line x (inr h) = (λ can. absurd (h.barred can), λ cannot. h.refused, λ one. h)
+plans-all flags names m line x (inl h) = inl (opening-clears m h.opening h.begins, h.done)
+plans-all flags names m line x (inr h) = inr (h.barred, h.refused, h)
 
 solves-all : (flags : Flags) (input : List ℕ) (result : Result Asked (Code × ℕ)) (x : Account) → Solves flags input result x → SolvesAll result x
 solves-all flags input (Ok asked) x h = plans-all flags (names_of asked.building) asked.building.model asked.last x h.1
 solves-all flags input (Err fault) x h = h
 
-checks-block : (claimed : Claimed) (x : Account) → let m = claimed.building.model in IsChecked m claimed.block x → (IsRight m claimed.block → x.status ≡ 0) × (¬ IsRight m claimed.block → x.status ≡ 1)
+checks-block : (claimed : Claimed) (x : Account) → let m = claimed.building.model in IsChecked m claimed.block x
+    → (IsRight m claimed.block × (x.status ≡ 0)) ⊎ ((¬ IsRight m claimed.block) × (x.status ≡ 1))
 checks-block claimed x h =
     let ends : x.status ≡ verdict_status h.verdict = h.ends.over in
     let few = status-few h.verdict in
-    (h.right, λ wrong. (let not_yes : x.status ≡ 0 → ⊥ = λ e. wrong (h.yes e) in omega (arith, ends, few, not_yes)))
+    elim (cases_eq x.status 0) [
+      | inl good ↦ inl (h.yes good, good)
+      | inr bad ↦ inr (λ right. bad (h.right right), omega (arith, ends, few, bad))
+    ]
 
 checks-all : (input : List ℕ) (result : Result Claimed (Code × ℕ)) (x : Account) → Checks input result x → ChecksAll result x
 checks-all input (Ok claimed) x h = checks-block claimed x h.1
@@ -80,14 +83,14 @@ ends-done talk before (Err code ∷ rest) r x texts answered e h = absurd (never
 talks-all : {S : Type 0} (talk : TalkOn S) → ((names : NameTable) (m : Model) (r : Reply S) → (talk names m).Opens r → IsClearable m)
     → ((names : NameTable) (m : Model) (line : ℕ) (x : Spoken) → (talk names m).Refuses line x → OpensShort m line x) → (r : Reading) (x : Account)
     → Talks talk r x → TalksAll talk r x
-talks-all talk clears short (Described d last rest) x (inl run) = (
-  λ can. run,
-  λ cannot. absurd (cannot (clears (names_of d) d.model run.goes.opening run.goes.opens)),
-  λ can texts whole. ends-done (talk (names_of d) d.model) (last + length run.answered) run.rest run.replies (spoken x) texts run.answered (sym whole ∙ run.parts) run.ends,
-)
+talks-all talk clears short (Described d last rest) x (inl run) =
+    inl (
+      clears (names_of d) d.model run.goes.opening run.goes.opens,
+      run,
+      λ texts whole. ends-done (talk (names_of d) d.model) (last + length run.answered) run.rest run.replies (spoken x) texts run.answered (sym whole ∙ run.parts) run.ends,
+    )
 talks-all talk clears short (Described d last rest) x (inr refused) =
-    let barred = short (names_of d) d.model last (spoken x) refused in
-    (λ can. absurd (barred.short.barred can), λ cannot. barred, λ can texts whole. absurd (barred.short.barred can))
+    let barred = short (names_of d) d.model last (spoken x) refused in inr (barred.short.barred, barred)
 talks-all talk clears short (Refused code line) x h = h
 
 sessions-all : (r : Reading) (x : Account) → Talks session r x → TalksAll session r x

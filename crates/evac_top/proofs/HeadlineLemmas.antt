@@ -157,9 +157,9 @@ pub keeps-talk : {S : Type 0} (talk : TalkOn S) (Keeps : Description → ℕ →
     → ((d : Description) (last : ℕ) (lines : List Line) (x : Account) → TalkRun (talk (names_of d) d.model) last lines (spoken x) → Keeps d last lines x)
     → (r : Reading) (x : Account) → Talks talk r x → KeepsTalk Keeps r x
 keeps-talk talk Keeps clears short keeps (Described d last rest) x (inl run) =
-    (λ can. keeps d last rest x run, λ cannot. absurd (cannot (clears (names_of d) d.model run.goes.opening run.goes.opens)))
+    inl (clears (names_of d) d.model run.goes.opening run.goes.opens, keeps d last rest x run)
 keeps-talk talk Keeps clears short keeps (Described d last rest) x (inr refused) =
-    let barred = short (names_of d) d.model last (spoken x) refused in (λ can. absurd (barred.short.barred can), λ cannot. barred)
+    let barred = short (names_of d) d.model last (spoken x) refused in inr (barred.short.barred, barred)
 keeps-talk talk Keeps clears short keeps (Refused code line) x h = h
 
 session-kept : (input : List ℕ) (x : Account) → (runs_of (Some Session)).Answers input x → KeepsTalk KeepsAll (model_of (lines_of input)) x × ReadsOn session input x
@@ -251,8 +251,8 @@ keeps-block flags names m x h =
 keeps-plan : (flags : Flags) (input : List ℕ) (result : Result Asked (Code × ℕ)) (x : Account) → Solves flags input result x → KeepsPlan flags input result x
 keeps-plan flags input (Ok asked) x (all, inl h) =
     let m = asked.building.model in
-    (all, λ can. keeps-block flags (names_of asked.building) m x h, λ cannot. absurd (cannot (opening-clears m h.opening h.begins)))
-keeps-plan flags input (Ok asked) x (all, inr short) = (all, λ can. absurd (short.barred can), λ cannot. short)
+    (all, inl (opening-clears m h.opening h.begins, keeps-block flags (names_of asked.building) m x h))
+keeps-plan flags input (Ok asked) x (all, inr short) = (all, inr (short.barred, short))
 keeps-plan flags input (Err fault) x h = h
 
 plan-kept : (flags : Flags) (input : List ℕ) (x : Account) → (runs_of (Some (Solve flags))).Answers input x → KeepsPlan flags input (input_of (lines_of input)) x

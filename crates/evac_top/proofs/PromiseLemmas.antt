@@ -1,6 +1,6 @@
 -- Every run of a study, a check, an upgrade and a drill keeps its promise.
 use Rattle.std.specs.declared.option.Option.{Option}
-use Rattle.std.proofs.Common.{◌≡◌, Some, None, ℕ, ◌+◌, ◌<◌, true, List, [], ◌∷◌, length, map, Result, Ok, Err, refl, sym, ap, subst, ◌∙◌, arith}
+use Rattle.std.proofs.Common.{◌≡◌, Some, None, ℕ, ◌+◌, ◌<◌, true, List, [], ◌∷◌, length, map, Result, Ok, Err, refl, sym, ap, subst, ◌∙◌, arith, inl, inr}
 use Rattle.std.specs.List.{All}
 use Rattle.std.proofs.lemmas.List.Elements.{All-filter, All-head, All-tail, All-cons, All-nil, filter_passes}
 use Rattle.evac_law.specs.declared.code.Code.{Code}
@@ -121,7 +121,8 @@ abbrev IsRead : Reading → Type 0
 IsRead r = (d : Description) (last : ℕ) (rest : List Line) → r ≡ Described d last rest → IsValid d.model
 
 when-valid : (r : Reading) (x : Account) → IsRead r → KeepsTalk (λ d last lines x. IsValid d.model → KeepsStudy d last lines x) r x → KeepsTalk KeepsStudy r x
-when-valid (Described d last rest) x valid h = (λ can. h.0 can (valid d last rest refl), h.1)
+when-valid (Described d last rest) x valid (inl h) = inl (h.0, h.1 (valid d last rest refl))
+when-valid (Described d last rest) x valid (inr h) = inr h
 when-valid (Refused code line) x valid h = h
 
 keeps-study : (r : Reading) (x : Account) → IsRead r → Talks study r x → KeepsTalk KeepsStudy r x

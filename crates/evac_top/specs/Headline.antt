@@ -70,9 +70,10 @@ pub record KeepsAll (d : Description) (last : ℕ) (lines : List Line) (x : Acco
   pub replies : RepliesTo (λ line s text r. Replies (names_of d) line s (command_of text) r × KeepsPromise s r) last opening.after answered more
   pub ends : EndsAt (session (names_of d) d.model) (last + length answered) rest (followed opening more) (spoken x)
 
--- by what is read: a building that can be cleared is opened and keeps this, one that can't is refused with its shortfall, and a fault by its line
+-- by what is read: the building can be cleared, is opened and keeps this, or it can't be cleared and is refused with its shortfall; a fault is
+-- refused by its line
 abbrev pub KeepsTalk : (Description → ℕ → List Line → Account → Type 0) → Reading → Account → Type 0
-KeepsTalk Keeps (Described d last rest) x = (IsClearable d.model → Keeps d last rest x) × (¬ IsClearable d.model → OpensShort d.model last (spoken x))
+KeepsTalk Keeps (Described d last rest) x = (IsClearable d.model × Keeps d last rest x) ⊎ ((¬ IsClearable d.model) × OpensShort d.model last (spoken x))
 KeepsTalk Keeps (Refused code line) x = IsRefusal (code, line) x
 
 -- each run of a session keeps all that, and takes all of its input or a line that quits
@@ -125,11 +126,11 @@ pub record KeepsBlock (flags : Flags) (names : NameTable) (m : Model) (x : Accou
   pub says : SaysPlan flags names opening x.written
   pub counted : x.steps ≡ opening.work.pushes
 
--- by what is read: all of a building with nothing after it is taken, and it is planned where it can be cleared, and refused where it can't
+-- by what is read: all of a building with nothing after it is taken, and it can be cleared and is planned, or it can't and is refused
 abbrev pub KeepsPlan : Flags → List ℕ → Result Asked (Code × ℕ) → Account → Type 0
 KeepsPlan flags input (Ok asked) x =
     let m = asked.building.model in
-    (x.taken ≡ input) × (IsClearable m → KeepsBlock flags (names_of asked.building) m x) × (¬ IsClearable m → IsShort m asked.last x)
+    (x.taken ≡ input) × ((IsClearable m × KeepsBlock flags (names_of asked.building) m x) ⊎ ((¬ IsClearable m) × IsShort m asked.last x))
 KeepsPlan flags input (Err fault) x = IsRefusal fault x
 
 -- each run that plans a building keeps that

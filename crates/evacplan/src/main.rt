@@ -4,7 +4,15 @@
 //! written: the status is that of `NoMemory`, and where a word isn't UTF-8 that of `NoWords`.
 #![tactic(auto)]
 
-ghost use Rattle.std.specs.Prelude.{◌≡◌};
+ghost use Rattle.std.specs.Prelude.{◌≡◌, ℕ, ◌+◌, false, map, string_bytes};
+ghost use Rattle.line_io.specs.Calls.{AsksAtMost};
+ghost use Rattle.line_io.specs.Line.{input_limit};
+ghost use Rattle.line_io.specs.declared.limits.TheConstants.{BUFFER_SIZE};
+ghost use Rattle.evac_top.specs.Accounts.{side};
+ghost use Rattle.evac_top.specs.Answers.{runs_of};
+ghost use Rattle.evac_top.specs.Runs.{Runs};
+ghost use Rattle.evac_top.specs.Words.{mode_of};
+ghost use Rattle.talk.specs.Statuses.{status_number};
 
 use evac_law::Steps;
 use evac_top::run;
@@ -16,7 +24,7 @@ use std::sync::ledger::{Blank, Ledger};
 use std::{env, io};
 use talk::Status;
 
-// Runs with a counter of steps that nobody reads.
+// Runs with a counter of steps that nobody reads. It begins at 0.
 fn run_uncounted<S: Source, K: Sink, L: Ledger>(
     alloc: Global,
     words: &[String],
@@ -27,6 +35,11 @@ fn run_uncounted<S: Source, K: Sink, L: Ledger>(
     requires name { blank.name ≡ L.name }
     requires parts { blank.parts ≡ L.parts }
     requires one { blank.parts ≡ 1 }
+    ensures run { (steps : ℕ) × Runs (mode_of (map string_bytes words.now)) (status_number result)
+        (record { source = side (S.left source.old) (S.faults source.old); sink = side (K.held sink.old) (K.faults sink.old); steps = 0 })
+        (record { source = side (S.left source.new) (S.faults source.new); sink = side (K.held sink.new) (K.faults sink.new); steps = steps }) }
+    ensures untouched { (runs_of (mode_of (map string_bytes words.now))).reads ≡ false → source.new ≡ source.old }
+    ensures asked { AsksAtMost S.takes (input_limit + BUFFER_SIZE) source.old source.new }
 {
     let mut steps: Steps<L> = Steps::new(blank);
     run(alloc, words, source, sink, &mut steps)

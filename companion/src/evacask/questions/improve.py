@@ -13,7 +13,7 @@ from typing import Callable, Dict, List, Optional, Sequence, Tuple
 from evacask.client.asking import plan_or_short
 from evacask.client.blocks import Plan
 from evacask.client.talk import Client
-from evacask.errors import WordsError
+from evacask.errors import Broken, WordsError
 from evacask.model.building import Model
 from evacask.model.crossings import Crossings, Place, crossings, size_of
 from evacask.model.ground import Ground
@@ -123,6 +123,7 @@ class Search:
         """Buys, asks and adds a demand, until a purchase is enough or none can be, or as much work again is done without an end."""
         bought, last = Cover(0, 0, (0,) * len(self.offers)), -self.work.left
         while bought.x is not None and self.work.left > last:
+            self.check_limits(bought.x)
             now = widened(self.model, self.offers, bought.x)
             answer = plan_or_short(self.client, now, self.moment)
             if isinstance(answer, Plan):
@@ -133,6 +134,15 @@ class Search:
                 return self.barred(bought.at_least)
             bought = replace(found, at_least=max(found.at_least, bought.at_least))
         return self.improvement(Cover(bought.at_least, None, None), None)
+
+    def check_limits(self, x: Sequence[int]) -> None:
+        """`WordsError` if a purchase is more of one place than its limit, as each of several offers for it stays within it alone."""
+        total = {it.place: size_of(self.model, it.place) for it in self.offers}
+        for it, times in zip(self.offers, x):
+            total[it.place] += it.step * times
+        for place, size in total.items():
+            if size > (MOST_RATE if len(place) == 2 else MOST_PEOPLE):
+                raise WordsError(f"what may be bought of {' '.join(place)} in several rows is together more than a rate or a capacity may be")
 
     def demand(self, cut: Crossings) -> None:
         """What a purchase has to meet so that this cut is worth all people."""
@@ -154,6 +164,6 @@ class Search:
         """No purchase meets all demands: if everything is bought, a cut says how many are out at most."""
         everything = widened(self.model, self.offers, [it.most for it in self.offers])
         answer = plan_or_short(self.client, everything, self.moment)
-        if isinstance(answer, Plan):  # (two offers for one place are more than its limit together)
-            raise WordsError("what may be bought of one place in several rows is together more than a rate or a capacity may be")
+        if isinstance(answer, Plan):
+            raise Broken("all are out if everything is bought, and the program's cuts say that no purchase is enough")
         return Improvement(self.moment, whole(self.model.people), None, at_least, None, (), len(self.demands), whole(answer.most))
