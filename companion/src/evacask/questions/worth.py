@@ -16,7 +16,7 @@ from evacask.questions.sensitivity import Names, WayOutcome, most_sent, question
 from evacask.questions.sweep import Answer, sweep
 
 # So many buildings are planned at most, and so many that their plans have this many bytes together.
-MOST_TRIALS, MOST_BYTES = 200, 12_000_000
+MOST_TRIALS, MOST_BYTES = 200, 8_000_000
 Key = Tuple[Names, str]
 
 
