@@ -23,7 +23,7 @@ class Notebook(unittest.TestCase):
         self.assertEqual((office.width("SW2.2", "DS2.1", seconds=120).rate, office.width("SW2.2", "DS2.1", seconds=125).rate), (7, 6))
         outcomes = office.sweep([["rate SW2.2 DS2.1 3"], ["leave WP1.1 10"], ["shut A B"]])
         self.assertEqual([getattr(it, "cleared", None) for it in outcomes], [31, 28, None])
-        self.assertIsInstance(outcomes[2], evacask.Refused)
+        self.assertEqual((outcomes[2].refused, outcomes[2].refused_edit), (8, "shut A B"))
         self.assertTrue(office.check(plan.raw).is_right)
         self.assertEqual(len(office.source.sha256), 64)
         self.assertEqual(sum(int(str(it["people"])) for it in plan.records() if str(it["to"]).startswith("DS")), 240)

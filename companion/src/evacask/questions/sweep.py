@@ -8,7 +8,7 @@ from __future__ import annotations
 import functools
 import itertools
 from collections import deque
-from concurrent.futures import Executor, Future, ThreadPoolExecutor
+from concurrent.futures import Executor, Future, ThreadPoolExecutor, wait
 from dataclasses import dataclass
 from typing import Callable, Deque, Dict, Iterable, Iterator, List, Optional, Sequence, Tuple
 
@@ -26,6 +26,8 @@ from evacask.model.shares import Count
 
 Scenario = Sequence[str]
 Edits = Tuple[str, ...]
+# Seconds.
+LOOK_UP = 0.5
 # Scenarios that one worker answers in one session, and such batches that wait for a worker.
 BATCH, WAITING = 128, 32
 
@@ -85,10 +87,17 @@ def answers(
             if not waiting:
                 return
             if not some or len(waiting) > WAITING:
-                yield from waiting.popleft().result()
+                yield from result_of(waiting.popleft())
     finally:
         for it in waiting:
             it.cancel()
+
+
+def result_of(batch: "Future[List[Answer]]") -> List[Answer]:
+    """What a batch answers. It looks up now and then: Python doesn't break off an endless wait for a signal that came while another thread took over."""
+    while not wait([batch], timeout=LOOK_UP).done:
+        pass
+    return batch.result()
 
 
 def checked(scenario: Scenario) -> Edits:
