@@ -226,6 +226,6 @@ complete -c evacask -n '__fish_seen_subcommand_from report' -l proved -d 'ask a 
 complete -c evacask -n '__fish_seen_subcommand_from report' -l edit -d 'ask about the building after these edits, with ; between them'
 complete -c evacask -n '__fish_seen_subcommand_from report' -l title -d 'the title of the page, and not that of the building'
 complete -c evacask -n '__fish_seen_subcommand_from report' -l against -d 'another building beside it'
-complete -c evacask -n '__fish_seen_subcommand_from report' -l trials -d 'plan at most N buildings to say what ways are worth (200, or fewer if their plans are longer than 12 MB)'
+complete -c evacask -n '__fish_seen_subcommand_from report' -l trials -d 'plan at most N buildings to say what ways are worth (200, or fewer if their plans are longer than 8 MB)'
 complete -c evacask -n '__fish_seen_subcommand_from report' -l output -d 'write the page to a file'
 complete -c evacask -n '__fish_seen_subcommand_from report' -l json -d 'print the data of the page as JSON'
