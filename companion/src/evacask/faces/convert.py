@@ -103,6 +103,8 @@ def run(given: Namespace) -> int:
         return run_both(given, drawn)
     if len(given.period) > 1:
         raise WordsError("several periods go with --both alone")
+    if given.face != "text":
+        raise WordsError(f"--{given.face} goes with --both alone: without it a building is written")
     period = given.period[0] if given.period else drawn.period
     shares = chosen(given, drawn, period)
     text = building_text(drawn, Scale(period, shares.number, given.rounding))
