@@ -191,7 +191,6 @@ def metro():
 def nine_storeys():
     """An office building of nine storeys with a stair at each end, for 300 people on each storey above the ground."""
     door = door_of("0.61")
-    stair_flow = WAYS[STAIR][1] * frac("0.82")
     hall = Passage("corridor, to the stair's door", frac("2.00"), frac("45.7"), door, widths="2.40 - 0.40", door=door)
     stair = Passage("stair, with its landings", frac("0.82"), frac("6.81"), 2 * door, STAIR, "1.12 - 0.30", "3.66 × 1.86", landing=frac("4.88"))
     last = Passage("last flight, with the door", frac("0.82"), frac("6.81"), door, STAIR, "1.12 - 0.30", "3.66 × 1.86", landing=frac("4.88"), door=door)
