@@ -6,8 +6,8 @@ MYPY = mypy --strict --python-version 3.9 --explicit-package-bases
 
 unproved:           ## the program without a proof, in about a minute, unless there is one of these sources
 	@./build --unproved
-check: unproved     ## types, names and all tests that prove nothing, in about two minutes
-	@if command -v mypy >/dev/null; then MYPYPATH=tools:web:tests/front:companion/src/evacask/client $(MYPY) $(TYPED) && MYPYPATH=tools:companion/src $(MYPY) $(PAGES); else echo 'types: not checked, since mypy is not here'; fi
+check: unproved     ## types, names and all tests that prove nothing, in about five minutes
+	@if command -v mypy >/dev/null; then MYPYPATH=tools:tests:web:tests/front:companion/src/evacask/client $(MYPY) $(TYPED) && MYPYPATH=tools:companion/src $(MYPY) $(PAGES); else echo 'types: not checked, since mypy is not here'; fi
 	@if command -v pyflakes3 >/dev/null; then pyflakes3 $(TYPED) $(PAGES); else echo 'names: not checked, since pyflakes3 is not here'; fi
 	python3 tools/check_promises.py
 	python3 tools/pages.py
@@ -17,8 +17,8 @@ prove:              ## the proved program
 	./build
 gate:               ## everything from nothing: hours of processor time
 	.ci/run
-bench:              ## times on large buildings; docs/SPEED.md says how they are read
-	python3 bench/measure.py
+bench:              ## measures the proved program, and writes the tables of docs/maintainers/speed.md
+	bench/run
 docs:               ## the tables, figures and pages that are written by scripts
 	python3 tools/tables.py --write
 	python3 tools/figures.py --write

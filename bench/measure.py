@@ -1,17 +1,17 @@
 #!/usr/bin/env python3
 """Times the built program on large buildings, whole runs of it, and beside it another solver where one is given.
 
-    bench/measure.py [--program PATH] [--ssp PATH] [--rounds N] [--only NAME,..] [--instructions] [--edits] [--routes] [FILE.evac ..]
+    bench/measure.py [--program PATH] [--by-hand PATH] [--rounds N] [--only NAME,..] [--instructions] [--edits] [--routes] [FILE.evac ..]
 
 Without files the buildings of `buildings.py` are measured, each by its name; files are measured beside them. A round runs
 every command once, and a ratio is the median over the rounds of two times of one round, so that a busy machine slows
-both alike. `--ssp PATH` is a program that solves the same model: `PATH runs --path --block` writes each path out step by
-step, and `PATH runs --block` need not. It knows no windows and no entrants, so a building that has some gets a dash in
+both alike. `--by-hand PATH` is the program that `run` builds from `by_hand/`: `PATH --path` writes each path out step by
+step, and `PATH` doesn't. It knows no windows and no entrants, so a building that has some gets a dash in
 place of its numbers. `--instructions` counts instructions with valgrind in place of these times, once each: they don't
 depend on how busy a machine is. `--edits` makes edits of every kind in a session in place of all that, each undone again, and
 divides the instructions of each by those of a fresh solve: of the building before it or after it, whichever is dearer. `--routes` counts
 the instructions of `solve`, `solve --routes` and `cards`. It is no part of any test: it prints a table in Markdown and fails for nothing
-but a run that fails, or two solvers that differ.
+but a run that fails, or two solvers that differ. `run` measures all of this and writes the tables of the page on speed.
 """
 import argparse
 import os
@@ -27,7 +27,7 @@ import buildings
 import edits
 
 TOP = pathlib.Path(__file__).resolve().parent.parent
-KINDS = ("--path --block", "--block")
+KINDS = {"by hand, writing paths": ["--path"], "by hand": []}
 COUNTER = (*edits.COUNTER, "--callgrind-out-file=/dev/null", "--log-fd=1")
 
 
@@ -91,8 +91,8 @@ def ratio(times, others):
 
 def commands_of(given, text):
     """Returns the commands that solve a building: the program's, and of each kind the other solver's where it can read it."""
-    is_read = given.ssp and not any(buildings.statements(text.decode(), it) for it in ("window", "entrant"))
-    return [[given.program, "solve"], *([given.ssp, "runs", *kind.split()] for kind in KINDS if is_read)]
+    is_read = given.by_hand and not any(buildings.statements(text.decode(), it) for it in ("window", "entrant"))
+    return [[given.program, "solve"], *([given.by_hand, *words] for words in KINDS.values() if is_read)]
 
 
 def compare(name, commands, text):
@@ -109,7 +109,7 @@ def compare(name, commands, text):
 
 def print_head(given, columns, unit):
     """Prints the head of a table: columns of the program's own, and those of the other solver."""
-    kinds = KINDS if given.ssp else ()
+    kinds = KINDS if given.by_hand else ()
     print(f"| building | {' | '.join(columns)} |" + "".join(f" {kind}, {unit} | ratio |" for kind in kinds))
     print("|---|" + "--:|" * (len(columns) + 2 * len(kinds)))
 
@@ -119,7 +119,7 @@ def print_row(given, name, own, others):
     cells = [name, *(f"{it:.1f}" for it in own)]
     for other, ratio_to_it in others:
         cells += [f"{other:.1f}", f"{ratio_to_it:.2f}"]
-    if given.ssp and not others:
+    if given.by_hand and not others:
         cells += ["-"] * (2 * len(KINDS))
     print("| " + " | ".join(cells) + " |", flush=True)
 
@@ -201,7 +201,7 @@ def editing(given, texts):
 def main():
     parser = argparse.ArgumentParser(description=__doc__.split("\n")[0])
     parser.add_argument("--program", default=str(TOP / "crates/evacplan/out/evacplan"))
-    parser.add_argument("--ssp")
+    parser.add_argument("--by-hand", help="the solver by hand, as bench/run builds it")
     parser.add_argument("--rounds", type=int, default=9)
     parser.add_argument("--each", type=int, default=1, help="how many edits of each kind --edits tries")
     parser.add_argument("--only")

@@ -1,10 +1,10 @@
 #!/usr/bin/env python3
-"""Tries the laws of docs/LAWS.md on random buildings, and shows by a building that what is nearly one of them is false.
+"""Tries the laws of docs/maintainers/laws.md on random buildings, and shows by a building that what is nearly one of them is false.
 
     bench/tried.py [--program PATH] [--count N] [--seed N] [NAME ..]
 
 A name is that of a law or of a near miss; without names all are tried. For a law N buildings are made that meet what it asks, planned, and compared
-with what it says. For a near miss one building is made, by the seed that LAWS.md names, and must go against it. Buildings are edited in a session
+with what it says. For a near miss one building is made, by its seed in NEAR, and must go against it. Buildings are edited in a session
 where everybody gets out of them, and else as texts. Capacities are tried on the large buildings of `buildings.py` and on examples/ too.
 
 No test tries the laws; tests/near_misses.py tries the near misses too. It prints each building that goes against a law, and each near miss that its

@@ -1,5 +1,5 @@
 #!/usr/bin/env python3
-"""Shows on the built program, or on the one that EVACPLAN names, that what is nearly a law of docs/LAWS.md is false: each by a building.
+"""Shows on the built program, or on the one that EVACPLAN names, that what is nearly a law of docs/maintainers/laws.md is false: each by a building.
 
     tests/near_misses.py
 
@@ -233,7 +233,7 @@ class NearMisses(unittest.TestCase):
     # ---- the others
 
     def test_each_seed(self) -> None:
-        """The near misses of the other laws, each by the random building whose seed LAWS.md names."""
+        """The near misses of the other laws, each by the random building of its seed in `tried.NEAR`."""
         for near, seed in tried.NEAR.items():
             with self.subTest(near.__name__):
                 self.assertTrue(near(random.Random(seed)), near.__doc__)

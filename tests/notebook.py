@@ -1,5 +1,5 @@
 #!/usr/bin/env python3
-"""Runs the cells of docs/NOTEBOOK.md in order, and compares what each shows with what stands below it.
+"""Runs the cells of docs/users/notebook.md in order, and compares what each shows with what stands below it.
 
     tests/notebook.py              prints what differs; the status is 1 if anything does
     tests/notebook.py --write      writes below each cell what it shows
@@ -19,7 +19,7 @@ from typing import Dict, List
 
 sys.dont_write_bytecode = True
 TOP = pathlib.Path(__file__).resolve().parent.parent
-PAGE = TOP / "docs/NOTEBOOK.md"
+PAGE = TOP / "docs/users/notebook.md"
 CELL = re.compile(r"^```python\n(.*?)^```\n(?:\n```text\n(.*?)^```\n)?", re.M | re.S)
 sys.path.insert(0, str(TOP / "companion/src"))
 
@@ -53,13 +53,13 @@ def main(words: List[str]) -> int:
         made.append(block(cell[1], shown(cell[1], names)))
         if made[-1] != cell[0]:
             wrong += 1
-            print(f"docs/NOTEBOOK.md:{page.count(chr(10), 0, cell.start()) + 1}: this cell shows\n{made[-1]}")
+            print(f"docs/users/notebook.md:{page.count(chr(10), 0, cell.start()) + 1}: this cell shows\n{made[-1]}")
     if words:
         fresh = iter(made)
         PAGE.write_text(CELL.sub(lambda _: next(fresh), page))
         return 0
     print(
-        f"{len(cells)} cells of docs/NOTEBOOK.md ran, and {wrong} show something else" if wrong else f"the {len(cells)} cells of docs/NOTEBOOK.md ran"
+        f"{len(cells)} cells of docs/users/notebook.md ran, and {wrong} show something else" if wrong else f"the {len(cells)} cells of docs/users/notebook.md ran"
     )
     return 1 if wrong or not cells else 0
 

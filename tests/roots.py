@@ -1,10 +1,12 @@
 #!/usr/bin/env python3
 """Makes a release of the proved program twice, and tries its packages in root folders: an empty one, one of busybox, and Debian 11 and 12.
 
-    python3 tests/roots.py
+    python3 tests/roots.py [--as-can-be-made]
 
-says of each root whether it could be made here: it takes root's rights, a static busybox, and debootstrap with a mirror of Debian. In each that could be made
-the three packages are unpacked, and their programs must plan the office byte for byte as the program of these sources does. The status is 1 if one doesn't.
+In each root the three packages are unpacked, and their programs must plan the office byte for byte as the program of these sources does. It takes root's
+rights, a static busybox, and debootstrap with a mirror of Debian. The status is 1 if a program doesn't, or if a root can't be made. With --as-can-be-made it
+is enough if one root could be made: what couldn't is said. Nor does it take the proved program's object file then, which `rt ci` doesn't always leave: the
+packages that are tried then have the unproved program.
 """
 from __future__ import annotations
 
@@ -22,11 +24,12 @@ from typing import Callable, Dict, List, Optional
 TOP = pathlib.Path(__file__).resolve().parent.parent
 sys.path[:0] = [str(TOP / "tools"), str(TOP / "companion/src/evacask/client")]
 import dist  # noqa: E402
-import sources  # noqa: E402
-from kit import NotBuilt  # noqa: E402
+import unproved  # noqa: E402
+from kit import Kit, NotBuilt, room_for_files  # noqa: E402
+from packing import digest  # noqa: E402
 
 OFFICE = (TOP / "examples/office.evac").read_bytes()
-MIRROR, PATIENCE = "http://deb.debian.org/debian", 240
+MIRROR, PATIENCE = "http://deb.debian.org/debian", 1800
 DEBIANS = {"Debian 11": "bullseye", "Debian 12": "bookworm"}
 # What unpacks each package in the root of busybox, below /in, and where the program is then.
 UNPACKED = {
@@ -44,12 +47,25 @@ def ran(*words: object, given: bytes = b"", seconds: int = 60, **env: str) -> "s
     return subprocess.run([str(it) for it in words], input=given, capture_output=True, timeout=seconds, env={**os.environ, **env})
 
 
-def release(to: pathlib.Path) -> Dict[str, pathlib.Path]:
+def program_of(kit: Kit, is_any_enough: bool, room: pathlib.Path) -> bytes:
+    """The proved program of these sources, linked statically; or else, if any is enough, the unproved one. Raises NotBuilt."""
+    try:
+        return dist.proved_program(kit, room)
+    except NotBuilt as fault:
+        if not is_any_enough:
+            raise
+        say(f"the release that is tried has the unproved program, since {fault}")
+        return dist.static_program(kit, unproved.object_made(kit, room), room)
+
+
+def release(to: pathlib.Path, is_any_enough: bool) -> Dict[str, pathlib.Path]:
     """Makes the release twice, in two time zones, and gives its packages by the ends of their names. Raises NotBuilt."""
+    kit = Kit()
     for zone in ("UTC", "Pacific/Auckland"):
         os.environ["TZ"] = zone
         time.tzset()
-        dist.release(to / zone, "0" * 40, 1_700_000_000)
+        with room_for_files() as room:
+            dist.write(to / zone, "0" * 40, 1_700_000_000, kit, program_of(kit, is_any_enough, room))
     sums = [(to / zone / "SHA256SUMS").read_text() for zone in ("UTC", "Pacific/Auckland")]
     if sums[0] != sums[1]:
         raise NotBuilt(f"two releases of the same sources differ:\n{sums[0]}{sums[1]}")
@@ -102,36 +118,53 @@ def debian_root(root: pathlib.Path, packages: Dict[str, pathlib.Path], suite: st
         + faults(root, "tar.gz", "/opt/evacplan/evacplan")
         + faults(root, "wheel", "/opt/wheel/evacask/bin/evacplan")
     )
+    packed = digest((root / "usr/bin/evacplan").read_bytes())[:16].encode()
     for name, words in (
         ("deb", ["evacask"]),
         ("tar.gz", ["/opt/evacplan/evacask"]),
         ("wheel", ["env", "PYTHONPATH=/opt/wheel", "python3", "-m", "evacask_start"]),
     ):
         asked = ran("chroot", root, *words, "--version")
-        found += [f"evacask of the {name}: {asked.stderr.decode()}"] if asked.returncode or b"proved in logic" not in asked.stdout else []
+        found += [f"evacask of the {name}: {asked.stderr.decode()}"] if asked.returncode or packed not in asked.stdout else []
     return found
 
 
 def faults(root: pathlib.Path, package: str, program: str) -> List[str]:
     """What is wrong with the program of a package in a root."""
-    wanted = ran(TOP / sources.PROVED_PLACE, "solve", given=OFFICE).stdout
+    wanted = ran(unproved.unproved(), "solve", given=OFFICE).stdout
     done = ran("chroot", root, program, "solve", given=OFFICE)
     if done.returncode or done.stdout != wanted:
         return [f"the program of the {package} ends with {done.returncode} and another plan: {done.stderr.decode()[:300]}"]
     return []
 
 
-def main() -> int:
+def said_of(name: str, wrong: Optional[List[str]]) -> str:
+    """What came of a root: None if it couldn't be made, else what is wrong."""
+    if wrong is None:
+        return f"{name}: could not be made here"
+    return f"{name}: {'; '.join(wrong) or ('the program answers' if 'empty' in name else 'the three packages answer')}"
+
+
+def status_of(found: Dict[str, Optional[List[str]]], is_any_enough: bool) -> int:
+    """1 if a root has faults, if none could be made, or if one couldn't and all are wanted."""
+    made = [it for it in found.values() if it is not None]
+    return 1 if any(made) or not made or not is_any_enough and len(made) < len(found) else 0
+
+
+def main(words: List[str]) -> int:
+    if words not in ([], ["--as-can-be-made"]):
+        say("it takes --as-can-be-made, or nothing")
+        return 2
     with tempfile.TemporaryDirectory() as room:
         try:
-            packages = release(pathlib.Path(room, "release"))
+            packages = release(pathlib.Path(room, "release"), bool(words))
         except NotBuilt as fault:
             say(f"no release was tried: {fault}")
-            return 1 if "differ" in str(fault) else 0
+            return 1
         say("a release was made twice, with the same sums")
         if os.getuid():
             say("no root was tried: it takes the rights of root")
-            return 0
+            return 1
         tries: Dict[str, Callable[[pathlib.Path, Dict[str, pathlib.Path]], Optional[List[str]]]] = {
             "an empty root": empty_root,
             "a root of busybox": busybox_root,
@@ -146,18 +179,9 @@ def main() -> int:
             running = {name: pool.submit(tries[name], roots[name], packages) for name in tries}
             found = {name: it.result() for name, it in running.items()}
         for name, wrong in found.items():
-            say(
-                f"{name}: "
-                + (
-                    "could not be made here"
-                    if wrong is None
-                    else "; ".join(wrong) or "the three packages answer"
-                    if "empty" not in name
-                    else "; ".join(wrong) or "the program answers"
-                )
-            )
-        return 1 if any(found.values()) else 0
+            say(said_of(name, wrong))
+        return status_of(found, bool(words))
 
 
 if __name__ == "__main__":
-    sys.exit(main())
+    sys.exit(main(sys.argv[1:]))

@@ -3,7 +3,7 @@
 
     tests/statuses.py
 
-What a run wrote is what the table of statuses in docs/FORMATS.md and the clauses of `run` say of it; the texts were worked out by hand. What it read
+What a run wrote is what the table of statuses in docs/users/formats.md and the clauses of `run` say of it; the texts were worked out by hand. What it read
 of a file is told by the place at which the next read would begin.
 """
 import os

@@ -256,7 +256,7 @@ BUILT = [
         ("evacplan", "end", "2"),
         2,
         "proved: end,2,\n",
-        ("docs/FORMATS.md", "solve < examples/office.evac"),
+        ("docs/users/formats.md", "solve < examples/office.evac"),
         1,
         at_terminal=True,
     ),
@@ -701,7 +701,7 @@ class Acting(unittest.TestCase):
         self.assertIn("evacask's commands weren't tested: there is no program", self.place.out.splitlines()[-1])
 
     def test_the_words_that_evacplan_names_are_those_of_the_formats(self) -> None:
-        table = re.search(r"(?s)\n\| Words .*?\n\n", (TOP / "docs/FORMATS.md").read_text())
+        table = re.search(r"(?s)\n\| Words .*?\n\n", (TOP / "docs/users/formats.md").read_text())
         said = re.search(r"the words are (.*?);", (TOP / "evacplan").read_text())
         assert table and said
         self.assertEqual(set(re.findall(r"\n\| `([a-z]+)", table[0])), set(re.findall(r"(?:^|, )(?:or )?([a-z]+)", said[1])))

@@ -1,7 +1,7 @@
 #!/usr/bin/env python3
 """Tries the field's tests of evacuation models that fit a flow model on the built program, or on the one that EVACPLAN names.
 
-    tests/validation.py              compares each answer with its time by hand, and the table of docs/VALIDATION.md with what was found
+    tests/validation.py              compares each answer with its time by hand, and the table of docs/users/validation.md with what was found
     tests/validation.py --write      writes that table
 
 A case has two buildings if a figure had to be rounded: one to the earlier side and one to the later. Between their clearing times the time by hand
@@ -18,7 +18,7 @@ from typing import Callable, Dict, Iterator, List, Sequence, Tuple
 
 TOP = pathlib.Path(__file__).resolve().parent.parent
 PROGRAM = os.environ.get("EVACPLAN", str(TOP / "crates/evacplan/out/evacplan"))
-PAGE = TOP / "docs/VALIDATION.md"
+PAGE = TOP / "docs/users/validation.md"
 TABLE = re.compile(r"(?<=<!-- validation: tests -->\n\n)(?:\|.*\n)*")
 # People a second through a metre of an exit: the most that IMO's test of the flow allows.
 FLOW = Fraction(133, 100)
@@ -348,8 +348,8 @@ def main(words: List[str]) -> int:
     if words:
         PAGE.write_text(TABLE.sub(lambda _: made, page))
     elif TABLE.findall(page) != [made]:
-        faults.append("docs/VALIDATION.md: its table isn't what the program answers: tests/validation.py --write")
-    print("\n".join(faults) or f"the {len(CASES)} tests of docs/VALIDATION.md hold")
+        faults.append("docs/users/validation.md: its table isn't what the program answers: tests/validation.py --write")
+    print("\n".join(faults) or f"the {len(CASES)} tests of docs/users/validation.md hold")
     return 1 if faults else 0
 
 

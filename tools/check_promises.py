@@ -1,20 +1,22 @@
 #!/usr/bin/env python3
 """Checks that what the documents name is there.
 
-- In PROVED.md each name in backticks after a link to a file must be defined there. A name that is no function of a source file is a clause of the
+- In proved.md each name in backticks after a link to a file must be defined there. A name that is no function of a source file is a clause of the
   function named before it.
 - In the tables below a heading that names crates each name in the right column must be a definition, a function, a clause or a field of one of them.
-- In DEFINITIONS.md each name must be defined in a file that its row links.
-- EDITS.md must have just the edits of each crate's must-fail/, and each name there must be in that crate, or be a definition.
-- In LAWS.md each block of definitions must be in the file that is linked last before it, and all of building_laws must be in one.
-- The files of lemmas that CONTRIBUTING.md maps must be in `proofs/` of the crate named before them.
-- In every document each link must lead to a file, and to a heading of it.
-- The tables of codes and of statuses in FORMATS.md must have just the numbers of `Code` and of `Status`, and these have each number once.
-- The tables of names in DECISIONS.md must have just the names that two modules of definitions define, and the types of two crates.
+- In definitions.md each name must be defined in a file that its row links.
+- refused.txt must have just the edits of each crate's must-fail/, and each name there must be in that crate, or be a definition.
+- In laws.md each block of definitions must be in the file that is linked last before it. All of building_laws must be in one, or in definitions.md.
+- The files of lemmas that contributing.md maps must be in `proofs/` of the crate named before them.
+- In every document each link must lead to a file, and to a heading of it; and the numbers of a list must count up by one.
+- The tables of codes and of statuses in formats.md must have just the numbers of `Code` and of `Status`, and these have each number once.
+- names_of_two.txt must have just the names that two modules of definitions define, and the types of two crates.
+- The numbers in the prose of some pages must be shown by something (`shown_numbers.py`).
+- The parts of documents that are made from the sources must be as these are (`made_parts.py`), and the tables of speed.md as what `bench/run` keeps.
 
 And it checks what can be told from the text alone:
 
-- The table of crates in ARCHITECTURE.md must be that of the crates, and each definition must have words above it (`tables.py`).
+- Each definition must have words above it (`tables.py`).
 - A crate of `crates.txt` must use each crate that its line lists.
 - A source file must have at most 400 lines, and a function's body at most 50, but for those that are listed here as too long.
 
@@ -28,13 +30,20 @@ import pathlib
 import re
 import sys
 
+TOP = pathlib.Path(__file__).resolve().parent.parent
 sys.dont_write_bytecode = True
+sys.path.append(str(TOP / "bench"))
+import made_parts
+import shown_numbers
+import speed_page
 import tables
 
-TOP = pathlib.Path(__file__).resolve().parent.parent
+MAINTAINERS = TOP / "docs/maintainers"
+EDITS, SHARED_NAMES = TOP / "tools/refused.txt", TOP / "tools/names_of_two.txt"
+REFUSED = re.compile(r"(?m)^(\w+)/(\w+): (.*)$")
 LINK = re.compile(r"\[[^\[\]]*\]\(([^)\s]+)\)")
 NAME = re.compile(r"`([A-Za-z_][\w:.]*)`")
-ROWS = ("PROVED.md", "ALGORITHM.md")
+ROWS = ("proved.md", "algorithm.md")
 FILE_LIMIT, BODY_LIMIT = 400, 50
 LONG_FILES = {"building_table/src/builder.rt", "residual_net/src/net.rt"}
 LONG_BODIES = {"building_table/src/commands.rt: edit_of"}
@@ -107,7 +116,7 @@ def text_of(document, target):
 
 
 def missing_promises(document):
-    """Names of PROVED.md that the file linked before them doesn't have."""
+    """Names of proved.md that the file linked before them doesn't have."""
     for number, line in enumerate(document.read_text().split("\n"), 1):
         links = list(LINK.finditer(line))
         for link, after in zip(links, links[1:] + [None]):
@@ -120,7 +129,7 @@ def missing_promises(document):
 
 
 def missing_definitions(document):
-    """Names of a row of DEFINITIONS.md that no file linked there has."""
+    """Names of a row of definitions.md that no file linked there has."""
     for row in document.read_text().splitlines():
         texts = [text for text in (text_of(document, link) for link in LINK.findall(row)) if text]
         for name in NAME.findall(row) if texts else []:
@@ -129,7 +138,7 @@ def missing_definitions(document):
 
 
 def missing_lemmas(document):
-    """Files of lemmas that CONTRIBUTING.md maps, and their crate doesn't have."""
+    """Files of lemmas that contributing.md maps, and their crate doesn't have."""
     table = document.read_text().partition("| Statement | Files |")[2].partition("\n\n")[0]
     for row in table.splitlines()[2:]:
         for crate, files in re.findall(r"(\w+): ((?:`\w+`[, ]*)+)", row):
@@ -172,28 +181,31 @@ def missing_rows(document):
                     yield f"{document.name}: no {name} in the row {row[:60]}"
 
 
-def missing_statements(document):
-    """Parts of blocks in LAWS.md that the file linked last before them doesn't have, and definitions of building_laws that no block has."""
+def missing_statements(document, definitions):
+    """Parts of blocks in laws.md that the file linked last before them doesn't have, and definitions of building_laws that no block and no row has."""
     before, *blocks = document.read_text().split("```antt\n")
     for block in blocks:
         shown, _, after = block.partition("\n```")
         files = [text for text in (text_of(document, link) for link in LINK.findall(before)) if text]
         yield from (f"{document.name}: no {part[:60]!r}" for part in shown.split("\n\n") if not files or part not in files[-1])
         before += after
-    shown = "\n".join(block.partition("\n```")[0] for block in blocks)
+    shown = PUBLIC.findall("\n".join(block.partition("\n```")[0] for block in blocks))
+    rows = NAME.findall("\n".join(line for line in definitions.read_text().splitlines() if "/building_laws/" in line))
     laws = [read(path) for path in sorted((TOP / "crates/building_laws/specs").glob("*.antt"))]
-    yield from (f"{document.name}: {name} isn't read aloud" for text in laws for name in PUBLIC.findall(text) if name not in PUBLIC.findall(shown))
+    missing = [name for text in laws for name in PUBLIC.findall(text) if name not in {*shown, *rows}]
+    yield from (f"{document.name}: {name} isn't read aloud" for name in missing)
 
 
 def edits_of(document):
-    """For each crate of EDITS.md its edits, each with the names of what refuses it."""
-    sections = [section.split("\n") for section in re.split(r"(?m)^## ", document.read_text())[1:]]
-    listed = {lines[0]: [line[2:].split(": ", 1) for line in lines if line.startswith("- ")] for lines in sections}
-    return {crate: {edit: NAME.findall(refused) for edit, refused in edits} for crate, edits in listed.items()}
+    """For each crate of refused.txt its edits, each with the names of what refuses it."""
+    listed = collections.defaultdict(dict)
+    for crate, edit, refused in REFUSED.findall(document.read_text()):
+        listed[crate][edit] = NAME.findall(refused)
+    return dict(listed)
 
 
 def wrong_edits(document):
-    """Edits of crates that EDITS.md doesn't have, those that no crate has, and names that aren't there."""
+    """Edits of crates that refused.txt doesn't have, those that no crate has, and names that aren't there."""
     listed = edits_of(document)
     everywhere = [text for path in (TOP / "crates").iterdir() for text in code_of(path.name)]
     for crate in sorted({path.parent.parent.name for path in TOP.glob("crates/*/must-fail/*.edit")} | set(listed)):
@@ -221,6 +233,18 @@ def missing_links(document):
         path = (document.parent / name).resolve() if name else document
         if not path.exists() or anchor and anchor not in headings(path):
             yield f"{document.name}: no {target}"
+
+
+def misnumbered(document):
+    """Numbers of a list that aren't one more than that before."""
+    before, text = 0, re.sub(r"(?ms)^```.*?^```", "", document.read_text())
+    for line in text.splitlines():
+        if found := re.match(r"(\d+)\. ", line):
+            if int(found[1]) not in (1, before + 1):
+                yield f"{document.name}: {found[1]} after {before} in a list"
+            before = int(found[1])
+        elif line.strip() and not line.startswith(" "):
+            before = 0
 
 
 def rows_of(document, title):
@@ -266,17 +290,15 @@ def names_of_two():
 
 
 def wrong_names(document):
-    """What differs between these names and the tables of a document that are headed by names and crates."""
+    """What differs between these names and the lines of names_of_two.txt."""
     listed = {}
-    for rows in re.findall(r"(?m)^\| Name \| Crates \|.*\n\|[-| :]+\|\n((?:\|.*\n)*)", document.read_text()):
-        for row in rows.splitlines():
-            names, crates = row.split("|")[1:3]
-            listed.update((name, set(crates.replace(",", " ").split())) for name in re.findall(r"`([^`]+)`", names))
+    for names, crates in re.findall(r"(?m)^(`.*`): (.*)$", document.read_text()):
+        listed.update((name, set(crates.replace(",", " ").split())) for name in re.findall(r"`([^`]+)`", names))
     found = names_of_two()
     for name in sorted(set(found) | set(listed)):
         if found.get(name) != listed.get(name):
             where = f"is in {', '.join(sorted(found[name]))}" if name in found else "has one module"
-            yield f"{document.name}: {name} {where}, and the table of names says otherwise"
+            yield f"{document.name}: {name} {where}, and the list of names says otherwise"
 
 
 def unused_crates():
@@ -316,18 +338,19 @@ def too_long():
 
 
 def main():
-    documents = [TOP / "README.md", *sorted((TOP / "docs").glob("*.md"))]
-    missing = [fault for document in documents for fault in missing_links(document)]
-    missing += missing_promises(TOP / "docs/PROVED.md")
-    missing += missing_definitions(TOP / "docs/DEFINITIONS.md")
-    missing += [row for name in ROWS for row in missing_rows(TOP / "docs" / name)]
-    missing += missing_lemmas(TOP / "docs/CONTRIBUTING.md")
-    missing += missing_statements(TOP / "docs/LAWS.md")
-    missing += wrong_edits(TOP / "docs/EDITS.md")
-    missing += wrong_numbers("Code", "evac_law/specs/Codes.antt", "code_number", TOP / "docs/FORMATS.md")
-    missing += wrong_numbers("Status", "talk/specs/Statuses.antt", "status_number", TOP / "docs/FORMATS.md")
-    missing += wrong_names(TOP / "docs/DECISIONS.md")
-    missing += tables.differences()
+    documents = [TOP / "README.md", *sorted((TOP / "docs").glob("*/*.md"))]
+    missing = [fault for document in documents for fault in (*missing_links(document), *misnumbered(document))]
+    missing += missing_promises(MAINTAINERS / "proved.md")
+    missing += missing_definitions(MAINTAINERS / "definitions.md")
+    missing += [row for name in ROWS for row in missing_rows(MAINTAINERS / name)]
+    missing += missing_lemmas(MAINTAINERS / "contributing.md")
+    missing += missing_statements(MAINTAINERS / "laws.md", MAINTAINERS / "definitions.md")
+    missing += wrong_edits(EDITS)
+    missing += wrong_numbers("Code", "evac_law/specs/Codes.antt", "code_number", TOP / "docs/users/formats.md")
+    missing += wrong_numbers("Status", "talk/specs/Statuses.antt", "status_number", TOP / "docs/users/formats.md")
+    missing += wrong_names(SHARED_NAMES)
+    missing += [*made_parts.differences(), *tables.wordless(), *speed_page.differing(is_written=False)]
+    missing += shown_numbers.differences(MAINTAINERS)
     missing += unused_crates()
     missing += too_long()
     print("\n".join(missing) if missing else "all that is named is there")

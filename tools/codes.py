@@ -1,11 +1,12 @@
 #!/usr/bin/env python3
-"""Writes the tables of codes and of statements in FORMATS.md from the table that evacask has in its code.
+"""Writes the tables of formats.md from the codes that evacask has in its code, and from the tables of the language.
 
-    python3 tools/codes.py --write      writes the tables, each below its line `<!-- codes: NAME -->`
-    python3 tools/codes.py --check      prints the lines that differ; the status is 1 where some do
+    python3 tools/codes.py --write      writes the tables
+    python3 tools/codes.py --check      prints the lines that differ; the status is 1 if some do
 
-A name is a place (building, session, study, replan, check, words) or `commands`, whose table has the codes of each command of a session, a study and a
-replan. The table is companion/src/evacask/model/codes.json.
+A table of codes stands below its line `<!-- codes: NAME -->`. The name is a place (building, session, study, replan, check, words) or `commands`, whose
+table has the codes of each command of a session, a study and a replan. They come from companion/src/evacask/model/codes.json. Below a line
+`<!-- language: NAME -->` stands a table of tools/language.json, from which the man pages and the page in the browser are made too, or the statements.
 """
 from __future__ import annotations
 
@@ -17,8 +18,9 @@ import sys
 from typing import Dict, List
 
 TOP = pathlib.Path(__file__).resolve().parent.parent
-CODES, PAGE = TOP / "companion/src/evacask/model/codes.json", TOP / "docs/FORMATS.md"
-MARK = re.compile(r"(?<=<!-- codes: )(\w+)( -->\n\n)(?:\|.*\n)*")
+CODES, PAGE = TOP / "companion/src/evacask/model/codes.json", TOP / "docs/users/formats.md"
+LANGUAGE = TOP / "tools/language.json"
+MARK = re.compile(r"(?<=<!-- )(codes|language)(: )(\w+)( -->\n\n)(?:\|.*\n)*")
 COMMAND = "command "
 Table = Dict[str, Dict[str, Dict[str, str]]]
 
@@ -27,14 +29,38 @@ def row(cells: List[str]) -> str:
     return f"| {' | '.join(cells)} |\n"
 
 
+def whole_table(head: List[str], rows: List[List[str]]) -> str:
+    return row(head) + "|" + "---|" * len(head) + "\n" + "".join(map(row, rows))
+
+
+def language_rows(name: str) -> List[List[str]]:
+    """The rows of a table of the language, each as its cells."""
+    rows: List[List[str]] = json.loads(LANGUAGE.read_text(encoding="utf-8"))[name]["rows"]
+    return rows
+
+
+def statement_rows(codes: Table) -> List[List[str]]:
+    """The rows of the statements: form, ranges, and how often each may come."""
+    often = {row[0].strip("`"): row[1] for row in language_rows("often")}
+    return [[f"`{form}`", said["ranges"], often[form]] for form, said in codes["statements"].items()]
+
+
+def language_table(name: str, codes: Table) -> str:
+    """A table of the language, or that of the statements."""
+    if name == "statements":
+        return whole_table(["Statement", "Ranges", "How often"], statement_rows(codes))
+    head: List[str] = json.loads(LANGUAGE.read_text(encoding="utf-8"))[name]["head"]
+    return whole_table(head, language_rows(name))
+
+
 def codes_table(name: str, codes: Table) -> str:
     """The table of a place, or that of the commands."""
     if name == "commands":
         words = [key for key in codes if key.startswith(COMMAND)]
         rows = [[f"`{key[len(COMMAND):]}`", code, it["meaning"], it["remedy"]] for key in words for code, it in codes[key].items()]
-        return row(["Command", "Code", "Meaning", "What to do"]) + "|---|---|---|---|\n" + "".join(map(row, rows))
+        return whole_table(["Command", "Code", "Meaning", "What to do"], rows)
     rows = [[code, it["meaning"], it["remedy"]] for code, it in codes[name].items()]
-    return row(["Code", "Meaning", "What to do"]) + "|---|---|---|\n" + "".join(map(row, rows))
+    return whole_table(["Code", "Meaning", "What to do"], rows)
 
 
 def without_links(text: str) -> str:
@@ -48,7 +74,9 @@ def written(page: str) -> str:
     rows = {without_links(line): line for line in page.splitlines(True)}
 
     def table(found: "re.Match[str]") -> str:
-        return found[1] + found[2] + "".join(rows.get(it, it) for it in codes_table(found[1], codes).splitlines(True))
+        if found[1] == "language":
+            return "".join(found.groups()) + language_table(found[3], codes)
+        return "".join(found.groups()) + "".join(rows.get(it, it) for it in codes_table(found[3], codes).splitlines(True))
 
     return MARK.sub(table, page)
 
@@ -62,7 +90,7 @@ def main(words: List[str]) -> int:
     if words == ["--write"]:
         PAGE.write_text(wanted, encoding="utf-8")
         return 0
-    sys.stdout.writelines(difflib.unified_diff(page.splitlines(True), wanted.splitlines(True), "docs/FORMATS.md", "as codes.json has it"))
+    sys.stdout.writelines(difflib.unified_diff(page.splitlines(True), wanted.splitlines(True), "docs/users/formats.md", "as codes.json has it"))
     return int(page != wanted)
 
 

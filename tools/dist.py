@@ -61,12 +61,19 @@ def commit() -> str:
     return git("rev-parse", "HEAD")
 
 
-def static_program(kit: Kit, room: pathlib.Path) -> bytes:
+def proved_program(kit: Kit, room: pathlib.Path) -> bytes:
     """The proved program of these sources, linked statically from the object file that it was linked from. Raises NotBuilt."""
     found = sources.found(TOP)
     if found.state is not sources.State.PROVED:
         raise NotBuilt(f"the program isn't proved, or not of these sources{f' ({found.why})' if found.why else ''}: ./build proves it")
-    made = object_of(kit, found.program, room)
+    program = static_program(kit, object_of(kit, found.program, room), room)
+    if sources.mark_of(program) != sources.logic_of(TOP):
+        raise NotBuilt("the program that gcc linked has no mark of a proof")
+    return program
+
+
+def static_program(kit: Kit, made: pathlib.Path, room: pathlib.Path) -> bytes:
+    """The program of an object file, linked statically. Raises NotBuilt."""
     libraries = [f"{kit.folder}/c/libos_c.a", f"{kit.folder}/c/liblibc_c.a"]
     linked = room / "static"
     run(
@@ -75,8 +82,6 @@ def static_program(kit: Kit, room: pathlib.Path) -> bytes:
         "gcc doesn't link the program statically",
     )
     run(["strip", "-s", f"{linked}"], room, "strip fails")
-    if sources.mark_of(linked.read_bytes()) != sources.logic_of(TOP):
-        raise NotBuilt("the program that gcc linked has no mark of a proof")
     run([f"{linked}", "drill", "--number", "1"], room, "the program that gcc linked doesn't run")
     return linked.read_bytes()
 
@@ -107,7 +112,7 @@ def page_files(man: str, bash: str, zsh: str, fish: str) -> Files:
 
 def document_files(to: str) -> Files:
     """The documents and examples, in a folder."""
-    names = ["README.md", "CHANGELOG.md", *git("ls-files", "docs/*.md", "examples").splitlines()]
+    names = ["README.md", "CHANGELOG.md", *git("ls-files", "docs/*.md", "docs/users/*.png", "examples").splitlines()]
     return {f"{to}/{name}": File((TOP / name).read_bytes()) for name in names}
 
 
@@ -156,14 +161,19 @@ def page_of(at: str, kit: Kit) -> Dict[str, bytes]:
 
 def release(to: pathlib.Path, made_of: str, time: int) -> None:
     """Writes the release of a commit, with a time for each file, into a folder. Raises NotBuilt and OSError."""
-    at, kit = version(), Kit()
+    kit = Kit()
     with room_for_files() as room:
-        program = static_program(kit, room)
+        write(to, made_of, time, kit, proved_program(kit, room))
+
+
+def write(to: pathlib.Path, made_of: str, time: int, kit: Kit, program: bytes) -> None:
+    """Writes the packages of a program, their manifest and their sums. Raises OSError."""
+    at, logic = version(), sources.mark_of(program)
     linker = subprocess.run(["gcc", "--version"], stdin=subprocess.DEVNULL, capture_output=True, text=True).stdout.partition("\n")[0]
     manifest = {
         "version": at,
         "commit": made_of,
-        "program": {"sha256": digest(program), "proved": True, "logic": sources.logic_of(TOP), "kit": kit.name, "linked_by": linker},
+        "program": {"sha256": digest(program), "proved": logic is not None, "logic": logic, "kit": kit.name, "linked_by": linker},
         "gate_passed_on": gate_passed(made_of),
     }
     said = json.dumps(manifest, indent=1).encode() + b"\n"

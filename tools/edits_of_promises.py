@@ -1,18 +1,18 @@
 #!/usr/bin/env python3
-"""Prints for each promise of PROVED.md and ALGORITHM.md where it is carried, and the must-fail edits that its clauses refuse.
+"""Prints for each promise of proved.md and algorithm.md where it is carried, and the must-fail edits that its clauses refuse.
 
     python3 tools/edits_of_promises.py [--missing]
 
-Which clauses refuse an edit is in EDITS.md. An edit of a crate of the promise's section goes with the promise where all names of one of its clauses
-are in the promise's row, and an edit of another crate where they are definitions there. A law is a function without a body, so no edit can turn
-it. EDITS.md lists the other promises that no body can turn. With --missing only the promises with no edit are printed, and rows of that list that
-aren't needed; the status is 1 where there are any.
+Which clauses refuse an edit is in refused.txt. An edit of a crate of the promise's section goes with the promise if all names of one of its clauses
+are in the promise's row, and an edit of another crate if they are definitions there. A law is a function without a body, so no edit can turn
+it. refused.txt lists the other promises that no body can turn. With --missing only the promises with no edit are printed, and lines of that list that
+aren't needed; the status is 1 if there are any.
 """
 import collections
 import re
 import sys
 
-from check_promises import NAME, ROWS, TOP, code_of
+from check_promises import EDITS, NAME, REFUSED, ROWS, TOP, code_of
 
 NO_EDIT, NO_BODY, A_LAW = ["no edit"], ["no body can turn it"], ["a law"]
 
@@ -28,20 +28,15 @@ def is_law(crates, name):
     return any(re.search(law, text) for crate in crates for text in code_of(crate))
 
 
-def clauses_of_edits(document):
-    """The edits of EDITS.md, each with its crate and the names of each clause that refuses it."""
-    for section in re.split(r"(?m)^## ", document)[1:]:
-        crate, *lines = section.split("\n")
-        for line in lines:
-            if line.startswith("- "):
-                edit, refused = line[2:].split(": ", 1)
-                yield from ((crate, edit, NAME.findall(clause)) for clause in refused.split("; "))
+def clauses_of_edits():
+    """The edits of refused.txt, each with its crate and the names of each clause that refuses it."""
+    for crate, edit, refused in REFUSED.findall(EDITS.read_text()):
+        yield from ((crate, edit, NAME.findall(clause)) for clause in refused.split("; "))
 
 
-def without_body(document):
-    """The names that carry the promises that no body can turn: the table before the first section of EDITS.md."""
-    rows = [line.strip("| ").split(" | ") for line in re.split(r"(?m)^## ", document)[0].split("\n") if line.startswith("| `")]
-    return [NAME.findall(names) for names, _ in rows]
+def without_body():
+    """The names that carry the promises that no body can turn, by refused.txt."""
+    return [NAME.findall(names) for names in re.findall(r"(?m)^no body: (.*?): [^`]", EDITS.read_text())]
 
 
 def is_in(name, names):
@@ -59,9 +54,9 @@ def is_shown(crate, clause, spoken_of, names):
     return all(is_in(name, names) for name in clause)
 
 
-def promises(proved, edits):
+def promises(proved):
     """Each promise of a document, with the names where it is carried, and what shows it."""
-    clauses, bodiless = list(clauses_of_edits(edits)), without_body(edits)
+    clauses, bodiless = list(clauses_of_edits()), without_body()
     for section in re.split(r"(?m)^### ", proved)[1:]:
         spoken_of = re.findall(r"\w+", section.split("\n")[0].split(":")[0])
         crates = [crate for crate in spoken_of if (TOP / "crates" / crate / "src").is_dir()]
@@ -75,11 +70,10 @@ def promises(proved, edits):
 
 
 def main():
-    edits = (TOP / "docs/EDITS.md").read_text()
-    found = [promise for document in ROWS for promise in promises((TOP / "docs" / document).read_text(), edits)]
+    found = [promise for document in ROWS for promise in promises((TOP / "docs/maintainers" / document).read_text())]
     missing = [f"no edit for the promise in {', '.join(names)}" for _, names, shown in found if shown == NO_EDIT]
     needed = [names for _, names, shown in found if shown == NO_BODY]
-    missing += [f"EDITS.md: no promise needs the row {', '.join(names)}" for names in without_body(edits) if names not in needed]
+    missing += [f"refused.txt: no promise needs the line {', '.join(names)}" for names in without_body() if names not in needed]
     if sys.argv[1:] != ["--missing"]:
         for promise, names, shown in found:
             print(f"{promise}\n    {', '.join(names)}\n    {', '.join(shown)}")

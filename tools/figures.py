@@ -1,5 +1,5 @@
 #!/usr/bin/env python3
-"""Computes the tables, buildings and answers of FIGURES.md, and compares them with the page.
+"""Computes the tables, buildings and answers of modelling.md, and compares them with the page.
 
     python3 tools/figures.py [--program PATH] [--write]
 
@@ -25,7 +25,7 @@ from evacask.client.talk import Program
 from evacask.model.drawn_building import Scale, building_text, drawn_building
 from evacask.questions.bracket import bracket
 
-PAGE = TOP / "docs/FIGURES.md"
+PAGE = TOP / "docs/users/modelling.md"
 PROGRAM = TOP / "crates/evacplan/out/evacplan"
 
 
@@ -242,21 +242,6 @@ def metro_capacities():
     return capacities(metro())
 
 
-def tower_rates():
-    found = rates([("door of an office", "0.90 - 0.30", frac("0.60"), WAYS[LEVEL][1]), ("stair", "1.30 - 0.30", frac("1.00"), WAYS[STAIR][1])])
-    found += rates([("main door, two leaves held open", "1.80 - 0.30", frac("1.50"), WAYS[LEVEL][1])])[2:]
-    hall = f"| corridor, held to the stair's door, which isn't held open | | 50 / 60 × 5 = {float(LEAF * 5):.2f} | {rate_of(LEAF, 5)} |"
-    return [*found[:3], hall, *found[3:]]
-
-
-def tower_travels():
-    return travel_rows(tower())
-
-
-def tower_capacities():
-    return capacities(tower())
-
-
 def school_travels():
     return travel_rows(school())
 
@@ -411,7 +396,11 @@ def metro_by_hand():
         ["from the foot of the stair to the street", walk(stair), f"{stair.travel} + {gates.travel} + {passage.travel} = {by_stair}"],
         ["from the foot of an escalator", walk(running), f"{running.travel} + {gates.travel} + {passage.travel} = {by_escalator}"],
         ["the stair lets up", f"{float(stair.most):.3f} a second", f"{stair.rate} a period"],
-        ["both escalators let up", f"{flows[0]:.2f} + {flows[1]:.3f} = {sum(flows):.3f} a second", f"{running.rate} + {still.rate} = {both} a period"],
+        [
+            "both escalators let up",
+            f"{flows[0]:.2f} + {flows[1]:.3f} = {sum(flows):.3f} a second",
+            f"{running.rate} + {still.rate} = {both} a period",
+        ],
         [f"out by period {last}", "", f"{stair.rate} × {last - by_stair + 1} + {both} × {last - by_escalator + 1} = {out(last)}"],
         ["all 1,090 are out", f"{metro_hand():.0f} s", moment(periods)],
         answer_row(metro().lines(), periods, f"out {last} {out(last)}"),
@@ -449,24 +438,23 @@ def tower_by_hand():
     rows = [
         ["the first come to the landing of storey 1", f"{first[0]} + {first[1]} = {sum(first):.1f} s", f"{office.travel} + {hall.travel} = {come}"],
         ["those of storey 2 come to it", f"{stair.seconds:.1f} s later", f"{come} + {stair.travel} = {above}"],
-        ["so many come in between, from two offices", f"{two:.2f} × {stair.seconds:.2f} = {two * stair.seconds:.1f}", f"2 × {office.rate} × {stair.travel} = {early}"],
+        [
+            "so many come in between, from two offices",
+            f"{two:.2f} × {stair.seconds:.2f} = {two * stair.seconds:.1f}",
+            f"2 × {office.rate} × {stair.travel} = {early}",
+        ],
         ["from then on both stairs let through", f"2 × {flow:.2f} = {2 * flow:.2f} a second", f"2 × {stair.rate} = {2 * stair.rate} a period"],
         ["from the landing to outside, by stair 2", f"{stair.seconds:.1f} s", f"{short}"],
-        ["by stair 1, with the lobby", f"{stair.seconds:.1f} + {lobby.seconds:.1f} = {stair.seconds + lobby.seconds:.1f} s", f"{stair.travel} + {lobby.travel} = {long}"],
+        [
+            "by stair 1, with the lobby",
+            f"{stair.seconds:.1f} + {lobby.seconds:.1f} = {stair.seconds + lobby.seconds:.1f} s",
+            f"{stair.travel} + {lobby.travel} = {long}",
+        ],
         [f"out by period {last}", "", by_last],
         ["all 1,600 are out", f"{tower_hand():.0f} s", moment(periods)],
         answer_row(tower().lines(), periods, f"out {last} {out(last)}"),
     ]
     return table(["", "By hand", "In periods"], rows, "lrr")
-
-
-def nine_storeys_rates():
-    level, stair = WAYS[LEVEL][1], WAYS[STAIR][1]
-    return rates([("door of a stair", "0.91 - 0.30", frac("0.61"), level), ("stair", "1.12 - 0.30", frac("0.82"), stair)])
-
-
-def nine_storeys_travels():
-    return travel_rows(nine_storeys())
 
 
 def nine_storeys_ways():
@@ -534,7 +522,17 @@ def shares():
         answer, hand = found.latest - period, by_hand()
         if not found.earliest <= hand < found.latest or abs(answer - hand) > 0.02 * hand:
             sys.exit(f"figures: {name} by hand {hand:.1f} s, and in shares {found.earliest} to {found.latest} s")
-        rows.append([name, f"{period} s", f"{number}", f"{found.earliest} s", f"{answer} to {found.latest} s", f"{hand:.0f} s", f"{100 * (answer - hand) / hand:+.1f} %"])
+        rows.append(
+            [
+                name,
+                f"{period} s",
+                f"{number}",
+                f"{found.earliest} s",
+                f"{answer} to {found.latest} s",
+                f"{hand:.0f} s",
+                f"{100 * (answer - hand) / hand:+.1f} %",
+            ]
+        )
     return table(["Building", "Period", "Shares", "Not before", "`cleared`, later side", "By hand", "Difference"], rows, "lrrrrrr")
 
 
@@ -564,8 +562,7 @@ NAMED = {
         *(corridor_rates, corridor_travels, corridor_capacities, corridor_lines, corridor_by_hand),
         *(school_rates, school_travels, school_capacities, school_by_hand, school_choices),
         *(metro_rates, metro_travels, metro_capacities, metro_by_hand),
-        *(tower_rates, tower_travels, tower_capacities, tower_by_hand),
-        *(nine_storeys_rates, nine_storeys_travels, nine_storeys_by_hand),
+        *(tower_by_hand, nine_storeys_by_hand),
         *(roundings, shares, room_periods),
     )
 }
@@ -605,7 +602,7 @@ def wrong_sums(page):
             except SyntaxError:
                 continue
             if abs(value - float(found[2].rstrip("."))) > 0.5001 * 10**-places:
-                yield f"FIGURES.md:{number}: {found[0]}: it is {value:.{places + 2}f}"
+                yield f"modelling.md:{number}: {found[0]}: it is {value:.{places + 2}f}"
 
 
 def wrong_plan(example, wanted):
@@ -613,7 +610,9 @@ def wrong_plan(example, wanted):
     name = f"{example.file.partition('.')[0]}.plan"
     made = building_text(drawn_building(name, (TOP / "examples" / name).read_text()), Scale(5))
     arcs, others = ([line for line in lines if line.startswith("arc ")] for lines in (wanted, made.split("\n")))
-    yield from (f"examples/{name}: it makes {other}, and figures.py computes {arc}" for arc, other in zip(sorted(arcs), sorted(others)) if arc != other)
+    yield from (
+        f"examples/{name}: it makes {other}, and figures.py computes {arc}" for arc, other in zip(sorted(arcs), sorted(others)) if arc != other
+    )
 
 
 def wrong_files():
@@ -636,15 +635,15 @@ def differences(page):
     for name, first, last in places_on(page):
         seen.add(name)
         if name not in NAMED:
-            yield f"FIGURES.md:{first}: figures.py has no {name}"
+            yield f"modelling.md:{first}: figures.py has no {name}"
             continue
         wanted = NAMED[name]()
         for number in range(max(last - first, len(wanted))):
             has = lines[first + number] if first + number < last else None
             new = wanted[number] if number < len(wanted) else None
             if has != new:
-                yield f"FIGURES.md:{first + number + 1}: {has or 'a line is missing'}; computed: {new or 'no such line'}"
-    yield from (f"FIGURES.md: no table is marked {name}" for name in NAMED if name not in seen)
+                yield f"modelling.md:{first + number + 1}: {has or 'a line is missing'}; computed: {new or 'no such line'}"
+    yield from (f"modelling.md: no table is marked {name}" for name in NAMED if name not in seen)
     yield from wrong_sums(page)
     yield from wrong_files()
 
@@ -668,7 +667,7 @@ def main():
         PAGE.write_text(written(page))
         return 0
     found = list(differences(page))
-    print("\n".join(found) if found else "the tables, sums and answers of FIGURES.md are as computed")
+    print("\n".join(found) if found else "the tables, sums and answers of modelling.md are as computed")
     return 1 if found else 0
 
 

@@ -1,6 +1,6 @@
 """The hydraulic model of people on foot: its figures as published, and the speed and the flow that follow from them.
 
-docs/FIGURES.md names the sources.
+docs/users/modelling.md names the sources.
 """
 import math
 from fractions import Fraction

@@ -2,10 +2,10 @@
 """Makes the man pages and the completions from what the commands themselves say.
 
     python3 tools/pages.py            prints which of the kept pages differ; the status is 1 if one does
-    python3 tools/pages.py --write    writes them, into docs/man and docs/completion
+    python3 tools/pages.py --write    writes them, into docs/man, docs/completion and the table of docs/users/evacask.md
 
-evacask(1) and the completions are made from the table of commands of the package, evacplan(1) and evac(5) from tables of docs/FORMATS.md and from the codes
-of the package.
+evacask(1) and the completions are made from the table of commands of the package, evacplan(1) and evac(5) from the tables of the language (language.json) and
+from the codes of the package.
 """
 from __future__ import annotations
 
@@ -18,13 +18,15 @@ from typing import Dict, List
 
 TOP = pathlib.Path(__file__).resolve().parent.parent
 sys.path.insert(0, str(TOP / "companion/src"))
+from codes import CODES, language_rows, statement_rows  # noqa: E402
 from completion import bash, fish, zsh  # noqa: E402
 from evacask.faces.commands import COMMANDS  # noqa: E402
 from evacask.faces.ending import STATUSES  # noqa: E402
 from evacask.faces.words import parser_of  # noqa: E402
 from evacask.version import VERSION  # noqa: E402
 
-FORMATS = TOP / "docs/FORMATS.md"
+REFERENCE = TOP / "docs/users/evacask.md"
+PART = re.compile(r"(?ms)^(<!-- from: commands -->\n)(?:.*?)^(<!-- end -->)$")
 SEE = {
     "evacplan": r"\fBevacask\fR(1), \fBevac\fR(5)",
     "evacask": r"\fBevacplan\fR(1), \fBevac\fR(5)",
@@ -32,14 +34,6 @@ SEE = {
 }
 BEST_CASE = """It is a calculation of the best case, and no prediction: no plan that keeps the capacities, rates and travel times of the model clears the building
 sooner. People don't follow plans, so reckon with a real evacuation that takes longer."""
-
-
-def table(head: str) -> List[List[str]]:
-    """The rows of the table of FORMATS whose head begins so, each as its cells."""
-    found = re.search(rf"(?m)^\| {re.escape(head)} .*\n\|[-|]+\n((?:\|.*\n)+)", FORMATS.read_text("utf-8"))
-    if not found:
-        raise SystemExit(f"pages: docs/FORMATS.md has no table {head}")
-    return [[it.strip() for it in re.split(r"(?<!\\)\|", line)[1:-1]] for line in found[1].splitlines()]
 
 
 def plain(text: str) -> str:
@@ -66,10 +60,10 @@ def page(name: str, section: int, what: str, parts: Dict[str, str]) -> str:
 
 def program_page() -> str:
     read, words = "", ""
-    for row in table("Words"):
+    for row in language_rows("words"):
         read = read if row[1] == "the same" else "nothing" if row[1] == "nothing is read" else row[1]
         words += item(marked(row[0]), f"reads {marked(read)}; prints {marked(row[2])}")
-    statuses = "".join(item(rf"\fB{it[0]}\fR", marked(it[1])) for it in table("Status"))
+    statuses = "".join(item(rf"\fB{it[0]}\fR", marked(it[1])) for it in language_rows("statuses"))
     example = ".nf\nevacplan solve < office.evac\n.fi"
     parts = {
         "SYNOPSIS": r"\fBevacplan\fR \fIWORDS\fR < \fIBUILDING\fR",
@@ -82,9 +76,9 @@ def program_page() -> str:
 
 
 def language_page() -> str:
-    statements = "".join(item(marked(it[0]), marked("; ".join(cell for cell in it[1:] if cell) + ".")) for it in table("Statement"))
-    codes = json.loads((TOP / "companion/src/evacask/model/codes.json").read_text("utf-8"))["building"]
-    refusals = "".join(item(rf"\fB{code}\fR", marked(f"{said['meaning']} {said['remedy']}")) for code, said in codes.items())
+    codes = json.loads(CODES.read_text("utf-8"))
+    statements = "".join(item(marked(it[0]), marked("; ".join(cell for cell in it[1:] if cell) + ".")) for it in statement_rows(codes))
+    refusals = "".join(item(rf"\fB{code}\fR", marked(f"{said['meaning']} {said['remedy']}")) for code, said in codes["building"].items())
     example = (TOP / "examples/one_room.evac").read_text("utf-8").replace("-", r"\-")
     parts = {
         "DESCRIPTION": plain(
@@ -137,15 +131,39 @@ def subcommands(parser: argparse.ArgumentParser) -> Dict[str, argparse.ArgumentP
     return next(dict(it.choices) for it in parser._actions if isinstance(it, argparse._SubParsersAction))
 
 
+def own_words(parser: argparse.ArgumentParser) -> str:
+    """The arguments of a command but for those of every command, in code."""
+    found = []
+    for it in parser._actions:
+        if {it.dest, *it.option_strings} & {"help", "program", "proved", "--text", "--csv", "--json", "columns", "edit"}:
+            continue
+        value = it.metavar or (f"{{{','.join(map(str, it.choices))}}}" if it.choices else it.dest.upper())
+        words = it.option_strings[-1:] + [str(value)] * (it.nargs != 0)
+        found.append(f"`{' '.join(words)}`".replace("|", r"\|"))
+    return ", ".join(found)
+
+
+def commands_table() -> str:
+    """The table of commands on the page about evacask."""
+    places = subcommands(parser_of(COMMANDS))
+    rows = "".join(f"| `{it.name}` | {it.question[0].upper() + it.question[1:]} | {own_words(places[it.name])} |\n" for it in COMMANDS)
+    return f"| Command | Question | Its own words |\n|---|---|---|\n{rows}"
+
+
+def reference_page() -> str:
+    """The page about evacask with its table of commands anew."""
+    return PART.sub(lambda found: f"{found[1]}\n{commands_table()}{found[2]}", REFERENCE.read_text("utf-8"))
+
+
 def pages() -> Dict[pathlib.Path, str]:
     """The pages by their places."""
     parser = parser_of(COMMANDS)
-    words = sorted({word for row in table("Words") for word in re.findall(r"^`([a-z]+)", row[0])})
+    words = sorted({word for row in language_rows("words") for word in re.findall(r"^`([a-z]+)", row[0])})
     made = {"man/evacplan.1": program_page(), "man/evacask.1": companion_page(), "man/evac.5": language_page()}
     questions = {it.name: it.question for it in COMMANDS}
     for name, shell in (("evacask.bash", bash), ("_evacask", zsh), ("evacask.fish", fish)):
         made[f"completion/{name}"] = shell(parser, subcommands(parser), questions, words)
-    return {TOP / "docs" / name: text for name, text in made.items()}
+    return {**{TOP / "docs" / name: text for name, text in made.items()}, REFERENCE: reference_page()}
 
 
 def main(words: List[str]) -> int:

@@ -19,7 +19,7 @@ A line `..` is in place of lines that are left out; between two of them all line
 that is headed `Line` or `Command`, right below a block, has lines of that block. In a table that is headed `Question | Command | Answer` each command
 is run, ends with status 0 or 1, and what is in code in the last column must be in the first ten lines that it prints.
 
-The tables and answers of FIGURES are computed by figures.py, which is called here. Each difference is printed with its document and line, and the
+The tables and answers of modelling.md are computed by figures.py, which is called here. Each difference is printed with its document and line, and the
 status is 1 where there is one.
 """
 import argparse
@@ -35,8 +35,8 @@ sys.dont_write_bytecode = True
 import figures
 
 TOP = pathlib.Path(__file__).resolve().parent.parent
-PAGES = ("GUIDE", "RECIPES", "ASSUMPTIONS", "CALLING", "FORMATS", "FIGURES", "LAWS")
-DOCUMENTS = ("README.md", *(f"docs/{it}.md" for it in PAGES))
+USERS = ("start", "guide", "modelling", "formats", "assumptions")
+DOCUMENTS = ("README.md", *(f"docs/users/{it}.md" for it in USERS), "docs/maintainers/laws.md")
 # What the commands find in their folder, besides the program.
 LINKED = ("examples", "docs", "evacask", "companion")
 KINDS = ("console", "evac", "python", "rust", "antt", "sh", "text")

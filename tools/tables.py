@@ -1,21 +1,19 @@
 #!/usr/bin/env python3
-"""Writes the table of crates, and looks names up.
+"""Looks names up, and makes the parts of the documents that come from the sources.
 
-    python3 tools/tables.py --write      writes the table of crates in ARCHITECTURE.md
-    python3 tools/tables.py --check      prints how it differs from the crates, and which definitions have no words above them
+    python3 tools/tables.py --write      makes these parts of docs/maintainers anew
+    python3 tools/tables.py --check      prints which of them aren't as the sources are, and which definitions have no words above them
     python3 tools/tables.py WORD..       prints the definitions and public items whose name and words have all of these
     python3 tools/tables.py --clauses CRATE      prints the public calls of a crate, with their words and their clauses
 
-The table has each crate of crates.txt with those that it uses, and the first paragraph of its root file. A definition of specs/ has the
-words of the comment above it or above its group, and an item of src/ those of its `///` lines. The status is 1 where a check finds something.
+A definition of specs/ has the words of the comment above it or above its group, and an item of src/ those of its `///` lines. `made_parts.py` says
+which parts there are. The status is 1 if a check finds something.
 """
 import pathlib
 import re
 import sys
 
 TOP = pathlib.Path(__file__).resolve().parent.parent
-ARCHITECTURE = TOP / "docs/ARCHITECTURE.md"
-TABLE = re.compile(r"(?<=<!-- tables: crates -->\n\n)(?:\|.*\n)*")
 DEFINITION = re.compile(r"(?:(?:abbrev|unfoldable) )?pub (?:(?:record|data) )?(?!use |mod )(\S+)")
 ITEM = re.compile(r" *pub (?:const )?(?:fn|struct|enum|trait|type|const) (\w+)")
 CLAUSE = re.compile(r" +ensures (?:(\w+) )?\{")
@@ -36,17 +34,13 @@ def first_paragraph(crate):
     return "It has no root file."
 
 
-def crates_table():
-    """The table of crates."""
-    rows = (f"| `{name}` | {', '.join(below) or 'none'} | {first_paragraph(name)} |\n" for name, below in crates())
-    return "| Crate | Uses | What it is |\n|---|---|---|\n" + "".join(rows)
-
-
 def definitions(text):
     """The definitions of a file of specs/, each with the words above it or above its group."""
     words, fresh = [], False
     for line in text.splitlines():
-        if line.startswith("-- "):
+        if line.startswith("-- ---- "):
+            words, fresh = [line[8:]], False
+        elif line.startswith("-- "):
             words = words + [line[3:]] if fresh else [line[3:]]
             fresh = True
         elif found := DEFINITION.match(line):
@@ -83,12 +77,9 @@ def named():
                     yield path.relative_to(TOP), name, words, clauses
 
 
-def differences():
-    """What a check finds."""
-    table = TABLE.search(ARCHITECTURE.read_text())
-    if not table or table[0] != crates_table():
-        yield "ARCHITECTURE.md: the table of crates isn't that of the crates: python3 tools/tables.py --write"
-    yield from (f"{path}: no words above {name}" for path, name, words, _ in named() if path.suffix == ".antt" and not words)
+def wordless():
+    """What a check finds: definitions with no words above them."""
+    return [f"{path}: no words above {name}" for path, name, words, _ in named() if path.suffix == ".antt" and not words]
 
 
 def show(rows):
@@ -109,11 +100,13 @@ def calls(crate):
 
 
 def main(words):
+    import made_parts  # which reads the names of this module
+
     if words == ["--write"]:
-        ARCHITECTURE.write_text(TABLE.sub(lambda _: crates_table(), ARCHITECTURE.read_text()))
+        made_parts.write()
     elif words == ["--check"]:
-        found = list(differences())
-        print("\n".join(found) or "the table is that of the crates")
+        found = [*made_parts.differences(), *wordless()]
+        print("\n".join(found) or "each part is as the sources are")
         return 1 if found else 0
     elif words[:1] == ["--clauses"] and len(words) == 2:
         show(calls(words[1]))

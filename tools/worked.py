@@ -1,4 +1,4 @@
-"""The buildings that FIGURES.md works out: their places, and their passages with widths and lengths, as lines of a building."""
+"""The buildings that modelling.md works out: their places, and their passages with widths and lengths, as lines of a building."""
 from __future__ import annotations
 
 import math

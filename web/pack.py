@@ -14,8 +14,10 @@ from pathlib import Path
 from typing import Dict, List, Tuple
 
 HERE = Path(__file__).resolve().parent
+sys.path.insert(0, str(HERE.parent / "tools"))
+from codes import CODES, COMMAND, statement_rows  # noqa: E402
+
 PAGE = HERE / "page"
-FORMATS = HERE.parent / "docs" / "FORMATS.md"
 CLAIM = "This page runs the proved program's code, compiled for WebAssembly by steps that no proof covers and that the kit doesn't offer."
 NO_CLAIM = "This page was made for a first look, from a module of which nothing says that it is proved."
 EXAMPLES = ("office", "school", "two_exits", "stair_repair", "theatre", "metro", "tower")
@@ -60,28 +62,31 @@ def plain(cell: str) -> str:
     return re.sub(r"\[([^]]*)\]\([^)]*\)", r"\1", cell).replace("`", "").strip()
 
 
-def rows_after(mark: str) -> List[List[str]]:
-    """The rows of the first table after a mark in docs/FORMATS.md."""
-    text = FORMATS.read_text(encoding="utf-8")
-    after = text[text.index(f"\n{mark}\n") :]
-    lines = after[after.index("\n|") + 1 :].split("\n")
-    return [[plain(cell) for cell in line.strip()[1:-1].split("|")] for line in lines[2 : lines.index("")]]
+def code_table() -> Dict[str, Dict[str, Dict[str, str]]]:
+    """The codes by their place or command, and the statements, as evacask has them."""
+    found: Dict[str, Dict[str, Dict[str, str]]] = json.loads(CODES.read_text(encoding="utf-8"))
+    return found
+
+
+def codes_of(place: str) -> List[Tuple[int, str, str]]:
+    """The codes of a place or command: what each means, and what to do."""
+    return [(int(code), plain(it["meaning"]), plain(it["remedy"])) for code, it in code_table()[place].items()]
 
 
 def codes() -> List[Tuple[int, str, str]]:
     """The codes of a building: what each means, and what to do."""
-    return [(int(code), what, remedy) for code, what, remedy in rows_after("<!-- codes: building -->")]
+    return codes_of("building")
 
 
 def edit_codes() -> List[Tuple[str, int, str, str]]:
     """The codes of an edit: its word, or nothing if it is any, and then the same."""
-    of_edits = [(word, int(code), what, remedy) for word, code, what, remedy in rows_after("<!-- codes: commands -->")]
-    return of_edits + [("", int(code), what, remedy) for code, what, remedy in rows_after("<!-- codes: session -->")]
+    commands = [key for key in code_table() if key.startswith(COMMAND)]
+    return [(key[len(COMMAND) :], *it) for key in commands for it in codes_of(key)] + [("", *it) for it in codes_of("session")]
 
 
 def statements() -> List[Tuple[str, str]]:
     """The statements of the language: the form of each, and its ranges."""
-    return [(form, "; ".join(filter(None, (ranges.strip(), often)))) for form, ranges, often in rows_after("## The statements")]
+    return [(plain(form), plain("; ".join(filter(None, (ranges, often))))) for form, ranges, often in statement_rows(code_table())]
 
 
 def parts(module: bytes, claim: str, made_from: str) -> str:

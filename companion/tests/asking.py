@@ -1,65 +1,49 @@
-"""What the tests share: evacask run as a command, and the buildings that it is asked about."""
-import io
+"""What the tests of the commands share beside package.py: the script at the top as a process, the program itself, and buildings that were changed."""
 import os
 import pathlib
 import subprocess
 import sys
-from dataclasses import dataclass
-from typing import Union
+from typing import List, Match, Optional
 
-from evacask.faces.commands import main
+from companion.tests.package import EXAMPLES, OFFICE, PATIENCE, SCHOOL, TOP, TOWER, Ended, ask, program
 
-# The seconds after which something hangs; a machine with much else to do is slow.
-PATIENCE = 300
-TOP = pathlib.Path(__file__).resolve().parent.parent.parent
-EXAMPLES = sorted((TOP / "examples").glob("*.evac"))
-OFFICE, SCHOOL, METRO, TOWER = (TOP / f"examples/{name}.evac" for name in ("office", "school", "metro", "tower"))
-
-
-@dataclass
-class Ended:
-    """How a run ended, and what it printed on each stream."""
-
-    status: int
-    out: str
-    err: str
-
-    @property
-    def lines(self) -> list:
-        return self.out.splitlines()
-
-
-def ask(*words: object, text: Union[str, bytes] = "") -> Ended:
-    """What evacask answers to some words and a text, asked in this process."""
-    given, streams = text.encode() if isinstance(text, str) else text, (sys.stdin, sys.stdout, sys.stderr)
-    source, out, err = (io.TextIOWrapper(io.BytesIO(it), "utf-8", "surrogateescape", newline="") for it in (given, b"", b""))
-    try:
-        sys.stdin, sys.stdout, sys.stderr = source, out, err
-        status = main([str(word) for word in words])
-    finally:
-        sys.stdin, sys.stdout, sys.stderr = streams
-    printed = []
-    for stream in (out, err):
-        stream.flush()
-        printed.append(stream.buffer.getvalue().decode("utf-8", "surrogateescape"))
-    return Ended(status, *printed)
+__all__ = [
+    "EXAMPLES",
+    "METRO",
+    "OFFICE",
+    "PATIENCE",
+    "SCHOOL",
+    "TOP",
+    "TOWER",
+    "Ended",
+    "ask",
+    "changed",
+    "edited",
+    "found",
+    "program",
+    "run",
+    "solved",
+]
+METRO = TOP / "examples/metro.evac"
 
 
 def run(*words: object, text: bytes = b"", **settings: str) -> Ended:
     """Runs evacask as a command, with settings of the environment beside those that are there."""
-    command = [sys.executable, "-B", str(TOP / "evacask"), *(str(word) for word in words)]
+    command: List[str] = [sys.executable, "-B", str(TOP / "evacask"), *(str(word) for word in words)]
     ran = subprocess.run(command, input=text, capture_output=True, env={**os.environ, **settings}, timeout=PATIENCE)
     return Ended(ran.returncode, ran.stdout.decode("utf-8", "surrogateescape"), ran.stderr.decode("utf-8", "surrogateescape"))
-
-
-def program() -> str:
-    """The program that evacask asks."""
-    return os.environ.get("EVACPLAN", str(TOP / "crates/evacplan/out/evacplan"))
 
 
 def solved(text: bytes, *words: str) -> str:
     """What the program itself prints."""
     return subprocess.run([program(), *words], input=text, capture_output=True, timeout=PATIENCE).stdout.decode("utf-8", "surrogateescape")
+
+
+def found(match: Optional[Match[str]], group: int = 1) -> str:
+    """A group of a match that has to be there."""
+    if match is None:
+        raise AssertionError("the text isn't as the test expects it")
+    return str(match[group])
 
 
 def changed(old: str, new: str, text: str) -> str:

@@ -1,11 +1,12 @@
 #!/usr/bin/env python3
 """Tries the answers about varied buildings against plain enumeration by the program, on small random buildings.
 
-    companion/tests/enumeration.py COUNT [NAME..]        COUNT buildings for each trial
-    companion/tests/enumeration.py COUNT --broken        breaks each answer on purpose, and says after how many buildings its trial sees it
+    companion/tests/enumeration.py COUNT [NAME..] [--seed N]    COUNT buildings for each trial, or for those that are named
+    companion/tests/enumeration.py COUNT [NAME..] --broken      breaks each answer on purpose, and says what its trial sees
 
 The expected values come from solving every building that the question is about, one by one, with no law and no cut in between.
 """
+import argparse
 import dataclasses
 import itertools
 import pathlib
@@ -24,8 +25,9 @@ from evacask.client.talk import Client  # noqa: E402
 from evacask.errors import NoAnswer  # noqa: E402
 from evacask.model.building import Entrant, Model, Way, model_of  # noqa: E402
 from evacask.model.crossings import Crossings  # noqa: E402
-from evacask.model.variant import varied, whole  # noqa: E402
-from evacask.questions import admit, assign, assign_bound, assign_search, assign_times, improve, losses, ranges, rescue  # noqa: E402
+from evacask.model.shares import Count  # noqa: E402
+from evacask.model.variant import counted_in, people_of, varied, whole, with_starts  # noqa: E402
+from evacask.questions import admit, assign, assign_bound, assign_search, assign_times, improve, losses, ranges, rescue, sweep  # noqa: E402
 from evacask.questions.assign_ways import Path, choices_of  # noqa: E402
 from evacask.questions.losses import Place  # noqa: E402
 
@@ -151,16 +153,23 @@ def try_admit(client: Client, dice: random.Random) -> None:
     if dice.random() < 0.5:
         model = with_entrant(model, dice, moment)
     for room in [it.name for it in model.rooms]:
-        answer = admit.admit_room(client, model, room, moment)
+        one = admit.admit_room(client, model, room, moment)
         people = -1
         while people < 100 and cleared(client, admit.with_room(model, room, people + 1), moment) is not None:
             people += 1
-        assert (answer.people == (None if people < 0 else people)) or people == 100 and (answer.people or 0) > 100, f"{room}: {answer}, and {people}"
+        assert (one.people == (None if people < 0 else people)) or people == 100 and (one.people or 0) > 100, f"{room}: {one}, and {people}"
     if cleared(client, admit.scaled(model, 0), moment) is None or not any(it.start for it in model.rooms):
         return
-    share = admit.greatest_share(client, model, moment)
-    assert cleared(client, admit.scaled(model, share), moment) is not None, "that share isn't out"
-    assert cleared(client, admit.scaled(model, share + 1), moment) is None or share > 99_000, "one more thousandth is out too"
+    answer = admit.admit(client, model, moment)
+    assert cleared(client, admit.scaled(model, answer.thousandths), moment) is not None, "that share isn't out"
+    assert (
+        cleared(client, admit.scaled(model, answer.thousandths + 1), moment) is None or answer.thousandths > 99_000
+    ), "one more thousandth is out too"
+    shares = {it.room: whole(it.people) for it in answer.shares}
+    assert sum(shares.values()) == answer.shared and cleared(client, with_starts(model, shares), moment) is not None, "that sharing isn't out"
+    for it in answer.shares:
+        more = {**shares, it.room: whole(it.people) + 1}
+        assert it.people == it.capacity or cleared(client, with_starts(model, more), moment) is None, f"one more in {it.room} is out too"
 
 
 def try_rescue(client: Client, dice: random.Random) -> None:
@@ -239,6 +248,45 @@ def try_assign(client: Client, dice: random.Random) -> None:
         assert len(answer.rooms) > 6 or found.times.cleared >= answer.cleared, f"the search missed {ways}: {found.times.cleared}"
 
 
+def try_shares(client: Client, dice: random.Random) -> None:
+    """The same building with each person in so many shares has the same answers: parts of people are out no sooner than whole ones."""
+    model = small(dice)
+    if dice.random() < 0.4:
+        model = with_entrant(model, dice, 3, 9)
+    shares, now = dice.choice((2, 3, 10)), cleared(client, model)
+    needs(now is not None and now >= 4)
+    parted = in_parts(model, shares)
+    moment = dice.randint(4, now or 4)  # (the last people come in at 3)
+    offers = [improve.Widening(way, 1, dice.randint(1, 4), dice.choice([2, 9000])) for way in model.arcs]
+    given = ranges.percents(model, (20, 20), (0, 0), (40, 40))
+    questions: Tuple[Callable[[Model], object], ...] = (
+        lambda it: [(room, getattr(admit.admit_room(client, it, room, moment), "people")) for room in (node.name for node in model.rooms)],
+        lambda it: losses.losses(client, it, 2),
+        lambda it: rescue.rescue(client, it, moment - 1).most,
+        lambda it: ranges.ranges(client, it, given),
+        lambda it: dataclasses.replace(improve.improve(client, it, moment - 1, offers), purchases=(), cuts=0),
+        lambda it: [outcome(client, it), sweep.sweep(client, it, [["rate WP1.1 DS1.1 2"], []])],
+    )
+    for number, question in enumerate(questions):
+        whole_ones, parts = question(model), question(parted)
+        assert whole_ones == parts, f"question {number}: {whole_ones} in people, and {parts} in shares"
+    try:
+        answer = assign.assign(client, parted)
+    except NoAnswer as fault:
+        assert "by the horizon" in str(fault) or model.entrants, f"no way for each room was found: {fault}"
+        return
+    assert check(client, parted, answer.block).code in (None, 57)
+    assert {it.room: it.people for it in answer.rooms} == {name: people for name, people in people_of(model).items() if people}
+
+
+def in_parts(model: Model, shares: int) -> Model:
+    """A building in whole people with each of them in so many shares."""
+    nodes = {it.name: dataclasses.replace(it, capacity=shares * whole(it.capacity), start=shares * whole(it.start)) for it in model.rooms}
+    arcs = {way: dataclasses.replace(arc, rate=shares * whole(arc.rate)) for way, arc in model.arcs.items()}
+    entrants = [dataclasses.replace(it, people=shares * whole(it.people)) for it in model.entrants]
+    return counted_in(varied(model, nodes=nodes, arcs=arcs, entrants=entrants), shares)
+
+
 TRIALS: Dict[str, Callable[[Client, random.Random], None]] = {
     "improve": try_improve,
     "losses": try_losses,
@@ -246,6 +294,7 @@ TRIALS: Dict[str, Callable[[Client, random.Random], None]] = {
     "rescue": try_rescue,
     "range": try_range,
     "assign": try_assign,
+    "shares": try_shares,
 }
 
 
@@ -289,6 +338,9 @@ def broken() -> Dict[str, List["mock._patch[Any]"]]:
     ) -> List[Tuple[int, int]]:
         return [(group[1], group[2])] if leave(self, group, path, walk, free) else []
 
+    def forgets_the_shares(count: Count, shares: int) -> int:
+        return int(count)
+
     def takes_the_middle(model: Model, given: ranges.Ranges, is_best: bool) -> Model:
         return model if is_best else CORNER(model, given, is_best)
 
@@ -303,6 +355,7 @@ def broken() -> Dict[str, List["mock._patch[Any]"]]:
             mock.patch.object(assign_bound, "lower_bound", bounds_one_late),
             mock.patch.object(assign_times.Timetable, "leave", sends_all_at_once),
         ],
+        "shares": [mock.patch.object(losses, "in_people", forgets_the_shares), mock.patch.object(improve, "exact_shares", forgets_the_shares)],
     }
 
 
@@ -320,17 +373,22 @@ def seen_broken(client: Client, name: str, count: int) -> List[Optional[str]]:
 
 
 def main() -> int:
-    count, names = int(sys.argv[1]), [it for it in sys.argv[2:] if it != "--broken"] or list(TRIALS)
+    words = argparse.ArgumentParser(description="tries answers about varied buildings against plain enumeration")
+    words.add_argument("count", type=int, help="how many buildings for each trial")
+    words.add_argument("names", nargs="*", metavar="NAME", help=f"trials: {', '.join(TRIALS)}")
+    words.add_argument("--seed", type=int, default=7)
+    words.add_argument("--broken", action="store_true", help="break each answer on purpose")
+    given = words.parse_args()
     client, wrong = found_program(), 0
-    for name in names:
+    for name in given.names or TRIALS:
         began = time.time()
-        if "--broken" in sys.argv:
-            for said in seen_broken(client, name, count):
+        if given.broken:
+            for said in seen_broken(client, name, given.count):
                 wrong += said is None
                 print(f"{name}: {'broken, and NOT seen' if said is None else f'broken, and seen: {said[:90]}'}", flush=True)
         else:
-            made = trial(client, name, count)
-            print(f"{name}: {count} buildings agree, of {made} made, {time.time() - began:.1f} s", flush=True)
+            made = trial(client, name, given.count, given.seed)
+            print(f"{name}: {given.count} buildings of seed {given.seed} agree, of {made} made, {time.time() - began:.1f} s", flush=True)
     return int(wrong > 0)
 
 

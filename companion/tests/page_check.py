@@ -3,9 +3,10 @@ import heapq
 import os
 import re
 import sys
-from typing import Callable, Dict, Iterable, List, Tuple
+from typing import Callable, Dict, Iterable, List, Optional, Tuple
 
 sys.path.insert(0, os.path.join(os.path.dirname(os.path.abspath(__file__)), "..", ".."))
+from companion.tests.drawn_page import Plan
 from companion.tests.page_reader import MARKS, Page, numbers_in
 from companion.tests.planned_page import Building, Names, Planned, Row, digest
 
@@ -15,8 +16,9 @@ ALWAYS = {"half of the people are out proved", "95 % of the people are out prove
 class Held:
     """The numbers of a page that are held against the program, and what differs."""
 
-    def __init__(self, page: Page, of: Building) -> None:
-        self.page, self.of, self.count, self.wrong = page, of, 0, []  # type: Page, Building, int, List[str]
+    def __init__(self, page: Page, of: Building, trials: Optional[int] = None) -> None:
+        self.page, self.of, self.trials = page, of, trials
+        self.count, self.wrong = 0, []  # type: int, List[str]
         self.said: Dict[str, List[str]] = {}
         self.told: List[str] = []
 
@@ -31,6 +33,12 @@ class Held:
         ):
             self.wrong.append(f"{heading}: {[it for it in found if it not in wanted][:3]} in place of {[it for it in shown if it not in found][:3]}")
         self.count += sum(numbers_in(cell) for row in found for cell in row)
+
+    def must_say(self, sentence: str) -> None:
+        """A sentence that the page has to say, and that is right."""
+        self.tell(sentence)
+        if not any(it.startswith(sentence) for section in self.page.sections.values() for it in section.paragraphs):
+            self.wrong.append(f"it doesn't say: {sentence}")
 
     def tell(self, sentence: str) -> None:
         """A sentence that the page may say, and that is right."""
@@ -82,7 +90,7 @@ def answer(held: Held, plan: Planned) -> None:
     held.tell(f"All {of.count(of.people)} people can be out {of.when(plan.cleared)}.")
     for it in (of.when(plan.walk), f"{(plan.cleared - plan.walk) * of.period:,} s", of.when(plan.moment(50)), of.when(plan.moment(95))):
         held.tell(it)
-    if ("yes" in held.page.sections[""].paragraphs) != plan.is_right():
+    if ("The command evacplan check says yes of the plan on this page. proved" in held.page.sections[""].paragraphs) != plan.is_right():
         held.wrong.append("the verdict")
     figures = held.page.sections[""].paragraphs
     at = figures.index("half of the people are out proved")
@@ -97,7 +105,7 @@ def why(held: Held, plan: Planned) -> None:
         return
     value, rows = int(plan.cuts[period][0][2]), []
     for names, people, moments in plan.places(period):
-        rooms = [it[1] for it in plan.cuts[period][1:] if it[0] == "entry"]
+        rooms = list(dict.fromkeys(it[1] for it in plan.cuts[period][1:] if it[0] == "entry"))  # (late-comers are entries of their own)
         free = f"not held up: {', '.join(rooms[:4])}" + (f" and {len(rooms) - 4:,} more" if len(rooms) > 4 else "")
         rows.append((("wait in " if len(names) == 1 else "") + of.named(names) if names else free, of.count(people), of.spans(moments)))
     held.rows("Why not sooner", rows, "places")
@@ -119,12 +127,22 @@ def curve(held: Held, plan: Planned) -> None:
         held.wrong.append(f"exits {section.tables[0][0]}")
     legend = [f"{of.count(it[1][-1])} {it[0]}" for it in exits]
     last = (len(plan.out) - 1) * of.period
-    axis = [of.count(it) for it in {0, of.people // of.shares // 2 * of.shares, of.people // of.shares * of.shares}]
-    wrong = set(section.texts) - set(legend) - set(axis) - {f"{last * part // 4:,} s" for part in range(5)}
-    if wrong or not set(legend) <= set(section.texts):
-        held.wrong.append(f"curve {wrong}")
-    held.tell(f"People out by time: {of.count(of.people)} after {last:,} seconds. The table below has the numbers.")
+    numbers = [it for it in section.texts if re.fullmatch(r"[\d,]+", it)]
+    times = [it[:-2] for it in section.texts if re.fullmatch(r"[\d,]+ s", it)]
+    if not is_axis(numbers, of.people // of.shares) or not is_axis(times, last) or section.texts[len(numbers + times) :] != legend:
+        held.wrong.append(f"curve {section.texts}")
+    if section.titles != [f"People out by time: {of.count(of.people)} after {last:,} seconds. The table below has the numbers."]:
+        held.wrong.append(f"curve {section.titles}")
     held.count += sum(map(numbers_in, section.texts))
+
+
+def is_axis(labels: List[str], last: int) -> bool:
+    """Whether the labels of an axis are 0 and each multiple of a round step that is no more than its last number, and nine at most."""
+    found = [int(it.replace(",", "")) for it in labels]
+    step = found[1] if len(found) > 1 else last + 1
+    return (
+        found == list(range(0, last + 1, step)) and len(found) < 10 and (last == 0 or step > last or re.fullmatch("[125]0*", f"{step}") is not None)
+    )
 
 
 def drawing(held: Held, plan: Planned) -> None:
@@ -137,12 +155,16 @@ def drawing(held: Held, plan: Planned) -> None:
         ways[f"{a} to {b}: {of.count(plan.through[a, b])} people{is_full}"] = of.count(plan.through[a, b])
     rooms = {f"{of.count(it[1])}/{of.count(it[0])}" for it in of.nodes.values() if it}
     titles = [it for it in section.titles if re.match(r"\S+ to \S+: ", it)]
-    held.wrong += [f"drawing {it}" for it in titles if it not in ways]
+    pictures = [it for it in section.titles if it.startswith("The building by storeys")]
+    held.wrong += [f"drawing {it}" for it in titles if it not in ways or titles.count(it) > len(pictures)]
     held.wrong += [f"drawing {it}" for it in section.texts if "/" in it and re.fullmatch(r"[\d,./]+", it) and it not in rooms]
     numbers = [it for it in section.texts if re.fullmatch(r"[\d,.]+", it)]
     held.wrong += [f"drawing {it}" for it in section.texts if re.fullmatch(r"[A-Z]{2}\d+\.\d+", it) and it not in of.nodes]
     drawn = [it for it in section.texts if it in of.nodes]
     held.wrong += [f"drawing {it} twice" for it in set(drawn) if drawn.count(it) > 1]
+    named = [f"{it} {of.owns.get(it, '')}".strip() for it in drawn]
+    if named != [it for it in section.titles if it.split(" ")[0] in of.nodes and it not in titles]:
+        held.wrong.append("drawing: the titles of the nodes")
     floors = {name.split(".")[1] for name in of.nodes}
     held.wrong += [f"drawing {it}" for it in numbers if it not in ways.values() and it not in floors]
     left = floors - {it.split(".")[1] for it in drawn}
@@ -170,6 +192,10 @@ def storeys(held: Held, plan: Planned) -> None:
             most, last = stay.index(max(stay)), max(k + 1 for k, it in enumerate(stay) if it)
             rows.append((floors.get(f"{floor}", "") or f"{floor}", of.count(max(stay)), of.seconds(most), of.seconds(last)))
     held.rows("Storeys over time", rows if len(rows) <= 40 else rows[:20] + rows[-20:])
+    times = [it[:-2] for it in held.page.sections["Storeys over time"].texts if re.fullmatch(r"[\d,]+ s", it)]
+    if rows and not is_axis(times, (len(plan.out) - 1) * of.period):
+        held.wrong.append(f"storeys {times}")
+    held.count += len(times)
 
 
 def rooms(held: Held, plan: Planned) -> None:
@@ -186,13 +212,38 @@ def worth(held: Held, plan: Planned) -> None:
     for row in held.page.rows("What each way is worth"):
         names: Names = tuple(row[0].split(" (")[0].split(" to "))
         into = [way for way in of.arcs if way == names or way[1:] == names]
+        if not into:
+            held.wrong.append(f"worth {row}: no such way")
+            continue
         lost = f"shut {names[0]} {names[1]}" if len(names) == 2 else f"shutexit {names[0]}"
         wide = plan.outcome(*(f"rate {tail} {head} {10_000 // of.shares * of.shares}" for tail, head in into))
         if row[1:] != (plan.outcome(lost), of.seconds(plan.cleared), wide):
             held.wrong.append(f"worth {row}: {plan.outcome(lost)}, {of.seconds(plan.cleared)}, {wide}")
         held.count += sum(map(numbers_in, row[1:]))
-    for it in held.page.sections["What each way is worth"].paragraphs:
-        held.told += [it.rsplit(" by the cuts", 1)[0]] if re.match(r"[\d,]+ (more ways aren't listed|ways that fewer)", it) else []
+    left = untried(held, plan)
+    if left:
+        rest = "Of the other ways neither a loss nor a greater rate changes when all are out, as far as they were tried."
+        held.must_say(f"{left:,} ways that fewer people use weren't tried: evacask sensitivity tries all. {rest}")
+    more = [it for it in held.page.sections["What each way is worth"].paragraphs if re.match(r"[\d,]+ more ways aren't listed", it)]
+    held.told += more if len(held.page.rows("What each way is worth")) == 40 else []
+
+
+def untried(held: Held, plan: Planned) -> int:
+    """How many ways and exits are left if those of most people are tried first: without it if somebody takes it, and wider if it is in the last cut."""
+    of, most = held.of, min(200, 8_000_000 // len(plan.block)) if held.trials is None else held.trials
+    crossed = {(it[2], it[3]) for it in plan.cuts[plan.cleared - 1] if it[0] == "arc"} if plan.cleared else set()
+    users: Dict[Names, int] = {way: plan.through[way] for way in of.arcs}
+    trials: Dict[Names, int] = {way: (users[way] > 0) + (way in crossed) for way in of.arcs}
+    for name in (name for name, it in of.nodes.items() if not it):
+        into = [way for way in of.arcs if way[1] == name]
+        users[(name,)] = sum(users[it] for it in into)
+        trials[(name,)] = (users[(name,)] > 0) + any(it in crossed for it in into)
+    order, count = sorted((it for it in trials if trials[it]), key=lambda it: (-users[it], it)), 0
+    for at, names in enumerate(order):
+        count += trials[names]
+        if count > most:
+            return len(order) - at
+    return 0
 
 
 def ending(held: Held) -> None:
@@ -249,11 +300,16 @@ def short(held: Held) -> None:
 PARTS: Tuple[Callable[[Held, Planned], None], ...] = (answer, why, curve, drawing, full, storeys, rooms, worth)
 
 
-def held(program: str, text: bytes, page_text: str) -> Held:
-    """A page held against the program."""
-    page, of = Page(page_text), Building(program, text)
-    found = Held(page, of)
+def held(program: str, text: bytes, page_text: str, trials: Optional[int] = None) -> Held:
+    """A page held against the program; `trials` if it was made with so many. A plan in metres is held by the building that the page lists, which must be the plan rounded to the later side."""
+    page = Page(page_text)
+    drawn = Plan(text, page.pre) if b"\nway " in text else None
+    found = Held(page, Building(program, f"{page.pre}\n".encode() if drawn else text), trials)
     found.wrong += page.faults
+    of = found.of
+    if drawn:
+        found.wrong += drawn.faults(page.pre)
+        found.must_say(drawn.bracket(program, page.pre))
     if "Why not everybody" in page.sections:
         short(found)
     else:

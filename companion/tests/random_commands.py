@@ -3,22 +3,15 @@
 The program is run on texts that are edited here, and its blocks are read here, so that nothing of the package stands between. Hubs have 60 to 130 ways
 into one exit. It prints each difference, and how many numbers were compared; the status is 1 if one differs.
 """
-import collections
-import csv
-import io
-import json
 import random
 import re
 import sys
 import tempfile
-from typing import Dict, List, Optional, Tuple
+from typing import Dict, List, Tuple
 
-from companion.tests.asking import ask, solved
 from companion.tests.buildings import random_building
-
-Way = Tuple[str, str]
-COUNTS: "collections.Counter[str]" = collections.Counter()
-FAULTS: List[str] = []
+from companion.tests.random_questions import check_questions
+from companion.tests.random_reading import COUNTS, FAULTS, answer, arcs, ask, numbers, outcome, rows, same, solved, with_rates
 
 
 def hub(dice: random.Random) -> str:
@@ -28,48 +21,6 @@ def hub(dice: random.Random) -> str:
     lines += [f"node {name} 50 {dice.randint(20, 50) if name == 'WP1.1' else dice.randint(0, 3)}" for name in rooms]
     lines += ["node DS1.1", "node DS2.1", *(f"arc {name} DS1.1 {dice.randint(1, 3)} {dice.randint(1, 2)}" for name in rooms)]
     return "\n".join([*lines, "arc WP1.1 DS2.1 1 1", "end", ""])
-
-
-def numbers(block: str, word: str) -> List[List[int]]:
-    """The numbers of all lines with a first word that have numbers alone after it."""
-    return [[int(it) for it in line.split()[1:]] for line in block.split("\n") if re.fullmatch(rf"{word}( \d+)+", line)]
-
-
-def outcome(text: str) -> Tuple[Optional[int], int]:
-    """The clearing moment by the program, or None; and how many can be out."""
-    block = solved(text.encode(), "solve")
-    if block.startswith("refused 22 "):
-        return None, numbers(block, "most")[0][0]
-    return numbers(block, "cleared")[0][0], numbers(block, "people")[0][0]
-
-
-def with_rates(text: str, rates: Dict[Way, int]) -> str:
-    """A building with other rates of some arcs."""
-    lines = []
-    for line in text.split("\n"):
-        fields = line.split()
-        is_there = fields[:1] == ["arc"] and (fields[1], fields[2]) in rates
-        lines.append(" ".join([*fields[:4], str(rates[fields[1], fields[2]])]) if is_there else line)
-    return "\n".join(lines)
-
-
-def arcs(text: str) -> Dict[Way, List[int]]:
-    return {(it[1], it[2]): [int(it[3]), int(it[4])] for it in map(str.split, text.split("\n")) if it[:1] == ["arc"]}
-
-
-def same(what: str, mine: object, program: object, text: str) -> None:
-    COUNTS[what] += 1
-    if mine != program:
-        FAULTS.append(f"{what}: {mine} and not {program}\n{text}")
-
-
-def rows(*words: object, text: str) -> List[Dict[str, str]]:
-    return list(csv.DictReader(io.StringIO(ask(*words, "--csv", text=text).out)))
-
-
-def answer(*words: object, text: str) -> Dict[str, object]:
-    said: Dict[str, object] = json.loads(ask(*words, "--json", text=text).out)["answer"]
-    return said
 
 
 def check_summary(text: str, block: str) -> None:
@@ -204,6 +155,7 @@ def check(text: str, dice: random.Random, most: int) -> None:
         check_width(text, len(curve) - 1, dice)
         check_tables(text, block, curve)
         check_session(text, dice)
+        check_questions(text, block, curve, dice, most)
 
 
 def main(buildings: int = 300, hubs: int = 20, seed: int = 1) -> int:

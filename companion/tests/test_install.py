@@ -1,4 +1,4 @@
-"""Installs the package into an empty virtual environment, without a network, and runs the lines that docs/NOTEBOOK.md shows."""
+"""Installs the package into an empty virtual environment, without a network, and runs the lines that docs/users/notebook.md shows."""
 import os
 import pathlib
 import re
@@ -29,7 +29,7 @@ def maker() -> Optional[str]:
 
 def shown_lines() -> List[str]:
     """The lines of the first block `sh` of the page, without the installation itself."""
-    found = re.search(r"```sh\n(.*?)```", (TOP / "docs/NOTEBOOK.md").read_text(), re.S)
+    found = re.search(r"```sh\n(.*?)```", (TOP / "docs/users/notebook.md").read_text(), re.S)
     return found[1].splitlines()[1:] if found else []
 
 

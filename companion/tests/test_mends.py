@@ -1,21 +1,25 @@
 """What was wrong once: each test failed before its mend. Nearly all of them run evacask as a command."""
+import contextlib
 import csv
 import io
 import os
 import pathlib
+import pty
 import re
 import shutil
 import signal
 import subprocess
 import sys
 import tempfile
+import threading
 import time
 import unittest
-from typing import Callable, Tuple
+from typing import Callable, List, Tuple
 
 import evacask
 from companion.tests.asking import OFFICE, PATIENCE, TOP, ask, program, solved
 from evacask.client import sources
+from evacask.faces.commands import main
 
 # The seconds after which a reply that comes at once otherwise isn't waited for any longer.
 SOON = 10
@@ -54,7 +58,7 @@ class Sensitivity(unittest.TestCase):
         self.assertEqual((said.status, said.err), (0, ""))
         return {(row["from"], row["to"]): row for row in csv.DictReader(io.StringIO(said.out))}
 
-    def test_an_exit_with_more_ways_than_a_session_can_undo(self):
+    def test_an_exit_with_more_ways_than_a_session_can_undo(self) -> None:
         for ways in (64, 65, 66, 130):
             with self.subTest(ways):
                 rows = self.rows(hub(ways))
@@ -65,11 +69,11 @@ class Sensitivity(unittest.TestCase):
                 self.assertEqual((rows["", "DS1.1"]["without"], rows["", "DS1.1"]["without_out"]), ("", "50"))
                 self.assertEqual(rows["", "DS1.1"]["widened"], "1")
 
-    def test_arcs_that_can_not_be_changed_one_by_one(self):
+    def test_arcs_that_can_not_be_changed_one_by_one(self) -> None:
         # With 5 and 5 it is 10 in each of 10 periods; with 5 and 1, on the way there, not all could be out by the horizon.
         self.assertEqual(self.rows(TWO_DOORS, "--rate", 5)["", "DS1.1"]["widened"], "11")
 
-    def test_doors_that_a_rate_makes_worse_are_shown(self):
+    def test_doors_that_a_rate_makes_worse_are_shown(self) -> None:
         # The 60 of the room leave it one by one at the moments 0 to 59, and walk one period more to the exit: 61 periods of 5 s.
         said = ask("ways", OFFICE, "--rate", 1)
         self.assertEqual((said.status, said.err), (0, ""))
@@ -80,19 +84,19 @@ class Review(unittest.TestCase):
     TEXT = OFFICE.read_text()
     DOUBTED = TEXT.replace("arc LO1.1 DS1.1 1 8\n", "arc LO1.1 DS1.1 1 80\n").replace("arc WP1.1 LO1.1 1 10\n", "arc WP1.1 LO1.1 1 60\n")
 
-    def test_a_doubt_has_a_status_of_its_own(self):
+    def test_a_doubt_has_a_status_of_its_own(self) -> None:
         self.assertEqual(ask("doubts", "-", text=self.TEXT).status, 0)
         self.assertEqual(ask("doubts", "-", text=self.DOUBTED).status, 10)
         self.assertEqual(ask("doubts", "-", text=self.TEXT.replace("period 5", "period 0")).status, 1)
 
-    def test_the_summary_counts_doubts(self):
+    def test_the_summary_counts_doubts(self) -> None:
         # 16 and 12 people a second through a door.
         self.assertEqual(ask("summary", "-", text=self.DOUBTED).lines[-1], "2 doubts: evacask review -")
         self.assertNotIn("doubt", ask("summary", "-", text=self.TEXT).out)
 
 
 class Summary(unittest.TestCase):
-    def test_a_horizon_that_can_not_be_written_is_not_said_to_be_enough(self):
+    def test_a_horizon_that_can_not_be_written_is_not_said_to_be_enough(self) -> None:
         # One person a period, 90,000 of them: 90,000 periods.
         one_way = "evacplan 1\nperiod 5\nhorizon 20\nfloor 1 Ground\nnode WP1.1 90000 90000\nnode DS1.1\narc WP1.1 DS1.1 1 1\nend\n"
         said = ask("summary", "-", text=one_way)
@@ -102,12 +106,12 @@ class Summary(unittest.TestCase):
 
 
 class Compare(unittest.TestCase):
-    def test_several_edits_are_one_step(self):
+    def test_several_edits_are_one_step(self) -> None:
         said = ask("compare", "-", "--edit", "rate HA1.1 DS1.1 1; rate HA2.1 DS1.1 10", text=TWO_DOORS)
         self.assertEqual((said.status, said.err), (0, ""))
         self.assertRegex(said.lines[2], r"^ +11 +55 (to 60 )?s +same ")
 
-    def test_a_refused_edit_is_a_row(self):
+    def test_a_refused_edit_is_a_row(self) -> None:
         edits = ("rate HA1.1 DS1.1 9", "shut HA1.1 DS1.1; shut HA1.1 DS1.1", "rate HA1.1 DS1.1 1; rate HA2.1 DS1.1 10")
         said = ask("compare", "-", *(word for edit in edits for word in ("--edit", edit)), text=TWO_DOORS)
         self.assertEqual((said.status, said.err), (1, ""))
@@ -118,14 +122,14 @@ class Compare(unittest.TestCase):
 
 
 class Names(unittest.TestCase):
-    def test_only_a_marked_comment_is_a_name(self):
+    def test_only_a_marked_comment_is_a_name(self) -> None:
         text = TWO_DOORS.replace("node HA1.1", "# TODO ask the architect\nnode HA1.1").replace("node HA2.1", "#: Long hall\nnode HA2.1")
         said = ask("tables", "fullest", "-", text=text)
         self.assertEqual([row["name"] for row in csv.DictReader(io.StringIO(said.out))], ["", "", "Long hall"])
         self.assertIn("Long hall to DS1.1", ask("why", "-", text=text).out)
         self.assertNotIn("architect", ask("ways", "-", text=text).out)
 
-    def test_names_can_not_act(self):
+    def test_names_can_not_act(self) -> None:
         acting = '=HYPERLINK("http://x")'
         text = TWO_DOORS.replace("node HA1.1", f"#: {acting}\nnode HA1.1").replace("node HA2.1", "#: \x1b]0;x\x07Hall\nnode HA2.1")
         text = text.replace("period 5", "title \x1b[31mRed\nperiod 5").replace("# ", "#: ")
@@ -141,7 +145,7 @@ class Names(unittest.TestCase):
 
 
 class Programs(unittest.TestCase):
-    def test_a_program_that_is_not_of_these_sources(self):
+    def test_a_program_that_is_not_of_these_sources(self) -> None:
         with tempfile.TemporaryDirectory() as folder:
             top = pathlib.Path(folder)
             source, built = top / "crates/evacplan/src/main.rt", top / sources.UNPROVED_PLACE
@@ -172,11 +176,11 @@ class Programs(unittest.TestCase):
         ran = subprocess.run(command, capture_output=True, text=True, env=settings, timeout=PATIENCE)
         return ran.returncode, ran.stderr
 
-    def test_the_package_answers_after_a_command_in_the_same_process(self):
+    def test_the_package_answers_after_a_command_in_the_same_process(self) -> None:
         self.assertEqual(ask("why", OFFICE).status, 0)
         self.assertEqual(evacask.reads(OFFICE.read_text()).solve().cleared, 28)
 
-    def test_signals_end_the_program_and_what_it_started(self):
+    def test_signals_end_the_program_and_what_it_started(self) -> None:
         for number in (signal.SIGTERM, signal.SIGHUP, signal.SIGINT):
             with self.subTest(number), tempfile.TemporaryDirectory() as folder:
                 slow, began = pathlib.Path(folder, "program"), pathlib.Path(folder, "began")
@@ -215,14 +219,14 @@ def runs(process: int) -> bool:
 
 
 class Talk(unittest.TestCase):
-    def test_a_line_of_carriage_returns(self):
+    def test_a_line_of_carriage_returns(self) -> None:
         command = [sys.executable, "-B", str(TOP / "evacask"), "talk", str(OFFICE)]
         ran = subprocess.run(command, input=b"\r\r\nwork\n\r\n \r\nwork\r\n", capture_output=True, timeout=SOON)
         self.assertEqual((ran.returncode, ran.stderr), (0, b""))
         # One CR belongs to the end of a line, and a second one is a word.
         self.assertEqual([line.split()[0] for line in ran.stdout.splitlines()], [b"answer", b"refused", b"work", b"work"])
 
-    def test_an_input_that_can_not_be_read(self):
+    def test_an_input_that_can_not_be_read(self) -> None:
         evacask = [sys.executable, "-B", str(TOP / "evacask"), "talk", str(OFFICE)]
         for redirection in ("<&-", "0>/dev/null"):
             with self.subTest(redirection):
@@ -230,7 +234,34 @@ class Talk(unittest.TestCase):
                 self.assertEqual((ran.returncode, ran.stderr.count(b"\n")), (3, 1), ran.stderr)
                 self.assertIn(b"standard input can't be read", ran.stderr)
 
-    def test_a_refused_edit_is_explained_as_an_edit(self):
+    def test_a_thread_at_a_terminal(self) -> None:
+        child, terminal = pty.fork()
+        if child == 0:
+            found: List[int] = []
+            thread = threading.Thread(target=lambda: found.append(main(["why", str(OFFICE)])))
+            thread.start()
+            thread.join()
+            os._exit(found[0] if found else 70)
+        shown = b""
+        with open(terminal, "rb", buffering=0) as screen, contextlib.suppress(OSError):  # (the end of a terminal's output is an error)
+            while True:
+                part = screen.read(4096)
+                if not part:
+                    break
+                shown += part
+        self.assertEqual(os.waitstatus_to_exitcode(os.waitpid(child, 0)[1]), 0, shown.decode())
+
+    def test_messages_need_no_document(self) -> None:
+        with tempfile.TemporaryDirectory() as folder:
+            for name in ("evacask", "companion"):
+                subprocess.run(["cp", "-R", TOP / name, folder], check=True)
+            command = [sys.executable, "-B", f"{folder}/evacask", "--program", program(), "explain", "-"]
+            ran = subprocess.run(command, input=OFFICE.read_bytes().replace(b"period 5", b"period 0"), capture_output=True, timeout=PATIENCE)
+            self.assertEqual((ran.returncode, ran.stderr), (1, b""))
+            self.assertIn(b"number is out of its range", ran.stdout)
+            self.assertNotIn(b"FORMATS", ran.stdout)
+
+    def test_a_refused_edit_is_explained_as_an_edit(self) -> None:
         ran = ask("talk", OFFICE, text="rate WP1.1 LO1.1 99999\nrate WP1.1\n")
         self.assertTrue(ran.lines[1].startswith("refused 7: ") and ran.lines[2].startswith("refused 5: "), ran.lines)
         self.assertNotIn("For a travel below one period", ran.out)
@@ -238,7 +269,7 @@ class Talk(unittest.TestCase):
 
 
 class Writing(unittest.TestCase):
-    def test_a_period_that_is_not_possible_is_a_row(self):
+    def test_a_period_that_is_not_possible_is_a_row(self) -> None:
         # A window from moment 1 of 5 s on begins 5 s after the start, which is no whole number of periods of 2 s.
         plan = (TOP / "examples/school.plan").read_text().replace("evacplan 1", "evacplan 2")
         plan = plan.replace("\nend\n", "\nwindow LO2.1 DS2.1 1 3\nend\n")
@@ -247,7 +278,7 @@ class Writing(unittest.TestCase):
         self.assertRegex(said.out, r"(?m)^ +2 s .*no whole number of periods of 2 s")
         self.assertRegex(said.out, r"(?m)^ +5 s ")
 
-    def test_names_and_comments_are_kept(self):
+    def test_names_and_comments_are_kept(self) -> None:
         school = (TOP / "examples/school.evac").read_text()
         said = ask("edit", TOP / "examples/school.evac", "--version", 2)
         self.assertEqual((said.status, said.out), (0, school.replace("evacplan 1\n", "evacplan 2\n")))
@@ -256,7 +287,7 @@ class Writing(unittest.TestCase):
         made = ask("edit", TOP / "examples/school.evac", "--edit", 'rate "Entrance lobby" "Main door" 11').out
         self.assertEqual(made, re.sub(r"(?m)^arc LO1\.1 DS1\.1 (\d+) 9$", r"arc LO1.1 DS1.1 \1 11", school))
 
-    def test_a_file_is_written_whole_or_not_at_all(self):
+    def test_a_file_is_written_whole_or_not_at_all(self) -> None:
         with tempfile.TemporaryDirectory() as folder:
             path = pathlib.Path(folder, "made.evac")
             path.write_text("old")

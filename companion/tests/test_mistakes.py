@@ -4,6 +4,7 @@ Of a building that is refused `explain` names the code and the remedy, and of on
 """
 import re
 import unittest
+from typing import List, Optional, Sequence, Tuple, Union
 
 from companion.tests.asking import EXAMPLES, OFFICE, SCHOOL, TOP, Ended, ask, solved
 
@@ -28,7 +29,7 @@ def numbered(travels: int, rates: int) -> str:
 
 
 # What was done, the text, the code, and a part of the remedy.
-REFUSED = [
+REFUSED: List[Tuple[str, Union[str, bytes], int, str]] = [
     ("a letter l for a 1", changed("arc HA1.3 SW1.3", "arc HAl.3 SW1.3"), 8, "a letter O or l in place of a digit"),
     ("a node that isn't there", changed("arc HA1.3 SW1.3", "arc HA3.1 SW1.3"), 13, "mend the name"),
     ("a unit after a number", changed("period 5", "period 5s"), 6, "no unit"),
@@ -109,7 +110,7 @@ SILENT = [
 BLOCK, WITH_REPORTS = (solved(TEXT.encode(), "solve", *flags) for flags in ((), ("--reports",)))
 SHUT = "shutexit DS2.1\n"
 # What was typed, the words of the program, its input, the code, and a part of the remedy.
-COMMANDS = [
+COMMANDS: List[Tuple[str, Sequence[str], str, Optional[int], str]] = [
     ("a file after solve", ["solve", "office.evac"], "", 40, "its table of words"),
     ("no words", [], "", 40, "its table of words"),
     ("a flag that isn't one", ["solve", "--route"], TEXT, 40, "its table of words"),
@@ -156,17 +157,17 @@ def unwrapped(text: str) -> str:
     return " ".join(text.split())
 
 
-def looked_up(words: list, text: str) -> Ended:
+def looked_up(words: Sequence[str], text: str) -> Ended:
     """What one look explains: of a run of the program, or of the words that it refuses."""
     refused = re.match(r"refused 40 ", solved(text.encode(), *words))
     return ask("explain", 40) if refused else ask("explain", "-", words[0], text=text)
 
 
 class Mistakes(unittest.TestCase):
-    def test_how_many_there_are(self):
+    def test_how_many_there_are(self) -> None:
         self.assertEqual((len(REFUSED) + len(TAKEN) + len(SILENT), len(COMMANDS)), (67, 38))
 
-    def test_refused_buildings(self):
+    def test_refused_buildings(self) -> None:
         for what, text, code, remedy in REFUSED:
             with self.subTest(what):
                 said = ask("explain", "-", text=text)
@@ -174,7 +175,7 @@ class Mistakes(unittest.TestCase):
                 self.assertIn(remedy, unwrapped(said.out))
                 self.assertEqual((said.status, said.err), (1, ""))
 
-    def test_a_refused_building_gets_one_line_elsewhere(self):
+    def test_a_refused_building_gets_one_line_elsewhere(self) -> None:
         for what, text, code, _ in REFUSED:
             for command in (("summary",), ("ways",), ("why",), ("doubts",), ("tables", "exits"), ("wide", "LO1.1", "DS1.1", 100), ("compare",)):
                 if code == 22 and command[0] in ("summary", "doubts", "compare"):
@@ -185,26 +186,26 @@ class Mistakes(unittest.TestCase):
                     self.assertEqual((said.status, said.out), (1, ""))
                     self.assertRegex(said.err, r"\Aevacask: -[,:][^\n]+\n\Z")
 
-    def test_buildings_that_are_taken(self):
+    def test_buildings_that_are_taken(self) -> None:
         for what, text in TAKEN:
             with self.subTest(what):
                 self.assertEqual((ask("explain", "-", text=text).status, ask("doubts", "-", text=text).out), (0, ""))
                 self.assertRegex(ask("summary", "-", text=text).out, r"\ncleared +28 ")
 
-    def test_silent_mistakes_are_doubted(self):
+    def test_silent_mistakes_are_doubted(self) -> None:
         for what, text, doubt in SILENT:
             with self.subTest(what):
                 said = ask("doubts", "-", text=text)
                 self.assertEqual((said.status, said.err), (10 if doubt else 0, ""))
                 self.assertIn(doubt or "", said.out)
 
-    def test_no_example_is_doubted(self):
+    def test_no_example_is_doubted(self) -> None:
         for path in EXAMPLES:
             with self.subTest(path.name):
                 said = ask("doubts", path)
                 self.assertEqual((said.status, said.out, said.err), (0, "", ""))
 
-    def test_commands(self):
+    def test_commands(self) -> None:
         for what, words, text, code, remedy in COMMANDS:
             with self.subTest(what):
                 said = looked_up(words, text)

@@ -13,10 +13,10 @@ import shutil
 import subprocess
 import tempfile
 import unittest
-from typing import Callable, Dict, List, Tuple
+from typing import Dict, List
 
 from companion.tests.asking import TOP, Ended, run
-from evacask import Ground, NoAnswer, percents, read, reads
+from evacask import Ground, percents, read, reads
 from evacask.questions.improve import improve
 
 ROOM, EXITS, OFFICE = (TOP / f"examples/{name}.evac" for name in ("one_room", "two_exits", "office"))
@@ -27,6 +27,8 @@ TABLES = {
     "fast.csv": "seconds,DS1.1\n4,1\n",
     "scenarios.csv": "name,edits\nnarrow,rate WP1.1 DS1.1 1\nshut,shut WP1.1 DS1.1\nnone,\n",
     "intervals.csv": "from,to,rate low,rate high\nWP1.1,DS1.1,1,3\n",
+    "halves.csv": "from,to,step,cost,most\nWP1.1,DS1.1,0.5,7,5\n",
+    "halves_scenarios.csv": "name,edits\nnarrow,rate WP1.1 DS1.1 0.5\n",
 }
 # The words of a command, its status, and what stands in its lines.
 ANSWERS = (
@@ -53,11 +55,18 @@ ANSWERS = (
         ["No widening is enough: at most 2 of 3 can be out by moment 1 (5 to 10 s), whatever is bought of these."],
     ),
     ("improve ROOM 15", 0, ["All are out by moment 2 (10 to 15 s) as it is: nothing is needed."]),
-    ("improve ROOM --budget 6 --costs costs.csv", 0, ["All are out by moment 2 (10 to 15 s) as it is"]),
+    (
+        "improve ROOM --budget 6 --costs costs.csv",
+        0,
+        [
+            "All are out by moment 2 (10 to 15 s) as it is: nothing is needed.",
+            "For all to be out by moment 1 (5 to 10 s) it takes at least 7, more than the budget of 6.",
+        ],
+    ),
     (
         "improve ROOM --budget 7 --costs costs.csv",
         0,
-        ["For 7 all are out by moment 1 (5 to 10 s).", "The budget is 7, and for an earlier moment it isn't enough"],
+        ["For 7 all are out by moment 1 (5 to 10 s).", "No budget is enough for all to be out by moment 0 (0 to 5 s): at most 0 of 3 can be."],
     ),
     ("range ROOM --rate 50", 0, ["5 to 10 s  10 to 15 s  15 to 20 s  rate", "Certain for every building within these ranges"]),
     ("range ROOM --table intervals.csv", 0, ["5 to 10 s  10 to 15 s  15 to 20 s  rate"]),
@@ -88,6 +97,21 @@ ANSWERS = (
             "and nobody knew",
         ],
     ),
+)
+# Words about the room in tenths of a person, with a door for 1.5 people a period: out are 0, 1.5, 3.
+IN_SHARES = (
+    ("summary ROOM", ["cleared      2 (10 to 15 s)"]),
+    ("assign ROOM", ["all are out by moment 2 (10 to 15 s)", "WP1.1       3  DS1.1"]),
+    ("improve ROOM 10", ["For 2 all are out by moment 1 (5 to 10 s).", "   2  1.5   3.5  WP1.1 DS1.1"]),
+    ("improve ROOM 10 --costs halves.csv", ["For 21 all are out by moment 1 (5 to 10 s).", "  21  1.5     3  WP1.1 DS1.1"]),
+    ("range ROOM --rate 50", ["10 to 15 s  10 to 15 s  25 to 30 s  rate"]),
+    ("range ROOM --table intervals.csv", ["5 to 10 s  10 to 15 s  15 to 20 s  rate"]),
+    ("losses ROOM -k 1", ["0 of 3  WP1.1 DS1.1"]),
+    ("admit ROOM 10 --room WP1.1", ["WP1.1 may hold 1 person at the start", "With one more at most 1.5 of 2 are out by then."]),
+    ("admit ROOM 15", ["may hold 3 of the 10 who fit"]),
+    ("rescue ROOM --seconds 10", ["1.5 of 3 can be out by moment 1 (5 to 10 s)", " 1.5   3  WP1.1"]),
+    ("observed ROOM drill.csv", ["9    1   1.5"]),
+    ("sweep ROOM halves_scenarios.csv", ["narrow,rate WP1.1 DS1.1 0.5,3,6,"]),
 )
 # Words and rooms that aren't there.
 MISTAKES = (
@@ -193,18 +217,34 @@ class Questions(unittest.TestCase):
         self.assertIn("an arc has a window", answer.doubt or "")
         self.assertEqual(answer.ground, Ground.OWN)
 
-    def test_shares_are_told(self) -> None:
-        shares = reads(ROOM.read_text().replace("period 5", "#shares 2\nperiod 5"))
-        questions: Tuple[Callable[[], object], ...] = (
-            shares.assign,
-            shares.losses,
-            shares.rescue,
-            lambda: shares.admit(2),
-            lambda: shares.improve(2),
-        )
-        for ask in questions:
-            with self.assertRaises(NoAnswer):
-                ask()
+    def test_shares_are_answered_in_people(self) -> None:
+        """The room in tenths of a person, with a door for 1.5 people a period."""
+        path = self.folder / "shares.evac"
+        path.write_text(ROOM.read_text().replace("period 5", "#shares 10\nperiod 5").replace("10 3", "100 30").replace("1 2\n", "1 15\n"))
+        for words, lines in IN_SHARES:
+            with self.subTest(words):
+                said = run(*(str(path) if it == "ROOM" else str(self.folder / it) if it.endswith(".csv") else it for it in shlex.split(words)))
+                self.assertEqual((said.status in (0, 1), said.err), (True, ""), said.out)
+                for line in lines:
+                    self.assertIn(" ".join(line.split()), " ".join(said.out.split()))
+        self.assertIn("10 shares of each person", run("sheet", self.folder / "n.csv", self.folder / "w.csv", "--back", path).err)
+        self.assertFalse((self.folder / "n.csv").exists())
+
+    def test_people_that_are_no_shares_are_named(self) -> None:
+        path, answers = self.folder / "shares.evac", self.folder / "answers.csv"
+        path.write_text(ROOM.read_text().replace("period 5", "#shares 10\nperiod 5").replace("10 3", "100 30").replace("1 2\n", "1 15\n"))
+        for words, table, what in (
+            ("sweep", "name,edits\na,rate WP1.1 DS1.1 0.25\n", "row 2, column edits: rate WP1.1 DS1.1 0.25: 0.25 people are 2.5 shares"),
+            ("improve 10 --costs", "from,to,step,cost,most\nWP1.1,DS1.1,0.25,1,\n", "row 2, column step: 0.25 people are 2.5 shares"),
+            ("improve 10 --costs", "from,to,step,cost,most\nWP1.1,DS1.1,x,1,\n", "row 2, column step: 'x' is no number of people from 0.1 to 1,000"),
+            ("range --table", "from,to,rate low,rate high\nWP1.1,DS1.1,1.25,2\n", "row 2, column rate low: 1.25 people are 12.5 shares"),
+        ):
+            with self.subTest(what):
+                (self.folder / "given.csv").write_text(table)
+                name, *more = words.split()
+                said = run(name, path, *more, self.folder / "given.csv", *(["-o", answers] if name == "sweep" else []))
+                self.assertEqual((said.status, said.out, answers.exists()), (1, "", False))
+                self.assertIn(what, said.err)
 
     def test_the_same_building_has_the_same_answer(self) -> None:
         school = TOP / "examples/school.evac"

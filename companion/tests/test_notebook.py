@@ -11,7 +11,7 @@ class Notebook(unittest.TestCase):
     def test_what_a_user_imports(self) -> None:
         office = evacask.read(OFFICE)
         plan = office.solve()
-        # By hand: the last of 240 through two ways of 4 and 8 a period; docs/GUIDE.md has the block.
+        # By hand: the last of 240 through two ways of 4 and 8 a period; docs/users/guide.md has the block.
         self.assertEqual((plan.seconds, plan.interval, plan.arrivals[0], plan.arrivals[-1], len(plan.arrivals)), (140, (140, 145), 0, 240, 29))
         self.assertEqual(office.edited("shutexit DS2.1", "rate SW1.2 LO1.1 8").solve().seconds, 155)
         with office.session() as session:

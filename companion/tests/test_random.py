@@ -5,7 +5,7 @@ import random
 import re
 import unittest
 
-from companion.tests.asking import ask, solved
+from companion.tests.asking import ask, found, solved
 from evacask.model.building import model_of
 from evacask.model.walks import walking_bound, walks
 
@@ -32,17 +32,17 @@ def random_building(dice: random.Random) -> str:
 
 
 class Random(unittest.TestCase):
-    def setUp(self):
+    def setUp(self) -> None:
         dice = random.Random(20)
         self.texts = [random_building(dice) for _ in range(BUILDINGS)]
         self.cleared = [text for text in self.texts if solved(text.encode(), "solve").startswith("answer")]
         self.assertGreater(len(self.cleared), BUILDINGS // 2)
 
-    def test_walks_and_the_walking_bound(self):
+    def test_walks_and_the_walking_bound(self) -> None:
         bounds = 0
         for text in self.cleared:
             building, report = model_of(text), solved(text.encode(), "solve", "--reports")
-            cleared, uncongested = (int(re.search(rf"(?m)^{word} (\d+)", report)[1]) for word in ("cleared", "uncongested"))
+            cleared, uncongested = (int(found(re.search(rf"(?m)^{word} (\d+)", report))) for word in ("cleared", "uncongested"))
             out = walks(building)
             self.assertEqual(max((out[it.name].periods for it in building.rooms if it.start), default=0), uncongested, text)
             bound = walking_bound(building)
@@ -51,7 +51,7 @@ class Random(unittest.TestCase):
                 self.assertLessEqual(cleared, bound.moment, text)
         self.assertGreater(bounds, 10)
 
-    def test_tables_and_cuts_add_up(self):
+    def test_tables_and_cuts_add_up(self) -> None:
         for text in self.cleared:
             report = solved(text.encode(), "solve")
             curve = re.findall(r"(?m)^out \d+ (\d+)", report)
@@ -63,7 +63,7 @@ class Random(unittest.TestCase):
             if len(curve) > 1:
                 self.assertEqual(sum(int(line.split()[0]) for line in said.lines[2:-1]), int(curve[period]), text)
 
-    def test_each_command_answers(self):
+    def test_each_command_answers(self) -> None:
         for text in self.texts[:20]:
             for words in (("summary", "-"), ("doubts", "-"), ("ways", "-"), ("compare", "-", "--edit", "shutexit DS1.1"), ("tables", "walks", "-")):
                 said = ask(*words, text=text)

@@ -11,10 +11,11 @@ import subprocess
 import tempfile
 import unittest
 import unittest.mock
-from typing import Any, Dict, Set, Tuple
+from typing import Any, Dict, List, Set, Tuple
 
+from companion.tests import twenty_pages
 from companion.tests.buildings import random_building
-from companion.tests.package import EXAMPLES, OFFICE, PATIENCE, SCHOOL, TOP, ask, program
+from companion.tests.package import OFFICE, PATIENCE, SCHOOL, TOP, TOWER, ask, program
 from companion.tests.page_check import held
 from companion.tests.page_reader import Page
 from companion.tests.planned_page import Building, Names, Planned
@@ -25,24 +26,41 @@ from evacask.model.ground import Ground
 
 METRO = TOP / "examples/metro.evac"
 BROWSER = shutil.which("chromium") or shutil.which("chromium-browser") or shutil.which("google-chrome")
-# How far the page is wider than its window, and which texts of a picture stand over others.
+# How far the page is wider than its window, which texts stand over others, and which are cut off by their picture. A text has a box for each line.
 MEASURE = """
-const over = [], all = [...document.querySelectorAll('svg')];
-let texts = 0;
-for (const svg of all) {
-  const boxes = [...svg.querySelectorAll('text')].map(it => [it.textContent, it.getBoundingClientRect()]), whole = svg.getBoundingClientRect();
-  texts += boxes.length;
-  boxes.forEach(([one, a], at) => {
-    if (a.left < whole.left - 1 || a.right > whole.right + 1 || a.bottom > whole.bottom + 1 || a.top < whole.top - 1) over.push(one + ' is cut');
-    for (const [other, b] of boxes.slice(at + 1)) {
-      const wide = Math.min(a.right, b.right) - Math.max(a.left, b.left), high = Math.min(a.bottom, b.bottom) - Math.max(a.top, b.top);
-      if (wide > 1 && high > 5) over.push(one + ' over ' + other);
-    }
-  });
+const main = document.querySelector('main'), over = [], boxes = [];
+const add = (text, box, whole) => {
+  const isCut = whole && (box.left < whole.left - 1 || box.right > whole.right + 1 || box.bottom > whole.bottom + 1 || box.top < whole.top - 1);
+  if (isCut) over.push(text + ' is cut');
+  if (box.width) boxes.push([text, box]);
+};
+for (const svg of main.querySelectorAll('svg')) {
+  const whole = svg.getBoundingClientRect();
+  for (const it of svg.querySelectorAll('text')) add(it.textContent, it.getBoundingClientRect(), whole);
 }
+const walker = document.createTreeWalker(main, NodeFilter.SHOW_TEXT);
+for (let node = walker.nextNode(); node; node = walker.nextNode()) {
+  if (node.parentElement.closest('svg') || !node.data.trim()) continue;
+  const range = document.createRange();
+  range.selectNodeContents(node);
+  for (const box of range.getClientRects()) add(node.data.trim(), box);
+}
+boxes.forEach(([one, a], at) => {
+  for (const [other, b] of boxes.slice(at + 1)) {
+    const wide = Math.min(a.right, b.right) - Math.max(a.left, b.left), high = Math.min(a.bottom, b.bottom) - Math.max(a.top, b.top);
+    if (wide > 1 && high > 5) over.push(one + ' over ' + other);
+  }
+});
 const wide = document.documentElement.scrollWidth - document.documentElement.clientWidth;
-document.body.textContent = 'MEASURED' + JSON.stringify({wide, over, texts}) + 'MEASURED';
+const drawn = [...main.querySelectorAll('svg')].filter(it => it.getAttribute('aria-labelledby').startsWith('building')).reduce((sum, it) => sum + it.clientHeight, 0);
+parent.postMessage('MEASURED' + JSON.stringify({width: innerWidth, wide, over, texts: boxes.length, drawn}) + 'MEASURED', '*');
 """
+# A page in a frame, since a window of Chromium is no narrower than 500 pixels.
+FRAME = """<!doctype html><body style="margin: 0"><script>onmessage = (told) => { document.body.textContent = told.data; };</script>
+<iframe src="page.html" style="border: 0; width: {width}px; height: 2000px"></iframe></body>
+"""
+# The pixels of A4 between its margins, of 96 to an inch; and of a phone and a screen.
+PAPER, PHONE, SCREEN, SCREEN_HEIGHT = 680, 390, 1000, 900
 # A late-comer, a closure, own names, shares and nobody inside: each a building of its own.
 ODD = {
     "a closure": "evacplan 2\nperiod 5\nhorizon 30\nfloor 1 G\nnode WP1.1 10 6\nnode HA1.1 10 0\nnode DS1.1\narc WP1.1 HA1.1 1 3\narc HA1.1 DS1.1 1 2\n"
@@ -100,25 +118,27 @@ def building_with(text: str) -> bytes:
 
 class Numbers(unittest.TestCase):
     def test_each_number_is_the_programs(self) -> None:
-        chance = random.Random(67)
-        texts = {it.name: it.read_bytes() for it in EXAMPLES if it.name in ("office.evac", "metro.evac", "two_exits.evac")}
-        texts.update({name: text.encode() for name, text in ODD.items()})
-        texts.update({f"random {number}": random_building(chance).encode() for number in range(4)})
-        for name, text in texts.items():
+        for name, text in {**twenty_pages.texts(), **{name: text.encode() for name, text in ODD.items()}}.items():
             with self.subTest(name):
-                found = held(program(), text, page_of(text))
+                found = twenty_pages.read_back(program(), name, text)
                 self.assertEqual(found.wrong, [])
                 self.assertGreater(found.count, 5)
+
+    def test_an_edit_of_a_plan_in_metres_leaves_its_bracket_out(self) -> None:
+        # (the bracket is that of the drawing, and without the second exit all are out later than its later end)
+        plan, says = TOP / "examples/school.plan", "Whichever way the numbers of the drawing in metres are rounded"
+        self.assertIn(says, ask("report", plan, "--trials", "0").out)
+        self.assertNotIn(says, ask("report", plan, "--trials", "0", "--edit", "shutexit DS2.1").out)
 
     def test_the_reader_sees_each_number_that_is_changed(self) -> None:
         text = OFFICE.read_bytes()
         page = page_of(text, "--trials", "8")
         body = page.index("<main>")
         numbers = [it for it in re.finditer(r">([^<>]*\d[^<>]*)<", page[: page.index("<pre>")]) if it.start() > body and "Third" not in it[1]]
-        for it in random.Random(1).sample(numbers, 12):
+        for it in random.Random(1).sample(numbers, 40):
             with self.subTest(it[1]):
                 wrong = re.sub(r"\d", lambda digit: str((int(digit[0]) + 1) % 10), it[1], count=1)
-                self.assertNotEqual(held(program(), text, f"{page[:it.start(1)]}{wrong}{page[it.end(1):]}").wrong, [])
+                self.assertNotEqual(held(program(), text, f"{page[:it.start(1)]}{wrong}{page[it.end(1):]}", 8).wrong, [])
 
     def test_the_same_bytes_each_time(self) -> None:
         self.assertEqual(page_of(SCHOOL.read_bytes()), page_of(SCHOOL.read_bytes()))
@@ -147,6 +167,13 @@ class Marks(unittest.TestCase):
 
 
 kept_mark = marks.mark
+
+
+class Unproved(unittest.TestCase):
+    def test_the_page_of_an_unproved_program_says_so_first(self) -> None:
+        page, says = page_of(OFFICE.read_bytes(), "--trials", "0"), "isn't proved on this machine"
+        first = [it for it in Page(page).sections[""].paragraphs if says in it]
+        self.assertEqual(len(first), 0 if "It is proved in logic" in page else 1)
 
 
 class FullInEveryBestPlan(unittest.TestCase):
@@ -229,27 +256,71 @@ class InABrowser(unittest.TestCase):
         return subprocess.run(command, capture_output=True, timeout=PATIENCE).stdout.decode("utf-8", "replace")
 
     def measured(self, page: str, width: int) -> Dict[str, Any]:
-        """What the script of a test page measures of a page, at a width of the window."""
-        path = self.room / "page.html"
-        path.write_text(re.sub(r"<meta http-equiv[^>]*>", "", page).replace("</body>", f"<script>{MEASURE}</script></body>"), encoding="utf-8")
-        found = re.search(r"MEASURED(.*?)MEASURED", self.chromium(f"--window-size={width},2000", "--dump-dom", path.as_uri()), re.S)
+        """What the script of a test page measures of a page at a width of the window; at that of paper, as it is laid out for print."""
+        path, laid = self.room / "page.html", page.replace("@media print", "@media all") if width == PAPER else page
+        path.write_text(re.sub(r"<meta http-equiv[^>]*>", "", laid).replace("</body>", f"<script>{MEASURE}</script></body>"), encoding="utf-8")
+        frame = self.room / "frame.html"
+        frame.write_text(FRAME.replace("{width}", f"{width}"), encoding="utf-8")
+        found = re.search(r"MEASURED(.*?)MEASURED", self.chromium("--virtual-time-budget=20000", "--dump-dom", frame.as_uri()), re.S)
         self.assertIsNotNone(found)
         said: Dict[str, Any] = json.loads(html.unescape(found[1])) if found else {}
+        self.assertEqual(said["width"], width)
         return said
 
+    def pages(self) -> Dict[str, str]:
+        """Pages of all kinds: a small building and large ones, folded storeys, two designs, a shortfall, and a plan in metres."""
+        tower, metro, plan = TOWER.read_bytes(), METRO.read_bytes(), (TOP / "examples/school.plan").read_bytes()
+        return {
+            "office": page_of(OFFICE.read_bytes()),
+            "metro": page_of(metro, "--trials", "0"),
+            "tower": page_of(tower, "--trials", "0"),
+            "two designs": ask("report", OFFICE, "--against", SCHOOL, "--trials", "0").out,
+            "a shortfall": page_of(ODD["a shortfall"].encode()),
+            "a plan": page_of(plan, "--trials", "0"),
+            "an arena": page_of(twenty_pages.BENCH.arena().encode(), "--trials", "0"),
+        }
+
     def test_nothing_overflows_and_no_text_is_over_another(self) -> None:
-        for name, page in {"office": page_of(OFFICE.read_bytes()), "metro": page_of(METRO.read_bytes(), "--trials", "0")}.items():
-            for width in (1000, 400):
+        for name, page in self.pages().items():
+            for width in (SCREEN, PHONE, PAPER):
                 with self.subTest(f"{name} {width}"):
                     found = self.measured(page, width)
                     self.assertEqual((found["wide"], found["over"]), (0, []))
                     self.assertGreater(found["texts"], 20)
 
+    def test_the_measure_sees_a_text_over_another(self) -> None:
+        page = page_of(OFFICE.read_bytes(), "--trials", "0")
+        for change in ("td { line-height: 0.2; }", "tr { position: absolute; }"):
+            found = self.measured(page.replace("</style>", f"{change}</style>"), PAPER)
+            self.assertNotEqual(found["over"], [], change)
+        self.assertGreater(self.measured(page.replace("</style>", "table { min-width: 900px; }</style>"), PAPER)["wide"], 0)
+
+    def test_a_folded_tower_fits_two_screens(self) -> None:
+        drawn = self.measured(page_of(TOWER.read_bytes(), "--trials", "0"), SCREEN)["drawn"]
+        self.assertTrue(100 < drawn < 2 * SCREEN_HEIGHT, drawn)
+
     def test_it_prints_on_paper(self) -> None:
-        page = self.room / "page.html"
+        page, paper = self.room / "page.html", self.room / "page.pdf"
         page.write_text(page_of(OFFICE.read_bytes(), "--trials", "0"), encoding="utf-8")
-        self.chromium("--no-pdf-header-footer", f"--print-to-pdf={self.room / 'page.pdf'}", page.as_uri())
-        self.assertTrue((self.room / "page.pdf").read_bytes().startswith(b"%PDF"))
+        self.chromium("--no-pdf-header-footer", f"--print-to-pdf={paper}", page.as_uri())
+        self.assertTrue(paper.read_bytes().startswith(b"%PDF"))
+        if shutil.which("pdftotext"):
+            self.assertEqual(printed_over(paper), [])
+
+
+def printed_over(paper: pathlib.Path) -> List[str]:
+    """The words of a printed page that stand over others, or beyond its margins; by the boxes that pdftotext tells, in points."""
+    said = subprocess.run(["pdftotext", "-bbox", str(paper), "-"], capture_output=True, check=True, timeout=PATIENCE).stdout.decode()
+    wrong = []
+    for page in said.split("<page ")[1:]:
+        across = float(page.split('width="')[1].split('"')[0])
+        words = [([float(it) for it in box], word) for *box, word in re.findall(r'xMin="(.*?)" yMin="(.*?)" xMax="(.*?)" yMax="(.*?)">(.*?)<', page)]
+        for at, ((left, top, right, bottom), word) in enumerate(words):
+            wrong += [f"{word} is beyond the margin"] if left < 40 or right > across - 40 else []
+            wrong += [
+                f"{word} over {it}" for (l, t, r, b), it in words[at + 1 :] if min(right, r) - max(left, l) > 1 and min(bottom, b) - max(top, t) > 3
+            ]
+    return wrong
 
 
 class Colours(unittest.TestCase):

@@ -11,9 +11,9 @@ import sys
 import tempfile
 import time
 import unittest
-from typing import List
+from typing import List, NoReturn
 
-from companion.tests.asking import OFFICE, TOP, run
+from companion.tests.asking import OFFICE, PATIENCE, TOP, run
 from evacask import Building, Refused, Shortfall, WordsError, read
 from evacask.questions.sweep import Answer
 
@@ -86,24 +86,30 @@ class Sweeps(unittest.TestCase):
     def test_dask(self) -> None:
         python = next((it for it in (sys.executable, "/usr/bin/python3") if has_distributed(it)), None)
         if python is None:
-            self.skipTest("Dask isn't installed: its local cluster wasn't tried")
-        done = subprocess.run([python, "-c", DASK, str(OFFICE)], capture_output=True, text=True, timeout=200, env=environment())
+            self.untried("Dask's local cluster (Debian's python3-distributed)")
+        done = subprocess.run([python, "-c", DASK, str(OFFICE)], capture_output=True, text=True, timeout=PATIENCE, env=environment())
         self.assertEqual(done.stdout.strip(), "True", done.stderr[-2000:])
 
-    def test_shards_join_to_the_whole(self) -> None:
+    def untried(self, what: str) -> NoReturn:
+        """Says that something isn't installed here, also if tests are run without a word."""
+        sys.stderr.write(f"test_sweep: {what} isn't installed, and wasn't tried\n")
+        raise unittest.SkipTest(what)
+
+    def test_shards_join_to_the_whole_by_xargs(self) -> None:
+        self.assert_shards_join("seq 1 4 | xargs -P 4 -I{}")
+
+    def test_shards_join_to_the_whole_by_gnu_parallel(self) -> None:
+        if shutil.which("parallel") is None:
+            self.untried("GNU parallel (Debian's parallel)")
+        self.assert_shards_join("seq 1 4 | parallel --will-cite")
+
+    def assert_shards_join(self, starter: str) -> None:
+        """Four shards, each started by a line of the shell that ends with `starter`, make the bytes of one run."""
         path = self.file(scenarios(40))
-        whole = run("sweep", OFFICE, path)
-        line = "%s -B evacask sweep %s %s --jobs 1 --shard {}/4 -o %s/part_{}.csv" % (sys.executable, OFFICE, path, self.folder)
-        makers = {"xargs": f"seq 1 4 | xargs -P 4 -I{{}} {line}"}
-        if shutil.which("parallel"):
-            makers["parallel"] = f"seq 1 4 | parallel --will-cite {line}"
-        for name, command in makers.items():
-            with self.subTest(name):
-                subprocess.run(command, shell=True, cwd=TOP, timeout=200, env=environment(), stderr=subprocess.DEVNULL)
-                joined = subprocess.run("LC_ALL=C sort -t, -k1,1n -u part_?.csv", shell=True, cwd=self.folder, capture_output=True, text=True)
-                self.assertEqual(joined.stdout, whole.out)
-                for part in self.folder.glob("part_*"):
-                    part.unlink()
+        line = f"{sys.executable} -B evacask sweep {OFFICE} {path} --jobs 1 --shard {{}}/4 -o {self.folder}/part_{{}}.csv"
+        started = subprocess.run(f"{starter} {line}", shell=True, cwd=TOP, timeout=PATIENCE, env=environment(), capture_output=True, text=True)
+        joined = subprocess.run("LC_ALL=C sort -t, -k1,1n -u part_?.csv", shell=True, cwd=self.folder, capture_output=True, text=True)
+        self.assertEqual(joined.stdout, run("sweep", OFFICE, path).out, started.stderr[-2000:])
 
     def test_after_a_kill_it_goes_on(self) -> None:
         path, answers = self.file(scenarios(400)), self.folder / "answers.csv"

@@ -8,7 +8,7 @@ from evacask.model.codes import Place, forms_of, meaning_of, meanings, refusal, 
 from evacask.model.forms import COMMANDS, EDITS
 
 TOP = pathlib.Path(__file__).resolve().parent.parent.parent
-# By docs/FORMATS.md, "What refuses an edit", the codes of each edit but 2, 3, 6, 8, 13, 22 and 31, which any line can get.
+# By docs/users/formats.md, "What refuses an edit", the codes of each edit but 2, 3, 6, 8, 13, 22 and 31, which any line can get.
 OF_EDITS = {
     "shut": (5, 32, 34),
     "reopen": (5, 32, 35),
@@ -35,12 +35,12 @@ class Codes(unittest.TestCase):
         self.assertEqual(page.count("<!-- codes: "), 7)
 
     def test_the_table_of_statements(self) -> None:
-        page = (TOP / "docs/FORMATS.md").read_text(encoding="utf-8")
+        page = (TOP / "docs/users/formats.md").read_text(encoding="utf-8")
         for form, said in table()["statements"].items():
             self.assertIn(f"| `{form}` | {said['ranges']}".rstrip(), page)
 
     def test_the_forms_of_commands(self) -> None:
-        page = (TOP / "docs/FORMATS.md").read_text(encoding="utf-8")
+        page = (TOP / "docs/users/formats.md").read_text(encoding="utf-8")
         for mode, heading, head in (("session", "The session", "Command"), ("study", "The study", "Line")):
             section = page.split(f"## {heading}\n")[1].split("\n## ")[0]
             rows = section.split(f"| {head} | What ")[1].split("\n\n")[0].splitlines()[2:]

@@ -5,7 +5,7 @@ from companion.tests.enumeration import TRIALS, seen_broken, trial
 from companion.tests.planner import Planner
 
 # How many buildings each trial is given: a trial of losses plans hundreds of buildings for each of them.
-BUILDINGS = {"improve": 25, "losses": 3, "admit": 10, "rescue": 12, "range": 4, "assign": 8}
+BUILDINGS = {"improve": 25, "losses": 3, "admit": 10, "rescue": 12, "range": 4, "assign": 8, "shares": 6}
 BROKEN = 40
 
 

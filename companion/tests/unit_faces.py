@@ -4,11 +4,14 @@ import io
 import json
 import time
 import unittest
-from dataclasses import dataclass
+from dataclasses import dataclass, replace
 
+from evacask.faces.improve import lines
 from evacask.faces.progress import LINE, progress, waiting
 from evacask.faces.sheet import Column, Sheet, as_csv, as_json, as_text
+from evacask.model.building import model_of
 from evacask.model.ground import Ground
+from evacask.questions.improve import Improvement
 
 
 @dataclass(frozen=True)
@@ -42,6 +45,36 @@ class Sheets(unittest.TestCase):
         said = json.loads(as_json(SHEET, "why", {"sha256": "0", "logic": None}))
         self.assertEqual(said["answer"], {"people": 3, "ground": "proved"})
         self.assertEqual((said["schema"], said["question"], said["program"]["logic"], said["grounds"]), (1, "why", None, {"people": "printed plan"}))
+
+
+class Budgets(unittest.TestCase):
+    """What is said of a budget: what it buys, and what is known of the moment before."""
+
+    def test_lines(self) -> None:
+        model = model_of("evacplan 1\nperiod 5\nhorizon 20\nfloor 1 G\nnode WP1.1 10 8\nnode DS1.1\narc WP1.1 DS1.1 1 1\nend\n")
+        bought, nothing = Improvement(4, 8, 3, 3, 4, (), 2), Improvement(8, 8, 0, 0, 8, (), 0)
+        before = Improvement(3, 8, 6, 5, 3, (), 2)
+        cases = (
+            (bought, None, "For 3 all are out by moment 4 (20 to 25 s). No cheaper purchase is enough: 2 cuts of the program show it."),
+            (replace(bought, sooner=before), 4, "For all to be out by moment 3 (15 to 20 s) it takes at least 5, more than the budget of 4."),
+            (replace(bought, sooner=before), 5, "Whether the budget of 5 is enough for all to be out by moment 3 (15 to 20 s) isn't decided"),
+            (
+                replace(bought, sooner=replace(before, cost=None, most=7)),
+                9,
+                "No budget is enough for all to be out by moment 3 (15 to 20 s): at most 7 of 8",
+            ),
+            (replace(nothing, sooner=replace(before, moment=7)), 4, "All are out by moment 8 (40 to 45 s) as it is: nothing is needed."),
+            (
+                replace(bought, moment=20),
+                2,
+                "Nothing for the budget of 2 was found: for all to be out by moment 20 (100 to 105 s), which is the horizon",
+            ),
+            (Improvement(4, 8, None, 3, None, (), 2), 9, "Nothing was found until the work ran out. No purchase for less than 3"),
+            (Improvement(4, 8, None, 3, None, (), 2, most=7), 9, "No widening is enough: at most 7 of 8 can be out by moment 4 (20 to 25 s)"),
+        )
+        for answer, budget, wanted in cases:
+            with self.subTest(wanted):
+                self.assertIn(wanted, "\n".join(lines(answer, model, budget, False)))
 
 
 class Terminal(io.StringIO):

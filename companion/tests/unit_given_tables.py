@@ -1,4 +1,5 @@
 """Tables that users write: each fault is named with table, row and column, and what is right is read. No program is needed."""
+import itertools
 import pathlib
 import random
 import unittest
@@ -18,6 +19,7 @@ from evacask.questions.sheets import Table, model_of_tables, tables_of
 EXAMPLES = pathlib.Path(__file__).resolve().parents[2] / "examples"
 NODES = "name,floors,capacity,start,own name\nLO1,0,114,0,Lobby\nDS1,0,,,Main door\nWP1,1-20,60,40,\nHA1,1-20,38,0,\nSW1,1-20,9,0,\n"
 WAYS = "from,to,floors,travel,rate\nLO1,DS1,0,2,9\nWP1,HA1,1-20,4,3\nHA1,SW1,1-20,2,4\nSW1,LO1.0,1,3,5\nSW1,SW1.-1,2-20,3,5\n"
+FLOORS = "name,capacity,start,floor text\nLO1.0,9,0,Lower\nDS1.0,,,\nWP1.0,9,1,Upstairs\n"
 COSTS = "from,to,step,cost,most\nLO2.1,DS2.1,4,9,1\nLO1.1,,5,3,\n"
 COUNTS = "seconds,DS1.1,DS2.1\n30,4,0\n60,31,6\n"
 INTERVALS = "from,to,rate low,rate high,start low,start high\nLO2.1,DS2.1,3,5,,\nWP1.2,,,,20,30\n"
@@ -63,6 +65,8 @@ HOSTILE = (
     ("nodes", NODES.replace("Lobby", '"Lobby'), "row 2: a row that begins here is no CSV"),
     ("nodes", NODES.replace("WP1,1-20", "WP1.+1,999"), "row 4, column name: the floor 1000 isn't from 0 to 999"),
     ("nodes", NODES.replace("Lobby", "L" * 151), f"row 2, column own name: '{'L' * 37}..' has more than 150 bytes"),
+    ("nodes", FLOORS.replace("Upstairs", "Ground"), "row 4, column floor text: floor 0 is called 'Lower' in a row above"),
+    ("nodes", FLOORS.replace("Upstairs", "U" * 151), f"row 4, column floor text: '{'U' * 37}..' has more than 150 bytes"),
     ("ways", WAYS.replace("from,to", "from,both ways,to").replace("LO1,", "LO1,maybe,"), "row 2, column both ways: 'maybe' is neither yes nor no"),
     ("ways", WAYS.replace("LO1,DS1", "LO1,DS9"), "row 2, column to: there is no node DS9.0 in nodes.csv; near it: DS1.0"),
     ("ways", WAYS.replace("4,3", "4.5,3"), "row 3, column travel: '4.5' is no whole number from 1 to 600"),
@@ -71,6 +75,33 @@ HOSTILE = (
     ("ways", WAYS + "LO1,DS1,0,2,9\n", "row 7, column to: the way from LO1.0 to DS1.0 is in row 2 already"),
     ("ways", WAYS.replace("LO1,DS1,0,2,9", "LO1,LO1,0,2,9"), "row 2, column to: no way leads from LO1.0 to itself"),
 )
+TABLES = {"costs": COSTS, "ranges": INTERVALS, "counts": COUNTS, "scenarios": SCENARIOS, "nodes": NODES, "ways": WAYS}
+# The row of each table that one with 100,000 rows is refused at, and what the fault says. A sweep takes as many scenarios.
+MANY = {
+    "costs": (5002, "there are more than 5,000 rows"),
+    "ranges": (5002, "there are more than 5,000 rows"),
+    "counts": (10_002, "there are more than 10,000 rows"),
+    "nodes": (402, "would be node 401, and a building has at most 400"),
+    "ways": (1602, "this would be way 1,601, and a building has at most 1,600"),
+}
+
+
+def many(kind: str) -> str:
+    """A table of 100,000 rows that differ."""
+    head, numbers = TABLES[kind].split("\n", 1)[0], range(1, 100_001)
+    if kind == "counts":
+        return "seconds,DS1.1\n" + "".join(f"{it},0\n" for it in numbers)
+    if kind == "nodes":
+        return "name,capacity,start\n" + "".join(f"WP{it % 9999 + 1}.{it // 9999 + 1},5,1\n" for it in numbers)
+    if kind == "ways":
+        pairs = ((one, other) for one in ROOMS for other in ROOMS if one != other)
+        return "from,to,travel,rate\n" + "".join(f"{one},{other},1,1\n" for one, other in itertools.islice(pairs, 100_000))
+    row = {"costs": "LO2.1,DS2.1,1,1,1", "ranges": "LO2.1,DS2.1,,,,", "scenarios": "a,shut HA1.2 SW2.2"}[kind]
+    return head + "\n" + f"{row}\n" * 100_000
+
+
+# The nodes on which 100,000 ways could be: more than a building has.
+ROOMS = [f"{kind}1.{floor}" for floor in range(1, 21) for kind in ("WP", "HA", "SW")] + ["LO1.0"]
 # What is put into a table by lot.
 PIECES = (
     b",",
@@ -106,7 +137,7 @@ class Tables(unittest.TestCase):
         if kind == "counts":
             return counts_of(data, "counts.csv", self.school)
         if kind == "scenarios":
-            return list(scenarios_of(data, "scenarios.csv"))
+            return list(scenarios_of(data, "scenarios.csv", self.school))
         return self.building(data) if kind == "nodes" else self.building(NODES.encode(), data)
 
     def building(self, nodes: Union[bytes, str] = NODES, ways: Union[bytes, str] = WAYS, title: str = "") -> Model:
@@ -121,12 +152,23 @@ class Tables(unittest.TestCase):
                 self.assertTrue(str(fault.exception).startswith(f"{kind}.csv, row "), fault.exception)
                 self.assertIn(what, str(fault.exception))
 
-    def test_too_many_ways_and_bytes(self) -> None:
-        nodes = "name,capacity,start\n" + "".join(f"WP{it}.1,1,\n" for it in range(1, 42)) + "DS1.1,,\n"
-        pairs = [(a, b) for a in range(1, 42) for b in range(1, 42) if a != b][:1601]
-        ways = "from,to,travel,rate\n" + "".join(f"WP{a}.1,WP{b}.1,1,1\n" for a, b in pairs)
-        with self.assertRaisesRegex(TableError, "ways.csv, row 1602, column from: this would be way 1,601, and a building has at most 1,600"):
-            self.building(nodes, ways)
+    def test_empty_tables(self) -> None:
+        for kind, text in TABLES.items():
+            head = text.split("\n", 1)[0]
+            for empty in ("", "\n", head, f"{head}\n", f"{head}\n,,\n\n", f"{head}\n# nothing\n"):
+                with self.subTest(f"{kind}: {empty!r}"), self.assertRaisesRegex(TableError, f"{kind}.csv, row 1: there are no rows"):
+                    self.taken(kind, empty.encode())
+
+    def test_100_000_rows(self) -> None:
+        for kind, (row, what) in MANY.items():
+            with self.subTest(kind), self.assertRaises(TableError) as fault:
+                self.taken(kind, many(kind).encode())
+            self.assertIn(what, str(fault.exception))
+            self.assertEqual(fault.exception.row, row)
+        scenarios = self.taken("scenarios", many("scenarios").encode())
+        self.assertEqual(len(scenarios), 100_000)  # type: ignore[arg-type]
+
+    def test_too_many_bytes(self) -> None:
         with mock.patch.object(cells, "MOST_BYTES", 9), self.assertRaisesRegex(TableError, "row 1: there are more than 9 bytes"):
             self.taken("costs", COSTS.encode())
 
@@ -138,7 +180,7 @@ class Tables(unittest.TestCase):
         self.assertEqual(ranges_of(INTERVALS.replace("3,5", ",6").encode(), "", self.school).rates, {("LO2.1", "DS2.1"): (4, 6)})
         counts = counts_of(COUNTS.encode(), "counts.csv", self.school)
         self.assertEqual(counts, {"DS1.1": [(30, 4), (60, 31)], "DS2.1": [(30, 0), (60, 6)]})
-        scenarios = list(scenarios_of(SCENARIOS.encode(), "scenarios.csv"))
+        scenarios = list(scenarios_of(SCENARIOS.encode(), "scenarios.csv", self.school))
         self.assertEqual(scenarios, [(2, "a", ("shut HA1.2 SW2.2", "rate SW1.2 LO1.1 7")), (3, "b", ("enter WP1.2 5",))])
 
     def test_bytes_that_are_no_text(self) -> None:
@@ -178,11 +220,12 @@ class Tables(unittest.TestCase):
                 [(it.name, it.capacity, it.start, it.own_name) for it in back.nodes.values()],
                 [(it.name, it.capacity, it.start, it.own_name) for it in given.nodes.values()],
             )
+            self.assertEqual(back.floors, given.floors)
             self.assertEqual(
                 [(it.way, it.travel, it.rate, it.own_name) for it in back.arcs.values()],
                 [(it.way, it.travel, it.rate, it.own_name) for it in given.arcs.values()],
             )
-        self.assertIn("\nWP1.1,10,3,'=Hall\n", nodes)  # (a quote keeps a spreadsheet from taking it for a formula)
+        self.assertIn("\nWP1.1,10,3,'=Hall,G\n", nodes)  # (a quote keeps a spreadsheet from taking it for a formula)
 
     def test_what_has_no_place_in_the_two_tables(self) -> None:
         timed = "window WP1.1 DS1.1 0 1\nentrant WP1.1 2 1\nend\n"
@@ -203,8 +246,7 @@ class Tables(unittest.TestCase):
 
     def test_changed_bytes_end_in_named_errors(self) -> None:
         dice = random.Random(5)
-        tables = {"costs": COSTS, "ranges": INTERVALS, "counts": COUNTS, "scenarios": SCENARIOS, "nodes": NODES, "ways": WAYS}
-        for kind, text in tables.items():
+        for kind, text in TABLES.items():
             for _ in range(40):
                 data = bytearray(text.encode())
                 for _ in range(dice.randint(1, 2)):

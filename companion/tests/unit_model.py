@@ -109,7 +109,7 @@ class Models(unittest.TestCase):
 
 
 class Edits(unittest.TestCase):
-    """Edits of the house, each with the lines that it changes, by hand; codes are those of docs/FORMATS.md."""
+    """Edits of the house, each with the lines that it changes, by hand; codes are those of docs/users/formats.md."""
 
     def changed(self, *edits: str) -> List[str]:
         """The lines of the edited house that the house doesn't have."""

@@ -5,6 +5,7 @@ from typing import Any, Callable, Dict, Tuple, Type
 from companion.tests.unit_varied import MODEL, PLANNER, ROOM, SHORT, timed
 from evacask import NoAnswer, UnknownName, WordsError
 from evacask.model.building import model_of
+from evacask.model.shares import People
 from evacask.questions.admit import admit, admit_room
 from evacask.questions.assign import assign
 from evacask.questions.improve import Widening, improve
@@ -12,7 +13,7 @@ from evacask.questions.improve_budget import improve_within
 from evacask.questions.losses import losses
 from evacask.questions.observed import observed
 from evacask.questions.ranges import Ranges, percents, ranges
-from evacask.questions.rescue import rescue
+from evacask.questions.sweep import sweep
 
 Ask = Callable[[], Any]
 SHARES = model_of(ROOM.replace("10 8", "100 80").replace("end\n", "#shares 10\nend\n"))
@@ -36,24 +37,15 @@ WRONG: Dict[str, Tuple[Type[Exception], Tuple[Ask, ...]]] = {
             lambda: ranges(PLANNER, MODEL, Ranges(rates={SHORT: (2, 3)})),
             lambda: ranges(PLANNER, MODEL, Ranges(travels={SHORT: (0, 1)})),
             lambda: ranges(PLANNER, MODEL, Ranges(people={"DS1.1": (0, 1)})),
+            lambda: ranges(PLANNER, SHARES, Ranges(rates={SHORT: (0, People(1, 3))})),
+            lambda: improve(PLANNER, SHARES, 2, [Widening(SHORT, People(1, 3))]),
+            lambda: sweep(PLANNER, SHARES, [["rate WP1.1 DS1.1 0.33"]]),
             lambda: observed(PLANNER, MODEL, {}),
             lambda: observed(PLANNER, MODEL, {"DS1.1": []}),
             lambda: observed(PLANNER, MODEL, {"WP1.1": [(1, 1)]}),
             lambda: observed(PLANNER, MODEL, {"DS1.1": [(5, 1), (5, 2)]}),
             lambda: observed(PLANNER, MODEL, {"DS1.1": [(5, 2), (6, 1)]}),
             lambda: assign(PLANNER, MODEL, effort=0),
-        ),
-    ),
-    "count whole people": (
-        NoAnswer,
-        (
-            lambda: improve(PLANNER, SHARES, 2),
-            lambda: losses(PLANNER, SHARES),
-            lambda: admit_room(PLANNER, SHARES, "WP1.1", 4),
-            lambda: admit(PLANNER, SHARES, 4),
-            lambda: ranges(PLANNER, SHARES, Ranges()),
-            lambda: rescue(PLANNER, SHARES),
-            lambda: assign(PLANNER, SHARES),
         ),
     ),
     "name what isn't there": (

@@ -9,6 +9,8 @@ from evacask.client.reports import Exit, Least, exits_of, gone_of, least_of, rep
 from evacask.model.building import model_of
 
 MODEL = model_of(ROOM)
+# Lines that get no reply.
+SILENT = ("", " \t", "\r", " \r", "# comment", "#\r", "undo\nundo")
 SHORT = b"refused 22 8\npeople 3\nmost 2\nin WP1.1 0 1\nend\n"
 LEAST = b"least WP1.1 DS1.1 2 2\nmove 0 WP1.1 DS1.1 2\nmove 1 WP1.1 DS1.1 1\ncut 2 2\nin WP1.1 0 2\nend\n"
 # A reader, bytes that evacplan never prints, and what is wrong with them.
@@ -174,6 +176,8 @@ class Talks(unittest.TestCase):
                 (lambda: session.report("cards"), ValueError),
                 (lambda: session.edit("# comment"), ValueError),
                 (lambda: session.edit("x" * 201), ValueError),
+                *((lambda line=line: session.ask(line), ValueError) for line in SILENT),
+                *((lambda line=line: list(session.trials([[line]])), ValueError) for line in SILENT),
                 (lambda: list(session.trials([["undo"] * 65])), ValueError),
             )
             for ask, error in wrong:

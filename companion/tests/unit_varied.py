@@ -1,5 +1,6 @@
 """Questions about varied buildings, by hand: what to buy, what to lose, whom to admit and to rescue, ranges, drills, and one way for each room."""
 import unittest
+from typing import Tuple
 from unittest import mock
 
 from companion.tests.planner import Planner
@@ -7,6 +8,8 @@ from evacask import NoAnswer, WordsError, reads
 from evacask.client.asking import solve
 from evacask.model.building import Model, model_of
 from evacask.model.ground import Ground
+from evacask.model.shares import Count, People
+from evacask.questions import admit as admissions
 from evacask.questions import assign as assignments
 from evacask.questions.admit import admit, admit_room
 from evacask.questions.assign import assign
@@ -44,10 +47,16 @@ class Bought(unittest.TestCase):
 
     def test_a_budget_by_hand(self) -> None:
         # For 3 all are out at 2, for 7 at 1; a moment 0 can't be bought.
-        for budget, cost, cleared in ((0, 0, 3), (2, 0, 3), (3, 3, 2), (6, 3, 2), (7, 7, 1), (999, 7, 1)):
+        # (cleared with what is needed a moment sooner, or the most who can be out then)
+        table = ((0, 0, 3, 3), (2, 0, 3, 3), (3, 3, 2, 7), (6, 3, 2, 7), (7, 7, 1, None), (999, 7, 1, None))
+        for budget, cost, cleared, needed in table:
             with self.subTest(budget):
                 answer = improve_within(PLANNER, MODEL, budget)
                 self.assertEqual((answer.cost, answer.cleared), (cost, cleared))
+                sooner = answer.sooner
+                assert sooner is not None
+                self.assertEqual((sooner.moment, sooner.cost, sooner.most), (cleared - 1, needed, 0 if needed is None else None))
+        self.assertIsNone(improve_within(PLANNER, model_of(ROOM.replace("10 8", "10 0")), 9).sooner)  # (nobody is inside at all)
         late = improve_within(PLANNER, model_of(ROOM.replace("horizon 20", "horizon 2")), 2)
         self.assertEqual((late.cost, late.moment), (3, 2))  # (even the horizon costs more than there is)
 
@@ -64,6 +73,51 @@ class Bought(unittest.TestCase):
         self.assertEqual((answer.cost, answer.most), (None, 10_000))
         with self.assertRaisesRegex(WordsError, "WP1.1 DS1.1 .* together more than a rate or a capacity may be"):
             improve(PLANNER, crowd, 1, [Widening(SHORT, 1, 5, 1), Widening(SHORT, 1, 9)])
+
+
+class InShares(unittest.TestCase):
+    """The same room in tenths of a person, with a short way for 1.5 people a period: out are 0, 1.5, 3, 8."""
+
+    model = model_of(ROOM.replace("10 8", "100 80").replace("1 1\n", "1 15\n").replace("3 5\n", "3 50\n").replace("end\n", "#shares 10\nend\n"))
+
+    def test_what_is_bought(self) -> None:
+        # By 2 all go the short way, four a period: 2.5 more, which are three people more, or five halves.
+        steps: Tuple[Tuple[Count, int, float], ...] = ((1, 3, 4.5), (People(1, 2), 5, 4))
+        for step, times, after in steps:
+            (bought,) = improve(PLANNER, self.model, 2, [Widening(SHORT, step)]).purchases
+            self.assertEqual((bought.times, bought.before, bought.after), (times, 1.5, after))
+        barred = improve(PLANNER, self.model, 2, [Widening(SHORT, 1, 1, 1)])
+        self.assertEqual((barred.people, barred.cost, barred.most), (8, None, 5))
+
+    def test_what_is_lost(self) -> None:
+        found = losses(PLANNER, model_of(self.model.text.replace("horizon 20", "horizon 3")), 1)
+        self.assertEqual([(it.places, it.most, it.cleared) for it in found.worst], [((LONG,), 4.5, None), ((SHORT,), 5, None)])
+
+    def test_who_is_admitted_and_saved(self) -> None:
+        # By 2 three are out, so three may be there; of 3.0 and not of 2.9. With a fourth 3 of 4 are.
+        self.assertEqual((admit_room(PLANNER, self.model, "WP1.1", 2).people, admit_room(PLANNER, self.model, "WP1.1", 2).most), (3, 3))
+        one = admit_room(PLANNER, self.model, "WP1.1", 1)
+        self.assertEqual((one.people, one.now, one.capacity, one.most), (1, 8, 10, 1.5))  # (half a person isn't admitted)
+        every = admit(PLANNER, self.model, 2)
+        self.assertEqual((every.thousandths, every.alike, every.shared, every.shares[0].now), (499, 3, 3, 8))
+        saved = rescue(PLANNER, self.model, 1)
+        self.assertEqual((saved.most, saved.people, saved.groups[0].staying, saved.plan.people, saved.plan.model.shares), (1.5, 8, 6.5, 1.5, 10))
+
+    def test_ranges_are_rounded_to_shares(self) -> None:
+        # 1.5 less or more a third, and 5: from 1.0 to 2.0, and from 3.3 to 6.7.
+        given = percents(self.model, rate=(33, 33))
+        self.assertEqual(given.rates, {SHORT: (1, 2), LONG: (People(33, 10), People(67, 10))})
+        self.assertEqual([(it.earliest, it.latest) for it in ranges(PLANNER, self.model, given).spans], [(3, 4)])
+
+    def test_one_way_for_each_room(self) -> None:
+        answer = assign(PLANNER, self.model)
+        self.assertEqual([(it.room, it.people, it.exit) for it in answer.rooms], [("WP1.1", 8, "DS2.1")])
+        self.assertEqual(sum(it.people for it in answer.moves), 8)
+        self.assertIn(b"people 80\n", answer.block)
+
+    def test_a_drill(self) -> None:
+        drill = observed(PLANNER, self.model, {"DS1.1": [(9, 1)], "DS2.1": [(9, 1)]})
+        self.assertEqual([(it.out, it.best, it.is_beyond) for it in drill.moments], [(2, 1.5, True)])
 
 
 class Lost(unittest.TestCase):
@@ -100,6 +154,25 @@ class Admitted(unittest.TestCase):
 
 
 class Rescued(unittest.TestCase):
+    def test_rooms_that_hold_more_than_are_planned(self) -> None:
+        # The two ways let 3 x 1 and 1 x 5 people set out in time to be out by 3. Of 100,000 a period all of 200,000 would.
+        hall = ROOM.replace("10 8", "100000 8").replace("node DS1.1", "node WP2.1 100000 0\nnode DS1.1").replace("arc WP1.1 DS2.1", "arc WP2.1 DS2.1")
+        every = admit(PLANNER, model_of(hall.replace("WP1.1 DS1.1 1 1", "WP1.1 DS1.1 1 3")), 3)
+        self.assertEqual((every.shared, every.room, [it.people for it in every.shares]), (14, 200_000, [9, 5]))
+        wide = hall.replace("WP1.1 DS1.1 1 1", "WP1.1 DS1.1 1 9999").replace("DS2.1 3 5", "DS2.1 3 9999").replace("horizon 20", "horizon 40")
+        with mock.patch.object(admissions, "greatest_share", return_value=1000), self.assertRaisesRegex(NoAnswer, "at most 100,000 are planned"):
+            admit(PLANNER, model_of(wide), 40)
+
+    def test_late_comers_are_not_shared_out(self) -> None:
+        # Out by 3 are three by the short way and five by the long one, of whom one comes in at 2 and goes the short way. A plan may have him stay.
+        late = timed("entrant WP1.1 2 1\n")
+        self.assertEqual([(it.shared, it.shares[0].people) for it in (admit(PLANNER, late, 3),)], [(7, 7)])
+        saved = rescue(PLANNER, late, 2)
+        self.assertEqual(saved.groups[1].staying, 1)
+        with mock.patch.object(admissions, "rescue", return_value=saved):
+            self.assertEqual(admit(PLANNER, late, 3).shared, 7)
+            self.assertEqual(admit(PLANNER, late, 4).shared, 10)
+
     def test_who_is_saved_by_hand(self) -> None:
         few, all_of_them = rescue(PLANNER, MODEL, 2), rescue(PLANNER, MODEL)
         self.assertEqual((few.most, few.people, few.plan.people), (2, 8, 2))

@@ -46,6 +46,7 @@ class Place:
             ("rattle-link", "kit/bin/rattle-link"),
             ("program", "kit/program"),
             ("clang", "kit/toolchain/bin/clang"),
+            ("clang", "kit/toolchain/bin/ld.lld"),
         ):
             self.copy(STAND_INS / name, here / to)
         self.write("README.md", f"rattle-kit-1 logic {LOGIC}\n")

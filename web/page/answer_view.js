@@ -5,7 +5,7 @@ import { curvePicture, legend, partsOf } from './chart.js';
 import { drawing } from './drawing.js';
 import { caughtIn, cutPlaces, fullMoments, heldByNode, measuresOf, peopleByWay, shortfallPlaces, uncongested } from './measures.js';
 import { storeysOf, stripPicture } from './strips.js';
-import { count, momentWords, runsWords, seconds, some, spanWords } from './times.js';
+import { count, hasLaterEnd, momentWords, runsWords, seconds, some, spanWords, whenWords } from './times.js';
 
 /** @typedef {import('./building.js').Building} Building */
 /** @typedef {import('./desk.js').Answer} Answer */
@@ -64,7 +64,7 @@ function placeWords(building, place) {
  * @returns {Child[]}
  */
 function placeRow(building, place) {
-  const closed = place.closed.length ? `closed at ${runsWords(building, place.closed)}` : '';
+  const closed = place.closed.length ? `closed ${runsWords(building, place.closed)}` : '';
   const when = place.kind === 'entry' ? '' : [runsWords(building, place.moments), closed].filter(Boolean).join('; ');
   return [placeWords(building, place), count(place.people), when];
 }
@@ -126,7 +126,7 @@ function sharesNote(building) {
 export function sentence({ building, block }) {
   if (block.people === 0) return 'Nobody is in this building.';
   const who = block.people === 1 ? 'The one person' : `All ${peopleWords(building, block.people)}`;
-  return `${who} can be out after ${spanWords(building, block.cleared).replace(/ s$/, ' seconds').replace(/^from (.*)$/, '$1 or more')}.`;
+  return `${who} can be out ${whenWords(building, block.cleared).replace(/ s( on)?$/, ' seconds$1')}.`;
 }
 
 /**
@@ -134,7 +134,7 @@ export function sentence({ building, block }) {
  * @param {Short} short
  */
 export function shortSentence({ building, shortfall }) {
-  return `At most ${count(shortfall.most)} of ${peopleWords(building, shortfall.people)} can be out by ${seconds(building, building.horizon).replace(/ s$/, ' seconds')}.`;
+  return `At most ${count(shortfall.most)} of ${peopleWords(building, shortfall.people)} can be out by moment ${momentWords(building, building.horizon)}.`;
 }
 
 /**
@@ -146,8 +146,8 @@ function facts({ building, block }) {
   return html('dl', { class: 'facts' },
     fact(spanWords(building, half), 'half are out', 'checked'),
     fact(spanWords(building, most), '95 % are out', 'checked'),
-    fact(`${(mean * building.period).toFixed(0)} s`, 'when a person is out, on average', 'checked'),
-    fact(seconds(building, walk), 'longest walk with nobody in the way', 'page'),
+    fact(spanWords(building, mean), 'when a person is out, on average', 'checked'),
+    fact(spanWords(building, walk), 'longest walk with nobody in the way', 'page'),
     fact(seconds(building, cleared - walk), 'more for congestion', 'page'));
 }
 
@@ -190,12 +190,12 @@ function exitParts(building, held) {
 function curveSection({ building, block }, held, given) {
   const parts = exitParts(building, held), step = Math.max(1, Math.ceil((block.cleared + 1) / CURVE_ROWS)), columns = parts.slice(0, MOST_EXIT_COLUMNS);
   const moments = block.out.map((_, moment) => moment).filter((moment) => moment % step === 0 || moment === block.cleared);
-  const rows = moments.map((moment) => [seconds(building, moment), count(block.out[moment]), ...columns.map(({ out }) => count(out[moment]))]);
+  const rows = moments.map((moment) => [spanWords(building, moment), count(block.out[moment]), ...columns.map(({ out }) => count(out[moment]))]);
   const keys = legend(parts, given !== null).map(({ box, words }) => html('li', {}, box, ' ', words));
   return section('People out by time', 'checked',
     html('figure', {}, curvePicture(building, block.out, parts, given?.block.out ?? null), html('ul', { class: 'legend' }, ...keys),
       html('figcaption', {}, 'The line is the same for every best plan. The areas are the exits of the ', mark('printed'))),
-    html('details', {}, html('summary', {}, 'The same as a table'), table('People out, and by exit in the printed plan', ['by', 'out', ...columns.map(({ name }) => name)], rows)));
+    html('details', {}, html('summary', {}, 'The same as a table'), table('People out, and by exit in the printed plan', ['seconds', 'out', ...columns.map(({ name }) => name)], rows)));
 }
 
 /**
@@ -210,7 +210,7 @@ function whereWords({ building, block }, held, moment) {
   const out = block.out[moment], toCome = building.entrants.filter((it) => it.moment > moment).reduce((sum, it) => sum + it.people, 0);
   const parts = [`${count(out)} out`, `${count(inside)} in rooms`, `${count(block.people - out - inside - toCome)} on their way`];
   if (toCome) parts.push(`${count(toCome)} still to come`);
-  return `At ${seconds(building, moment)}: ${parts.join(', ')}.`;
+  return `By moment ${momentWords(building, moment)}: ${parts.join(', ')}.`;
 }
 
 /**
@@ -244,7 +244,7 @@ function whereSection(answer, held, full, chosen) {
  */
 function storeySection(building, held) {
   const storeys = storeysOf(building, held), [rows, more] = firstRows(storeys, 'storey');
-  const cells = rows.map((it) => [quoted(it.text), count(it.most), it.most ? seconds(building, it.first) : '', it.last < 0 ? 'nobody stays' : seconds(building, it.last)]);
+  const cells = rows.map((it) => [quoted(it.text), count(it.most), it.most ? spanWords(building, it.first) : '', it.last < 0 ? 'nobody stays' : spanWords(building, it.last + 1)]);
   return section('Storeys over time', 'printed', html('figure', {}, stripPicture(building, storeys)),
     html('details', {}, html('summary', {}, 'The same as a table'), table('People who stay on each storey', ['storey', 'most who stay', 'when first', 'last one leaves'], cells), more));
 }
@@ -269,7 +269,7 @@ function fullSection({ building, block }, full) {
 function assumptions(building) {
   const windows = [...building.arcs.values()].reduce((sum, arc) => sum + arc.windows.length, 0);
   return section('What it assumes', 'page', html('ul', {},
-    html('li', {}, `A period lasts ${some(building.period, 'second')}. The plan looks ${seconds(building, building.horizon)} ahead. The people of a period count as if all set out at its first instant. ${building.entrants.length === 0 || spanWords(building, 1).includes(' to ') ? 'So a time is from its moment on and before the next.' : 'People come in later, and not every node holds everybody: so no later end of a time is claimed.'}`),
+    html('li', {}, `A period lasts ${some(building.period, 'second')}. The plan looks ${seconds(building, building.horizon)} ahead. The people of a period count as if all set out at its first instant. ${hasLaterEnd(building) ? 'So a time is from its moment on and before the next.' : 'People come in later, and not every node holds everybody: so no later end of a time is claimed.'}`),
     html('li', {}, `${some(building.nodes.size, 'node')}, ${some(building.arcs.size, 'way')}, ${some(windows, 'closure')}, ${some(building.entrants.length, 'late arrival')}.`),
     html('li', {}, 'Everybody follows the plan. Nobody has proved that the rates, travel times and capacities are true of the building: check them against your code and your drawings.'),
     html('li', {}, 'It is the best case. It doesn\'t predict what people will do. Add the time before people set out, and the margin that your code asks for.')));

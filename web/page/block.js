@@ -1,4 +1,4 @@
-/** What the program prints of a plan, read by the rules of docs/FORMATS.md: an answer block, and the block of a shortfall. */
+/** What the program prints of a plan, read by the rules of docs/users/formats.md: an answer block, and the block of a shortfall. */
 import { Fault, linesOf, numberAt, wantFields } from './lines.js';
 import { wayOf } from './building.js';
 

@@ -1,4 +1,4 @@
-/** A building, and its reader. Both are written from docs/FORMATS.md, and share nothing with the program. */
+/** A building, and its reader. Both are written from docs/users/formats.md, and share nothing with the program. */
 import { Fault, linesOf, numberAt, partsOfName, wantFields } from './lines.js';
 
 /** @typedef {import('./lines.js').Line} Line */
@@ -39,7 +39,7 @@ import { Fault, linesOf, numberAt, partsOfName, wantFields } from './lines.js';
  * @property {Map<string, Arc>} arcs by both names with a space between, in the order of the text
  * @property {Entrant[]} entrants
  * @property {number} end the line of `end`
- * @property {number} shares as how many shares each person is counted, by a comment `#shares N` (docs/FIGURES.md); 1 without one
+ * @property {number} shares as how many shares each person is counted, by a comment `#shares N` (docs/users/modelling.md); 1 without one
  */
 
 export const MOST_RATE = 10000;

@@ -3,7 +3,7 @@ import { html, mark, table } from './dom.js';
 import { MOST_PEOPLE, MOST_RATE, wayOf } from './building.js';
 import { isShut } from './edits.js';
 import { measuresOf } from './measures.js';
-import { count, seconds, spanWords } from './times.js';
+import { count, seconds, spanWords, whenWords } from './times.js';
 
 /** @typedef {import('./building.js').Building} Building */
 /** @typedef {import('./building.js').Node} Node */
@@ -145,7 +145,7 @@ function difference(building, moments) {
 function changeRow({ building, block, words }, given, isFirst) {
   const { people, cleared, half, most, mean } = measuresOf(block);
   const change = isFirst ? '' : difference(building, cleared - given.block.cleared);
-  return [words, spanWords(building, cleared), change, spanWords(building, half), spanWords(building, most), `${(mean * building.period).toFixed(0)} s`, count(people)];
+  return [words, spanWords(building, cleared), change, spanWords(building, half), spanWords(building, most), spanWords(building, mean), count(people)];
 }
 
 /**
@@ -154,9 +154,8 @@ function changeRow({ building, block, words }, given, isFirst) {
  */
 export function changeWords(answers) {
   const [before, after] = answers.slice(-2), change = after.block.cleared - before.block.cleared;
-  const was = spanWords(before.building, before.block.cleared);
-  const how = change === 0 ? `That is as soon as before.` : `That is ${seconds(after.building, Math.abs(change))} ${change > 0 ? 'later' : 'sooner'} than the ${was} before.`;
-  return `With the last change (${after.words}) all ${count(after.block.people)} people can be out after ${spanWords(after.building, after.block.cleared)}. ${how}`;
+  const by = `${seconds(after.building, Math.abs(change))} ${change > 0 ? 'later' : 'sooner'} than`, was = spanWords(before.building, before.block.cleared);
+  return `With the last change (${after.words}) all ${count(after.block.people)} people can be out ${whenWords(after.building, after.block.cleared)}. That is ${change ? by : 'as soon as'} before (${was}).`;
 }
 
 /**
@@ -165,6 +164,6 @@ export function changeWords(answers) {
  */
 export function changeTable(answers) {
   const rows = answers.map((answer, at) => changeRow(answer, answers[0], at === 0));
-  const heads = ['building, with all changes above', 'all out after', 'change', 'half out', '95 % out', 'mean', 'people'];
+  const heads = ['building, with all changes above', 'all out', 'change', 'half out', '95 % out', 'on average', 'people'];
   return [html('p', { id: 'change-words', class: 'lead' }, changeWords(answers), ' ', mark('checked')), html('div', { class: 'wide', tabindex: 0, role: 'group', 'aria-label': 'What changed, which scrolls sideways' }, table('What changed', heads, rows, { id: 'changes' }))];
 }

@@ -1,6 +1,6 @@
 /**
  * Checks an answer by itself: the plan is feasible, it has everybody out by the stated moment and not before, and for each period the stated cut is worth as
- * many people as are out by then. So no plan has more out by any period, whoever made this one. Written from docs/FORMATS.md and independent of the program.
+ * many people as are out by then. So no plan has more out by any period, whoever made this one. Written from docs/users/formats.md and independent of the program.
  */
 import { Fault } from './lines.js';
 import { peopleOf, rateAt } from './building.js';

@@ -1,4 +1,4 @@
-/** Edits of a building, as a session has them (docs/FORMATS.md): what they make of it, how they are said, and the text of an edited building. */
+/** Edits of a building, as a session has them (docs/users/formats.md): what they make of it, how they are said, and the text of an edited building. */
 import { wayOf } from './building.js';
 import { seconds } from './times.js';
 

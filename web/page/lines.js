@@ -1,4 +1,4 @@
-/** Lines, fields, numbers and names, as docs/FORMATS.md has them. */
+/** Lines, fields, numbers and names, as docs/users/formats.md has them. */
 
 /** Something that isn't as the format has it, at a line counted from 1. */
 export class Fault extends Error {

@@ -172,7 +172,7 @@ export function uncongested(building) {
  */
 export function measuresOf(block) {
   const { people, cleared, out } = block;
-  return { people, cleared, half: periodOf(out, Math.ceil(people / 2)), most: periodOf(out, Math.ceil(people * 0.95)), mean: meanMoment(block) };
+  return { people, cleared, half: periodOf(out, Math.ceil(people / 2)), most: periodOf(out, Math.ceil((people * 95) / 100)), mean: meanMoment(block) };
 }
 
 /**

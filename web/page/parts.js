@@ -1,4 +1,4 @@
-/** What `pack` puts into the page in place of this file: the program's module, its worker, examples, and tables of docs/FORMATS.md. */
+/** What `pack` puts into the page in place of this file: the program's module, its worker, examples, and tables of docs/users/formats.md. */
 
 /**
  * The WebAssembly module, in base64.

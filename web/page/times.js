@@ -31,32 +31,42 @@ export function seconds(building, moment) {
 }
 
 /**
- * The moment with its seconds: `27 (135 s)`.
- * @param {Building} building
- * @param {number} moment
- */
-export function momentWords(building, moment) {
-  return `${count(moment)} (${seconds(building, moment)})`;
-}
-
-/**
  * Whether all that a moment says holds by the end of its period, however short the periods are made: a law if nobody comes later, or each node holds everybody.
  * @param {Building} building
  */
-function hasLaterEnd(building) {
+export function hasLaterEnd(building) {
   const nodes = [...building.nodes.values()], people = peopleOf(building);
   return building.entrants.length === 0 || nodes.every((node) => node.isExit || node.capacity >= people);
 }
 
 /**
- * The seconds that a time of people being out stands for: `140 to 145 s`. The plan counts the people of a period as if all set out at its first instant,
- * so the true time is from this moment on and before the next. Where no later end can be claimed: `from 140 s`.
+ * The seconds that a moment of people being out stands for, or a mean of such moments: `140 to 145 s`. The plan counts the people of a period as if all set
+ * out at its first instant, so the true time is from this moment on and before the next. If no later end can be claimed: `from 140 s`.
  * @param {Building} building
  * @param {number} moment
  */
 export function spanWords(building, moment) {
-  const from = count(moment * building.period);
-  return hasLaterEnd(building) ? `${from} to ${count((moment + 1) * building.period)} s` : `from ${from} s`;
+  const [from, until] = [moment, moment + 1].map((it) => count(Math.round(it * building.period)));
+  return hasLaterEnd(building) ? `${from} to ${until} s` : `from ${from} s`;
+}
+
+/**
+ * The same as the end of a sentence: `after 140 to 145 s`, or `from 140 s on`.
+ * @param {Building} building
+ * @param {number} moment
+ */
+export function whenWords(building, moment) {
+  const span = spanWords(building, moment);
+  return hasLaterEnd(building) ? `after ${span}` : `${span} on`;
+}
+
+/**
+ * A moment with its seconds: `27 (135 to 140 s)`.
+ * @param {Building} building
+ * @param {number} moment
+ */
+export function momentWords(building, moment) {
+  return `${count(moment)} (${spanWords(building, moment)})`;
 }
 
 /**
@@ -78,16 +88,12 @@ export function runsOf(moments) {
 const MANY_RUNS = 4;
 
 /**
- * Moments in seconds: `10 to 115 s`.
+ * The seconds of the periods of some moments: `10 to 120 s` for the moments 2 to 23 of 5 seconds each.
  * @param {Building} building
  * @param {number[]} moments
  */
 export function runsWords(building, moments) {
-  const runs = runsOf(moments);
-  const words = runs.slice(0, MANY_RUNS).map(([first, last]) => {
-    const from = count(first * building.period);
-    return first === last ? from : `${from} to ${count(last * building.period)}`;
-  });
-  const more = runs.length - words.length;
+  const runs = runsOf(moments), shown = runs.slice(0, MANY_RUNS), more = runs.length - shown.length;
+  const words = shown.map(([first, last]) => `${count(first * building.period)} to ${count((last + 1) * building.period)}`);
   return `${words.join(', ')}${words.length ? ' s' : ''}${more > 0 ? ` and ${some(more, 'more span')}` : ''}`;
 }

@@ -8,9 +8,9 @@ import { editedText } from '../page/edits.js';
 import { Host } from '../page/host.js';
 import { Run } from '../page/program.js';
 import { EMPTY, nextName, rowsOf, withArc, withField, withNode, withSetting, withoutArc, withoutNode } from '../page/rows.js';
-import { measuresOf, uncongested } from '../page/measures.js';
+import { cutPlaces, measuresOf, uncongested } from '../page/measures.js';
 import { readBuilding } from '../page/building.js';
-import { spanWords } from '../page/times.js';
+import { momentWords, runsWords, spanWords, whenWords } from '../page/times.js';
 
 const [modulePath, program] = process.argv.slice(2);
 const module = await WebAssembly.compile(fs.readFileSync(modulePath));
@@ -127,11 +127,19 @@ async function testWrong() {
   assert.deepEqual([short.kind, short.line], ['wrong', 3]);
 }
 
-/** What a time stands for: no later end is claimed if people come later and a node may be too small. */
+/** What a time stands for: both ends of its period, as evacask writes it. No later end is claimed if people come later and a node may be too small. */
 async function testTimes() {
-  const office = (await newDesk().plan(example('office'))).building, theatre = (await newDesk().plan(example('theatre'))).building;
+  const given = await newDesk().plan(example('office')), theatre = (await newDesk().plan(example('theatre'))).building, office = given.building;
   assert.equal(spanWords(office, 28), '140 to 145 s');
+  assert.equal(spanWords(office, measuresOf(given.block).mean), '70 to 75 s');
+  assert.equal(momentWords(office, 27), '27 (135 to 140 s)');
+  assert.equal(whenWords(office, 28), 'after 140 to 145 s');
   assert.match(spanWords(theatre, 1), /^from \d+ s$/);
+  assert.match(whenWords(theatre, 1), /^from \d+ s on$/);
+  const way = cutPlaces(office, given.block, 27).find(({ kind }) => kind === 'arc');
+  assert.equal(runsWords(office, way.moments), '10 to 120 s');
+  assert.equal(runsWords(office, [0, 2, 3, 5, 7, 9]), '0 to 5, 10 to 20, 25 to 30, 35 to 40 s and 1 more span');
+  assert.equal(runsWords(office, []), '');
   assert.equal(readBuilding(`#shares 40\n${example('office')}`).shares, 40);
   assert.equal(office.shares, 1);
 }

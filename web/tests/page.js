@@ -53,13 +53,13 @@ async function testJourney(browser) {
   const took = await planFile(browser, path.join(examples, 'office.evac'));
   assert.equal(await browser.text('#sentence'), 'All 240 people can be out after 140 to 145 seconds.');
   assert.match(await browser.text('#verdict'), /^Checked\./);
-  assert.match(await browser.text('#first-parts'), /At most 236 of 240 can be out by moment 27 \(135 s\)/);
-  assert.match(await browser.text('#first-parts'), /SW2\.2 to DS2\.1\s+88\s+10 to 115 s/);
+  assert.match(await browser.text('#first-parts'), /At most 236 of 240 can be out by moment 27 \(135 to 140 s\)/);
+  assert.match(await browser.text('#first-parts'), /SW2\.2 to DS2\.1\s+88\s+10 to 120 s/);
   await browser.shot(path.join(shots, `${browser.name}-office.png`), true);
   await choose(browser, 'DS2.1');
   await browser.click('#change-buttons button');
   await browser.until("document.getElementById('changes') !== null");
-  assert.match(await browser.text('#change-words'), /exit DS2\.1 closed.*after 250 to 255 s\. That is 110 s later than the 140 to 145 s before/);
+  assert.match(await browser.text('#change-words'), /exit DS2\.1 closed.*after 250 to 255 s\. That is 110 s later than before \(140 to 145 s\)\./);
   assert.match(await browser.text('#changes'), /\+110 s/);
   await browser.until(IDLE);
   await browser.value("(document.getElementById('changes-part').scrollIntoView(), 1)");
@@ -110,7 +110,7 @@ async function testRefusals(browser) {
   await browser.click('#go-to-line');
   assert.match(await browser.value("(({ value, selectionStart, selectionEnd }) => value.slice(selectionStart, selectionEnd))(document.getElementById('text'))"), /HAl\.3/);
   await planFile(browser, fileOf(browser, 'short.evac', office.replace('horizon 120', 'horizon 20')));
-  assert.match(await browser.text('#sentence'), /^At most \d+ of 240 people can be out by 100 seconds\.$/);
+  assert.match(await browser.text('#sentence'), /^At most \d+ of 240 people can be out by moment 20 \(100 to 105 s\)\.$/);
   assert.match(await browser.text('#verdict'), /^Checked\./);
   await planFile(browser, fileOf(browser, 'nobody.evac', 'evacplan 1\nperiod 5\nhorizon 0\nfloor 0 x\nnode DS1.0\nend'));
   assert.equal(await browser.text('#sentence'), 'Nobody is in this building.');

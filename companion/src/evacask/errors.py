@@ -14,7 +14,7 @@ class EvacaskError(Exception):
 class Refused(EvacaskError):
     """A line of a building, an edit or a command is refused.
 
-    `code` is that of docs/FORMATS.md, `line` the number of a building's line from 1, or 0 for an edit or a command; `text` is that line itself.
+    `code` is that of docs/users/formats.md, `line` the number of a building's line from 1, or 0 for an edit or a command; `text` is that line itself.
     `meaning` says what is wrong, and `remedy` what to do.
     """
 
@@ -54,7 +54,7 @@ class NoProgram(EvacaskError):
 
 
 class NoMemory(EvacaskError):
-    """The program found no memory, its status 5."""
+    """The program found no memory, its status 5, or there was none to start it or a thread."""
 
 
 class Broken(EvacaskError):

@@ -2,9 +2,9 @@
 ghost use Rattle.std.specs.Prelude.{◌≡◌, ◌≤◌, Err, IfOk, false};
 ghost use Rattle.evac_law.specs.Building.{IsValid};
 ghost use Rattle.line_io.specs.Calls.{Asks};
-ghost use Rattle.line_io.specs.Causes.{Rose};
 ghost use Rattle.line_io.specs.Line.{input_limit};
 ghost use Rattle.line_io.specs.Reader.{Drained, is_settled, lines_left};
+ghost use Rattle.line_io.specs.Sides.{RisesWith};
 ghost use Rattle.building_table.specs.Names.{NamesFit};
 ghost use Rattle.certificate_text.specs.Block.{HasAllLabels, IsBlockOf};
 ghost use Rattle.block_reader.specs.ReaderLaws.{GivesBack};
@@ -118,9 +118,8 @@ pub fn read_block<S: Source>(
     ensures asks { Asks S.takes lines.old source.old lines.new source.new }
 
     // a read fault has its cause
-    ensures failed { result ≡ Err BlockFault.ReadFault → Rose (S.faults source.old) (S.faults source.new) }
+    ensures cause { RisesWith S.Source source.old source.new (result ≡ Err BlockFault.ReadFault) }
     ensures unfinished { result ≡ Err BlockFault.ReadFault → is_settled lines.new ≡ false }
-    ensures quiet { (result ≡ Err BlockFault.ReadFault → ⊥) → S.faults source.new ≡ S.faults source.old }
 {
     let mut reader = BlockReader {
         builder: BlockBuilder::new(alloc),

@@ -1,14 +1,13 @@
 -- What doors into exits bring together: the pairs of both of two cuts, and of one or the other, are two cuts again.
 use Rattle.std.proofs.Common.{◌≡◌, ℕ, ◌+◌, ◌<◌, ◌≤◌, Bool, true, false, cond, not, ◌&&◌, ◌||◌, eqb, leb, List, ◌∷◌, length, refl, ap, sym, ◌∙◌, arith}
-use Rattle.std.specs.List.{sum_by}
 use Rattle.evac_law.specs.declared.model.Model.{Model}
 use Rattle.evac_law.specs.Building.{arrival, capacity, entry, head, is_exit_at, rate, tail}
 use Rattle.evac_law.specs.Cuts.{Cut, cut_value, leaves_cut}
-use Rattle.evac_law.specs.Sums.{below}
-use Rattle.evac_law.proofs.SumLemmas.{sum2, sum2-add, sum2-le, sum_below-same}
-use Rattle.evac_law.proofs.WeakDuality.{out_le_value, value_is}
+use Rattle.evac_law.proofs.SumLemmas.{sum2, sum2-add, sum2-le, sum2-same_in}
+use Rattle.evac_law.proofs.WeakDuality.{out_le_value}
 use Rattle.building_laws.specs.Doors.{DifferAtDoors, DoorsAreSubstitutes, KeepsOpen, is_among}
 use Rattle.building_laws.proofs.Duality.{cut_of}
+use Rattle.building_laws.proofs.Values.{value_over}
 
 -- ---- the value of a cut at other rates
 
@@ -26,10 +25,6 @@ module _ (m : Model) (x : Cut) (k : ℕ) where
   abbrev pub value_at : (ℕ → ℕ → ℕ) → ℕ
   value_at r = entries_of m + (holds_of m + arcs_of r)
 
-same_sum2 : (n k : ℕ) (f g : ℕ → ℕ → ℕ) → ((i j : ℕ) → i < n → j < k → f i j ≡ g i j) → sum2 n k f ≡ sum2 n k g
-same_sum2 n k f g h =
-    sum_below-same (λ i. sum_by (f i) (below k)) (λ i. sum_by (g i) (below k)) n (λ i l. sum_below-same (f i) (g i) k (λ j s. h i j l s))
-
 module _ (m s : Model) (d : DifferAtDoors m s) where
   leaves_same : (x : Cut) (k t a : ℕ) → leaves_cut s x k t a ≡ leaves_cut m x k t a
   leaves_same x k t a = grind (arith, d.shape.tails, d.shape.heads, d.shape.exits, d.travels)
@@ -40,17 +35,14 @@ module _ (m s : Model) (d : DifferAtDoors m s) where
   value_of x k r l rates =
       omega (
         arith,
-        value_is s x k,
-        ap (λ i. sum2 i (k + 1) (λ n t. cond (x n t || eqb (entry s n t) 0) 0 (entry s n t))) d.shape.places,
-        ap (λ i. sum2 i k (λ n t. cond (x n t && not (x n (t + 1))) (capacity s n) 0)) d.shape.places,
-        ap (λ i. sum2 (k + 1) i (λ t a. cond (leaves_cut s x k t a) (rate s a t) 0)) d.shape.arcs,
-        same_sum2 (length m.nodes) (k + 1) (λ n t. cond (x n t || eqb (entry s n t) 0) 0 (entry s n t))
+        value_over m s x k d.shape.places d.shape.arcs,
+        sum2-same_in (length m.nodes) (k + 1) (λ n t. cond (x n t || eqb (entry s n t) 0) 0 (entry s n t))
             (λ n t. cond (x n t || eqb (entry m n t) 0) 0 (entry m n t))
             (λ n t _ _. ap (λ e. cond (x n t || eqb e 0) 0 e) (sym (d.entries n t))),
-        same_sum2 (length m.nodes) k (λ n t. cond (x n t && not (x n (t + 1))) (capacity s n) 0)
+        sum2-same_in (length m.nodes) k (λ n t. cond (x n t && not (x n (t + 1))) (capacity s n) 0)
             (λ n t. cond (x n t && not (x n (t + 1))) (capacity m n) 0)
             (λ n t _ _. ap (λ c. cond (x n t && not (x n (t + 1))) c 0) (sym (d.capacities n))),
-        same_sum2 (k + 1) (length m.arcs) (λ t a. cond (leaves_cut s x k t a) (rate s a t) 0)
+        sum2-same_in (k + 1) (length m.arcs) (λ t a. cond (leaves_cut s x k t a) (rate s a t) 0)
             (λ t a. cond (leaves_cut m x k t a) (r a t) 0)
             (λ t a i j. ap (λ b. cond b (rate s a t) 0) (leaves_same x k t a)
             ∙ ap (λ w. cond (leaves_cut m x k t a) w 0) (rates a t j (omega (arith, i, l)))),

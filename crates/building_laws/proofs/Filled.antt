@@ -1,5 +1,5 @@
 -- A plan that has as many people out by a moment as a cut is worth fills the cut: whatever it left unused there, it would lack.
-use Rattle.std.proofs.Common.{◌≡◌, ℕ, zero, suc, ◌+◌, ◌-◌, ◌<◌, ◌≤◌, Bool, true, false, cond, not, ◌&&◌, ◌||◌, eqb, ltb, leb, List, length, ap, arith, add-one, inl, inr, pos, ◌∙◌, ◌⊎◌}
+use Rattle.std.proofs.Common.{◌≡◌, ℕ, zero, suc, ◌+◌, ◌-◌, ◌<◌, ◌≤◌, Bool, true, false, cond, not, ◌&&◌, ◌||◌, ltb, leb, List, length, ap, arith, add-one, inl, inr, pos, ◌∙◌, ◌⊎◌}
 use Rattle.std.specs.List.{sum_by, All}
 use Rattle.std.proofs.lemmas.List.Elements.{All-weaker}
 use Rattle.std.proofs.lemmas.Bool.{cases_Bool, le-leb, lt-ltb}
@@ -14,9 +14,10 @@ use Rattle.evac_law.specs.LabelTable.{label_at}
 use Rattle.evac_law.specs.Plans.{IsFeasible, came, coming, held, leaving, left, moved, out_by}
 use Rattle.evac_law.specs.Sums.{below, moments_to, places}
 use Rattle.evac_law.proofs.Optimal.{certified_is_feasible, stated_cut_is_worth}
-use Rattle.evac_law.proofs.SumLemmas.{All-below, gather, pick_le, sum2, sum2-le, sum_below-suc, sum_by-add, sum_by-exchange, sum_by-le_all, sum_moments-suc, sum_moments-zero}
+use Rattle.evac_law.proofs.SumLemmas.{All-below, pick_le, sum2, sum_below-suc, sum_by-add, sum_by-exchange, sum_by-le_all, sum_moments-suc, sum_moments-zero}
+use Rattle.evac_law.proofs.Tight.{strayed, strayed_is, strays}
 use Rattle.evac_law.proofs.ValidLemmas.{arc_is}
-use Rattle.evac_law.proofs.WeakDuality.{came-suc, came-zero, entered, exit_node, from_cut, from_outside, joined, joined_is, left-suc, left-zero, node_entered, node_joined, node_spent, node_stayed, open_node, outside, spent, spent_is, stayed, stayed-suc, crossed_is, to_outside, value_is, within}
+use Rattle.evac_law.proofs.WeakDuality.{came-suc, came-zero, entered, entered_le, exit_node, from_cut, from_outside, joined, joined_is, left-suc, left-zero, node_entered, node_joined, node_spent, node_stayed, open_node, spent, spent_is, stayed, stayed-suc, crossed_is, to_outside, value_is, within}
 use Rattle.building_laws.specs.Filled.{FullInEveryBestPlan, StatedCutsAreFilled}
 use Rattle.building_laws.proofs.Counts.{termwise}
 
@@ -97,11 +98,6 @@ module _ (m : Model) (x : Cut) (q : List Move) (n : ℕ) where
 
 -- ---- the plan's moves, exactly
 
--- whether a move goes from outside the cut into it, or on past k
-abbrev strays : Model → Cut → ℕ → ℕ → ℕ → Bool
-strays m x k a t =
-    not (x (tail m a) t) && not (leb (arrival m a t) k && (is_exit_at m (head m a) || not (x (head m a) (arrival m a t))))
-
 one_move : (exit from_exit from_cut to_cut : Bool) (s r k p : ℕ) → s ≤ r → from_exit ≡ false
     → (cond (exit && leb r k) p 0 + cond (ltb r (k + 1) && (not exit && not to_cut)) p 0)
     + cond (ltb s (k + 1) && (not from_cut && not (leb r k && (exit || not to_cut)))) p 0
@@ -134,14 +130,7 @@ module _ (m : Model) (x : Cut) (q : List Move) (k : ℕ) (valid : IsValid m) (fe
         )
   ]
 
-  abbrev strayed : Move → ℕ
-  strayed v = cond (ltb v.moment (k + 1) && strays m x k v.arc v.moment) v.people 0
-
-  strayed_is : sum2 (length m.arcs) (k + 1) (λ a t. cond (strays m x k a t) (moved q a t) 0) ≡ sum_by strayed q
-  unfolding moved
-  strayed_is = gather (λ v. v.arc) (λ v. v.moment) (λ v. v.people) (strays m x k) (length m.arcs) (k + 1) q feasible.arcs
-
-  moves : (out_by m q k + sum_by (to_outside m x q k valid feasible) q) + sum_by strayed q
+  moves : (out_by m q k + sum_by (to_outside m x q k valid feasible) q) + sum_by (strayed m x k) q
       ≤ sum_by (from_outside m x q k valid feasible) q + sum_by (from_cut m x q k valid feasible) q
   unfolding out_by
   moves =
@@ -149,17 +138,17 @@ module _ (m : Model) (x : Cut) (q : List Move) (k : ℕ) (valid : IsValid m) (fe
       let to = to_outside m x q k valid feasible in
       let from = from_outside m x q k valid feasible in
       let over = from_cut m x q k valid feasible in
-      let each : All (λ v. (outs v + to v) + strayed v ≤ from v + over v) q =
-      All-weaker (λ v. v.arc < length m.arcs) (λ v. (outs v + to v) + strayed v ≤ from v + over v)
+      let each : All (λ v. (outs v + to v) + strayed m x k v ≤ from v + over v) q =
+      All-weaker (λ v. v.arc < length m.arcs) (λ v. (outs v + to v) + strayed m x k v ≤ from v + over v)
       (λ v l. one_move (is_exit_at m (head m v.arc)) (is_exit_at m (tail m v.arc)) (x (tail m v.arc) v.moment)
       (x (head m v.arc) (arrival m v.arc v.moment)) v.moment (arrival m v.arc v.moment) k v.people
       (omega arith) (arc_is m v.arc valid l).from_no_exit)
       q feasible.arcs in
       omega (
         arith,
-        sum_by-le_all (λ v. (outs v + to v) + strayed v) (λ v. from v + over v) q each,
+        sum_by-le_all (λ v. (outs v + to v) + strayed m x k v) (λ v. from v + over v) q each,
         sum_by-add from over q,
-        sum_by-add (λ v. outs v + to v) strayed q,
+        sum_by-add (λ v. outs v + to v) (strayed m x k) q,
         sum_by-add outs to q,
       )
 
@@ -190,16 +179,6 @@ module _ (m : Model) (x : Cut) (q : List Move) (k : ℕ) (valid : IsValid m) (fe
       one true u r l = omega arith
       one false u r l = omega arith
 
-  entry_le : (e i z : Bool) (p : ℕ) → (z ≡ true → p ≡ 0) → cond (not e && not i) p 0 ≤ cond (i || z) 0 p
-  entry_le e i z p h = grind arith
-
-  entered_le : sum_by (node_entered m x q k) (places m.nodes)
-      ≤ sum_by (λ n. sum_by (λ t. cond (x n t || eqb (entry m n t) 0) 0 (entry m n t)) (moments_to k)) (places m.nodes)
-  entered_le =
-      sum2-le (length m.nodes) (k + 1) (λ n t. cond (outside m x n t) (entry m n t) 0)
-      (λ n t. cond (x n t || eqb (entry m n t) 0) 0 (entry m n t))
-      (λ n t i j. entry_le (is_exit_at m n) (x n t) (eqb (entry m n t) 0) (entry m n t) (λ e. grind (arith, nat_tests)))
-
   nodes : sum_by (node_spent m x q k) (places m.nodes) + sum_by node_unused (places m.nodes)
       ≤ (sum_by (node_entered m x q k) (places m.nodes) + sum_by (node_joined m x q k) (places m.nodes))
       + sum_by (node_stayed m x q k) (places m.nodes)
@@ -215,8 +194,8 @@ module _ (m : Model) (x : Cut) (q : List Move) (k : ℕ) (valid : IsValid m) (fe
       )
 
   -- a plan lacks as many of the cut's value as it leaves unused there
-  lacks : out_by m q k + (sum_by strayed q + (sum_by node_unused (places m.nodes) + sum2 (length m.arcs) (k + 1) spare)) ≤ cut_value m x k
-  lacks = omega (arith, value_is m x k, moves, spent_is m x q k valid feasible, joined_is m x q k valid feasible, nodes, entered_le, crossed)
+  lacks : out_by m q k + (sum_by (strayed m x k) q + (sum_by node_unused (places m.nodes) + sum2 (length m.arcs) (k + 1) spare)) ≤ cut_value m x k
+  lacks = omega (arith, value_is m x k, moves, spent_is m x q k valid feasible, joined_is m x q k valid feasible, nodes, entered_le m x q k valid feasible, crossed)
 
   module _ (all : cut_value m x k ≤ out_by m q k) where
     no_spare : (a t : ℕ) → a < length m.arcs → t ≤ k → spare a t ≡ 0
@@ -235,7 +214,7 @@ module _ (m : Model) (x : Cut) (q : List Move) (k : ℕ) (valid : IsValid m) (fe
           arith,
           lacks,
           all,
-          strayed_is,
+          strayed_is m x k q feasible,
           pick_le (λ b. sum_by (λ s. cond (strays m x k b s) (moved q b s) 0) (moments_to k)) (length m.arcs) a i,
           pick_le (λ s. cond (strays m x k a s) (moved q a s) 0) (k + 1) t (omega (arith, l)),
         )

@@ -14,7 +14,7 @@ use Rattle.evac_law.specs.Plans.{IsFeasible, out_by}
 use Rattle.evac_law.specs.Sums.{below, moments_to, places}
 use Rattle.evac_law.proofs.Entries.{entered_all, entries_le, exit_entry}
 use Rattle.evac_law.proofs.Optimal.{certified_is_best, certified_is_feasible, out_le_out, out_le_people}
-use Rattle.evac_law.proofs.SumLemmas.{pick_le, sum2-le, sum_below-same, sum_by-add, sum_by-exchange, sum_by-nothing, sum_by-same, sum_by-times}
+use Rattle.evac_law.proofs.SumLemmas.{cond_zero, pick_le, sum2-le, sum_below-same, sum_by-add, sum_by-exchange, sum_by-nothing, sum_by-same, sum_by-times}
 use Rattle.evac_law.proofs.ValidLemmas.{node_is}
 use Rattle.evac_law.proofs.WeakDuality.{out_le_value}
 use Rattle.building_laws.specs.Delays.{HasRoomForAll}
@@ -349,9 +349,6 @@ module _ (m f : Model) (q : ℕ) (valid : IsValid m) (valid' : IsValid f) (finer
     never_left : (b : Bool) (c s : ℕ) → (not b && leb c s) ≡ false → b ≡ false → c ≤ s → ⊥
     never_left b c s e f l = grind (arith, nat_tests)
 
-    no_room : (b : Bool) (c : ℕ) → c ≡ 0 → cond b c 0 ≤ 0
-    no_room b c e = grind arith
-
     none_at : (i : Bool) (e : ℕ) → e ≡ 0 → cond (i || eqb e 0) 0 e ≤ 0
     none_at i e h = grind (arith, nat_tests)
 
@@ -362,7 +359,7 @@ module _ (m f : Model) (q : ℕ) (valid : IsValid m) (valid' : IsValid f) (finer
           termwise (λ t. cond (x n t || eqb (entry m n t) 0) 0 (entry m n t)) (λ _. 0) (k + 1)
               (λ t _. none_at (x n t) (entry m n t) (exit_entry m n t valid i exit)),
           termwise (λ t. cond (x n t && not (x n (t + 1))) (capacity m n) 0) (λ _. 0) k
-              (λ t _. no_room (x n t && not (x n (t + 1))) (capacity m n) ((node_is m n valid i).exit_is_empty exit)),
+              (λ t _. cond_zero (x n t && not (x n (t + 1))) (capacity m n) ((node_is m n valid i).exit_is_empty exit)),
           sum_by-nothing (below (k + 1)),
           sum_by-nothing (below k),
         )

@@ -14,6 +14,7 @@ use Rattle.evac_law.proofs.SumLemmas.{cond_mono, sum2, sum2-le, sum_below-same, 
 use Rattle.evac_law.proofs.WeakDuality.{out_le_value, value_is}
 use Rattle.building_laws.specs.Shares.{HasShares, HasTimesTheCurve, HasTimesThePeople, RoundedRatesBracket}
 use Rattle.building_laws.proofs.Duality.{cleared_or_short, cut_of}
+use Rattle.building_laws.proofs.Values.{value_over}
 
 -- a sum of terms that are s times as large
 times2 : (s n k : ℕ) (f g : ℕ → ℕ → ℕ) → ((i j : ℕ) → i < n → j < k → g i j ≡ s * f i j) → sum2 n k g ≡ s * sum2 n k f
@@ -62,10 +63,7 @@ module _ (m g : Model) (s : ℕ) (times : HasTimesThePeople m g s) where
     value_parts =
         omega (
           arith,
-          value_is g x k,
-          ap (λ i. sum_by (λ n. sum_by (λ t. cond (x n t || eqb (entry g n t) 0) 0 (entry g n t)) (moments_to k)) (below i)) times.shape.places,
-          ap (λ i. sum_by (λ n. sum_by (λ t. cond (x n t && not (x n (t + 1))) (capacity g n) 0) (below k)) (below i)) times.shape.places,
-          ap (λ i. sum_by (λ t. sum_by (λ a. cond (leaves_cut g x k t a) (rate g a t) 0) (below i)) (moments_to k)) times.shape.arcs,
+          value_over m g x k times.shape.places times.shape.arcs,
           arcs_of_g,
         )
       where

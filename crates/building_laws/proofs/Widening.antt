@@ -1,15 +1,14 @@
 -- A cut's value grows by what its items grow by.
-use Rattle.std.proofs.Common.{◌≡◌, ℕ, ◌+◌, ◌-◌, ◌≤◌, Bool, cond, not, ◌&&◌, ◌||◌, eqb, length, refl, ap, arith}
-use Rattle.std.specs.List.{sum_by}
+use Rattle.std.proofs.Common.{◌≡◌, ℕ, ◌+◌, ◌-◌, ◌≤◌, Bool, cond, not, ◌&&◌, ◌||◌, eqb, length, refl, arith}
 use Rattle.std.proofs.lemmas.Bool.Decides.{nat_tests}
 use Rattle.evac_law.specs.declared.model.Model.{Model}
 use Rattle.evac_law.specs.Building.{capacity, entry, rate}
 use Rattle.evac_law.specs.Cuts.{Cut, cut_value, leaves_cut}
-use Rattle.evac_law.specs.Sums.{below, moments_to}
 use Rattle.evac_law.proofs.SumLemmas.{sum2-add, sum2-le}
 use Rattle.evac_law.proofs.WeakDuality.{out_le_value, value_is}
 use Rattle.building_laws.specs.Looser.{IsLooser}
 use Rattle.building_laws.specs.Widening.{WideningIsBounded, gain}
+use Rattle.building_laws.proofs.Values.{value_over}
 
 module _ (m m' : Model) (x : Cut) (k : ℕ) (looser : IsLooser m m') (l : k ≤ m.horizon) where
   entry_same : (n t : ℕ) → entry m' n t ≡ entry m n t
@@ -33,10 +32,7 @@ module _ (m m' : Model) (x : Cut) (k : ℕ) (looser : IsLooser m m') (l : k ≤ 
       omega (
         arith,
         value_is m x k,
-        value_is m' x k,
-        ap (λ i. sum_by (λ n. sum_by (λ t. cond (x n t || eqb (entry m' n t) 0) 0 (entry m' n t)) (moments_to k)) (below i)) looser.places,
-        ap (λ i. sum_by (λ n. sum_by (λ t. cond (x n t && not (x n (t + 1))) (capacity m' n) 0) (below k)) (below i)) looser.places,
-        ap (λ i. sum_by (λ t. sum_by (λ a. cond (leaves_cut m' x k t a) (rate m' a t) 0) (below i)) (moments_to k)) looser.arcs,
+        value_over m m' x k looser.places looser.arcs,
         sum2-le (length m.nodes) (k + 1) (λ n t. cond (x n t || eqb (entry m' n t) 0) 0 (entry m' n t))
             (λ n t. cond (x n t || eqb (entry m n t) 0) 0 (entry m n t))
             (λ n t _ _. same_entry (x n t) (entry m n t) (entry m' n t) (entry_same n t)),

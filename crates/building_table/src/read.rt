@@ -2,12 +2,12 @@
 ghost use Rattle.std.specs.Prelude.{◌≡◌, ◌≤◌, Err, IfOk, IfSome, None, Some, false};
 ghost use Rattle.evac_law.specs.Building.{IsValid};
 ghost use Rattle.line_io.specs.Calls.{Asks};
-ghost use Rattle.line_io.specs.Causes.{Rose};
 ghost use Rattle.line_io.specs.Reader.{Drained, is_settled, lines_left};
 ghost use Rattle.building_table.specs.Names.{NamesFit};
 ghost use Rattle.building_table.specs.Passes.{ReadsLines, ReadsModel};
 ghost use Rattle.building_table.specs.Reads.{ConcludesModel};
 ghost use Rattle.line_io.specs.Line.{input_limit};
+ghost use Rattle.line_io.specs.Sides.{RisesWith};
 
 use crate::builder::Builder;
 use crate::building::Building;
@@ -108,9 +108,8 @@ pub fn read_model<S: Source>(
     ensures asks { Asks S.takes lines.old source.old lines.new source.new }
 
     // a read fault has its cause
-    ensures failed { result ≡ Err ModelFault.ReadFault → Rose (S.faults source.old) (S.faults source.new) }
+    ensures cause { RisesWith S.Source source.old source.new (result ≡ Err ModelFault.ReadFault) }
     ensures unfinished { result ≡ Err ModelFault.ReadFault → is_settled lines.new ≡ false }
-    ensures quiet { (result ≡ Err ModelFault.ReadFault → ⊥) → S.faults source.new ≡ S.faults source.old }
 {
     let Ok(builder) = Builder::new(alloc) else {
         return Err(ModelFault::Memory);

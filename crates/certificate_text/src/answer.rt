@@ -6,8 +6,8 @@ ghost use Rattle.evac_law.specs.Stands.{Fits};
 ghost use Rattle.evac_law.proofs.Curve.{arriving, arriving_by};
 ghost use Rattle.std.specs.List.{flat_map};
 ghost use Rattle.evac_law.specs.Sums.{below};
-ghost use Rattle.line_io.specs.Causes.{HasCause};
-ghost use Rattle.line_io.specs.Writer.{PutsText, Writes};
+ghost use Rattle.line_io.specs.Sides.{HasSinkCause};
+ghost use Rattle.line_io.specs.Writer.{PutsTextTo, Writes};
 ghost use Rattle.certificate_text.specs.ExitArcs.{arcs_out, leads_out};
 ghost use Rattle.certificate_text.specs.NameTexts.{ends_texts, entering_line, run_line};
 ghost use Rattle.certificate_text.specs.Block.{number_field_limit};
@@ -80,7 +80,7 @@ fn put_outs<K: Sink, F: Standing>(
     requires valid { IsValid model.now }
     requires fits { Fits model.now (F.stand standing.now) }
     requires cleared_in { cleared ≤ model.now.horizon }
-    ensures { Writes K.held K.faults writer.old (out_lines model.now (F.stand standing.now).plan cleared) writer.new }
+    ensures { Writes K.Sink writer.old (out_lines model.now (F.stand standing.now).plan cleared) writer.new }
 {
     let arcs = arcs_out(model);
     let mut people = 0u64;
@@ -120,7 +120,7 @@ fn put_runs<K: Sink>(
 )
     requires node_in { node < labels.now.nodes }
     requires cleared_in { cleared ≤ labels.now.horizon }
-    ensures { Writes K.held K.faults writer.old (flat_map (run_line name.now labels.now cleared node) (below cleared)) writer.new }
+    ensures { Writes K.Sink writer.old (flat_map (run_line name.now labels.now cleared node) (below cleared)) writer.new }
 {
     for moment in 0..cleared {
         if begins_run(labels, cleared, node, moment) {
@@ -142,7 +142,7 @@ fn put_node<K: Sink>(
     requires table { IsTableOf model.now labels.now }
     requires cleared_in { cleared ≤ model.now.horizon }
     requires node_in { node < length model.now.nodes }
-    ensures { Writes K.held K.faults writer.old (node_labels model.now labels.now cleared node) writer.new }
+    ensures { Writes K.Sink writer.old (node_labels model.now labels.now cleared node) writer.new }
 {
     let name = model.node(node).name;
     if !name.kind.is_exit() {
@@ -154,7 +154,7 @@ fn put_labels<K: Sink>(writer: &mut Writer<'_, K>, model: &Model, labels: &Label
     requires valid { IsValid model.now }
     requires table { IsTableOf model.now labels.now }
     requires cleared_in { cleared ≤ model.now.horizon }
-    ensures { Writes K.held K.faults writer.old (label_lines model.now labels.now cleared) writer.new }
+    ensures { Writes K.Sink writer.old (label_lines model.now labels.now cleared) writer.new }
 {
     for node in 0..model.node_count() {
         put_node(writer, model, labels, cleared, node);
@@ -166,7 +166,7 @@ fn put_step<K: Sink>(writer: &mut Writer<'_, K>, model: &Model, ends: &[EndsText
     requires valid { IsValid model.now }
     requires ends { ends.now ≡ ends_texts model.now }
     requires arc_in { step.arc < length model.now.arcs }
-    ensures { Writes K.held K.faults writer.old (entering_line model.now step) writer.new }
+    ensures { Writes K.Sink writer.old (entering_line model.now step) writer.new }
 {
     if step.people == 0 {
         return;
@@ -186,7 +186,7 @@ fn put_moment<K: Sink, F: Standing>(
     requires ends { ends.now ≡ ends_texts model.now }
     requires fits { Fits model.now (F.stand standing.now) }
     requires moment_in { moment ≤ model.now.horizon }
-    ensures { Writes K.held K.faults writer.old (moment_moves model.now (F.stand standing.now).plan moment) writer.new }
+    ensures { Writes K.Sink writer.old (moment_moves model.now (F.stand standing.now).plan moment) writer.new }
 {
     for arc in 0..model.arc_count() {
         let people = standing.moved(arc, moment);
@@ -210,7 +210,7 @@ fn put_named_moves<K: Sink, F: Standing>(
     requires valid { IsValid model.now }
     requires ends { ends.now ≡ ends_texts model.now }
     requires fits { Fits model.now (F.stand standing.now) }
-    ensures { Writes K.held K.faults writer.old (move_lines model.now (F.stand standing.now).plan) writer.new }
+    ensures { Writes K.Sink writer.old (move_lines model.now (F.stand standing.now).plan) writer.new }
 {
     // nobody moves after the last arrival
     let last = standing.cleared().min(model.horizon);
@@ -223,7 +223,7 @@ fn put_named_moves<K: Sink, F: Standing>(
 pub fn put_moves<K: Sink, F: Standing>(writer: &mut Writer<'_, K>, model: &Model, standing: &F)
     requires valid { IsValid model.now }
     requires fits { Fits model.now (F.stand standing.now) }
-    ensures { Writes K.held K.faults writer.old (move_lines model.now (F.stand standing.now).plan) writer.new }
+    ensures { Writes K.Sink writer.old (move_lines model.now (F.stand standing.now).plan) writer.new }
 {
     let ends = ends_texts(model);
     put_named_moves(writer, model, &ends, standing);
@@ -242,7 +242,7 @@ pub fn put_answer<K: Sink, F: Standing>(
     requires table { IsTableOf model.now labels.now }
     requires in_time { (F.stand standing.now).last ≤ model.now.horizon }
     ensures text { let s = F.stand standing.now in
-        Writes K.held K.faults writer.old (answer_text index model.now s.plan labels.now s.last) writer.new }
+        Writes K.Sink writer.old (answer_text index model.now s.plan labels.now s.last) writer.new }
     ensures back { let s = F.stand standing.now in
         index ≤ number_field_limit → IsCertified model.now s.plan labels.now s.last → ReadsBack index model.now s.plan labels.now s.last }
 {
@@ -272,10 +272,10 @@ pub fn write_answer<K: Sink, F: Standing>(
     requires table { IsTableOf model.now labels.now }
     requires in_time { (F.stand standing.now).last ≤ model.now.horizon }
     ensures text { let s = F.stand standing.now in
-        PutsText (K.held sink.old) out.old (answer_text index model.now s.plan labels.now s.last) (K.held sink.new) out.new result }
+        PutsTextTo K.Sink sink.old out.old (answer_text index model.now s.plan labels.now s.last) sink.new out.new result }
     ensures back { let s = F.stand standing.now in
         index ≤ number_field_limit → IsCertified model.now s.plan labels.now s.last → ReadsBack index model.now s.plan labels.now s.last }
-    ensures cause { HasCause (K.faults sink.old) (K.faults sink.new) result }
+    ensures cause { HasSinkCause K.Sink sink.old sink.new result }
 {
     let mut writer = Writer::new(out, sink);
     put_answer(&mut writer, model, index, standing, labels);

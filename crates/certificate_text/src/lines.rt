@@ -20,7 +20,7 @@ pub fn put_name(line: &mut TextLine, name: NodeName)
 
 #[tactic(auto, unfolding(crate::specs::BlockText::answer_line))]
 pub(crate) fn put_index<K: Sink>(writer: &mut Writer<'_, K>, index: u32)
-    ensures { Writes K.held K.faults writer.old (answer_line index) writer.new }
+    ensures { Writes K.Sink writer.old (answer_line index) writer.new }
 {
     let mut line = TextLine::new(b"answer");
     line.number(u64::from(index));
@@ -29,7 +29,7 @@ pub(crate) fn put_index<K: Sink>(writer: &mut Writer<'_, K>, index: u32)
 
 #[tactic(auto, unfolding(crate::specs::BlockText::people_line))]
 pub(crate) fn put_people<K: Sink>(writer: &mut Writer<'_, K>, people: u32)
-    ensures { Writes K.held K.faults writer.old (people_line people) writer.new }
+    ensures { Writes K.Sink writer.old (people_line people) writer.new }
 {
     let mut line = TextLine::new(b"people");
     line.number(u64::from(people));
@@ -38,7 +38,7 @@ pub(crate) fn put_people<K: Sink>(writer: &mut Writer<'_, K>, people: u32)
 
 #[tactic(auto, unfolding(crate::specs::BlockText::cleared_line))]
 pub(crate) fn put_cleared<K: Sink>(writer: &mut Writer<'_, K>, moment: u16)
-    ensures { Writes K.held K.faults writer.old (cleared_line moment) writer.new }
+    ensures { Writes K.Sink writer.old (cleared_line moment) writer.new }
 {
     let mut line = TextLine::new(b"cleared");
     line.number(u64::from(moment));
@@ -47,7 +47,7 @@ pub(crate) fn put_cleared<K: Sink>(writer: &mut Writer<'_, K>, moment: u16)
 
 #[tactic(auto, unfolding(crate::specs::BlockText::out_line))]
 pub(crate) fn put_out<K: Sink>(writer: &mut Writer<'_, K>, period: u16, people: u64)
-    ensures { Writes K.held K.faults writer.old (out_line period people) writer.new }
+    ensures { Writes K.Sink writer.old (out_line period people) writer.new }
 {
     let mut line = TextLine::new(b"out");
     line.number(u64::from(period));
@@ -62,7 +62,7 @@ pub(crate) fn put_label<K: Sink>(
     moment: u16,
     label: u16,
 )
-    ensures { Writes K.held K.faults writer.old (label_line name.now moment label) writer.new }
+    ensures { Writes K.Sink writer.old (label_line name.now moment label) writer.new }
 {
     let mut line = TextLine::new(b"label");
     line.field(name.bytes());
@@ -78,7 +78,7 @@ pub(crate) fn put_move<K: Sink>(
     ends: &EndsText,
     people: u32,
 )
-    ensures { (from to : List ℕ) → ends.now ≡ from ++ (32 ∷ to) → Writes K.held K.faults writer.old (move_line moment from to people) writer.new }
+    ensures { (from to : List ℕ) → ends.now ≡ from ++ (32 ∷ to) → Writes K.Sink writer.old (move_line moment from to people) writer.new }
 {
     let mut line = TextLine::new(b"move");
     line.number(u64::from(moment));
@@ -89,7 +89,7 @@ pub(crate) fn put_move<K: Sink>(
 
 #[tactic(auto, unfolding(crate::specs::BlockText::most_line))]
 pub(crate) fn put_most<K: Sink>(writer: &mut Writer<'_, K>, most: u32)
-    ensures { Writes K.held K.faults writer.old (most_line most) writer.new }
+    ensures { Writes K.Sink writer.old (most_line most) writer.new }
 {
     let mut line = TextLine::new(b"most");
     line.number(u64::from(most));
@@ -99,7 +99,7 @@ pub(crate) fn put_most<K: Sink>(writer: &mut Writer<'_, K>, most: u32)
 #[tactic(auto, unfolding(crate::specs::BlockText::in_line))]
 pub(crate) fn put_in<K: Sink>(writer: &mut Writer<'_, K>, name: NodeName, first: u16, last: u16)
     requires { IsName name }
-    ensures { Writes K.held K.faults writer.old (in_line (name_text name) first last) writer.new }
+    ensures { Writes K.Sink writer.old (in_line (name_text name) first last) writer.new }
 {
     let mut line = TextLine::new(b"in");
     put_name(&mut line, name);
@@ -111,7 +111,7 @@ pub(crate) fn put_in<K: Sink>(writer: &mut Writer<'_, K>, name: NodeName, first:
 /// Puts the last line of a block.
 #[tactic(auto, unfolding(crate::specs::BlockText::end_line))]
 pub fn put_end<K: Sink>(writer: &mut Writer<'_, K>)
-    ensures { Writes K.held K.faults writer.old end_line writer.new }
+    ensures { Writes K.Sink writer.old end_line writer.new }
 {
     writer.put(TextLine::new(b"end"));
 }
@@ -119,7 +119,7 @@ pub fn put_end<K: Sink>(writer: &mut Writer<'_, K>)
 /// Puts a refusal by its code, at a line of the input.
 #[tactic(auto, unfolding(crate::specs::BlockText::refusal_line))]
 pub fn put_refusal<K: Sink>(writer: &mut Writer<'_, K>, code: Code, line: u32)
-    ensures { Writes K.held K.faults writer.old (refusal_line code line) writer.new }
+    ensures { Writes K.Sink writer.old (refusal_line code line) writer.new }
 {
     let mut text = TextLine::new(b"refused");
     text.number(u64::from(code.number()));

@@ -5,8 +5,8 @@ ghost use Rattle.evac_law.specs.Building.{IsValid, people as people_of};
 ghost use Rattle.evac_law.specs.Certificates.{IsTableOf, label_cut};
 ghost use Rattle.evac_law.specs.Sums.{moments_to};
 ghost use Rattle.evac_law.specs.declared.model.Model.{Model as ModelValue};
-ghost use Rattle.line_io.specs.Causes.{HasCause};
-ghost use Rattle.line_io.specs.Writer.{PutsText, Writes};
+ghost use Rattle.line_io.specs.Sides.{HasSinkCause};
+ghost use Rattle.line_io.specs.Writer.{PutsTextTo, Writes};
 ghost use Rattle.certificate_text.specs.BlockText.{in_lines, in_part, node_in, opens_run, run_end, shortfall_text};
 ghost use Rattle.certificate_text.specs.Short.{HasSameNames};
 
@@ -56,7 +56,7 @@ fn put_runs<K: Sink>(writer: &mut Writer<'_, K>, model: &Model, labels: &Labels,
     requires valid { IsValid model.now }
     requires table { IsTableOf model.now labels.now }
     requires node_in { node < length model.now.nodes }
-    ensures { Writes K.held K.faults writer.old (flat_map (in_part model.now (label_cut model.now labels.now k) node) (moments_to model.now.horizon)) writer.new }
+    ensures { Writes K.Sink writer.old (flat_map (in_part model.now (label_cut model.now labels.now k) node) (moments_to model.now.horizon)) writer.new }
 {
     for moment in 0..model.horizon + 1 {
         if opens_run(model, labels, k, node, moment) {
@@ -71,7 +71,7 @@ fn put_node<K: Sink>(writer: &mut Writer<'_, K>, model: &Model, labels: &Labels,
     requires valid { IsValid model.now }
     requires table { IsTableOf model.now labels.now }
     requires node_in { node < length model.now.nodes }
-    ensures { Writes K.held K.faults writer.old (node_in model.now (label_cut model.now labels.now k) node) writer.new }
+    ensures { Writes K.Sink writer.old (node_in model.now (label_cut model.now labels.now k) node) writer.new }
 {
     if !model.node(node).name.kind.is_exit() {
         put_runs(writer, model, labels, k, node);
@@ -82,7 +82,7 @@ fn put_node<K: Sink>(writer: &mut Writer<'_, K>, model: &Model, labels: &Labels,
 pub fn put_ins<K: Sink>(writer: &mut Writer<'_, K>, model: &Model, labels: &Labels, k: u16)
     requires valid { IsValid model.now }
     requires table { IsTableOf model.now labels.now }
-    ensures { Writes K.held K.faults writer.old (in_lines model.now (label_cut model.now labels.now k)) writer.new }
+    ensures { Writes K.Sink writer.old (in_lines model.now (label_cut model.now labels.now k)) writer.new }
 {
     for node in 0..model.node_count() {
         put_node(writer, model, labels, k, node);
@@ -102,8 +102,8 @@ pub fn put_short<K: Sink>(
     requires valid { IsValid model.now }
     requires table { IsTableOf model.now labels.now }
     ensures text { (of : ModelValue) → HasSameNames model.now of → people_of of ≡ people
-        → Writes K.held K.faults writer.old (shortfall_text line of (label_cut of labels.now of.horizon) most) writer.new }
-    ensures written { (text : List ℕ) × Writes K.held K.faults writer.old text writer.new }
+        → Writes K.Sink writer.old (shortfall_text line of (label_cut of labels.now of.horizon) most) writer.new }
+    ensures written { (text : List ℕ) × Writes K.Sink writer.old text writer.new }
 {
     put_refusal(writer, Code::NotCleared, line);
     put_people(writer, people);
@@ -125,8 +125,8 @@ pub fn write_short<K: Sink>(
     requires valid { IsValid model.now }
     requires table { IsTableOf model.now labels.now }
     ensures text { (of : ModelValue) → HasSameNames model.now of → people_of of ≡ people
-        → PutsText (K.held sink.old) out.old (shortfall_text line of (label_cut of labels.now of.horizon) most) (K.held sink.new) out.new result }
-    ensures cause { HasCause (K.faults sink.old) (K.faults sink.new) result }
+        → PutsTextTo K.Sink sink.old out.old (shortfall_text line of (label_cut of labels.now of.horizon) most) sink.new out.new result }
+    ensures cause { HasSinkCause K.Sink sink.old sink.new result }
 {
     let mut writer = Writer::new(out, sink);
     put_short(&mut writer, model, line, people, most, labels);

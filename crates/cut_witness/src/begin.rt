@@ -4,6 +4,7 @@ ghost use Rattle.evac_law.specs.Building.{IsValid};
 ghost use Rattle.evac_law.specs.Certificates.{IsTableOf, label_cut};
 ghost use Rattle.evac_law.specs.Cuts.{cut_items};
 
+use crate::period_cut::PeriodCut;
 use crate::position::{Part, Position};
 use crate::walk::Crossing;
 use evac_law::{Labels, Model};
@@ -16,9 +17,7 @@ pub fn crossing<'a>(model: &'a Model, labels: &'a Labels, k: u16) -> Crossing<'a
     ensures { result ≡ cut_items model.now (label_cut model.now labels.now k) k }
 {
     Crossing {
-        model,
-        labels,
-        k,
+        cut: PeriodCut { model, labels, k },
         place: Position {
             part: Part::Entries,
             row: 0,

@@ -8,8 +8,8 @@
 mod all_cuts;
 mod begin;
 mod differences;
-mod membership;
 mod one_cut;
+mod period_cut;
 mod position;
 mod span;
 mod walk;

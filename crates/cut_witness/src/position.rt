@@ -1,13 +1,12 @@
 //! The places at which a cut may have an item, one after another.
 ghost use Rattle.std.specs.Prelude.{◌≡◌, ◌+◌, ◌<◌, ◌≤◌, [], ◌∷◌, ◌++◌, length, IsFalse, IsTrue};
 ghost use Rattle.std.specs.Option.{option_to_list};
-ghost use Rattle.evac_law.specs.Building.{IsValid};
-ghost use Rattle.evac_law.specs.Certificates.{IsTableOf, label_cut};
+ghost use Rattle.evac_law.specs.Certificates.{label_cut};
 ghost use Rattle.evac_law.specs.Cuts.{Cut, arc_part, entry_part, hold_part};
-ghost use Rattle.cut_witness.specs.Crossing.{IsCrossing, IsPosition, left_at, next_part, part_at, rest_at, rows_of, width_of};
+ghost use Rattle.cut_witness.specs.Crossing.{IsPosition, left_at, next_part, part_at, rest_at, rows_of, width_of};
 
-use crate::membership::{in_cut, leaves_cut};
-use evac_law::{CutItem, Labels, Model};
+use crate::period_cut::PeriodCut;
+use evac_law::CutItem;
 
 /// The kind of the items that a walk is at.
 #[derive(Clone, Copy)]
@@ -37,131 +36,118 @@ pub struct Position {
     pub column: u32,
 }
 
-// The entry of a node at a moment, where it is an item.
-fn entry_item(model: &Model, labels: &Labels, k: u16, node: u32, moment: u16) -> Option<CutItem>
-    requires valid { IsValid model.now }
-    requires table { IsTableOf model.now labels.now }
-    requires node_in { node < length model.now.nodes }
-    requires k_in { k ≤ model.now.horizon }
-    requires moment_in { moment ≤ k }
-    ensures { option_to_list result ≡ entry_part model.now (label_cut model.now labels.now k) node moment }
-{
-    let people = model.entry(node, moment);
-    if in_cut(model, labels, k, node, moment) || people == 0 {
-        None
-    } else {
-        Some(CutItem::Entry { node, people })
+impl PeriodCut<'_> {
+    // The entry of a node at a moment, if it is an item.
+    fn entry_item(&self, node: u32, moment: u16) -> Option<CutItem>
+        requires node_in { node < length self.now.model.now.nodes }
+        requires moment_in { moment ≤ self.now.k }
+        ensures { option_to_list result ≡ entry_part self.now.model.now (label_cut self.now.model.now self.now.labels.now self.now.k) node moment }
+    {
+        let people = self.model.entry(node, moment);
+        if self.has(node, moment) || people == 0 {
+            None
+        } else {
+            Some(CutItem::Entry { node, people })
+        }
     }
-}
 
-// The hold of a node after a moment, where it is an item.
-fn hold_item(model: &Model, labels: &Labels, k: u16, node: u32, moment: u16) -> Option<CutItem>
-    requires table { IsTableOf model.now labels.now }
-    requires node_in { node < length model.now.nodes }
-    requires k_in { k ≤ model.now.horizon }
-    requires moment_in { moment < k }
-    ensures { option_to_list result ≡ hold_part model.now (label_cut model.now labels.now k) node moment }
-{
-    if in_cut(model, labels, k, node, moment) && !in_cut(model, labels, k, node, moment + 1) {
-        let capacity = model.node(node).capacity;
-        Some(CutItem::Hold {
-            node,
-            moment,
-            capacity,
-        })
-    } else {
-        None
+    // The hold of a node after a moment, if it is an item.
+    fn hold_item(&self, node: u32, moment: u16) -> Option<CutItem>
+        requires node_in { node < length self.now.model.now.nodes }
+        requires moment_in { moment < self.now.k }
+        ensures { option_to_list result ≡ hold_part self.now.model.now (label_cut self.now.model.now self.now.labels.now self.now.k) node moment }
+    {
+        if self.has(node, moment) && !self.has(node, moment + 1) {
+            let capacity = self.model.node(node).capacity;
+            Some(CutItem::Hold {
+                node,
+                moment,
+                capacity,
+            })
+        } else {
+            None
+        }
     }
-}
 
-// An arc at a moment, where it is an item.
-fn arc_item(model: &Model, labels: &Labels, k: u16, moment: u16, arc: u32) -> Option<CutItem>
-    requires valid { IsValid model.now }
-    requires table { IsTableOf model.now labels.now }
-    requires k_in { k ≤ model.now.horizon }
-    requires moment_in { moment ≤ k }
-    requires arc_in { arc < length model.now.arcs }
-    ensures { option_to_list result ≡ arc_part model.now (label_cut model.now labels.now k) k moment arc }
-{
-    if leaves_cut(model, labels, k, moment, arc) {
-        let rate = model.rate(arc, moment);
-        Some(CutItem::Arc { arc, moment, rate })
-    } else {
-        None
+    // An arc at a moment, if it is an item.
+    fn arc_item(&self, moment: u16, arc: u32) -> Option<CutItem>
+        requires moment_in { moment ≤ self.now.k }
+        requires arc_in { arc < length self.now.model.now.arcs }
+        ensures { option_to_list result ≡ arc_part self.now.model.now (label_cut self.now.model.now self.now.labels.now self.now.k) self.now.k moment arc }
+    {
+        if self.leaves(moment, arc) {
+            let rate = self.model.rate(arc, moment);
+            Some(CutItem::Arc { arc, moment, rate })
+        } else {
+            None
+        }
     }
-}
 
-// How many rows and columns a part has.
-fn size_of(model: &Model, k: u16, part: Part) -> (u32, u32)
-    requires valid { IsValid model.now }
-    requires k_in { k ≤ model.now.horizon }
-    ensures rows { result.0 ≡ rows_of model.now k part }
-    ensures columns { result.1 ≡ width_of model.now k part }
-{
-    let nodes = model.node_count();
-    let arcs = model.arc_count();
-    let moments = u32::from(k) + 1;
-    match part {
-        Part::Entries => (nodes, moments),
-        Part::Holds => (nodes, u32::from(k)),
-        Part::Arcs => (moments, arcs),
+    // How many rows and columns a part has.
+    fn size_of(&self, part: Part) -> (u32, u32)
+        ensures rows { result.0 ≡ rows_of self.now.model.now self.now.k part }
+        ensures columns { result.1 ≡ width_of self.now.model.now self.now.k part }
+    {
+        let nodes = self.model.node_count();
+        let arcs = self.model.arc_count();
+        let moments = u32::from(self.k) + 1;
+        match part {
+            Part::Entries => (nodes, moments),
+            Part::Holds => (nodes, u32::from(self.k)),
+            Part::Arcs => (moments, arcs),
+        }
     }
-}
 
-// The item at a place, if there is one.
-fn item_at(model: &Model, labels: &Labels, k: u16, place: Position) -> Option<CutItem>
-    requires valid { IsValid model.now }
-    requires table { IsTableOf model.now labels.now }
-    requires k_in { k ≤ model.now.horizon }
-    requires row_in { place.row < rows_of model.now k place.part }
-    requires column_in { place.column < width_of model.now k place.part }
-    ensures { option_to_list result ≡ part_at model.now (label_cut model.now labels.now k) k place.part place.row place.column }
-{
-    match place.part {
-        Part::Entries => entry_item(model, labels, k, place.row, place.column as u16),
-        Part::Holds => hold_item(model, labels, k, place.row, place.column as u16),
-        Part::Arcs => arc_item(model, labels, k, place.row as u16, place.column),
+    // The item at a place, if there is one.
+    fn item_at(&self, place: Position) -> Option<CutItem>
+        requires row_in { place.row < rows_of self.now.model.now self.now.k place.part }
+        requires column_in { place.column < width_of self.now.model.now self.now.k place.part }
+        ensures { option_to_list result ≡ part_at self.now.model.now (label_cut self.now.model.now self.now.labels.now self.now.k) self.now.k place.part place.row place.column }
+    {
+        match place.part {
+            Part::Entries => self.entry_item(place.row, place.column as u16),
+            Part::Holds => self.hold_item(place.row, place.column as u16),
+            Part::Arcs => self.arc_item(place.row as u16, place.column),
+        }
     }
-}
 
-/// Goes one step on.
-pub fn step(model: &Model, labels: &Labels, k: u16, place: &mut Position) -> Option<CutItem>
-    requires crossing { IsCrossing model.now labels.now k place.old }
-    requires more { 0 < left_at model.now k place.old }
-    ensures rest { let x = label_cut model.now labels.now k in
-        rest_at model.now x k place.old ≡ option_to_list result ++ rest_at model.now x k place.new }
-    ensures fewer { left_at model.now k place.new < left_at model.now k place.old }
-    ensures position { IsPosition model.now k place.new }
-{
-    let (rows, columns) = size_of(model, k, place.part);
-    if place.row == rows {
-        *place = Position {
-            part: place.part.next(),
-            row: 0,
-            column: 0,
-        };
-        None
-    } else if place.column == columns {
-        place.row += 1;
-        place.column = 0;
-        None
-    } else {
-        let item = item_at(model, labels, k, *place);
-        place.column += 1;
-        item
+    /// Goes one step on.
+    pub fn step(&self, place: &mut Position) -> Option<CutItem>
+        requires position { IsPosition self.now.model.now self.now.k place.old }
+        requires more { 0 < left_at self.now.model.now self.now.k place.old }
+        ensures rest { let x = label_cut self.now.model.now self.now.labels.now self.now.k in
+            rest_at self.now.model.now x self.now.k place.old ≡ option_to_list result ++ rest_at self.now.model.now x self.now.k place.new }
+        ensures fewer { left_at self.now.model.now self.now.k place.new < left_at self.now.model.now self.now.k place.old }
+        ensures position { IsPosition self.now.model.now self.now.k place.new }
+    {
+        let (rows, columns) = self.size_of(place.part);
+        if place.row == rows {
+            *place = Position {
+                part: place.part.next(),
+                row: 0,
+                column: 0,
+            };
+            None
+        } else if place.column == columns {
+            place.row += 1;
+            place.column = 0;
+            None
+        } else {
+            let item = self.item_at(*place);
+            place.column += 1;
+            item
+        }
     }
-}
 
-/// Whether the walk has steps left.
-pub fn has_steps(model: &Model, k: u16, place: Position) -> bool
-    requires valid { IsValid model.now }
-    requires k_in { k ≤ model.now.horizon }
-    requires position { IsPosition model.now k place }
-    ensures more { IsTrue result → 0 < left_at model.now k place }
-    ensures none { IsFalse result → (x : Cut) → rest_at model.now x k place ≡ [] }
-{
-    match place.part {
-        Part::Entries | Part::Holds => true,
-        Part::Arcs => place.row < u32::from(k) + 1,
+    /// Whether the walk has steps left.
+    pub fn has_steps(&self, place: Position) -> bool
+        requires position { IsPosition self.now.model.now self.now.k place }
+        ensures more { IsTrue result → 0 < left_at self.now.model.now self.now.k place }
+        ensures none { IsFalse result → (x : Cut) → rest_at self.now.model.now x self.now.k place ≡ [] }
+    {
+        match place.part {
+            Part::Entries | Part::Holds => true,
+            Part::Arcs => place.row < u32::from(self.k) + 1,
+        }
     }
 }

@@ -20,7 +20,7 @@ pub struct Figures {
 /// Puts the summary of a drill with a number of storeys, of its model and the figures of a plan.
 pub fn put_drill<K: Sink>(writer: &mut Writer<'_, K>, number: u32, model: &Model, figures: Figures)
     requires { IsValid model.now }
-    ensures { Writes K.held K.faults writer.old (drill_text number model.now figures) writer.new }
+    ensures { Writes K.Sink writer.old (drill_text number model.now figures) writer.new }
 {
     let nodes = u64::from(model.node_count());
     let arcs = u64::from(model.arc_count());

@@ -4,11 +4,10 @@ use Rattle.evac_law.specs.declared.edit.Edit.{Edit}
 use Rattle.evac_law.specs.declared.edit.EditFault.{EditFault}
 use Rattle.evac_law.specs.declared.model.Model.{Model}
 use Rattle.evac_law.specs.Building.{IsValid}
-use Rattle.evac_law.specs.Edits.{IsEditOf, applied, checks, edited, inverse_of}
-use Rattle.evac_law.proofs.EditLemmas.{inverse_undoes, unless-Ok, valid_edited}
+use Rattle.evac_law.specs.Edits.{IsEditOf, applied, edited, inverse_of}
+use Rattle.evac_law.proofs.EditLemmas.{inverse_undoes}
 use Rattle.evac_law.specs.LabelTable.{LabelTable}
-use Rattle.evac_law.proofs.Optimal.{shortfall_bars_clearing}
-use Rattle.evac_law.specs.Certificates.{IsTableOf, label_cut}
+use Rattle.evac_law.specs.Certificates.{IsTableOf}
 use Rattle.residual_net.specs.Labelled.{IsClosedBelow, IsLabelsOf}
 use Rattle.residual_net.specs.Network.{Network, IsNet, IsWithinLimits, flow_at, saved_of, with_saved}
 use Rattle.residual_net.proofs.Kept.{same_saved}
@@ -245,6 +244,4 @@ ends_undone e ring old steps h done counted = (undone_by e ring old h.standing d
 pub never_barred : (m : Model) (e : Edit) (w v : Network) (l refused cut : LabelTable) (ring : List Edit) (room most : ℕ) (x : Scratch)
     → IsSession m w l refused (e ∷ ring) room x → IsRefused (edited m e) w v cut most → ⊥
 never_barred m e w v l refused cut ring room most x h short =
-    let passed = unless-Ok (checks m e) (edited m e, inverse_of m e) (edited m e, inverse_of m e) h.back.1 in
-    let valid = valid_edited m e h.standing.valid h.back.0 passed.0 in
-    shortfall_bars_clearing (edited m e) (label_cut (edited m e) cut (edited m e).horizon) most valid short.shown.shortfall h.back.2
+    short.shown.barred_by.not_clearable h.back.2

@@ -4,13 +4,13 @@ use Rattle.evac_law.specs.declared.edit.Edit.{Edit}
 use Rattle.evac_law.specs.declared.model.Model.{Model}
 use Rattle.std.proofs.lemmas.Bool.{cases_Bool}
 use Rattle.evac_law.specs.Building.{IsValid, is_exit_at, people}
+use Rattle.evac_law.specs.Parts.{IsBarredBy}
 use Rattle.evac_law.specs.Plans.{TakesAllOut, above, held}
-use Rattle.evac_law.specs.Certificates.{IsClearable, IsShortfall, IsTableOf, label_cut}
+use Rattle.evac_law.specs.Certificates.{IsClearable, IsTableOf, label_cut}
 use Rattle.evac_law.specs.Edits.{IsEditOf, applied, edited}
 use Rattle.evac_law.specs.LabelTable.{LabelTable}
-use Rattle.evac_law.specs.Parts.{IsMost}
 use Rattle.evac_law.specs.Stands.{Fits, IsOrdered, Stands}
-use Rattle.evac_law.proofs.Optimal.{certified_is_clearable, certified_is_feasible, out_stays, shortfall_bars_clearing}
+use Rattle.evac_law.proofs.Optimal.{certified_is_clearable, certified_is_feasible, out_stays}
 use Rattle.evac_law.proofs.WeakDuality.{above_pos}
 use Rattle.residual_net.specs.Labelled.{IsLabelsOf}
 use Rattle.residual_net.specs.Network.{Network, flow_at, flow_into, flow_out, limit_at, supply_limits, with_saved}
@@ -128,9 +128,8 @@ begun_by {m} w {u} ring work h none idle bounded = record {
 }
 
 -- labels that show that not everybody gets out of a model
-pub not_cleared_by : {m : Model} (l : LabelTable) {most : ℕ} → IsValid m → IsShortfall m (label_cut m l m.horizon) most → IsMost m most
-    → IsNotCleared m l (people m) most
-not_cleared_by {m} l {most} valid short greatest = grind (arith, shortfall_bars_clearing)
+pub not_cleared_by : {m : Model} (l : LabelTable) {most : ℕ} → IsBarredBy m (label_cut m l m.horizon) most → IsNotCleared m l (people m) most
+not_cleared_by l h = record { count = refl; barred_by = h }
 
 -- ---- how a session goes on
 
@@ -162,6 +161,6 @@ barred_by m {m'} e e' l {cut} ring old all {most} steps valid count short spent 
   inverse = e';
   accepted = accepted;
   table = short.shown.table;
-  not_cleared = subst (λ (n : ℕ). IsNotCleared m' cut n most) (sym count) (not_cleared_by cut valid short.shown.shortfall short.shown.greatest);
+  not_cleared = subst (λ (n : ℕ). IsNotCleared m' cut n most) (sym count) (not_cleared_by cut short.shown.barred_by);
   spent = spent;
 }

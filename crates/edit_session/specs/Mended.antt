@@ -3,10 +3,10 @@ use Rattle.std.specs.Prelude.{◌≡◌, ℕ, ◌+◌, ◌-◌, ◌≤◌, Ok}
 use Rattle.evac_law.specs.declared.edit.Edit.{Edit}
 use Rattle.evac_law.specs.declared.model.Model.{Model}
 use Rattle.evac_law.specs.Building.{IsValid}
-use Rattle.evac_law.specs.Certificates.{IsShortfall, IsTableOf, label_cut}
+use Rattle.evac_law.specs.Certificates.{IsTableOf, label_cut}
 use Rattle.evac_law.specs.Edits.{IsEditOf, applied}
 use Rattle.evac_law.specs.LabelTable.{LabelTable}
-use Rattle.evac_law.specs.Parts.{IsMost}
+use Rattle.evac_law.specs.Parts.{IsBarredBy}
 use Rattle.residual_net.specs.Labelled.{IsClosedBelow, IsLabelsOf}
 use Rattle.residual_net.specs.Network.{Network, IsAllSent, IsNet, IsWithinLimits, with_saved}
 use Rattle.residual_net.specs.OfModel.{IsNetOf, last_move, plan_of}
@@ -62,8 +62,7 @@ pub record IsCarried (m : Model) (w v : Network) (old l : LabelTable) (work : Wo
 -- when the others aren't there
 pub record IsShown (m : Model) (cut : LabelTable) (most : ℕ) : Type 0 where
   pub table : IsTableOf m cut
-  pub shortfall : IsShortfall m (label_cut m cut m.horizon) most
-  pub greatest : IsMost m most
+  pub barred_by : IsBarredBy m (label_cut m cut m.horizon) most
 
 -- the net is as before, and labels show that not everybody gets out
 pub record IsRefused (m : Model) (w v : Network) (cut : LabelTable) (most : ℕ) : Type 0 where

@@ -10,6 +10,7 @@ pub mod MoveLemmas
 pub mod NameLemmas
 pub mod Optimal
 pub mod PartLemmas
+pub mod Props
 pub mod RowLemmas
 pub mod ShapeLemmas
 pub mod SumLemmas

@@ -13,7 +13,7 @@ use Rattle.evac_law.specs.Building.{capacity, rate, IsValid, is_exit_at, head, a
 use Rattle.evac_law.specs.Certificates.{IsCertified, IsShortfall, IsClearable, label_cut, stated_cut}
 use Rattle.evac_law.specs.Cuts.{Cut, IsCut, cut_value}
 use Rattle.std.proofs.lemmas.List.Elements.{All-head, All-tail}
-use Rattle.evac_law.specs.Plans.{last_arrival, moved, came, left, held, IsFeasible, out_by, person_periods}
+use Rattle.evac_law.specs.Plans.{last_arrival, moved, came, left, held, IsEarliest, IsFeasible, out_by, person_periods}
 use Rattle.evac_law.proofs.SumLemmas.{cond_le, sum_by-add, sum_by-exchange, sum_by-same, sum_by-same_all, sum_by-nothing, sum_below-suc, sum_by-le_all, sum_moments-stays, sum_by-times, times_cond, All-below}
 use Rattle.evac_law.proofs.Conserved.{all_out_leaves_nobody}
 use Rattle.evac_law.proofs.Entries.{empty_cut_is, entered_le}
@@ -31,8 +31,7 @@ pub out_le_out : (m : Model) (p : List Move) (b c : ℕ) → b ≤ c → out_by 
 unfolding out_by
 out_le_out m p b c l = grind (arith, sum_by-le_all, later)
 
-pub certified_is_best : (m : Model) (p : List Move) (l : LabelTable) (c : ℕ) → IsValid m → IsCertified m p l c
-    → (q : List Move) (k : ℕ) → IsFeasible m q k → out_by m q k ≤ out_by m p k
+pub certified_is_best : (m : Model) (p : List Move) (l : LabelTable) (c : ℕ) → IsValid m → IsCertified m p l c → IsEarliest m p
 certified_is_best m p l c valid good q k feasible = grind (arith, cases_lt, out_le_value, out_le_people, out_le_out)
 
 pub shortfall_bars_clearing : (m : Model) (x : Cut) (v : ℕ) → IsValid m → IsShortfall m x v → ¬ IsClearable m

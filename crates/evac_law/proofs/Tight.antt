@@ -95,7 +95,7 @@ module _ (m : Model) (x : Cut) (q : List Move) (k : ℕ) (tight : IsTight m q x 
 -- ---- the plan's moves
 
 -- whether a move goes from outside the cut into it, or on past k
-abbrev strays : Model → Cut → ℕ → ℕ → ℕ → Bool
+abbrev pub strays : Model → Cut → ℕ → ℕ → ℕ → Bool
 strays m x k a t =
     not (x (tail m a) t) && not (leb (arrival m a t) k && (is_exit_at m (head m a) || not (x (head m a) (arrival m a t))))
 
@@ -106,10 +106,16 @@ one_move : (exit from_exit from_cut to_cut : Bool) (s r k p : ℕ) → s ≤ r �
     + cond (ltb s (k + 1) && (not from_cut && not (leb r k && (exit || not to_cut)))) p 0
 one_move exit from_exit from_cut to_cut s r k p l e = grind (arith, nat_tests)
 
-module _ (m : Model) (x : Cut) (q : List Move) (k : ℕ) (valid : IsValid m) (feasible : IsFeasible m q k) (tight : IsTight m q x k) where
-  abbrev strayed : Move → ℕ
-  strayed v = cond (ltb v.moment (k + 1) && strays m x k v.arc v.moment) v.people 0
+-- the people of a move that strays up to k, and of all that do
+abbrev pub strayed : Model → Cut → ℕ → Move → ℕ
+strayed m x k v = cond (ltb v.moment (k + 1) && strays m x k v.arc v.moment) v.people 0
 
+pub strayed_is : (m : Model) (x : Cut) (k : ℕ) (q : List Move) → IsFeasible m q k
+    → sum2 (length m.arcs) (k + 1) (λ a t. cond (strays m x k a t) (moved q a t) 0) ≡ sum_by (strayed m x k) q
+unfolding moved
+strayed_is m x k q feasible = gather (λ v. v.arc) (λ v. v.moment) (λ v. v.people) (strays m x k) (length m.arcs) (k + 1) q feasible.arcs
+
+module _ (m : Model) (x : Cut) (q : List Move) (k : ℕ) (valid : IsValid m) (feasible : IsFeasible m q k) (tight : IsTight m q x k) where
   when : (b : Bool) (u : ℕ) → (b ≡ true → u ≡ 0) → cond b u 0 ≡ 0
   when true u h = h refl
   when false u h = refl
@@ -120,38 +126,34 @@ module _ (m : Model) (x : Cut) (q : List Move) (k : ℕ) (valid : IsValid m) (fe
       (λ e. let both = and_parts _ _ e in tight.arcs_empty a t i (omega arith) (not-true _ both.0) (not-true _ both.1)) in
       omega (arith, nobody)
 
-  strayed_is : sum2 (length m.arcs) (k + 1) (λ a t. cond (strays m x k a t) (moved q a t) 0) ≡ sum_by strayed q
-  unfolding moved
-  strayed_is = gather (λ v. v.arc) (λ v. v.moment) (λ v. v.people) (strays m x k) (length m.arcs) (k + 1) q feasible.arcs
-
-  nobody_strays : sum_by strayed q ≡ 0
+  nobody_strays : sum_by (strayed m x k) q ≡ 0
   nobody_strays =
       omega (
         arith,
-        strayed_is,
+        strayed_is m x k q feasible,
         sum2-nothing (length m.arcs) (k + 1),
         sum2-le (length m.arcs) (k + 1) (λ a t. cond (strays m x k a t) (moved q a t) 0) (λ _ _. 0) none_at,
       )
 
   moves : sum_by (from_outside m x q k valid feasible) q + sum_by (from_cut m x q k valid feasible) q
-      ≤ (out_by m q k + sum_by (to_outside m x q k valid feasible) q) + sum_by strayed q
+      ≤ (out_by m q k + sum_by (to_outside m x q k valid feasible) q) + sum_by (strayed m x k) q
   unfolding out_by
   moves =
       let outs = λ (v : Move). cond (is_exit_at m (head m v.arc) && leb (arrival m v.arc v.moment) k) v.people 0 in
       let to = to_outside m x q k valid feasible in
       let from = from_outside m x q k valid feasible in
       let over = from_cut m x q k valid feasible in
-      let each : All (λ v. from v + over v ≤ (outs v + to v) + strayed v) q =
-      All-weaker (λ v. v.arc < length m.arcs) (λ v. from v + over v ≤ (outs v + to v) + strayed v)
+      let each : All (λ v. from v + over v ≤ (outs v + to v) + strayed m x k v) q =
+      All-weaker (λ v. v.arc < length m.arcs) (λ v. from v + over v ≤ (outs v + to v) + strayed m x k v)
       (λ v l. one_move (is_exit_at m (head m v.arc)) (is_exit_at m (tail m v.arc)) (x (tail m v.arc) v.moment)
       (x (head m v.arc) (arrival m v.arc v.moment)) v.moment (arrival m v.arc v.moment) k v.people
       (omega arith) (arc_is m v.arc valid l).from_no_exit)
       q feasible.arcs in
       omega (
         arith,
-        sum_by-le_all (λ v. from v + over v) (λ v. (outs v + to v) + strayed v) q each,
+        sum_by-le_all (λ v. from v + over v) (λ v. (outs v + to v) + strayed m x k v) q each,
         sum_by-add from over q,
-        sum_by-add (λ v. outs v + to v) strayed q,
+        sum_by-add (λ v. outs v + to v) (strayed m x k) q,
         sum_by-add outs to q,
       )
 

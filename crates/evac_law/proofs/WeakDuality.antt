@@ -257,7 +257,7 @@ module _ (m : Model) (x : Cut) (q : List Move) (k : ℕ) (valid : IsValid m) (fe
   entry_le : (e i z : Bool) (p : ℕ) → (z ≡ true → p ≡ 0) → cond (not e && not i) p 0 ≤ cond (i || z) 0 p
   entry_le e i z p h = grind arith
 
-  entered_le : sum_by (node_entered m x q k) (places m.nodes)
+  pub entered_le : sum_by (node_entered m x q k) (places m.nodes)
       ≤ sum_by (λ n. sum_by (λ t. cond (x n t || eqb (entry m n t) 0) 0 (entry m n t)) (moments_to k)) (places m.nodes)
   entered_le =
       sum2-le (length m.nodes) (k + 1) (λ n t. cond (outside m x n t) (entry m n t) 0)

@@ -12,7 +12,7 @@ use Rattle.evac_law.specs.Entrants.{ComesBefore, entering, table_entrants}
 use Rattle.evac_law.specs.LabelTable.{LabelTable}
 use Rattle.evac_law.specs.Moves.{moves_of}
 use Rattle.evac_law.specs.Parts.{CanGetOut}
-use Rattle.evac_law.specs.Plans.{IsFeasible, NobodyIsLeft, moved, out_by, person_periods}
+use Rattle.evac_law.specs.Plans.{IsEarliest, IsFeasible, NobodyIsLeft, moved, out_by, person_periods}
 use Rattle.evac_law.specs.Shapes.{HasSameShape}
 use Rattle.evac_law.specs.Stands.{IsOrdered}
 
@@ -31,9 +31,7 @@ AllOutLeavesNobody =
 
 -- at no moment does a feasible plan have more people out than a certified one
 abbrev pub CertifiedIsBest : Type 0
-CertifiedIsBest =
-    (m : Model) (p : List Move) (l : LabelTable) (c : ℕ) → IsValid m → IsCertified m p l c
-    → (q : List Move) (k : ℕ) → IsFeasible m q k → out_by m q k ≤ out_by m p k
+CertifiedIsBest = (m : Model) (p : List Move) (l : LabelTable) (c : ℕ) → IsValid m → IsCertified m p l c → IsEarliest m p
 
 -- where a cut is worth less than the people, no feasible plan takes everybody out
 abbrev pub ShortfallBarsClearing : Type 0

@@ -3,6 +3,8 @@ use Rattle.std.specs.Prelude.{◌≡◌, ℕ, ◌≤◌, List, length}
 use Rattle.evac_law.specs.declared.model.Model.{Model}
 use Rattle.evac_law.specs.declared.plan.Move.{Move}
 use Rattle.evac_law.specs.Building.{IsValid, arc_at, capacity, entry, head, is_exit_at, people, rate, tail}
+use Rattle.evac_law.specs.Certificates.{IsClearable, IsShortfall}
+use Rattle.evac_law.specs.Cuts.{Cut}
 use Rattle.evac_law.specs.Plans.{IsFeasible, out_by}
 
 -- a building with some of the people of another one: nowhere do more come in at any moment, and all else that plans ask for is the same
@@ -35,3 +37,9 @@ CanGetOut m v = (p : List Move) × TakesPartOut m p v
 pub record IsMost (m : Model) (v : ℕ) : Type 0 where
   pub reached : CanGetOut m v
   pub bound : (u : ℕ) → CanGetOut m u → u ≤ v
+
+-- a model can't be cleared: a cut is worth `most` at the horizon, fewer than the people, and so many can get out when the others aren't there
+pub record IsBarredBy (m : Model) (x : Cut) (most : ℕ) : Type 0 where
+  pub shortfall : IsShortfall m x most
+  pub not_clearable : ¬ IsClearable m
+  pub greatest : IsMost m most

@@ -43,6 +43,10 @@ pub record IsFeasible (m : Model) (p : List Move) (k : ℕ) : Type 0 where
 unfoldable pub out_by : Model → List Move → ℕ → ℕ
 out_by m p k = sum_by (λ v. if is_exit_at m (head m v.arc) && nat_le (arrival m v.arc v.moment) k then v.people else 0) p
 
+-- no feasible plan has more people out by any moment: the plan is an earliest arrival flow
+abbrev pub IsEarliest : Model → List Move → Type 0
+IsEarliest m p = (q : List Move) (k : ℕ) → IsFeasible m q k → out_by m q k ≤ out_by m p k
+
 -- a plan is feasible up to the horizon, and has everybody out by then
 pub record TakesAllOut (m : Model) (p : List Move) : Type 0 where
   pub feasible : IsFeasible m p m.horizon

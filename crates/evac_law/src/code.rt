@@ -6,101 +6,101 @@ ghost use Rattle.evac_law.specs.Codes.{code_number};
 #[derive(Clone, Copy, PartialEq, Eq, Debug)]
 pub enum Code {
     /// The first line that isn't blank is no header.
-    FirstLine,
+    FirstLine = 1,
     /// The line is too long.
-    LineTooLong,
+    LineTooLong = 2,
     /// The input up to the end of the line is too long.
-    InputTooLong,
+    InputTooLong = 3,
     /// The first word of the line is unknown.
-    UnknownWord,
+    UnknownWord = 4,
     /// The number of fields is wrong, or a text is missing.
-    FieldCount,
+    FieldCount = 5,
     /// A field is no number.
-    BadNumber,
+    BadNumber = 6,
     /// A number is outside its range.
-    OutOfRange,
+    OutOfRange = 7,
     /// A field is no name.
-    BadName,
+    BadName = 8,
     /// The title, the period, the horizon or the floor was given before.
-    RepeatedSetting,
+    RepeatedSetting = 9,
     /// The floor of the node wasn't given.
-    UnknownFloor,
+    UnknownFloor = 10,
     /// A node of this name was given before.
-    RepeatedNode,
+    RepeatedNode = 11,
     /// More people would start in the node than it holds.
-    OverFull,
+    OverFull = 12,
     /// A node isn't known.
-    UnknownNode,
+    UnknownNode = 13,
     /// Both nodes are the same.
-    SameNode,
+    SameNode = 14,
     /// The arc leaves an exit.
-    FromExit,
+    FromExit = 15,
     /// There is an arc from this node to that one already.
-    RepeatedArc,
+    RepeatedArc = 16,
     /// There would be too many floors, nodes, arcs or people.
-    TooMany,
+    TooMany = 17,
     /// The period or the horizon is missing.
-    MissingSetting,
+    MissingSetting = 18,
     /// There is no exit.
-    NoExit,
+    NoExit = 19,
     /// There are too many cells.
-    TooLarge,
+    TooLarge = 20,
     /// The input ends before the model does.
-    MissingEnd,
+    MissingEnd = 21,
     /// Not everybody can be out by the horizon.
-    NotCleared,
+    NotCleared = 22,
     /// There is something after the end.
-    TextAfterEnd,
+    TextAfterEnd = 23,
     /// The window doesn't begin before it ends.
-    BadWindow,
+    BadWindow = 24,
     /// A moment of the window lies in another window of the arc.
-    WindowOverlap,
+    WindowOverlap = 25,
     /// The arc has as many windows as may be.
-    TooManyWindows,
+    TooManyWindows = 26,
     /// The arc has no such window.
-    NoWindow,
+    NoWindow = 27,
     /// An entrant comes in after the horizon.
-    EntrantLate,
+    EntrantLate = 28,
     /// There is an entrant of this node and moment already.
-    RepeatedEntrant,
+    RepeatedEntrant = 29,
     /// The command is unknown.
-    UnknownCommand,
+    UnknownCommand = 31,
     /// There is no arc between the two nodes.
-    NoArc,
+    NoArc = 32,
     /// There is no such period.
-    NoPeriod,
+    NoPeriod = 33,
     /// It is shut already.
-    AlreadyShut,
+    AlreadyShut = 34,
     /// It isn't shut.
-    AlreadyOpen,
+    AlreadyOpen = 35,
     /// The node is no exit.
-    NotExit,
+    NotExit = 36,
     /// The node is an exit.
-    ExitNamed,
+    ExitNamed = 37,
     /// Fewer people start there.
-    TooFew,
+    TooFew = 38,
     /// There is nothing to undo.
-    NothingToUndo,
+    NothingToUndo = 39,
     /// The words after the program's name are unknown.
-    UnknownWords,
+    UnknownWords = 40,
     /// The plan can't be carried out up to this moment.
-    BadMoment,
+    BadMoment = 41,
     /// A plan was carried out, so people can't be moved by an edit.
-    Committed,
+    Committed = 42,
     /// The line is none that a block has there.
-    BadBlock,
+    BadBlock = 51,
     /// The block states other people than the model has.
-    PeopleWrong,
+    PeopleWrong = 52,
     /// More people enter an arc at a moment than its rate.
-    RateBroken,
+    RateBroken = 53,
     /// A node holds more people than its capacity, or fewer than none.
-    HeldBroken,
+    HeldBroken = 54,
     /// Not everybody is out by the stated moment, or all were before.
-    NotAllOut,
+    NotAllOut = 55,
     /// The number of people out by a period isn't that of the moves.
-    OutWrong,
+    OutWrong = 56,
     /// The cut of a period isn't worth the people who are out by then.
-    CutWrong,
+    CutWrong = 57,
 }
 
 impl Code {
@@ -108,55 +108,6 @@ impl Code {
     pub fn number(self) -> u8
         ensures { result ≡ code_number self }
     {
-        match self {
-            Code::FirstLine => 1,
-            Code::LineTooLong => 2,
-            Code::InputTooLong => 3,
-            Code::UnknownWord => 4,
-            Code::FieldCount => 5,
-            Code::BadNumber => 6,
-            Code::OutOfRange => 7,
-            Code::BadName => 8,
-            Code::RepeatedSetting => 9,
-            Code::UnknownFloor => 10,
-            Code::RepeatedNode => 11,
-            Code::OverFull => 12,
-            Code::UnknownNode => 13,
-            Code::SameNode => 14,
-            Code::FromExit => 15,
-            Code::RepeatedArc => 16,
-            Code::TooMany => 17,
-            Code::MissingSetting => 18,
-            Code::NoExit => 19,
-            Code::TooLarge => 20,
-            Code::MissingEnd => 21,
-            Code::NotCleared => 22,
-            Code::TextAfterEnd => 23,
-            Code::BadWindow => 24,
-            Code::WindowOverlap => 25,
-            Code::TooManyWindows => 26,
-            Code::NoWindow => 27,
-            Code::EntrantLate => 28,
-            Code::RepeatedEntrant => 29,
-            Code::UnknownCommand => 31,
-            Code::NoArc => 32,
-            Code::NoPeriod => 33,
-            Code::AlreadyShut => 34,
-            Code::AlreadyOpen => 35,
-            Code::NotExit => 36,
-            Code::ExitNamed => 37,
-            Code::TooFew => 38,
-            Code::NothingToUndo => 39,
-            Code::UnknownWords => 40,
-            Code::BadMoment => 41,
-            Code::Committed => 42,
-            Code::BadBlock => 51,
-            Code::PeopleWrong => 52,
-            Code::RateBroken => 53,
-            Code::HeldBroken => 54,
-            Code::NotAllOut => 55,
-            Code::OutWrong => 56,
-            Code::CutWrong => 57,
-        }
+        self as u8
     }
 }

@@ -5,6 +5,7 @@ use Rattle.evac_law.specs.declared.code.Code.{Code}
 use Rattle.evac_law.specs.declared.code.Code.TheVariants.{BadBlock}
 use Rattle.evac_law.specs.declared.model.Model.{Model}
 use Rattle.line_io.specs.Causes.{Count, Rose}
+use Rattle.line_io.specs.Sides.{RoseIf}
 use Rattle.line_io.specs.Line.{Line, text_lines}
 use Rattle.line_io.specs.Reader.{Drained, is_settled}
 use Rattle.line_io.specs.View.{Reader}
@@ -93,28 +94,26 @@ BlockFailed result = result ≡ Err block_faults.ReadFault
 block-failed : {T : Type 0} (found : ModelFault) (fault : BlockFault) → found ≡ block_fault fault → Failed {T = T} (Err found) → fault ≡ block_faults.ReadFault
 block-failed {T} found fault is e = failed-reading fault (sym is ∙ read-fault {T = T} found e)
 
-pub rose-as-block : {T : Type 0} (found : ModelFault) (fault : BlockFault) (n k : Count) → found ≡ block_fault fault → (BlockFailed (Err fault) → Rose n k)
-    → Failed {T = T} (Err found) → Rose n k
-rose-as-block {T} found fault n k is rose e = rose (ap Err (block-failed {T = T} found fault is e))
-
 block-fault : (fault : BlockFault) → BlockFailed (Err fault) → fault ≡ block_faults.ReadFault
 block-fault fault e = cc
 
-block-not-failed : (block : Block) → BlockFailed (Ok block) → ⊥
+pub block-not-failed : (block : Block) → BlockFailed (Ok block) → ⊥
 block-not-failed block e = cc
 
-pub quiet-as-block : {T : Type 0} (found : ModelFault) (fault : BlockFault) (n k : Count) → found ≡ block_fault fault → ((BlockFailed (Err fault) → ⊥) → k ≡ n)
-    → (Failed {T = T} (Err found) → ⊥) → k ≡ n
-quiet-as-block found fault n k is quiet not = quiet (λ e. not (ap Err (is ∙ ap block_fault (block-fault fault e))))
+pub rises-as-block : {T : Type 0} (found : ModelFault) (fault : BlockFault) {n k : Count} → found ≡ block_fault fault → RoseIf (BlockFailed (Err fault)) n k
+    → RoseIf (Failed {T = T} (Err found)) n k
+rises-as-block {T} found fault is h = record {
+  rose = λ e. h.rose (ap Err (block-failed {T = T} found fault is e));
+  same = λ other. h.same (λ e. other (ap Err (is ∙ ap block_fault (block-fault fault e))));
+}
 
 -- after a block that was read without a fault
-pub rose-behind : {T : Type 0} (block : Block) (fault : ModelFault) (n0 n1 n2 : Count) → ((BlockFailed (Ok block) → ⊥) → n1 ≡ n0)
-    → (Failed {T = Unit {0}} (Err fault) → Rose n1 n2) → Failed {T = T} (Err fault) → Rose n0 n2
-rose-behind {T} block fault n0 n1 n2 quiet rose e =
-    subst (λ (n : Count). Rose n n2) (quiet (block-not-failed block)) (rose (ap Err (read-fault {T = T} fault e)))
-
-pub quiet-behind : (block : Block) (n0 n1 : Count) → ((BlockFailed (Ok block) → ⊥) → n1 ≡ n0) → n1 ≡ n0
-quiet-behind block n0 n1 quiet = quiet (block-not-failed block)
+pub rises-after-block : {T : Type 0} (block : Block) (fault : ModelFault) {n0 n1 n2 : Count} → RoseIf (BlockFailed (Ok block)) n0 n1
+    → RoseIf (Failed {T = Unit {0}} (Err fault)) n1 n2 → RoseIf (Failed {T = T} (Err fault)) n0 n2
+rises-after-block {T} block fault {n0} {n1} {n2} first second = record {
+  rose = λ e. subst (λ (n : Count). Rose n n2) (first.same (block-not-failed block)) (second.rose (ap Err (read-fault {T = T} fault e)));
+  same = λ other. second.same (λ e. other (ap Err (read-fault {T = Unit {0}} fault e))) ∙ first.same (block-not-failed block);
+}
 
 pub takes-block-fault : {T : Type 0} (found : ModelFault) (r0 r1 r2 : Reader) (l0 l1 l2 : Option (List ℕ)) (building : Building) (fault : BlockFault)
     → found ≡ block_fault fault → IsFresh r0 → ReadsLines (Ok building) r0 r1 l0 l1 → ReadsBlockLines building.model (Err fault) r1 r2 l1 l2

@@ -36,7 +36,7 @@ use Rattle.evac_top.proofs.TellLemmas.{of-input}
 
 plans-all : (flags : Flags) (names : NameTable) (m : Model) (line : ℕ) (x : Account) → IsPlannedOrShort flags names m line x → PlansAll m line x
 plans-all flags names m line x (inl h) = inl (opening-clears m h.opening h.begins, h.done)
-plans-all flags names m line x (inr h) = inr (h.barred, h.refused, h)
+plans-all flags names m line x (inr h) = inr (h.barred_by.not_clearable, h.refused, h)
 
 solves-all : (flags : Flags) (input : List ℕ) (result : Result Asked (Code × ℕ)) (x : Account) → Solves flags input result x → SolvesAll result x
 solves-all flags input (Ok asked) x h = plans-all flags (names_of asked.building) asked.building.model asked.last x h.1
@@ -90,7 +90,7 @@ talks-all talk clears short (Described d last rest) x (inl run) =
       λ texts whole. ends-done (talk (names_of d) d.model) (last + length run.answered) run.rest run.replies (spoken x) texts run.answered (sym whole ∙ run.parts) run.ends,
     )
 talks-all talk clears short (Described d last rest) x (inr refused) =
-    let barred = short (names_of d) d.model last (spoken x) refused in inr (barred.short.barred, barred)
+    let barred = short (names_of d) d.model last (spoken x) refused in inr (barred.short.barred_by.not_clearable, barred)
 talks-all talk clears short (Refused code line) x h = h
 
 sessions-all : (r : Reading) (x : Account) → Talks session r x → TalksAll session r x

@@ -97,7 +97,7 @@ not-quit line e says quits = cc
 accepted-gets : (number : ℕ) (s : State) (edited : Model) (inverse : Edit) (r : Reply State) → IsClearable edited → Edits number s (Ok (edited, inverse)) r
     → Advances s edited (with_former s.standing) r
 accepted-gets number s edited inverse r can (inl made) = made
-accepted-gets number s edited inverse r can (inr short) = absurd (short.short.barred can)
+accepted-gets number s edited inverse r can (inr short) = absurd (short.short.barred_by.not_clearable can)
 
 edit-gets : (d : Description) (number : ℕ) (line : List ℕ) (edited : Model) (s : State) (r : Reply State) → s.standing.model ≡ d.model
     → IsAcceptedEdit d line edited → Replies (names_of d) number s (command_of line) r → Advances s edited (with_former s.standing) r

@@ -159,7 +159,7 @@ pub keeps-talk : {S : Type 0} (talk : TalkOn S) (Keeps : Description → ℕ →
 keeps-talk talk Keeps clears short keeps (Described d last rest) x (inl run) =
     inl (clears (names_of d) d.model run.goes.opening run.goes.opens, keeps d last rest x run)
 keeps-talk talk Keeps clears short keeps (Described d last rest) x (inr refused) =
-    let barred = short (names_of d) d.model last (spoken x) refused in inr (barred.short.barred, barred)
+    let barred = short (names_of d) d.model last (spoken x) refused in inr (barred.short.barred_by.not_clearable, barred)
 keeps-talk talk Keeps clears short keeps (Refused code line) x h = h
 
 session-kept : (input : List ℕ) (x : Account) → (runs_of (Some Session)).Answers input x → KeepsTalk KeepsAll (model_of (lines_of input)) x × ReadsOn session input x
@@ -252,7 +252,7 @@ keeps-plan : (flags : Flags) (input : List ℕ) (result : Result Asked (Code × 
 keeps-plan flags input (Ok asked) x (all, inl h) =
     let m = asked.building.model in
     (all, inl (opening-clears m h.opening h.begins, keeps-block flags (names_of asked.building) m x h))
-keeps-plan flags input (Ok asked) x (all, inr short) = (all, inr (short.barred, short))
+keeps-plan flags input (Ok asked) x (all, inr short) = (all, inr (short.barred_by.not_clearable, short))
 keeps-plan flags input (Err fault) x h = h
 
 plan-kept : (flags : Flags) (input : List ℕ) (x : Account) → (runs_of (Some (Solve flags))).Answers input x → KeepsPlan flags input (input_of (lines_of input)) x

@@ -53,10 +53,10 @@ use Rattle.evac_top.proofs.UpgradeLemmas.{building-of}
 stuck : (m : Model) (l : LabelTable) (all most : ℕ) → IsValid m → IsNotCleared m l all most → IsStuck m all most
 stuck m l all most valid h = record {
   count = h.count;
-  fewer = omega (arith, h.shortfall.below_people, h.count);
-  barred = h.barred;
-  bound = λ p f. omega (arith, out_le_value m (label_cut m l m.horizon) p m.horizon valid f, h.shortfall.worth);
-  greatest = h.greatest;
+  fewer = omega (arith, h.barred_by.shortfall.below_people, h.count);
+  cut = label_cut m l m.horizon;
+  barred_by = h.barred_by;
+  bound = λ p f. omega (arith, out_le_value m (label_cut m l m.horizon) p m.horizon valid f, h.barred_by.shortfall.worth);
 }
 
 right-row : (m : Model) (x : ℕ) (l : LabelTable) (row : ExitRow) → IsValid (without_exit m x) → IsExitRow m x l row → IsRightRow (without_exit m x) row

@@ -20,7 +20,7 @@ use Rattle.edit_session.specs.declared.faults.BeginFault.{BeginFault}
 use Rattle.edit_session.specs.declared.faults.BeginFault.TheVariants.{NotCleared}
 use Rattle.edit_session.specs.declared.faults.Short.{Short}
 use Rattle.edit_session.specs.Thrift.{IsSpentOpening}
-use Rattle.evac_top.specs.Accounts.{Account, Side}
+use Rattle.evac_top.specs.Accounts.{Account}
 use Rattle.evac_top.specs.Answers.{runs_of}
 use Rattle.evac_top.specs.Drill.{IsDrilled}
 use Rattle.evac_top.specs.Reads.{InputIs}
@@ -30,6 +30,7 @@ use Rattle.evac_top.specs.declared.words.Flags.{Flags}
 use Rattle.evac_top.specs.declared.words.Mode.TheVariants.{Solve}
 use Rattle.evac_top.specs.Tells.{Tells}
 use Rattle.evac_top.proofs.TellLemmas.{FaultIs, tells-as}
+use Rattle.line_io.specs.Sides.{Side}
 
 -- ---- the beginning of a session
 
@@ -87,9 +88,7 @@ pub short_by_labels : (m other : Model) (l : LabelTable) (all most line count : 
 short_by_labels m other l all most line count taken same h spent = record {
   cut = label_cut m l m.horizon;
   most = most;
-  shortfall = h.shortfall;
-  barred = h.barred;
-  greatest = h.greatest;
+  barred_by = h.barred_by;
   refused = refl;
   block = subst (λ (x : Model). shortfall_text line x (label_cut x l x.horizon) most ≡ shortfall_text line m (label_cut m l m.horizon) most) (sym same) refl;
   few_steps = spent;

@@ -4,6 +4,7 @@ use Rattle.std.specs.declared.option.Option.{Option}
 use Rattle.std.specs.Io.KnownBytes.{IsAtEnd}
 use Rattle.line_io.specs.Calls.{Asks, AsksAtMost, Taking}
 use Rattle.line_io.specs.Causes.{Count, Rose}
+use Rattle.line_io.specs.Sides.{RoseIf}
 use Rattle.line_io.specs.Line.{IsWhole, input_limit, Line, lines_after, lines_of, pieces, text_lines, whole_part}
 use Rattle.line_io.specs.Passes.{Passes}
 use Rattle.line_io.specs.Reader.{Drained, HasRoom, is_settled}
@@ -33,14 +34,24 @@ not-failed value e = cc
 pub read-fault : {T : Type 0} (fault : ModelFault) → Failed {T = T} (Err fault) → fault ≡ ReadFault
 read-fault fault e = cc
 
--- after a model that was read without a fault
-pub rose-then : {T : Type 0} (building : Building) (result : Result T ModelFault) (n0 n1 n2 : Count) → ((Failed {T = Building} (Ok building) → ⊥) → n1 ≡ n0)
-    → (Failed result → Rose n1 n2) → Failed result → Rose n0 n2
-rose-then building result n0 n1 n2 quiet rose e = subst (λ (n : Count). Rose n n2) (quiet (not-failed building)) (rose e)
+-- the result of a read fails just by its fault
+pub rises-at : {T : Type 0} (fault : ModelFault) {n k : Count} → RoseIf (Failed {T = T} (Err fault)) n k → RoseIf (fault ≡ ReadFault) n k
+rises-at {T} fault h = record { rose = λ e. h.rose (ap Err e); same = λ other. h.same (λ e. other (read-fault {T = T} fault e)) }
 
-pub quiet-then : {T : Type 0} (building : Building) (result : Result T ModelFault) (n0 n1 n2 : Count) → ((Failed {T = Building} (Ok building) → ⊥) → n1 ≡ n0)
-    → ((Failed result → ⊥) → n2 ≡ n1) → (Failed result → ⊥) → n2 ≡ n0
-quiet-then building result n0 n1 n2 first second n = second n ∙ first (not-failed building)
+-- a fault is handed on
+pub rises-on : {T U : Type 0} (fault : ModelFault) {n k : Count} → RoseIf (Failed {T = T} (Err fault)) n k → RoseIf (Failed {T = U} (Err fault)) n k
+rises-on {T} {U} fault h = record {
+  rose = λ e. h.rose (ap Err (read-fault {T = U} fault e));
+  same = λ other. h.same (λ e. other (ap Err (read-fault {T = T} fault e)));
+}
+
+-- after a model that was read without a fault
+pub rises-then : {T : Type 0} (building : Building) (result : Result T ModelFault) {n0 n1 n2 : Count} → RoseIf (Failed {T = Building} (Ok building)) n0 n1
+    → RoseIf (Failed result) n1 n2 → RoseIf (Failed result) n0 n2
+rises-then building result {n0} {n1} {n2} first second = record {
+  rose = λ e. subst (λ (n : Count). Rose n n2) (first.same (not-failed building)) (second.rose e);
+  same = λ other. second.same other ∙ first.same (not-failed building);
+}
 
 -- ---- the lines of the bytes taken
 

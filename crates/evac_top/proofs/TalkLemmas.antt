@@ -8,6 +8,7 @@ use Rattle.line_io.specs.Causes.{Count, Rose}
 use Rattle.line_io.specs.Line.{IsWhole, Line, lines_after, lines_of, pieces, text_lines, whole_part}
 use Rattle.line_io.specs.Passes.{Passes}
 use Rattle.line_io.specs.Reader.{Drained, is_settled, lines_left}
+use Rattle.line_io.specs.Sides.{RoseIf, Side}
 use Rattle.line_io.specs.View.{Reader}
 use Rattle.line_io.proofs.LineLemmas.{lines_after-whole, text_lines-push, whole_part-append}
 use Rattle.line_io.proofs.PassLemmas.{passes-then, text_lines-append}
@@ -24,7 +25,7 @@ use Rattle.talk.specs.Sessions.{session}
 use Rattle.talk.specs.Studies.{study}
 use Rattle.talk.specs.Held.{EndsByQuit, HoldsTalk, IsReadOut, OfLines, around}
 use Rattle.talk.specs.Talks.{Spoken, Talk, TalkAnswers, TalkFront, TalkGoesOn, TalkWants}
-use Rattle.evac_top.specs.Accounts.{Account, Outside, Side, Told}
+use Rattle.evac_top.specs.Accounts.{Account, Outside, Told}
 use Rattle.evac_top.specs.Answers.{IsTalk, WritesNothing, runs_of}
 use Rattle.evac_top.specs.Reads.{IsFresh}
 use Rattle.evac_top.specs.Runs.{Runs}
@@ -33,7 +34,7 @@ use Rattle.evac_top.specs.Tells.{Stops}
 use Rattle.evac_top.specs.declared.words.Mode.{Mode}
 use Rattle.evac_top.specs.declared.words.Mode.TheVariants.{Replan, Session, Study}
 use Rattle.evac_top.proofs.OpenLemmas.{IsUndecided, described-lines, opening-further, takes-model}
-use Rattle.evac_top.proofs.TakeLemmas.{Failed, few-taken, not-failed, read-fault, whole-lines}
+use Rattle.evac_top.proofs.TakeLemmas.{Failed, few-taken, not-failed, rises-at, whole-lines}
 use Rattle.evac_top.proofs.TellLemmas.{FaultIs, ReadsFirst, stopped, told-input}
 
 -- ---- a model that isn't read
@@ -77,13 +78,13 @@ told-fault mode talk m r (Some bytes) fault n b fresh h =
 pub not-read : {S : Type 0} (mode : Mode) (talk : TalkOn S) → IsTalk mode talk → (fault : ModelFault) (status : ℕ) (r0 r1 : Reader) (steps : ℕ)
     (source source' sink sink' : Side) → IsFresh r0 → ReadsLines (Err fault) r0 r1 source.bytes source'.bytes
     → ReadsModel (Err fault) r0.number r1.number (lines_left r0 source.bytes) (lines_left r1 source'.bytes)
-    → (Failed {T = Building} (Err fault) → is_settled r1 ≡ false) → (Failed {T = Building} (Err fault) → Rose source.faults source'.faults)
-    → ((Failed {T = Building} (Err fault) → ⊥) → source'.faults ≡ source.faults) → Stops fault status sink sink'
+    → (Failed {T = Building} (Err fault) → is_settled r1 ≡ false) → RoseIf (Failed {T = Building} (Err fault)) source.faults source'.faults
+    → Stops fault status sink sink'
     → Runs (Some mode) status (record { source = source; sink = sink; steps = steps }) (record { source = source'; sink = sink'; steps = steps })
-not-read mode talk m fault status r0 r1 steps source source' sink sink' fresh bytes reading unfinished rose quiet stops =
+not-read mode talk m fault status r0 r1 steps source source' sink sink' fresh bytes reading unfinished cause stops =
     stopped mode (talk-reads mode talk m) fault status (record { source = source; sink = sink; steps = steps }) (record { source = source'; sink = sink'; steps = steps })
     (takes-model {T = Building} IsUndecided (λ lines e. e) fault r0 r1 source.bytes source'.bytes fresh bytes unfinished)
-    (λ e. rose (ap Err e)) (λ n. quiet (λ e. n (read-fault {T = Building} fault e))) refl stops
+    (rises-at {T = Building} fault cause) refl stops
     (told-fault mode talk m r0 source.bytes fault r1.number (lines_left r1 source'.bytes) fresh reading)
 
 -- ---- a talk that was held
@@ -148,7 +149,7 @@ pub record Parts {S : Type 0} (talk : TalkOn S) (building : Building) (status : 
   pub fresh : IsFresh r0
   pub read : ReadsLines (Ok building) r0 r1 before.source.bytes l1
   pub reading : ReadsModel (Ok building) r0.number r1.number (lines_left r0 before.source.bytes) (lines_left r1 l1)
-  pub quiet : (Failed {T = Building} (Ok building) → ⊥) → f1 ≡ before.source.faults
+  pub cause : RoseIf (Failed {T = Building} (Ok building)) before.source.faults f1
   pub held : HoldsTalk (talk building.names building.model) status (around r1 l1 f1 before.sink.bytes before.sink.faults before.steps)
       (around r2 after.source.bytes after.source.faults after.sink.bytes after.sink.faults after.steps)
   pub drained : Drained r2 after.source.bytes
@@ -248,7 +249,7 @@ talk-held mode talk m building status r0 r1 r2 before after l1 f1 parts =
     let d = read.described.0 in
     let is = read.described.2 in
     let e : opening_of 0 (text_lines read.texts) ≡ Described d r1.number [] = described-lines r0 r1 left l1 building parts.fresh read in
-    let quiet : f1 ≡ before.source.faults = parts.quiet (not-failed building) in
+    let quiet : f1 ≡ before.source.faults = parts.cause.same (not-failed building) in
     record {
       words = λ two. absurd (h.known.1 two);
       causes = record {

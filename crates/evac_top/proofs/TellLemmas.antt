@@ -4,14 +4,14 @@ use Rattle.std.specs.declared.option.Option.{Option}
 use Rattle.std.specs.Io.KnownBytes.{Appends, Consumes, IsAtEnd}
 use Rattle.std.proofs.KnownBytes.{Appends-nil, Consumes-nil}
 use Rattle.evac_law.specs.declared.code.Code.{Code}
-use Rattle.line_io.specs.Causes.{Rose}
 use Rattle.line_io.specs.Line.{Line, input_limit, lines_of, whole_part}
+use Rattle.line_io.specs.Sides.{RoseIf, Side}
 use Rattle.line_io.specs.declared.limits.TheConstants.{BUFFER_SIZE}
 use Rattle.line_io.specs.declared.out.WriteFault.{WriteFault}
 use Rattle.building_table.specs.declared.faults.ModelFault.{ModelFault}
 use Rattle.building_table.specs.declared.faults.ModelFault.TheVariants.{Named, ReadFault, Memory}
 use Rattle.certificate_text.specs.BlockText.{refusal_line}
-use Rattle.evac_top.specs.Accounts.{Account, Ends, IsFront, IsRefusal, Outside, Side, Told}
+use Rattle.evac_top.specs.Accounts.{Account, Ends, IsFront, IsRefusal, Outside, Told}
 use Rattle.evac_top.specs.Answers.{WritesNothing, runs_of, words_text}
 use Rattle.evac_top.specs.Drill.{IsDrilled}
 use Rattle.evac_top.specs.Inputs.{IsOpenClaim, IsOpenInput}
@@ -23,7 +23,7 @@ use Rattle.evac_top.specs.Tells.{Stops, Tells}
 use Rattle.evac_top.specs.declared.words.Flags.{Flags}
 use Rattle.evac_top.specs.declared.words.Mode.{Mode}
 use Rattle.evac_top.specs.declared.words.Mode.TheVariants.{Solve, Check, Upgrade, Drill}
-use Rattle.evac_top.proofs.TakeLemmas.{Failed, not-failed, read-fault}
+use Rattle.evac_top.proofs.TakeLemmas.{Failed, not-failed, rises-at}
 
 -- ---- telling
 
@@ -157,12 +157,12 @@ pub read-told : {T : Type 0} {IsOpen : List Line → Type 0} (mode : Mode) → R
     (Holds : Account → Type 0) (value : T) → ((x : Account) → Holds x → x.status ≤ 1)
     → ((bytes : List ℕ) → Is (Ok value) bytes → (x : Account) → x.taken ≡ bytes → Holds x → (runs_of (Some mode)).Answers bytes x)
     → (status steps old new : ℕ) (source source' sink sink' : Side) → Takes {T = T} IsOpen (Ok value) source.bytes source'.bytes
-    → ((Failed {T = T} (Ok value) → ⊥) → source'.faults ≡ source.faults) → new ≡ old + steps → Tells Holds status steps sink sink' → Told source.bytes (Is (Ok value))
+    → RoseIf (Failed {T = T} (Ok value)) source.faults source'.faults → new ≡ old + steps → Tells Holds status steps sink sink' → Told source.bytes (Is (Ok value))
     → Runs (Some mode) status (record { source = source; sink = sink; steps = old }) (record { source = source'; sink = sink'; steps = new })
-read-told mode m Is Holds value few said status steps old new source source' sink sink' t quiet counted tells told =
+read-told mode m Is Holds value few said status steps old new source source' sink sink' t cause counted tells told =
     let Answers : List ℕ → Account → Type 0 = (runs_of (Some mode)).Answers in
     runs-told (Some mode) Holds status steps (record { source = source; sink = sink; steps = old }) (record { source = source'; sink = sink'; steps = new }) t.taken
-    t.consumed t.few (quiet (not-failed value)) counted tells (λ x h e. absurd (omega (arith, few x h, e)))
+    t.consumed t.few (cause.same (not-failed value)) counted tells (λ x h e. absurd (omega (arith, few x h, e)))
     (told-input m.input source.bytes (λ input. (x : Account) → x.taken ≡ t.taken → Holds x → Answers input x)
     (all-taken source.bytes source'.bytes t.taken (λ input x. Holds x → Answers input x) t.consumed t.all
     (told-map source.bytes (Is (Ok value)) (λ input. (x : Account) → x.taken ≡ input → Holds x → Answers input x) said told))) m.front (λ x e w. m.memory x w)
@@ -177,20 +177,20 @@ written-none : (b a : Side) → a ≡ b → Appends b.bytes a.bytes []
 written-none b a e = subst (λ (s : Side). Appends b.bytes s.bytes []) (sym e) (Appends-nil b.bytes)
 
 pub stopped : {T : Type 0} {IsOpen : List Line → Type 0} (mode : Mode) → ReadsFirst mode IsOpen → (fault : ModelFault) (status : ℕ) (before after : Outside)
-    → Takes {T = T} IsOpen (Err fault) before.source.bytes after.source.bytes → (fault ≡ ReadFault → Rose before.source.faults after.source.faults)
-    → ((fault ≡ ReadFault → ⊥) → after.source.faults ≡ before.source.faults) → after.steps ≡ before.steps → Stops fault status before.sink after.sink
+    → Takes {T = T} IsOpen (Err fault) before.source.bytes after.source.bytes → RoseIf (fault ≡ ReadFault) before.source.faults after.source.faults
+    → after.steps ≡ before.steps → Stops fault status before.sink after.sink
     → Told before.source.bytes (FaultIs mode fault) → Runs (Some mode) status before after
-stopped mode m (Named code line) status before after t rose quiet kept tells told =
-    runs-told (Some mode) (IsRefusal (code, line)) status 0 before after t.taken t.consumed t.few (quiet (λ e. cc)) (omega (arith, kept)) tells
+stopped mode m (Named code line) status before after t cause kept tells told =
+    runs-told (Some mode) (IsRefusal (code, line)) status 0 before after t.taken t.consumed t.few (cause.same (λ e. cc)) (omega (arith, kept)) tells
     (λ x h e. absurd (omega (arith, h.over, e))) (told-input m.input before.source.bytes _ (told-map before.source.bytes (FaultIs mode (Named code line)) _ (λ input h x e. h x) told)) m.front (λ x e w. m.memory x w)
-stopped mode m ReadFault status before after t rose quiet kept (three, same) told =
+stopped mode m ReadFault status before after t cause kept (three, same) told =
     let x : Account = record { status = status; taken = t.taken; written = []; steps = 0 } in
     record {
       words = λ e. absurd (omega (arith, three, e));
       causes = record {
         known = omega (arith, three);
         reads_same = λ e. absurd (e three);
-        reads_rose = λ e. rose refl;
+        reads_rose = λ e. cause.rose refl;
         writes_same = λ e. ap (λ (s : Side). s.faults) same;
         writes_rose = λ e. absurd (omega (arith, three, e));
       };
@@ -201,13 +201,13 @@ stopped mode m ReadFault status before after t rose quiet kept (three, same) tol
       sink = λ e. absurd (omega (arith, three, e));
       memory = λ e. absurd (omega (arith, three, e));
     }
-stopped mode m Memory status before after t rose quiet kept (five, same) told =
+stopped mode m Memory status before after t cause kept (five, same) told =
     let x : Account = record { status = status; taken = t.taken; written = []; steps = 0 } in
     record {
       words = λ e. absurd (omega (arith, five, e));
       causes = record {
         known = omega (arith, five);
-        reads_same = λ e. quiet (λ e. cc);
+        reads_same = λ e. cause.same (λ e. cc);
         reads_rose = λ e. absurd (omega (arith, five, e));
         writes_same = λ e. ap (λ (s : Side). s.faults) same;
         writes_rose = λ e. absurd (omega (arith, five, e));
@@ -223,12 +223,12 @@ stopped mode m Memory status before after t rose quiet kept (five, same) told =
 -- an input isn't read
 pub fault-told : {T : Type 0} {IsOpen : List Line → Type 0} (mode : Mode) → ReadsFirst mode IsOpen → (Is : Result T ModelFault → List ℕ → Type 0)
     (fault : ModelFault) → ((bytes : List ℕ) → Is (Err fault) bytes → FaultIs mode fault bytes) → (status steps : ℕ) (source source' sink sink' : Side)
-    → Takes {T = T} IsOpen (Err fault) source.bytes source'.bytes → (Failed {T = T} (Err fault) → Rose source.faults source'.faults)
-    → ((Failed {T = T} (Err fault) → ⊥) → source'.faults ≡ source.faults) → Stops fault status sink sink' → Told source.bytes (Is (Err fault))
+    → Takes {T = T} IsOpen (Err fault) source.bytes source'.bytes → RoseIf (Failed {T = T} (Err fault)) source.faults source'.faults
+    → Stops fault status sink sink' → Told source.bytes (Is (Err fault))
     → Runs (Some mode) status (record { source = source; sink = sink; steps = steps }) (record { source = source'; sink = sink'; steps = steps })
-fault-told {T} mode m Is fault said status steps source source' sink sink' t rose quiet tells told =
+fault-told {T} mode m Is fault said status steps source source' sink sink' t cause tells told =
     stopped mode m fault status (record { source = source; sink = sink; steps = steps }) (record { source = source'; sink = sink'; steps = steps }) t
-    (λ e. rose (ap Err e)) (λ n. quiet (λ e. n (read-fault {T = T} fault e))) refl tells
+    (rises-at {T = T} fault cause) refl tells
     (told-map source.bytes (Is (Err fault)) (FaultIs mode fault) said told)
 
 -- who reads nothing isn't in a mode that reads

@@ -177,8 +177,8 @@ end-alike flags names m i j x y (inl h) (inl g) = (
   λ e. alike flags names m h.opening g.opening x.written y.written h.begins g.begins (ends-so flags names h.opening x.written h.says)
       (ends-so flags names g.opening y.written g.says),
 )
-end-alike flags names m i j x y (inl h) (inr g) = absurd (g.barred (opening-clears m h.opening h.begins))
-end-alike flags names m i j x y (inr h) (inl g) = absurd (h.barred (opening-clears m g.opening g.begins))
+end-alike flags names m i j x y (inl h) (inr g) = absurd (g.barred_by.not_clearable (opening-clears m h.opening h.begins))
+end-alike flags names m i j x y (inr h) (inl g) = absurd (h.barred_by.not_clearable (opening-clears m g.opening g.begins))
 end-alike flags names m i j x y (inr h) (inr g) = (h.refused ∙ sym g.refused, λ e. absurd (omega (arith, e, h.refused)))
 
 -- a run of `solve` on a building that was read plans it
@@ -293,8 +293,8 @@ session-alike names m last quiet x y all (inl h) (inl run) =
       λ e. alike (asking false false) names m h.opening s x.written y.written h.begins opens.begins (ends-so (asking false false) names h.opening x.written h.says)
           (ends-alone names s o.after.index y.written opens.first (alone.3 ∙ opens.answer.block)),
     )
-session-alike names m last quiet x y all (inl h) (inr short) = absurd (short.short.barred (opening-clears m h.opening h.begins))
-session-alike names m last quiet x y all (inr h) (inl run) = absurd (h.barred (opening-clears m run.goes.opening.after.standing run.goes.opens.begins))
+session-alike names m last quiet x y all (inl h) (inr short) = absurd (short.short.barred_by.not_clearable (opening-clears m h.opening h.begins))
+session-alike names m last quiet x y all (inr h) (inl run) = absurd (h.barred_by.not_clearable (opening-clears m run.goes.opening.after.standing run.goes.opens.begins))
 session-alike names m last quiet x y all (inr h) (inr short) = (h.refused ∙ sym short.refused, λ e. absurd (omega (arith, e, h.refused)))
 
 session-answered : (input : List ℕ) (y : Account) → Answered Session input y → Talks session (model_of (lines_of input)) y

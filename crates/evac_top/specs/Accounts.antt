@@ -2,16 +2,10 @@
 use Rattle.std.specs.Prelude.{◌≡◌, ℕ, List, ◌++◌, Some, None, ⊤}
 use Rattle.std.specs.declared.option.Option.{Option}
 use Rattle.evac_law.specs.declared.code.Code.{Code}
-use Rattle.line_io.specs.Causes.{Count}
+use Rattle.line_io.specs.Sides.{Side, sink_side, source_side}
+use Rattle.line_io.specs.declared.outside.Sink.{Ghosts as SinkGhosts}
+use Rattle.line_io.specs.declared.outside.Source.{Ghosts as SourceGhosts}
 use Rattle.certificate_text.specs.BlockText.{refusal_line}
-
--- a source with the bytes that it has left, or a sink with those that it holds, where it tells them; and how often it failed
-pub record Side : Type 0 where
-  pub bytes : Option (List ℕ)
-  pub faults : Count
-
-abbrev pub side : Option (List ℕ) → Count → Side
-side bytes faults = record { bytes = bytes; faults = faults }
 
 -- what holds of the bytes of a side, where it tells them
 abbrev pub Told : Option (List ℕ) → (List ℕ → Type 0) → Type 0
@@ -23,6 +17,14 @@ pub record Outside : Type 0 where
   pub source : Side
   pub sink : Side
   pub steps : ℕ
+
+-- what it meets at a source and a sink
+abbrev pub met_at : {S K : Type 0} → SourceGhosts S → SinkGhosts K → S → K → ℕ → Outside
+met_at s k source sink steps = record { source = source_side s source; sink = sink_side k sink; steps = steps }
+
+-- the same of a run that reads nothing, beside any source
+abbrev pub met_beside : {K : Type 0} → SinkGhosts K → Side → K → ℕ → Outside
+met_beside k source sink steps = record { source = source; sink = sink_side k sink; steps = steps }
 
 -- what a run did: its status, the bytes that it took, the text that it wrote, and the steps that it counted
 pub record Account : Type 0 where

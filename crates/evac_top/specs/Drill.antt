@@ -1,7 +1,6 @@
 -- What a run in the mode `drill` does: the summary of a best plan of a drill's building.
-use Rattle.std.specs.Prelude.{◌≡◌, ℕ, ◌≤◌, List, [], Some}
-use Rattle.evac_law.specs.declared.plan.Move.{Move}
-use Rattle.evac_law.specs.Plans.{IsFeasible, out_by}
+use Rattle.std.specs.Prelude.{◌≡◌, ℕ, [], Some}
+use Rattle.evac_law.specs.Plans.{IsEarliest}
 use Rattle.clearing_report.specs.Walks.{IsUncongested}
 use Rattle.drill_building.specs.Drill.{drill_model}
 use Rattle.drill_building.specs.Summary.{drill_text, figures_of}
@@ -13,7 +12,7 @@ use Rattle.evac_top.specs.Accounts.{Account, Ends}
 pub record IsDrilled (n : ℕ) (x : Account) : Type 0 where
   pub opening : SessionState
   pub begins : Begins (drill_model n) opening
-  pub best : (other : List Move) (k : ℕ) → IsFeasible (drill_model n) other k → out_by (drill_model n) other k ≤ out_by (drill_model n) opening.plan k
+  pub best : IsEarliest (drill_model n) opening.plan
   pub time : ℕ
   pub uncongested : IsUncongested (drill_model n) (Some time)
   pub ends : let m = drill_model n in Ends x 0 (drill_text n m (figures_of m opening.plan opening.last time)) opening.work.pushes

@@ -6,7 +6,7 @@ use Rattle.evac_law.specs.declared.plan.Move.{Move}
 use Rattle.evac_law.specs.Building.{people}
 use Rattle.evac_law.specs.Certificates.{IsClearable, stated_cut}
 use Rattle.evac_law.specs.Cuts.{cut_value}
-use Rattle.evac_law.specs.Plans.{IsFeasible, out_by}
+use Rattle.evac_law.specs.Plans.{IsEarliest, IsFeasible, out_by}
 use Rattle.line_io.specs.Line.{Line, lines_of, text_lines}
 use Rattle.model_text.specs.Commands.{command_of}
 use Rattle.model_text.specs.Readings.{Reading, Described, Refused, model_of}
@@ -36,7 +36,7 @@ pub record IsBestPlan (m : Model) (p : List Move) (c : ℕ) : Type 0 where
   pub in_time : c ≤ m.horizon
   pub all_out : out_by m p c ≡ people m
   pub not_before : (k : ℕ) → k < c → out_by m p k < people m
-  pub best : (other : List Move) (k : ℕ) → IsFeasible m other k → out_by m other k ≤ out_by m p k
+  pub best : IsEarliest m p
 
 -- an answer block that was written: it reads back as a best plan, and for every period a stated cut is worth as many as are out by then
 pub record IsBestBlock (s : State) (text : List ℕ) : Type 0 where

@@ -5,8 +5,8 @@ use Rattle.evac_law.specs.declared.code.Code.{Code}
 use Rattle.evac_law.specs.declared.model.Model.{Model}
 use Rattle.evac_law.specs.declared.plan.Move.{Move}
 use Rattle.evac_law.specs.Building.{people}
-use Rattle.evac_law.specs.Certificates.{IsClearable}
-use Rattle.evac_law.specs.Parts.{IsMost}
+use Rattle.evac_law.specs.Cuts.{Cut}
+use Rattle.evac_law.specs.Parts.{IsBarredBy}
 use Rattle.evac_law.specs.Plans.{IsFeasible, out_by}
 use Rattle.line_io.specs.Line.{Line, lines_of, text_lines}
 use Rattle.model_text.specs.declared.fault.TextFault.{TextFault}
@@ -46,9 +46,9 @@ use Rattle.evac_top.specs.declared.words.Mode.TheVariants.{Check, Drill, Study, 
 pub record IsStuck (m : Model) (all most : ℕ) : Type 0 where
   pub count : all ≡ people m
   pub fewer : most < all
-  pub barred : ¬ IsClearable m
+  pub cut : Cut
+  pub barred_by : IsBarredBy m cut most
   pub bound : (p : List Move) → IsFeasible m p m.horizon → out_by m p m.horizon ≤ most
-  pub greatest : IsMost m most
 
 -- what a row says of a building without an exit: the moment by which a best plan has everybody out, or that not everybody can get out
 abbrev pub IsRightRow : Model → ExitRow → Type 0

@@ -5,7 +5,9 @@ use Rattle.std.specs.Io.KnownBytes.{Appends, Consumes}
 use Rattle.line_io.specs.Causes.{Rose}
 use Rattle.line_io.specs.Line.{input_limit, lines_of, whole_part}
 use Rattle.line_io.specs.declared.limits.TheConstants.{BUFFER_SIZE}
-use Rattle.evac_top.specs.Accounts.{Account, Outside, Told}
+use Rattle.line_io.specs.declared.outside.Sink.{Ghosts as SinkGhosts}
+use Rattle.line_io.specs.declared.outside.Source.{Ghosts as SourceGhosts}
+use Rattle.evac_top.specs.Accounts.{Account, Outside, Told, met_at}
 use Rattle.evac_top.specs.Answers.{runs_of}
 use Rattle.evac_top.specs.declared.words.Mode.{Mode}
 
@@ -40,6 +42,10 @@ pub record Runs (mode : Option Mode) (status : ℕ) (before after : Outside) : T
   pub source : status ≡ 3 → (runs_of mode).AnswersSoFar (lines_of (whole_part did.taken)) did
   pub sink : status ≡ 4 → OfInput (runs_of mode).reads before.source.bytes (λ input. (runs_of mode).AnswersFront input did)
   pub memory : status ≡ 5 → (runs_of mode).AnswersMemory did
+
+-- the same of a run between a source and a sink
+abbrev pub RunsOn : {S K : Type 0} → SourceGhosts S → SinkGhosts K → Option Mode → ℕ → S → K → ℕ → S → K → ℕ → Type 0
+RunsOn s k mode status source sink steps source' sink' steps' = Runs mode status (met_at s k source sink steps) (met_at s k source' sink' steps')
 
 -- a run in which neither the source's count of faults rose nor the sink's, and there was memory, answers its input
 abbrev pub RunsAnswer : Type 0

@@ -2,11 +2,9 @@
 use Rattle.std.specs.Prelude.{◌≡◌, ℕ, ◌+◌, ◌*◌, ◌≤◌, Bool, true, false, List, [], ◌++◌, Result, Ok, Err, ◌⊎◌}
 use Rattle.evac_law.specs.declared.code.Code.{Code}
 use Rattle.evac_law.specs.declared.model.Model.{Model}
-use Rattle.evac_law.specs.declared.plan.Move.{Move}
-use Rattle.evac_law.specs.Certificates.{IsClearable, IsShortfall}
 use Rattle.evac_law.specs.Cuts.{Cut}
-use Rattle.evac_law.specs.Parts.{IsMost}
-use Rattle.evac_law.specs.Plans.{IsFeasible, out_by}
+use Rattle.evac_law.specs.Parts.{IsBarredBy}
+use Rattle.evac_law.specs.Plans.{IsEarliest}
 use Rattle.building_table.specs.Names.{NameTable, names_of}
 use Rattle.certificate_text.specs.BlockText.{shortfall_text}
 use Rattle.edit_session.specs.Sessions.{Begins, SessionState}
@@ -42,7 +40,7 @@ pub record SaysPlan (flags : Flags) (names : NameTable) (s : SessionState) (text
 pub record IsPlanned (flags : Flags) (names : NameTable) (m : Model) (x : Account) : Type 0 where
   pub opening : SessionState
   pub begins : Begins m opening
-  pub best : (other : List Move) (k : ℕ) → IsFeasible m other k → out_by m other k ≤ out_by m opening.plan k
+  pub best : IsEarliest m opening.plan
   pub done : x.status ≡ 0
   pub says : SaysPlan flags names opening x.written
   pub counted : x.steps ≡ opening.work.pushes
@@ -52,9 +50,7 @@ pub record IsPlanned (flags : Flags) (names : NameTable) (m : Model) (x : Accoun
 pub record IsShort (m : Model) (line : ℕ) (x : Account) : Type 0 where
   pub cut : Cut
   pub most : ℕ
-  pub shortfall : IsShortfall m cut most
-  pub barred : ¬ IsClearable m
-  pub greatest : IsMost m most
+  pub barred_by : IsBarredBy m cut most
   pub refused : x.status ≡ 1
   pub block : x.written ≡ shortfall_text line m cut most
   pub few_steps : x.steps ≤ (m.horizon + 1) * most

@@ -2,13 +2,15 @@
 use Rattle.std.specs.Prelude.{◌≡◌, ◌≢◌, ℕ, ◌≤◌, List, [], Result}
 use Rattle.std.specs.Io.KnownBytes.{Appends}
 use Rattle.line_io.specs.Causes.{Rose}
+use Rattle.line_io.specs.Sides.{Side, sink_side}
+use Rattle.line_io.specs.declared.outside.Sink.{Ghosts as SinkGhosts}
 use Rattle.building_table.specs.declared.faults.ModelFault.{ModelFault}
 use Rattle.building_table.specs.declared.faults.ModelFault.TheVariants.{Named, ReadFault, Memory}
 use Rattle.edit_session.specs.Sessions.{BeginEnds, SessionView}
 use Rattle.edit_session.specs.declared.faults.BeginFault.{BeginFault}
 use Rattle.evac_law.specs.declared.model.Model.{Model}
 use Rattle.evac_law.specs.Building.{IsValid}
-use Rattle.evac_top.specs.Accounts.{Account, IsFront, IsRefusal, Side}
+use Rattle.evac_top.specs.Accounts.{Account, IsFront, IsRefusal}
 
 -- the sink was told what an account of this kind says: all of it at statuses 0, 1 and 2, a front of it where the sink failed, and nothing without memory
 pub record Tells (Holds : Account → Type 0) (status steps : ℕ) (before after : Side) : Type 0 where
@@ -20,6 +22,9 @@ pub record Tells (Holds : Account → Type 0) (status steps : ℕ) (before after
   pub whole : status ≤ 2 → (taken : List ℕ) → Holds (record { status = status; taken = taken; written = written; steps = steps })
   pub front : status ≡ 4 → (taken : List ℕ) → IsFront Holds (record { status = status; taken = taken; written = written; steps = steps })
   pub nothing : status ≡ 5 → written ≡ []
+
+abbrev pub TellsTo : {K : Type 0} → SinkGhosts K → (Account → Type 0) → ℕ → ℕ → K → K → Type 0
+TellsTo k Holds status steps before after = Tells Holds status steps (sink_side k before) (sink_side k after)
 
 -- the end of a run whose input isn't read: a named fault is told, otherwise nothing
 abbrev pub Stops : ModelFault → ℕ → Side → Side → Type 0

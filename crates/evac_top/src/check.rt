@@ -5,10 +5,9 @@ ghost use Rattle.line_io.specs.Calls.{AsksAtMost};
 ghost use Rattle.line_io.specs.Line.{input_limit};
 ghost use Rattle.line_io.specs.declared.limits.TheConstants.{BUFFER_SIZE};
 ghost use Rattle.certificate_text.specs.Block.{IsBlockOf};
-ghost use Rattle.evac_top.specs.Accounts.{side};
 ghost use Rattle.evac_top.specs.Check.{IsChecked, verdict_status};
-ghost use Rattle.evac_top.specs.Runs.{Runs};
-ghost use Rattle.evac_top.specs.Tells.{Tells};
+ghost use Rattle.evac_top.specs.Runs.{RunsOn};
+ghost use Rattle.evac_top.specs.Tells.{TellsTo};
 ghost use Rattle.evac_top.specs.declared.words.Mode.TheVariants.{Check};
 ghost use Rattle.talk.specs.Statuses.{status_number};
 
@@ -43,7 +42,7 @@ fn judge<K: Sink>(
     requires fresh { out.old ≡ [] }
     requires valid { IsValid model.now }
     requires block { IsBlockOf model.now block.now }
-    ensures { Tells (IsChecked model.now block.now) (status_number result) 0 (side (K.held sink.old) (K.faults sink.old)) (side (K.held sink.new) (K.faults sink.new)) }
+    ensures { TellsTo K.Sink (IsChecked model.now block.now) (status_number result) 0 sink.old sink.new }
 {
     let Ok(verdict) = plan_checker::check(alloc, model, block) else {
         return Status::NoMemory;
@@ -56,8 +55,7 @@ fn judge_claim<K: Sink>(alloc: Global, out: &mut Out, sink: &mut K, claim: Claim
     requires fresh { out.old ≡ [] }
     requires valid { IsValid claim.building.model }
     requires block { IsBlockOf claim.building.model claim.block }
-    ensures { Tells (IsChecked claim.building.model claim.block) (status_number result) 0
-        (side (K.held sink.old) (K.faults sink.old)) (side (K.held sink.new) (K.faults sink.new)) }
+    ensures { TellsTo K.Sink (IsChecked claim.building.model claim.block) (status_number result) 0 sink.old sink.new }
 {
     let status = judge(alloc, out, sink, &claim.building.model, &claim.block);
     drop(claim);
@@ -66,9 +64,7 @@ fn judge_claim<K: Sink>(alloc: Global, out: &mut Out, sink: &mut K, claim: Claim
 
 /// Runs the mode. It counts no steps.
 pub(crate) fn check<S: Source, K: Sink>(alloc: Global, source: &mut S, sink: &mut K) -> Status
-    ensures run { (steps : ℕ) → Runs (Some Check) (status_number result)
-        (record { source = side (S.left source.old) (S.faults source.old); sink = side (K.held sink.old) (K.faults sink.old); steps = steps })
-        (record { source = side (S.left source.new) (S.faults source.new); sink = side (K.held sink.new) (K.faults sink.new); steps = steps }) }
+    ensures run { (steps : ℕ) → RunsOn S.Source K.Sink (Some Check) (status_number result) source.old sink.old steps source.new sink.new steps }
     ensures asked { AsksAtMost S.takes (input_limit + BUFFER_SIZE) source.old source.new }
 {
     let Ok((mut lines, mut out)) = take_room(alloc) else {

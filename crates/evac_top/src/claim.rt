@@ -3,9 +3,9 @@ ghost use Rattle.std.specs.Prelude.{◌≡◌, ℕ, ◌+◌, List, Err, IfOk, Ok
 ghost use Rattle.std.specs.declared.option.Option.{Option};
 ghost use Rattle.evac_law.specs.Building.{IsValid};
 ghost use Rattle.line_io.specs.Calls.{Asks, AsksAtMost};
-ghost use Rattle.line_io.specs.Causes.{Rose};
 ghost use Rattle.line_io.specs.Line.{input_limit};
 ghost use Rattle.line_io.specs.Reader.{Drained, HasRoom, lines_left};
+ghost use Rattle.line_io.specs.Sides.{RisesWith};
 ghost use Rattle.line_io.specs.View.{Reader};
 ghost use Rattle.line_io.specs.declared.limits.TheConstants.{BUFFER_SIZE};
 ghost use Rattle.building_table.specs.Names.{NamesFit};
@@ -61,8 +61,7 @@ fn read_behind<S: Source>(
         → (Drained first left → Drained lines.old (S.left source.old)) → Takes IsOpenClaim result left (S.left source.new) }
     ensures asks { Asks S.takes lines.old source.old lines.new source.new }
     ensures room { HasRoom lines.old → HasRoom lines.new }
-    ensures failed { result ≡ Err ModelFault.ReadFault → Rose (S.faults source.old) (S.faults source.new) }
-    ensures quiet { (result ≡ Err ModelFault.ReadFault → ⊥) → S.faults source.new ≡ S.faults source.old }
+    ensures cause { RisesWith S.Source source.old source.new (result ≡ Err ModelFault.ReadFault) }
 {
     let block = match read_block(alloc, lines, source, &building.model, &building.names) {
         Ok(block) => block,
@@ -93,8 +92,7 @@ pub(crate) fn read_claim<S: Source>(
     ensures block { IfOk result (λ claim. IsBlockOf claim.building.model claim.block) }
     ensures takes { Takes IsOpenClaim result (S.left source.old) (S.left source.new) }
     ensures asked { AsksAtMost S.takes (input_limit + BUFFER_SIZE) source.old source.new }
-    ensures failed { result ≡ Err ModelFault.ReadFault → Rose (S.faults source.old) (S.faults source.new) }
-    ensures quiet { (result ≡ Err ModelFault.ReadFault → ⊥) → S.faults source.new ≡ S.faults source.old }
+    ensures cause { RisesWith S.Source source.old source.new (result ≡ Err ModelFault.ReadFault) }
 {
     match read_model(alloc, lines, source) {
         Ok(building) => read_behind(alloc, lines, source, building),

@@ -5,12 +5,13 @@ ghost use Rattle.drill_building.specs.Drill.{drill_model};
 ghost use Rattle.drill_building.specs.Summary.{drill_text, figures_of};
 ghost use Rattle.edit_session.specs.Sessions.{BeginEnds, Begins};
 ghost use Rattle.evac_law.specs.Building.{IsValid};
-ghost use Rattle.evac_top.specs.Accounts.{Side, side};
+ghost use Rattle.evac_top.specs.Accounts.{met_beside};
 ghost use Rattle.evac_top.specs.Drill.{IsDrilled};
 ghost use Rattle.evac_top.specs.Runs.{Runs};
-ghost use Rattle.evac_top.specs.Tells.{HasBegun, Tells};
+ghost use Rattle.evac_top.specs.Tells.{HasBegun, TellsTo};
 ghost use Rattle.evac_top.specs.declared.words.Mode.TheVariants.{Drill};
-ghost use Rattle.talk.specs.Held.{SendsBy};
+ghost use Rattle.line_io.specs.Sides.{Side};
+ghost use Rattle.talk.specs.Held.{SendsTo};
 ghost use Rattle.talk.specs.Statuses.{status_number};
 
 use crate::stop::stop_short;
@@ -47,8 +48,7 @@ fn send_drill<K: Sink>(
     figures: Figures,
 ) -> Result<(), WriteFault>
     requires { IsValid model.now }
-    ensures { SendsBy result (drill_text number model.now figures)
-        (K.held sink.old) out.old (K.faults sink.old) (K.held sink.new) out.new (K.faults sink.new) }
+    ensures { SendsTo K.Sink result (drill_text number model.now figures) sink.old out.old sink.new out.new }
 {
     let mut writer = Writer::new(out, sink);
     put_drill(&mut writer, number, model, figures);
@@ -65,8 +65,7 @@ fn answer_drill<K: Sink>(
 ) -> Status
     requires fresh { out.old ≡ [] }
     requires begins { Begins (drill_model number) session.now.state }
-    ensures { Tells (IsDrilled number) (status_number result) session.now.state.work.pushes
-        (side (K.held sink.old) (K.faults sink.old)) (side (K.held sink.new) (K.faults sink.new)) }
+    ensures { TellsTo K.Sink (IsDrilled number) (status_number result) session.now.state.work.pushes sink.old sink.new }
 {
     let Ok(figures) = figures_of(alloc, session) else {
         return Status::NoMemory;
@@ -86,8 +85,7 @@ fn tell<K: Sink>(
     requires fresh { out.old ≡ [] }
     requires storeys { number ≤ STOREY_LIMIT }
     requires begun { HasBegun (drill_model number) begun }
-    ensures { (steps : ℕ) → BeginEnds (drill_model number) begun steps → Tells (IsDrilled number) (status_number result) steps
-        (side (K.held sink.old) (K.faults sink.old)) (side (K.held sink.new) (K.faults sink.new)) }
+    ensures { (steps : ℕ) → BeginEnds (drill_model number) begun steps → TellsTo K.Sink (IsDrilled number) (status_number result) steps sink.old sink.new }
 {
     match begun {
         Ok(session) => answer_drill(alloc, out, sink, number, &session),
@@ -129,8 +127,8 @@ pub(crate) fn drill<K: Sink, L: Ledger>(
 ) -> Status
     requires { number ≤ STOREY_LIMIT }
     ensures { (source : Side) → Runs (Some (Drill number)) (status_number result)
-        (record { source = source; sink = side (K.held sink.old) (K.faults sink.old); steps = steps.old })
-        (record { source = source; sink = side (K.held sink.new) (K.faults sink.new); steps = steps.new }) }
+        (met_beside K.Sink source sink.old steps.old)
+        (met_beside K.Sink source sink.new steps.new) }
 {
     let Ok((mut out, building)) = take_building(alloc, number) else {
         return Status::NoMemory;

@@ -3,9 +3,8 @@ ghost use Rattle.std.specs.Prelude.{◌≡◌, ◌+◌, Some};
 ghost use Rattle.line_io.specs.Calls.{AsksAtMost};
 ghost use Rattle.line_io.specs.Line.{input_limit};
 ghost use Rattle.line_io.specs.declared.limits.TheConstants.{BUFFER_SIZE};
-ghost use Rattle.evac_top.specs.Accounts.{side};
 ghost use Rattle.evac_top.specs.Answers.{IsTalk};
-ghost use Rattle.evac_top.specs.Runs.{Runs};
+ghost use Rattle.evac_top.specs.Runs.{RunsOn};
 ghost use Rattle.evac_top.specs.declared.words.Mode.{Mode};
 ghost use Rattle.talk.specs.Statuses.{status_number};
 
@@ -25,9 +24,7 @@ pub(crate) fn hold<T: Speaker + Drop, S: Source, K: Sink, L: Ledger>(
     sink: &mut K,
     steps: &mut Steps<L>,
 ) -> Status
-    ensures run { (mode : Mode) → IsTalk mode T.talk → Runs (Some mode) (status_number result)
-        (record { source = side (S.left source.old) (S.faults source.old); sink = side (K.held sink.old) (K.faults sink.old); steps = steps.old })
-        (record { source = side (S.left source.new) (S.faults source.new); sink = side (K.held sink.new) (K.faults sink.new); steps = steps.new }) }
+    ensures run { (mode : Mode) → IsTalk mode T.talk → RunsOn S.Source K.Sink (Some mode) (status_number result) source.old sink.old steps.old source.new sink.new steps.new }
     ensures asked { AsksAtMost S.takes (input_limit + BUFFER_SIZE) source.old source.new }
 {
     let Ok((mut lines, mut out)) = take_room(alloc) else {

@@ -7,7 +7,7 @@ ghost use Rattle.session_text.specs.Spaces.{IsSpace};
 ghost use Rattle.session_text.specs.StateTexts.{SaysReports, SaysRoutesOf};
 ghost use Rattle.evac_top.specs.Solve.{SaysAsked, SaysPlan, Where};
 ghost use Rattle.evac_top.specs.Tables.{HasTablesAsked};
-ghost use Rattle.talk.specs.Held.{SendsBy};
+ghost use Rattle.talk.specs.Held.{SendsTo};
 
 use crate::query::Query;
 use crate::report_tables::Tables;
@@ -22,7 +22,7 @@ use session_text::{ReportSpace, put_block};
 fn put_routes<K: Sink>(writer: &mut Writer<'_, K>, session: &Session, routes: &mut Option<Routes>)
     requires { IfSome routes.old (λ r. IsSameSite session.now.state.model r.model) }
     ensures { (text : List ℕ) × Where (is_some routes.old) (SaysRoutesOf 0 session.now.state) text
-        × Writes K.held K.faults writer.old text writer.new }
+        × Writes K.Sink writer.old text writer.new }
 {
     match routes {
         Some(routes) => session_text::put_routes(writer, session, 0, routes),
@@ -33,8 +33,8 @@ fn put_routes<K: Sink>(writer: &mut Writer<'_, K>, session: &Session, routes: &m
 // Puts the cards, where they are asked for.
 fn put_cards<K: Sink>(writer: &mut Writer<'_, K>, session: &Session, cards: &mut Option<Cards>)
     requires { IfSome cards.old (λ c. IsSameSite session.now.state.model c.model) }
-    ensures { (text : List ℕ) × Where (is_some cards.old) (SaysCards 0 session.now.state.model session.now.state.plan) text
-        × Writes K.held K.faults writer.old text writer.new }
+    ensures { let s = session.now.state in (text : List ℕ) × Where (is_some cards.old) (SaysCards 0 s.model s.plan) text
+        × Writes K.Sink writer.old text writer.new }
 {
     match cards {
         Some(cards) => report_text::put_cards(writer, session.model(), 0, session, cards),
@@ -51,7 +51,7 @@ fn put_reports<K: Sink>(
 )
     requires { IfSome reports.old (IsSpace session.now.state.model names.now) }
     ensures { (text : List ℕ) × Where (is_some reports.old) (SaysReports names.now 0 session.now.state) text
-        × Writes K.held K.faults writer.old text writer.new }
+        × Writes K.Sink writer.old text writer.new }
 {
     match reports {
         Some(space) => session_text::put_reports(writer, session, 0, names, space),
@@ -69,7 +69,7 @@ fn put_asked<K: Sink>(
     requires { HasTablesAsked query.now.flags query.now.names session.now.state tables.old }
     ensures { let s = session.now.state in
         (asked : List ℕ) × (reports : List ℕ) × SaysAsked query.now.flags s asked × Where query.now.flags.reports (SaysReports query.now.names 0 s) reports
-        × Writes K.held K.faults writer.old (asked ++ reports) writer.new }
+        × Writes K.Sink writer.old (asked ++ reports) writer.new }
 {
     put_routes(writer, session, &mut tables.routes);
     put_cards(writer, session, &mut tables.cards);
@@ -86,7 +86,7 @@ pub(crate) fn send_plan<K: Sink>(
 ) -> Result<(), WriteFault>
     requires { HasTablesAsked query.now.flags query.now.names session.now.state tables.old }
     ensures { (text : List ℕ) × SaysPlan query.now.flags query.now.names session.now.state text
-        × SendsBy result text (K.held sink.old) out.old (K.faults sink.old) (K.held sink.new) out.new (K.faults sink.new) }
+        × SendsTo K.Sink result text sink.old out.old sink.new out.new }
 {
     let mut writer = Writer::new(out, sink);
     put_block(&mut writer, session, 0);

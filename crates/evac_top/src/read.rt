@@ -3,9 +3,9 @@ ghost use Rattle.std.specs.Prelude.{◌≡◌, ℕ, ◌+◌, ◌≤◌, List, Er
 ghost use Rattle.std.specs.declared.option.Option.{Option};
 ghost use Rattle.evac_law.specs.Building.{IsValid};
 ghost use Rattle.line_io.specs.Calls.{Asks, AsksAtMost};
-ghost use Rattle.line_io.specs.Causes.{Rose};
 ghost use Rattle.line_io.specs.Line.{input_limit};
 ghost use Rattle.line_io.specs.Reader.{Drained, HasRoom, is_settled, lines_left};
+ghost use Rattle.line_io.specs.Sides.{RisesWith};
 ghost use Rattle.line_io.specs.View.{Reader};
 ghost use Rattle.line_io.specs.declared.limits.TheConstants.{BUFFER_SIZE};
 ghost use Rattle.building_table.specs.Passes.{ReadsLines, ReadsModel};
@@ -61,6 +61,7 @@ fn conclude_tail(ending: Ending<TextFound>, number: u32) -> Result<(), ModelFaul
     requires { number ≤ input_limit }
     ensures answer { result ≡ tail_by ending number }
     ensures caused { result ≡ Err ModelFault.ReadFault → ending ≡ Ending.Fault LineFault.ReadFault }
+    ensures quiet { ending ≡ Ending.Fault LineFault.ReadFault → result ≡ Err ModelFault.ReadFault }
 {
     let code = match ending {
         Ending::InputEnded => return Ok(()),
@@ -89,9 +90,8 @@ pub(crate) fn read_tail<S: Source>(lines: &mut Lines, source: &mut S) -> Result<
     ensures asks { Asks S.takes lines.old source.old lines.new source.new }
 
     // a read fault has its cause
-    ensures failed { result ≡ Err ModelFault.ReadFault → Rose (S.faults source.old) (S.faults source.new) }
+    ensures cause { RisesWith S.Source source.old source.new (result ≡ Err ModelFault.ReadFault) }
     ensures unfinished { result ≡ Err ModelFault.ReadFault → is_settled lines.new ≡ false }
-    ensures quiet { (result ≡ Err ModelFault.ReadFault → ⊥) → S.faults source.new ≡ S.faults source.old }
     ensures in_memory { result ≡ Err ModelFault.Memory → ⊥ }
 {
     let ending = listen(lines, source, &mut Tail);
@@ -119,8 +119,7 @@ fn read_end<S: Source>(
         → (Drained first left → Drained lines.old (S.left source.old)) → Takes IsOpenInput result left (S.left source.new) }
     ensures asks { Asks S.takes lines.old source.old lines.new source.new }
     ensures room { HasRoom lines.old → HasRoom lines.new }
-    ensures failed { result ≡ Err ModelFault.ReadFault → Rose (S.faults source.old) (S.faults source.new) }
-    ensures quiet { (result ≡ Err ModelFault.ReadFault → ⊥) → S.faults source.new ≡ S.faults source.old }
+    ensures cause { RisesWith S.Source source.old source.new (result ≡ Err ModelFault.ReadFault) }
 {
     let last = lines.number();
     match read_tail(lines, source) {
@@ -143,8 +142,7 @@ pub(crate) fn read_input<S: Source>(
     ensures valid { IfOk result (λ input. IsValid input.building.model) }
     ensures takes { Takes IsOpenInput result (S.left source.old) (S.left source.new) }
     ensures asked { AsksAtMost S.takes (input_limit + BUFFER_SIZE) source.old source.new }
-    ensures failed { result ≡ Err ModelFault.ReadFault → Rose (S.faults source.old) (S.faults source.new) }
-    ensures quiet { (result ≡ Err ModelFault.ReadFault → ⊥) → S.faults source.new ≡ S.faults source.old }
+    ensures cause { RisesWith S.Source source.old source.new (result ≡ Err ModelFault.ReadFault) }
 {
     match read_model(alloc, lines, source) {
         Ok(building) => read_end(lines, source, building),

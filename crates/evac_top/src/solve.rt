@@ -5,10 +5,9 @@ ghost use Rattle.evac_law.specs.declared.model.Model.{Model as ModelValue};
 ghost use Rattle.line_io.specs.Calls.{AsksAtMost};
 ghost use Rattle.line_io.specs.Line.{input_limit};
 ghost use Rattle.line_io.specs.declared.limits.TheConstants.{BUFFER_SIZE};
-ghost use Rattle.evac_top.specs.Accounts.{side};
-ghost use Rattle.evac_top.specs.Runs.{Runs};
+ghost use Rattle.evac_top.specs.Runs.{RunsOn};
 ghost use Rattle.evac_top.specs.Solve.{IsPlanned, IsPlannedOrShort};
-ghost use Rattle.evac_top.specs.Tells.{HasBegun, Tells};
+ghost use Rattle.evac_top.specs.Tells.{HasBegun, TellsTo};
 ghost use Rattle.evac_top.specs.declared.words.Mode.TheVariants.{Solve};
 ghost use Rattle.talk.specs.Statuses.{status_number};
 
@@ -36,8 +35,7 @@ fn answer_plan<K: Sink>(
 ) -> Status
     requires fresh { out.old ≡ [] }
     requires begins { Begins session.now.state.model session.now.state }
-    ensures { Tells (IsPlanned query.now.flags query.now.names session.now.state.model) (status_number result) session.now.state.work.pushes
-        (side (K.held sink.old) (K.faults sink.old)) (side (K.held sink.new) (K.faults sink.new)) }
+    ensures { TellsTo K.Sink (IsPlanned query.now.flags query.now.names session.now.state.model) (status_number result) session.now.state.work.pushes sink.old sink.new }
 {
     let Ok(mut tables) = Tables::new(alloc, query, session) else {
         return Status::NoMemory;
@@ -59,8 +57,7 @@ fn tell<K: Sink>(
     requires fresh { out.old ≡ [] }
     requires begun { (m : ModelValue) × HasBegun m begun }
     ensures { (m : ModelValue) (steps : ℕ) → BeginEnds m begun steps
-        → Tells (IsPlannedOrShort query.now.flags query.now.names m query.now.line) (status_number result) steps
-        (side (K.held sink.old) (K.faults sink.old)) (side (K.held sink.new) (K.faults sink.new)) }
+        → TellsTo K.Sink (IsPlannedOrShort query.now.flags query.now.names m query.now.line) (status_number result) steps sink.old sink.new }
 {
     match begun {
         Ok(session) => answer_plan(alloc, out, sink, query, &session),
@@ -76,9 +73,7 @@ pub(crate) fn solve<S: Source, K: Sink, L: Ledger>(
     sink: &mut K,
     steps: &mut Steps<L>,
 ) -> Status
-    ensures run { Runs (Some (Solve flags)) (status_number result)
-        (record { source = side (S.left source.old) (S.faults source.old); sink = side (K.held sink.old) (K.faults sink.old); steps = steps.old })
-        (record { source = side (S.left source.new) (S.faults source.new); sink = side (K.held sink.new) (K.faults sink.new); steps = steps.new }) }
+    ensures run { RunsOn S.Source K.Sink (Some (Solve flags)) (status_number result) source.old sink.old steps.old source.new sink.new steps.new }
     ensures asked { AsksAtMost S.takes (input_limit + BUFFER_SIZE) source.old source.new }
 {
     let Ok((mut lines, mut out)) = take_room(alloc) else {

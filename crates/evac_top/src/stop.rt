@@ -2,9 +2,9 @@
 ghost use Rattle.std.specs.Prelude.{◌≡◌, ℕ, [], Err};
 ghost use Rattle.edit_session.specs.Sessions.{BeginEnds};
 ghost use Rattle.evac_law.specs.declared.model.Model.{Model};
-ghost use Rattle.evac_top.specs.Accounts.{side};
 ghost use Rattle.evac_top.specs.Solve.{IsShort};
-ghost use Rattle.evac_top.specs.Tells.{HasBegun, Stops, Tells};
+ghost use Rattle.evac_top.specs.Tells.{HasBegun, Stops, TellsTo};
+ghost use Rattle.line_io.specs.Sides.{sink_side};
 ghost use Rattle.talk.specs.Statuses.{status_number};
 
 use building_table::ModelFault;
@@ -15,7 +15,7 @@ use talk::{Status, send_refusal, send_short, status_after};
 /// Ends a run whose input isn't read: a named fault is answered by its line.
 pub(crate) fn stop<K: Sink>(out: &mut Out, sink: &mut K, fault: ModelFault) -> Status
     requires { out.old ≡ [] }
-    ensures { Stops fault (status_number result) (side (K.held sink.old) (K.faults sink.old)) (side (K.held sink.new) (K.faults sink.new)) }
+    ensures { Stops fault (status_number result) (sink_side K.Sink sink.old) (sink_side K.Sink sink.new) }
 {
     match fault {
         ModelFault::Named { code, line } => {
@@ -35,8 +35,7 @@ pub(crate) fn stop_short<K: Sink>(
 ) -> Status
     requires fresh { out.old ≡ [] }
     requires begun { (m : Model) × HasBegun m (Err fault) }
-    ensures { (m : Model) (steps : ℕ) → BeginEnds m (Err fault) steps → Tells (IsShort m line) (status_number result) steps
-        (side (K.held sink.old) (K.faults sink.old)) (side (K.held sink.new) (K.faults sink.new)) }
+    ensures { (m : Model) (steps : ℕ) → BeginEnds m (Err fault) steps → TellsTo K.Sink (IsShort m line) (status_number result) steps sink.old sink.new }
 {
     match fault {
         BeginFault::NotCleared(short) => status_after(

@@ -2,12 +2,13 @@
 ghost use Rattle.std.specs.Prelude.{◌≡◌, ℕ, ◌+◌, [], None, false, map, string_bytes};
 ghost use Rattle.line_io.specs.Calls.{AsksAtMost};
 ghost use Rattle.line_io.specs.Line.{input_limit};
+ghost use Rattle.line_io.specs.Sides.{Side};
 ghost use Rattle.line_io.specs.declared.limits.TheConstants.{BUFFER_SIZE};
-ghost use Rattle.evac_top.specs.Accounts.{Side, side};
 ghost use Rattle.evac_top.specs.Answers.{runs_of};
-ghost use Rattle.evac_top.specs.Runs.{Runs};
+ghost use Rattle.evac_top.specs.Runs.{Runs, RunsOn};
 ghost use Rattle.evac_top.specs.Words.{mode_of};
 ghost use Rattle.talk.specs.Statuses.{status_number};
+ghost use Rattle.evac_top.specs.Accounts.{met_beside};
 
 use crate::check::check;
 use crate::drill::drill;
@@ -29,9 +30,7 @@ pub fn run<S: Source, K: Sink, L: Ledger>(
     sink: &mut K,
     steps: &mut Steps<L>,
 ) -> Status
-    ensures run { Runs (mode_of (map string_bytes words.now)) (status_number result)
-        (record { source = side (S.left source.old) (S.faults source.old); sink = side (K.held sink.old) (K.faults sink.old); steps = steps.old })
-        (record { source = side (S.left source.new) (S.faults source.new); sink = side (K.held sink.new) (K.faults sink.new); steps = steps.new }) }
+    ensures run { RunsOn S.Source K.Sink (mode_of (map string_bytes words.now)) (status_number result) source.old sink.old steps.old source.new sink.new steps.new }
     ensures untouched { (runs_of (mode_of (map string_bytes words.now))).reads ≡ false → source.new ≡ source.old }
 
     // each time the source is offered enough room; it is asked no more after its end, and gives so many bytes at most, also where it tells none of them
@@ -52,8 +51,8 @@ pub fn run<S: Source, K: Sink, L: Ledger>(
 // Refuses the words, whatever the source has and the steps are.
 fn refuse_words<K: Sink>(alloc: Global, sink: &mut K) -> Status
     ensures { (source : Side) (steps : ℕ) → Runs None (status_number result)
-        (record { source = source; sink = side (K.held sink.old) (K.faults sink.old); steps = steps })
-        (record { source = source; sink = side (K.held sink.new) (K.faults sink.new); steps = steps }) }
+        (met_beside K.Sink source sink.old steps)
+        (met_beside K.Sink source sink.new steps) }
 {
     let Ok(mut out) = Out::new(alloc) else {
         return Status::NoMemory;

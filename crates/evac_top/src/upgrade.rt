@@ -5,12 +5,11 @@ ghost use Rattle.line_io.specs.Calls.{AsksAtMost};
 ghost use Rattle.line_io.specs.Line.{input_limit};
 ghost use Rattle.line_io.specs.declared.limits.TheConstants.{BUFFER_SIZE};
 ghost use Rattle.model_writer.specs.ModelText.{building_text};
-ghost use Rattle.evac_top.specs.Accounts.{side};
-ghost use Rattle.evac_top.specs.Runs.{Runs};
+ghost use Rattle.evac_top.specs.Runs.{RunsOn};
 ghost use Rattle.evac_top.specs.Upgrade.{IsUpgraded};
-ghost use Rattle.evac_top.specs.Tells.{Tells};
+ghost use Rattle.evac_top.specs.Tells.{TellsTo};
 ghost use Rattle.evac_top.specs.declared.words.Mode.TheVariants.{Upgrade};
-ghost use Rattle.talk.specs.Held.{SendsBy};
+ghost use Rattle.talk.specs.Held.{SendsTo};
 ghost use Rattle.talk.specs.Statuses.{status_number};
 
 use crate::read::read_input;
@@ -25,8 +24,7 @@ use talk::{Status, status_after};
 // Sends the text of a building.
 fn send_model<K: Sink>(out: &mut Out, sink: &mut K, building: &Building) -> Result<(), WriteFault>
     requires { IsValid building.now.model }
-    ensures { SendsBy result (building_text building.now)
-        (K.held sink.old) out.old (K.faults sink.old) (K.held sink.new) out.new (K.faults sink.new) }
+    ensures { SendsTo K.Sink result (building_text building.now) sink.old out.old sink.new out.new }
 {
     let mut writer = Writer::new(out, sink);
     put_model(&mut writer, building);
@@ -37,7 +35,7 @@ fn send_model<K: Sink>(out: &mut Out, sink: &mut K, building: &Building) -> Resu
 fn answer<K: Sink>(out: &mut Out, sink: &mut K, building: Building) -> Status
     requires fresh { out.old ≡ [] }
     requires valid { IsValid building.model }
-    ensures { Tells (IsUpgraded building) (status_number result) 0 (side (K.held sink.old) (K.faults sink.old)) (side (K.held sink.new) (K.faults sink.new)) }
+    ensures { TellsTo K.Sink (IsUpgraded building) (status_number result) 0 sink.old sink.new }
 {
     let status = status_after(send_model(out, sink, &building), Status::Done);
     drop(building);
@@ -46,9 +44,7 @@ fn answer<K: Sink>(out: &mut Out, sink: &mut K, building: Building) -> Status
 
 /// Runs the mode. It counts no steps.
 pub(crate) fn upgrade<S: Source, K: Sink>(alloc: Global, source: &mut S, sink: &mut K) -> Status
-    ensures run { (steps : ℕ) → Runs (Some Upgrade) (status_number result)
-        (record { source = side (S.left source.old) (S.faults source.old); sink = side (K.held sink.old) (K.faults sink.old); steps = steps })
-        (record { source = side (S.left source.new) (S.faults source.new); sink = side (K.held sink.new) (K.faults sink.new); steps = steps }) }
+    ensures run { (steps : ℕ) → RunsOn S.Source K.Sink (Some Upgrade) (status_number result) source.old sink.old steps source.new sink.new steps }
     ensures asked { AsksAtMost S.takes (input_limit + BUFFER_SIZE) source.old source.new }
 {
     let Ok((mut lines, mut out)) = take_room(alloc) else {

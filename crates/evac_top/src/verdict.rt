@@ -3,7 +3,7 @@ ghost use Rattle.std.specs.Prelude.{◌≡◌, ◌≤◌, [], length};
 ghost use Rattle.evac_law.specs.Building.{IsValid};
 ghost use Rattle.line_io.specs.Text.{fields};
 ghost use Rattle.evac_top.specs.Check.{IsVerdictOf, no_fields, verdict_fields, verdict_text};
-ghost use Rattle.talk.specs.Held.{SendsBy};
+ghost use Rattle.talk.specs.Held.{SendsTo};
 
 use certificate_text::put_name;
 use evac_law::{Code, Model};
@@ -66,8 +66,7 @@ pub(crate) fn send_verdict<K: Sink>(
 ) -> Result<(), WriteFault>
     requires valid { IsValid model.now }
     requires place { IsVerdictOf model.now verdict }
-    ensures { SendsBy result (verdict_text model.now verdict)
-        (K.held sink.old) out.old (K.faults sink.old) (K.held sink.new) out.new (K.faults sink.new) }
+    ensures { SendsTo K.Sink result (verdict_text model.now verdict) sink.old out.old sink.new out.new }
 {
     let mut writer = Writer::new(out, sink);
     writer.put(line_of(model, verdict));

@@ -8,9 +8,8 @@ ghost use Rattle.std.specs.Prelude.{◌≡◌, ℕ, ◌+◌, false, map, string_
 ghost use Rattle.line_io.specs.Calls.{AsksAtMost};
 ghost use Rattle.line_io.specs.Line.{input_limit};
 ghost use Rattle.line_io.specs.declared.limits.TheConstants.{BUFFER_SIZE};
-ghost use Rattle.evac_top.specs.Accounts.{side};
 ghost use Rattle.evac_top.specs.Answers.{runs_of};
-ghost use Rattle.evac_top.specs.Runs.{Runs};
+ghost use Rattle.evac_top.specs.Runs.{RunsOn};
 ghost use Rattle.evac_top.specs.Words.{mode_of};
 ghost use Rattle.talk.specs.Statuses.{status_number};
 
@@ -35,9 +34,7 @@ fn run_uncounted<S: Source, K: Sink, L: Ledger>(
     requires name { blank.name ≡ L.name }
     requires parts { blank.parts ≡ L.parts }
     requires one { blank.parts ≡ 1 }
-    ensures run { (steps : ℕ) × Runs (mode_of (map string_bytes words.now)) (status_number result)
-        (record { source = side (S.left source.old) (S.faults source.old); sink = side (K.held sink.old) (K.faults sink.old); steps = 0 })
-        (record { source = side (S.left source.new) (S.faults source.new); sink = side (K.held sink.new) (K.faults sink.new); steps = steps }) }
+    ensures run { (steps : ℕ) × RunsOn S.Source K.Sink (mode_of (map string_bytes words.now)) (status_number result) source.old sink.old 0 source.new sink.new steps }
     ensures untouched { (runs_of (mode_of (map string_bytes words.now))).reads ≡ false → source.new ≡ source.old }
     ensures asked { AsksAtMost S.takes (input_limit + BUFFER_SIZE) source.old source.new }
 {

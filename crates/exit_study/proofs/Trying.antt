@@ -60,9 +60,9 @@ slow_barred {m} k {l} h = record {
   cut = label_cut m l m.horizon;
   moment = m.horizon;
   by = inr refl;
-  is_cut = h.shortfall.cut;
+  is_cut = h.barred_by.shortfall.cut;
   none_later = none_past m l m.horizon;
-  below_people = omega (arith, h.shortfall.worth, h.shortfall.below_people);
+  below_people = omega (arith, h.barred_by.shortfall.worth, h.barred_by.shortfall.below_people);
 }
 
 -- what an edit of the rate shows, by the last moment of its plan

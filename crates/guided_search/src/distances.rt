@@ -5,7 +5,7 @@ ghost use Rattle.std.specs.Prelude.{◌≡◌, ◌+◌, ◌<◌, ◌≤◌, IfOk
 ghost use Rattle.residual_ways.specs.Steps.{IsStepWithin};
 ghost use Rattle.guided_search.specs.Labelled.{HasLabels};
 
-use crate::tuning::FAR;
+use crate::tuning::{FAR, LOW_LIMIT};
 use crate::waits::Waits;
 use evac_law::Labels;
 use residual_net::Cell;
@@ -17,6 +17,8 @@ use std::alloc::{AllocError, Global};
 pub struct Distances {
     /// How large the building is.
     sizes: Sizes,
+    /// The limit of the weights: the distance label from which on a run of waits counts as one step.
+    pub limit: u16,
     /// The distance label of each pair.
     labels: Vec<u16>,
     /// The current arc of each pair: the index of the way into it that is to be tried next. Past 255 ways it begins again, which is slower
@@ -43,6 +45,7 @@ impl Distances {
         let earliest = vec![in alloc; 0u16; sizes.nodes as usize]?;
         Ok(Distances {
             sizes,
+            limit: LOW_LIMIT,
             labels,
             current_arcs,
             unsent_until,
@@ -130,6 +133,18 @@ impl Distances {
             }
         }
         0
+    }
+
+    /// Lets all pairs that aren't dead have the label 0: steps may weigh less than they did. Which pairs are dead doesn't depend on that.
+    pub fn lower(&mut self)
+        ensures { self.new.sizes ≡ self.old.sizes }
+    {
+        for label in self.labels.as_mut_slice().iter_mut() {
+            if (*label as u32) < FAR {
+                *label = 0;
+            }
+        }
+        self.current_arcs.as_mut_slice().fill(0);
     }
 
     /// Finds when people first come to each node, be it along arcs.

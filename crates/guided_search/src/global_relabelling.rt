@@ -9,7 +9,7 @@ ghost use Rattle.residual_ways.specs.Ways.{IsWayWithin};
 
 use crate::look::{least_label, run_label};
 use crate::search::BackwardSearch;
-use crate::tuning::{FAR, RUN_LENGTH, RUN_LIMIT};
+use crate::tuning::{FAR, RUN_LENGTH};
 use crate::weights::label_after;
 use residual_ways::{Residual, Way, is_open, room_in, unsent};
 
@@ -129,7 +129,7 @@ impl BackwardSearch {
         }
         let incoming = residual.incoming(node, moment);
         let (least, _) = least_label(&incoming, &self.distances, 0);
-        if least <= RUN_LIMIT + 1 {
+        if least <= self.distances.limit as u32 + 1 {
             return least;
         }
         least.min(run_label(&incoming, &self.distances, 0))
@@ -203,10 +203,10 @@ impl BackwardSearch {
             if way.back {
                 let ahead = residual.cells[(way.first_cell + incoming.moment) as usize];
                 if room_in(ahead) > 0 {
-                    let after = label_after(way.course, level);
+                    let after = label_after(*way, level);
                     self.lower(way.first_pair + begun, after, level);
                 }
-            } else if level >= RUN_LIMIT && way.is_wait(incoming.sizes) {
+            } else if level >= self.distances.limit as u32 && way.is_wait(incoming.sizes) {
                 self.scan_run(residual, *way, begun, level);
             } else {
                 let before = residual.cells[(way.first_cell + begun) as usize];

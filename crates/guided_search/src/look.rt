@@ -6,7 +6,7 @@ ghost use Rattle.guided_search.specs.Looks.{IsLookWithin};
 
 use crate::distances::Distances;
 use crate::runs::Run;
-use crate::tuning::{FAR, RUN_LIMIT};
+use crate::tuning::FAR;
 use crate::weights::{label_after, label_after_run};
 use residual_ways::{Incoming, Step, Way, room_in};
 
@@ -48,7 +48,7 @@ fn admissible(incoming: &Incoming<'_>, distances: &Distances, way: Way, label: u
         if before + 1 != label || flow_into(incoming, way) == 0 {
             return None;
         }
-    } else if label_after(way.course, before) != label || room_since(incoming, way, begun) == 0 {
+    } else if label_after(way, before) != label || room_since(incoming, way, begun) == 0 {
         return None;
     }
     Some(way.step_between(begun, incoming.moment))
@@ -70,7 +70,7 @@ fn allowed_below(
     if way.back {
         (before + 1 < label && flow_into(incoming, way) > 0).then_some(before + 1)
     } else {
-        let after = label_after(way.course, before);
+        let after = label_after(way, before);
         (after < label && room_since(incoming, way, begun) > 0).then_some(after)
     }
 }
@@ -103,7 +103,7 @@ pub fn look_from(incoming: &Incoming<'_>, distances: &Distances, from: usize, la
 {
     for index in from..incoming.ways.len() {
         let way = incoming.ways[index];
-        if label > RUN_LIMIT && way.back && way.is_wait(incoming.sizes) {
+        if label > distances.limit as u32 && way.back && way.is_wait(incoming.sizes) {
             if let Some(since) = run_since(incoming, distances, way, label) {
                 return Look::Run { index, way, since };
             }
@@ -152,9 +152,12 @@ pub fn run_label(incoming: &Incoming<'_>, distances: &Distances, enough: u32) ->
 {
     match incoming.ways.last() {
         Some(way) if way.back => {
-            let most = enough.saturating_sub(1).max(RUN_LIMIT).min(FAR) as u16;
+            let most = enough
+                .saturating_sub(1)
+                .max(distances.limit as u32)
+                .min(FAR) as u16;
             let reached = Run::into(incoming, distances, *way).look(most);
-            label_after_run(reached.label as u32)
+            label_after_run(distances.limit, reached.label as u32)
         }
         _ => FAR,
     }

@@ -4,10 +4,11 @@ ghost use Rattle.std.specs.List.{All};
 ghost use Rattle.residual_ways.specs.Steps.{IsStayWithin, IsStepWithin};
 ghost use Rattle.residual_ways.specs.Ways.{IsWayWithin};
 
+use crate::distances::Distances;
 use crate::straight_path::StraightPath;
 use crate::waits::have_room;
 use residual_net::Cell;
-use residual_ways::{Sizes, Stay, Step, Way, is_open};
+use residual_ways::{Sizes, Stay, Step, Way, Ways, is_open};
 use std::alloc::{AllocError, Global};
 
 /// The path of a search, as far as it has come. Memory past its stays isn't touched.
@@ -191,6 +192,22 @@ impl PartialPath {
                 next = after;
             }
         }
+    }
+
+    /// Whether it leads away from the exits at no weight: by an arc that begins at a distance label of at least the limit.
+    pub fn leads_astray(&self, distances: &Distances, ways: &Ways) -> bool
+        requires distances { distances.now.sizes ≡ self.now.sizes }
+        requires ways { ways.now.sizes ≡ self.now.sizes }
+    {
+        for at in 1..self.list.len() {
+            let head = self.list[at - 1].step.node;
+            let step = self.list[at].step;
+            let is_free = distances.get(step.pair) >= distances.limit as u32;
+            if is_free && !step.back && step.node != head && ways.leads_away(step.node, head) {
+                return true;
+            }
+        }
+        false
     }
 
     // Finds the last stay in each node.

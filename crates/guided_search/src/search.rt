@@ -12,7 +12,7 @@ use crate::look::{Look, look_from};
 use crate::partial_path::PartialPath;
 use crate::relabelled::Relabelled;
 use crate::tuning::{FAR, PATH_LIMIT, RELABEL_FACTOR, RELABEL_LIMIT};
-use residual_ways::{Residual, Sizes, Step, Way};
+use residual_ways::{Residual, Sizes, Step, Way, Ways};
 use std::alloc::{AllocError, Global};
 
 /// What comes of a step of a search.
@@ -78,6 +78,13 @@ impl BackwardSearch {
         if self.relabelled.pairs.len() > 0 {
             self.relabelled.clear();
         }
+    }
+
+    /// Whether its path leads away from the exits at no weight.
+    pub fn is_astray(&self, ways: &Ways) -> bool
+        requires { ways.now.sizes ≡ self.now.sizes }
+    {
+        self.path.leads_astray(&self.distances, ways)
     }
 
     /// Advances a step, or retreats where no way is admissible.

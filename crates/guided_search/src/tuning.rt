@@ -9,17 +9,26 @@ pub const FAR: u32 = 65_535;
 /// touched.
 pub const PATH_LIMIT: usize = 65_536;
 
-/// The distance label up to which a step over a detour weighs 1. With 0 for this and the next, people walk in circles: nine of ten in a
-/// mall or a ship whose halls are two-way. With 1 and 2 it is one of ten in half of such buildings, and one of two in a market hall.
-pub const DETOUR_LIMIT: u32 = 8;
+/// The limit of the weights with which a search begins. Without weights people walk in circles: nine of ten in a mall or a ship whose halls are
+/// two-way. With this limit it is one of ten at most in three of four buildings, but one of two in a market hall.
+pub const LOW_LIMIT: u16 = 2;
 
-/// The distance label up to which a step over an arc that leads away from the exits weighs 1. With 4 for both, one of four comes to a place
-/// twice in an airport, and with 8 one of ten; but a search on a zigzag or in a crowd takes half as long again.
-pub const AWAY_LIMIT: u32 = 8;
+/// The limit once too many people were sent astray. A search costs twice as much by it. In a market hall one of thirteen comes to a place twice then.
+pub const HIGH_LIMIT: u16 = 8;
 
-/// The distance label from which on a run of waits that is taken back counts as one step. With less than the two before, pairs that weights
-/// keep from the exits look along runs in vain: eight million times in a ring.
-pub const RUN_LIMIT: u32 = 8;
+/// One of how many people may be sent astray, besides some, before the limit rises. With 24 in place of 16 it rises in arenas and rings too,
+/// whose plans get no straighter by it.
+pub const ASTRAY_SHARE: u32 = 16;
+
+/// How many may be sent astray besides.
+pub const ASTRAY_LIMIT: u32 = 8;
+
+/// One of how many people may be sent astray by the high limit, besides some, before it falls again. On zigzags, whose halls are all full, a
+/// search takes twice as many instructions if it stays high, and a third of the people comes to a place twice all the same.
+pub const VAIN_SHARE: u32 = 8;
+
+/// How many may be sent astray besides.
+pub const VAIN_LIMIT: u32 = 32;
 
 /// The most waits that count as one step.
 pub const RUN_LENGTH: u32 = 128;

@@ -9,7 +9,7 @@ use Rattle.evac_law.specs.LabelTable.{LabelTable, label_at, unset_from}
 use Rattle.evac_law.specs.Parts.{IsMost, TakesPartOut}
 use Rattle.evac_law.proofs.FewerLemmas.{parts_are_bounded}
 use Rattle.evac_law.proofs.LabelLemmas.{unset_at}
-use Rattle.evac_law.proofs.Optimal.{at_most_last, label_cut_is_cut, lawful_down}
+use Rattle.evac_law.proofs.Optimal.{at_most_last, label_cut_is_cut, lawful_down, shortfall_bars_clearing}
 use Rattle.evac_law.proofs.SumLemmas as sums
 use Rattle.residual_net.specs.Closed.{IsClosed}
 use Rattle.residual_net.specs.Limits.{supply_limit}
@@ -175,8 +175,14 @@ module _ (w v : Network) (l m : LabelTable) (from k p : ℕ) (h : IsSettledThrou
       let horizon = horizon_same b v done.net of valid in
       let closed = closed_to (Short most pushes) outcome b.horizon (omega (arith, horizon)) in
       let most_is : arrived_by v b.horizon ≡ most = sym (outcome.1 ∙ ap (arrived_by v) horizon) in
-      let short = subst (λ x. IsShortfall b (label_cut b m b.horizon) x) most_is (shortfall b v m valid done.net of done.within outcome.0 closed) in
-      (most_is, short, greatest b v (label_cut b m b.horizon) most valid done.net of done.within most_is short)
+      let short = subst (λ x. IsShortfall b (label_cut b m b.horizon) x) most_is (shortfall b v m valid done.net of done.within outcome.0 closed) in (
+        most_is,
+        record {
+          shortfall = short;
+          not_clearable = shortfall_bars_clearing b (label_cut b m b.horizon) most valid short;
+          greatest = greatest b v (label_cut b m b.horizon) most valid done.net of done.within most_is short;
+        },
+      )
 
   bounded_to : (o : Outcome) → IsOutcome v o → pushes_of o ≡ p → IsBounded w v o
   bounded_to o outcome same = elim (cases_lt from k) [

@@ -2,9 +2,9 @@
 use Rattle.std.specs.Prelude.{◌≡◌, ℕ, ◌+◌, ◌<◌, ◌≤◌}
 use Rattle.evac_law.specs.declared.model.Model.{Model}
 use Rattle.evac_law.specs.Building.{people}
-use Rattle.evac_law.specs.Certificates.{IsCertified, IsShortfall, label_cut}
+use Rattle.evac_law.specs.Certificates.{IsCertified, label_cut}
 use Rattle.evac_law.specs.LabelTable.{LabelTable}
-use Rattle.evac_law.specs.Parts.{IsMost}
+use Rattle.evac_law.specs.Parts.{IsBarredBy}
 use Rattle.evac_law.specs.Stands.{Fits}
 use Rattle.residual_net.specs.Network.{Network, IsAllSent, IsNet, IsWithinLimits, arrived_by}
 use Rattle.residual_net.specs.OfModel.{last_move, plan_of, stand_of}
@@ -34,7 +34,7 @@ pub record IsCleared (m : Model) (w : Network) (l : LabelTable) (moment : ℕ) :
 -- there
 abbrev pub IsAnswer : Model → Network → LabelTable → Outcome → Type 0
 IsAnswer m w l (Cleared moment pushes) = IsCleared m w l moment
-IsAnswer m w l (Short most pushes) = (arrived_by w m.horizon ≡ most) × IsShortfall m (label_cut m l m.horizon) most × IsMost m most
+IsAnswer m w l (Short most pushes) = (arrived_by w m.horizon ≡ most) × IsBarredBy m (label_cut m l m.horizon) most
 
 -- the pushes are at most what the arrivals by the moments settled rose by, all together
 abbrev pub IsBounded : Network → Network → Outcome → Type 0

@@ -6,6 +6,7 @@ pub mod Memory
 pub mod Passes
 pub mod Reader
 pub mod Scan
+pub mod Sides
 pub mod Text
 pub mod View
 pub mod Writer

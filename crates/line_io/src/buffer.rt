@@ -1,8 +1,9 @@
 //! Parts of a buffer.
 ghost use Rattle.std.specs.Prelude.{◌≡◌, ◌<◌, ◌≤◌, ◌+◌, ◌-◌, ◌++◌, ℕ, List, length, take, drop, IfOk};
-ghost use Rattle.std.specs.Io.KnownBytes.{Appends, IsAtEnd, ReadConsumes};
+ghost use Rattle.std.specs.Io.KnownBytes.{IsAtEnd, ReadConsumes};
 ghost use Rattle.line_io.specs.Calls.{Offers};
-ghost use Rattle.line_io.specs.Causes.{HasCause, Rose};
+ghost use Rattle.line_io.specs.Causes.{HasCause};
+ghost use Rattle.line_io.specs.Sides.{HoldsMore, SinkRisesWith};
 
 use crate::limits::LEAST_OFFER;
 use crate::outside::{Failed, Sink, Source};
@@ -49,9 +50,8 @@ pub(crate) fn refill<S: Source>(
 // Sends bytes until the sink fails, and answers how many it took.
 pub(crate) fn send<K: Sink>(sink: &mut K, bytes: &[u8]) -> usize
     ensures within { result ≤ length bytes.now }
-    ensures sent { Appends (K.held sink.old) (K.held sink.new) (take result bytes.now) }
-    ensures all { result ≡ length bytes.now → K.faults sink.new ≡ K.faults sink.old }
-    ensures failed { result < length bytes.now → Rose (K.faults sink.old) (K.faults sink.new) }
+    ensures sent { HoldsMore K.Sink sink.old (take result bytes.now) sink.new }
+    ensures cause { SinkRisesWith K.Sink sink.old sink.new (result < length bytes.now) }
     ensures untouched { length bytes.now ≡ 0 → sink.new ≡ sink.old }
     ensures offered { Offers K.puts bytes.now sink.old (drop result bytes.now) sink.new }
 {

@@ -3,10 +3,11 @@ ghost use Rattle.std.specs.Prelude.{◌≡◌, ◌<◌, ◌≤◌, ◌+◌, ◌+
 ghost use Rattle.std.specs.List.{position};
 ghost use Rattle.std.specs.Io.KnownBytes.{Keeps};
 ghost use Rattle.line_io.specs.Calls.{Asks};
-ghost use Rattle.line_io.specs.Causes.{HasCause, Rose};
+ghost use Rattle.line_io.specs.Causes.{HasCause};
 ghost use Rattle.line_io.specs.Line.{content, is_lf, without_last, pieces, lines_after, line_limit, input_limit};
 ghost use Rattle.line_io.specs.Reader.{Answers, Drained, Gives, GivesAway, HasRoom, IsGiven, IsLast, ahead, is_settled, lines_left, settled_answer, settles};
 ghost use Rattle.line_io.specs.Scan.{Refills, first_size};
+ghost use Rattle.line_io.specs.Sides.{RisesWith};
 ghost use Rattle.line_io.specs.View.{Reader};
 
 use crate::buffer::{refill, write_at};
@@ -229,9 +230,8 @@ impl Lines {
         ensures asks { Asks S.takes self.old source.old self.new source.new }
 
         // a read fault has its cause, and comes only where no line is pending
-        ensures failed { result ≡ Err LineFault.ReadFault → Rose (S.faults source.old) (S.faults source.new) }
+        ensures cause { RisesWith S.Source source.old source.new (result ≡ Err LineFault.ReadFault) }
         ensures unfinished { result ≡ Err LineFault.ReadFault → is_settled self.new ≡ false }
-        ensures quiet { (result ≡ Err LineFault.ReadFault → ⊥) → S.faults source.new ≡ S.faults source.old }
     {
         loop {
             if let Some(size) = self.settled_size() {

@@ -1,8 +1,8 @@
 //! Text on its way to a sink.
 ghost use Rattle.std.specs.Prelude.{◌≡◌, ◌<◌, ◌≤◌, ◌+◌, ◌++◌, ◌^◌, ℕ, List, [], length, take, drop, decimal, IfOk, IsOk, OnOk, OnErr};
 ghost use Rattle.line_io.specs.Calls.{Offers};
-ghost use Rattle.line_io.specs.Causes.{HasCause};
-ghost use Rattle.line_io.specs.Writer.{Puts, PutsText};
+ghost use Rattle.line_io.specs.Sides.{HasSinkCause};
+ghost use Rattle.line_io.specs.Writer.{PutsTextTo, PutsTo};
 
 use crate::buffer::{send, shift, write_at};
 use crate::limits::{BUFFER_SIZE, PUT_LIMIT};
@@ -77,11 +77,11 @@ impl Out {
     /// pending.
     pub fn put<K: Sink>(&mut self, sink: &mut K, bytes: &[u8]) -> Result<(), WriteFault>
         requires { length bytes.now ≤ PUT_LIMIT }
-        ensures ok { OnOk result (Puts (K.held sink.old) self.old bytes.now (K.held sink.new) self.new) }
-        ensures err { OnErr result (Puts (K.held sink.old) self.old [] (K.held sink.new) self.new) }
+        ensures ok { OnOk result (PutsTo K.Sink sink.old self.old bytes.now sink.new self.new) }
+        ensures err { OnErr result (PutsTo K.Sink sink.old self.old [] sink.new self.new) }
         ensures room { length self.old + length bytes.now ≤ BUFFER_SIZE → IsOk result × (sink.new ≡ sink.old) }
         ensures bounds { length self.new ≤ BUFFER_SIZE }
-        ensures cause { HasCause (K.faults sink.old) (K.faults sink.new) result }
+        ensures cause { HasSinkCause K.Sink sink.old sink.new result }
     {
         if bytes.len() > BUFFER_SIZE - self.len() {
             self.flush(sink)?;
@@ -92,8 +92,8 @@ impl Out {
 
     /// Puts bytes of any length, piece by piece. On `Err` some front of them was taken in.
     pub fn put_all<K: Sink>(&mut self, sink: &mut K, bytes: &[u8]) -> Result<(), WriteFault>
-        ensures text { PutsText (K.held sink.old) self.old bytes.now (K.held sink.new) self.new result }
-        ensures cause { HasCause (K.faults sink.old) (K.faults sink.new) result }
+        ensures text { PutsTextTo K.Sink sink.old self.old bytes.now sink.new self.new result }
+        ensures cause { HasSinkCause K.Sink sink.old sink.new result }
     {
         for piece in bytes.chunks(PUT_LIMIT) {
             self.put(sink, piece)?;
@@ -103,11 +103,11 @@ impl Out {
 
     /// Puts a number in decimal digits.
     pub fn number<K: Sink>(&mut self, sink: &mut K, value: u64) -> Result<(), WriteFault>
-        ensures ok { OnOk result (Puts (K.held sink.old) self.old (decimal value) (K.held sink.new) self.new) }
-        ensures err { OnErr result (Puts (K.held sink.old) self.old [] (K.held sink.new) self.new) }
+        ensures ok { OnOk result (PutsTo K.Sink sink.old self.old (decimal value) sink.new self.new) }
+        ensures err { OnErr result (PutsTo K.Sink sink.old self.old [] sink.new self.new) }
         ensures room { length self.old + length (decimal value) ≤ BUFFER_SIZE → IsOk result × (sink.new ≡ sink.old) }
         ensures bounds { length self.new ≤ BUFFER_SIZE }
-        ensures cause { HasCause (K.faults sink.old) (K.faults sink.new) result }
+        ensures cause { HasSinkCause K.Sink sink.old sink.new result }
     {
         let mut digits = Buffer::new();
         self.put(sink, digits.format(value).as_bytes())
@@ -115,11 +115,11 @@ impl Out {
 
     /// Brings all pending bytes to the sink, which is offered all of them each time.
     pub fn flush<K: Sink>(&mut self, sink: &mut K) -> Result<(), WriteFault>
-        ensures both { Puts (K.held sink.old) self.old [] (K.held sink.new) self.new }
+        ensures both { PutsTo K.Sink sink.old self.old [] sink.new self.new }
         ensures ok { OnOk result (self.new ≡ []) }
         ensures offers { Offers K.puts self.old sink.old self.new sink.new }
         ensures bounds { length self.new ≤ BUFFER_SIZE }
-        ensures cause { HasCause (K.faults sink.old) (K.faults sink.new) result }
+        ensures cause { HasSinkCause K.Sink sink.old sink.new result }
     {
         let count = self.len();
         let sent = send(sink, self.pending());

@@ -1,7 +1,7 @@
 //! One line of output in the making.
 ghost use Rattle.std.specs.Prelude.{◌≡◌, ◌+◌, ◌++◌, ◌≤◌, ℕ, List, [], ◌∷◌, length, decimal};
-ghost use Rattle.line_io.specs.Causes.{HasCause};
-ghost use Rattle.line_io.specs.Writer.{PutsText};
+ghost use Rattle.line_io.specs.Sides.{HasSinkCause};
+ghost use Rattle.line_io.specs.Writer.{PutsTextTo};
 
 use crate::limits::TEXT_LINE_LIMIT;
 use crate::out::{Out, WriteFault};
@@ -84,8 +84,8 @@ impl TextLine {
 
     /// Puts the line with its end.
     pub fn put<K: Sink>(mut self, out: &mut Out, sink: &mut K) -> Result<(), WriteFault>
-        ensures text { PutsText (K.held sink.old) out.old (self ++ (10 ∷ [])) (K.held sink.new) out.new result }
-        ensures cause { HasCause (K.faults sink.old) (K.faults sink.new) result }
+        ensures text { PutsTextTo K.Sink sink.old out.old (self ++ (10 ∷ [])) sink.new out.new result }
+        ensures cause { HasSinkCause K.Sink sink.old sink.new result }
     {
         let len = self.len;
         self.bytes[len] = b'\n';

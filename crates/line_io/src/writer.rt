@@ -38,7 +38,7 @@ impl<'a, K: Sink> Writer<'a, K> {
 
     /// Puts a line with its end.
     pub fn put(&mut self, line: TextLine)
-        ensures { Writes K.held K.faults self.old (line ++ (10 ∷ [])) self.new }
+        ensures { Writes K.Sink self.old (line ++ (10 ∷ [])) self.new }
     {
         if !self.failed {
             self.failed = line.put(self.out, self.sink).is_err();
@@ -47,7 +47,7 @@ impl<'a, K: Sink> Writer<'a, K> {
 
     /// Puts bytes of any length.
     pub fn put_all(&mut self, bytes: &[u8])
-        ensures { Writes K.held K.faults self.old bytes.now self.new }
+        ensures { Writes K.Sink self.old bytes.now self.new }
     {
         if !self.failed {
             self.failed = self.out.put_all(self.sink, bytes).is_err();
@@ -56,7 +56,7 @@ impl<'a, K: Sink> Writer<'a, K> {
 
     /// Brings all pending bytes to the sink, which is offered all of them each time. It fails where the sink failed, now or before.
     pub fn flush(&mut self) -> Result<(), WriteFault>
-        ensures text { Writes K.held K.faults self.old [] self.new }
+        ensures text { Writes K.Sink self.old [] self.new }
         ensures ok { OnOk result (self.new.failed ≡ false) }
         ensures sent { OnOk result (self.new.out.now ≡ []) }
         ensures err { OnErr result (self.new.failed ≡ true) }

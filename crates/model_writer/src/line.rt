@@ -148,7 +148,7 @@ fn end_of(line: &[u8]) -> &'static [u8]
 
 // Puts a line with its end.
 fn put_line<K: Sink>(writer: &mut Writer<'_, K>, line: &[u8])
-    ensures { Writes K.held K.faults writer.old (ended line.now) writer.new }
+    ensures { Writes K.Sink writer.old (ended line.now) writer.new }
 {
     writer.put_all(line);
     writer.put_all(end_of(line));
@@ -156,7 +156,7 @@ fn put_line<K: Sink>(writer: &mut Writer<'_, K>, line: &[u8])
 
 // Puts a line of fields and of a text after them, with its end.
 fn put_text_line<K: Sink>(writer: &mut Writer<'_, K>, fields: &[u8], text: &[u8])
-    ensures { Writes K.held K.faults writer.old (ended (fields.now ++ (32 ∷ text.now))) writer.new }
+    ensures { Writes K.Sink writer.old (ended (fields.now ++ (32 ∷ text.now))) writer.new }
 {
     writer.put_all(fields);
     writer.put_all(b" ");
@@ -167,7 +167,7 @@ fn put_text_line<K: Sink>(writer: &mut Writer<'_, K>, fields: &[u8], text: &[u8]
 /// Puts the line of a statement with its end.
 pub(crate) fn put_statement<K: Sink>(writer: &mut Writer<'_, K>, statement: Statement<'_>)
     requires { SaysNames (said statement) }
-    ensures { Writes K.held K.faults writer.old (said_text (said statement.entry)) writer.new }
+    ensures { Writes K.Sink writer.old (said_text (said statement.entry)) writer.new }
 {
     let line = line_of(statement);
     match line.text {
@@ -179,7 +179,7 @@ pub(crate) fn put_statement<K: Sink>(writer: &mut Writer<'_, K>, statement: Stat
 /// Puts the line of a part with its end.
 pub(crate) fn put_part<K: Sink>(writer: &mut Writer<'_, K>, part: Part<'_>)
     requires { HasNames (said_part part) }
-    ensures { Writes K.held K.faults writer.old (part_text (said_part part.entry)) writer.new }
+    ensures { Writes K.Sink writer.old (part_text (said_part part.entry)) writer.new }
 {
     put_statement(writer, Statement::Part(part));
 }

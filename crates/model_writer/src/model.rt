@@ -14,7 +14,7 @@ use line_io::{Sink, Writer};
 use model_text::{Part, Statement};
 
 fn put_title<K: Sink>(writer: &mut Writer<'_, K>, names: &Names)
-    ensures { Writes K.held K.faults writer.old (title_text names.now.title) writer.new }
+    ensures { Writes K.Sink writer.old (title_text names.now.title) writer.new }
 {
     match names.title() {
         None => {}
@@ -25,7 +25,7 @@ fn put_title<K: Sink>(writer: &mut Writer<'_, K>, names: &Names)
 // The line of the floor at a place.
 fn put_floor<K: Sink>(writer: &mut Writer<'_, K>, names: &Names, place: usize)
     requires { place < length names.now.floors }
-    ensures { Writes K.held K.faults writer.old (floor_text names.now.floors names.now.texts place) writer.new }
+    ensures { Writes K.Sink writer.old (floor_text names.now.floors names.now.texts place) writer.new }
 {
     let floor = names.floors()[place];
     let text = names.floor_text(place);
@@ -33,7 +33,7 @@ fn put_floor<K: Sink>(writer: &mut Writer<'_, K>, names: &Names, place: usize)
 }
 
 fn put_floors<K: Sink>(writer: &mut Writer<'_, K>, names: &Names)
-    ensures { Writes K.held K.faults writer.old (flat_map (floor_text names.now.floors names.now.texts) (below (length names.now.floors))) writer.new }
+    ensures { Writes K.Sink writer.old (flat_map (floor_text names.now.floors names.now.texts) (below (length names.now.floors))) writer.new }
 {
     for place in 0..names.floors().len() {
         put_floor(writer, names, place);
@@ -59,7 +59,7 @@ fn said_node<'a>(row: NodeRow) -> Part<'a>
 
 fn put_nodes<K: Sink>(writer: &mut Writer<'_, K>, nodes: &[NodeRow])
     requires { All IsNode nodes.now }
-    ensures { Writes K.held K.faults writer.old (flat_map node_text nodes.now) writer.new }
+    ensures { Writes K.Sink writer.old (flat_map node_text nodes.now) writer.new }
 {
     for row in nodes {
         put_part(writer, said_node(*row));
@@ -70,7 +70,7 @@ fn put_arc<K: Sink>(writer: &mut Writer<'_, K>, model: &Model, row: &ArcRow)
     requires valid { IsValid model.now }
     requires from_in { row.now.from < length model.now.nodes }
     requires to_in { row.now.to < length model.now.nodes }
-    ensures { Writes K.held K.faults writer.old (arc_text model.now row.now) writer.new }
+    ensures { Writes K.Sink writer.old (arc_text model.now row.now) writer.new }
 {
     let said = Part::Arc {
         from: model.node(row.from).name,
@@ -83,7 +83,7 @@ fn put_arc<K: Sink>(writer: &mut Writer<'_, K>, model: &Model, row: &ArcRow)
 
 fn put_arcs<K: Sink>(writer: &mut Writer<'_, K>, model: &Model)
     requires { IsValid model.now }
-    ensures { Writes K.held K.faults writer.old (flat_map (arc_text model.now) model.now.arcs) writer.new }
+    ensures { Writes K.Sink writer.old (flat_map (arc_text model.now) model.now.arcs) writer.new }
 {
     for row in model.arcs.as_slice() {
         put_arc(writer, model, row);
@@ -110,7 +110,7 @@ fn put_windows_of<K: Sink>(writer: &mut Writer<'_, K>, model: &Model, row: &ArcR
     requires valid { IsValid model.now }
     requires from_in { row.now.from < length model.now.nodes }
     requires to_in { row.now.to < length model.now.nodes }
-    ensures { Writes K.held K.faults writer.old (windows_text model.now row.now) writer.new }
+    ensures { Writes K.Sink writer.old (windows_text model.now row.now) writer.new }
 {
     for window in row.windows.as_slice() {
         put_part(writer, said_window(model, row, *window));
@@ -119,7 +119,7 @@ fn put_windows_of<K: Sink>(writer: &mut Writer<'_, K>, model: &Model, row: &ArcR
 
 fn put_windows<K: Sink>(writer: &mut Writer<'_, K>, model: &Model)
     requires { IsValid model.now }
-    ensures { Writes K.held K.faults writer.old (flat_map (windows_text model.now) model.now.arcs) writer.new }
+    ensures { Writes K.Sink writer.old (flat_map (windows_text model.now) model.now.arcs) writer.new }
 {
     for row in model.arcs.as_slice() {
         put_windows_of(writer, model, row);
@@ -142,7 +142,7 @@ fn said_entrant<'a>(model: &Model, entrant: Entrant) -> Part<'a>
 
 fn put_entrants<K: Sink>(writer: &mut Writer<'_, K>, model: &Model)
     requires { IsValid model.now }
-    ensures { Writes K.held K.faults writer.old (flat_map (entrant_text model.now) model.now.entrants) writer.new }
+    ensures { Writes K.Sink writer.old (flat_map (entrant_text model.now) model.now.entrants) writer.new }
 {
     for entrant in model.entrants.as_slice() {
         put_part(writer, said_entrant(model, *entrant));
@@ -150,7 +150,7 @@ fn put_entrants<K: Sink>(writer: &mut Writer<'_, K>, model: &Model)
 }
 
 fn put_settings<K: Sink>(writer: &mut Writer<'_, K>, building: &Building)
-    ensures { Writes K.held K.faults writer.old (settings_text building.now) writer.new }
+    ensures { Writes K.Sink writer.old (settings_text building.now) writer.new }
 {
     put_statement(writer, Statement::Header { version: 2 });
     put_title(writer, &building.names);
@@ -163,7 +163,7 @@ fn put_settings<K: Sink>(writer: &mut Writer<'_, K>, building: &Building)
 // The nodes, the arcs, the windows and the entrants.
 fn put_rows<K: Sink>(writer: &mut Writer<'_, K>, model: &Model)
     requires { IsValid model.now }
-    ensures { Writes K.held K.faults writer.old (rows_text model.now) writer.new }
+    ensures { Writes K.Sink writer.old (rows_text model.now) writer.new }
 {
     put_nodes(writer, model.nodes.as_slice());
     put_arcs(writer, model);
@@ -174,7 +174,7 @@ fn put_rows<K: Sink>(writer: &mut Writer<'_, K>, model: &Model)
 /// Puts a building as a text of version 2.
 pub fn put_model<K: Sink>(writer: &mut Writer<'_, K>, building: &Building)
     requires { IsValid building.now.model }
-    ensures { Writes K.held K.faults writer.old (building_text building.now) writer.new }
+    ensures { Writes K.Sink writer.old (building_text building.now) writer.new }
 {
     put_settings(writer, building);
     put_floors(writer, &building.names);

@@ -6,7 +6,7 @@ use Rattle.evac_law.specs.Building.{IsValid, people}
 use Rattle.evac_law.specs.Certificates.{IsCertified}
 use Rattle.evac_law.specs.LabelTable.{LabelTable}
 use Rattle.evac_law.specs.Laws.{SomeoneArrivesFrom}
-use Rattle.evac_law.specs.Plans.{IsFeasible, out_by, person_periods}
+use Rattle.evac_law.specs.Plans.{IsEarliest, IsFeasible, out_by, person_periods}
 use Rattle.certificate_text.specs.declared.block.Block.{Block}
 use Rattle.certificate_text.specs.Block.{IsBlockOf}
 use Rattle.plan_checker.specs.declared.verdict.Verdict.{Verdict}
@@ -24,7 +24,7 @@ OneVerdict = (m : Model) (b : Block) (v w : Verdict) → IsVerdict m b v → IsV
 -- no feasible plan has more people out by any moment; of those that take everybody out none is over before c or has fewer person-periods;
 -- and every certified plan clears at c with the same curve
 pub record IsOptimal (m : Model) (p : List Move) (c : ℕ) : Type 0 where
-  pub best : (q : List Move) (k : ℕ) → IsFeasible m q k → out_by m q k ≤ out_by m p k
+  pub best : IsEarliest m p
   pub quickest : (q : List Move) → IsFeasible m q m.horizon → out_by m q m.horizon ≡ people m
       → (0 < c → SomeoneArrivesFrom m q c) × (person_periods m p ≤ person_periods m q)
   pub alike : (q : List Move) (l : LabelTable) (d : ℕ) → IsCertified m q l d → (d ≡ c) × ((k : ℕ) → out_by m q k ≡ out_by m p k)

@@ -144,6 +144,7 @@ impl Layout {
     }
 
     /// The arcs that leave a node, in file order.
+    #[tactic(auto, using(crate::proofs::ShapeLemmas::few_from))]
     pub fn arcs_from(&self, node: u32) -> &[u32]
         requires { node < length self.now.nodes }
         ensures arcs { result.now ≡ arcs_from (shape_of self.now) node }
@@ -153,6 +154,7 @@ impl Layout {
     }
 
     /// The arcs that enter a node, in file order.
+    #[tactic(auto, using(crate::proofs::ShapeLemmas::few_to))]
     pub fn arcs_to(&self, node: u32) -> &[u32]
         requires { node < length self.now.nodes }
         ensures arcs { result.now ≡ arcs_to (shape_of self.now) node }

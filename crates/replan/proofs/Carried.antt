@@ -222,4 +222,4 @@ pub never_short : (left : Model) (fault : BeginFault) (short : Short) (n : ℕ) 
     → BeginEnds left (Err fault) n → IsClearable left → ⊥
 never_short left fault short n e ends clearable =
     let refused : BeginEnds left (Err (begin_faults.NotCleared short)) n = subst (λ (f : BeginFault). BeginEnds left (Err f) n) e ends in
-    refused.2.barred clearable
+    refused.2.barred_by.not_clearable clearable

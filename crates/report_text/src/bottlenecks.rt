@@ -19,7 +19,7 @@ fn put_arc<K: Sink>(writer: &mut Writer<'_, K>, model: &Model, bottlenecks: &Bot
     requires valid { IsValid model.now }
     requires room { HasCounts model.now bottlenecks.now }
     requires arc_in { arc < length model.now.arcs }
-    ensures { Writes K.held K.faults writer.old (arc_periods_part model.now (slice_index bottlenecks.now.arcs) arc) writer.new }
+    ensures { Writes K.Sink writer.old (arc_periods_part model.now (slice_index bottlenecks.now.arcs) arc) writer.new }
 {
     let periods = bottlenecks.arc_periods(arc);
     if periods > 0 {
@@ -33,7 +33,7 @@ fn put_arc<K: Sink>(writer: &mut Writer<'_, K>, model: &Model, bottlenecks: &Bot
 fn put_arcs<K: Sink>(writer: &mut Writer<'_, K>, model: &Model, bottlenecks: &Bottlenecks)
     requires valid { IsValid model.now }
     requires room { HasCounts model.now bottlenecks.now }
-    ensures { Writes K.held K.faults writer.old (flat_map (arc_periods_part model.now (slice_index bottlenecks.now.arcs)) (places model.now.arcs)) writer.new }
+    ensures { Writes K.Sink writer.old (flat_map (arc_periods_part model.now (slice_index bottlenecks.now.arcs)) (places model.now.arcs)) writer.new }
 {
     for arc in 0..model.arc_count() {
         put_arc(writer, model, bottlenecks, arc);
@@ -50,7 +50,7 @@ fn put_hold<K: Sink>(
     requires valid { IsValid model.now }
     requires room { HasCounts model.now bottlenecks.now }
     requires node_in { node < length model.now.nodes }
-    ensures { Writes K.held K.faults writer.old (hold_periods_part model.now (slice_index bottlenecks.now.holds) node) writer.new }
+    ensures { Writes K.Sink writer.old (hold_periods_part model.now (slice_index bottlenecks.now.holds) node) writer.new }
 {
     let periods = bottlenecks.hold_periods(node);
     if periods > 0 {
@@ -61,7 +61,7 @@ fn put_hold<K: Sink>(
 fn put_holds<K: Sink>(writer: &mut Writer<'_, K>, model: &Model, bottlenecks: &Bottlenecks)
     requires valid { IsValid model.now }
     requires room { HasCounts model.now bottlenecks.now }
-    ensures { Writes K.held K.faults writer.old (flat_map (hold_periods_part model.now (slice_index bottlenecks.now.holds)) (places model.now.nodes)) writer.new }
+    ensures { Writes K.Sink writer.old (flat_map (hold_periods_part model.now (slice_index bottlenecks.now.holds)) (places model.now.nodes)) writer.new }
 {
     for node in 0..model.node_count() {
         put_hold(writer, model, bottlenecks, node);
@@ -78,7 +78,7 @@ pub fn put_bottlenecks<K: Sink>(
     requires valid { IsValid model.now }
     requires room { HasCounts model.now bottlenecks.now }
     ensures { (l : LabelTable) (c : ℕ) → bottlenecks.now ≡ counts_of model.now l c
-        → Writes K.held K.faults writer.old (bottlenecks_text index model.now l c) writer.new }
+        → Writes K.Sink writer.old (bottlenecks_text index model.now l c) writer.new }
 {
     put_number(writer, b"bottlenecks", u64::from(index));
     put_arcs(writer, model, bottlenecks);

@@ -22,7 +22,7 @@ fn put_node<K: Sink>(writer: &mut Writer<'_, K>, model: &Model, clearing: &Clear
     requires valid { IsValid model.now }
     requires size { length clearing.now.moments ≡ length model.now.nodes }
     requires node_in { node < length model.now.nodes }
-    ensures { Writes K.held K.faults writer.old (node_clear_part model.now (clearing_moment clearing.now) node) writer.new }
+    ensures { Writes K.Sink writer.old (node_clear_part model.now (clearing_moment clearing.now) node) writer.new }
 {
     let name = model.node(node).name;
     if !name.kind.is_exit() {
@@ -33,7 +33,7 @@ fn put_node<K: Sink>(writer: &mut Writer<'_, K>, model: &Model, clearing: &Clear
 fn put_nodes<K: Sink>(writer: &mut Writer<'_, K>, model: &Model, clearing: &Clearing)
     requires valid { IsValid model.now }
     requires size { length clearing.now.moments ≡ length model.now.nodes }
-    ensures { Writes K.held K.faults writer.old (flat_map (node_clear_part model.now (clearing_moment clearing.now)) (places model.now.nodes)) writer.new }
+    ensures { Writes K.Sink writer.old (flat_map (node_clear_part model.now (clearing_moment clearing.now)) (places model.now.nodes)) writer.new }
 {
     for node in 0..model.node_count() {
         put_node(writer, model, clearing, node);
@@ -46,7 +46,7 @@ fn put_floors<K: Sink>(
     index: &FloorIndex,
     clearing: &Clearing,
 )
-    ensures { Writes K.held K.faults writer.old (flat_map (floor_clear_part (λ f. latest (clearing_moment clearing.now) (listed index.now f))) floors.now) writer.new }
+    ensures { Writes K.Sink writer.old (flat_map (floor_clear_part (λ f. latest (clearing_moment clearing.now) (listed index.now f))) floors.now) writer.new }
 {
     for floor in floors {
         put_floor_clear(writer, *floor, clearing.floor_clear(index, *floor));
@@ -64,7 +64,7 @@ pub fn put_clearing<K: Sink>(
     requires size { length clearing.now.moments ≡ length subject.now.model.now.nodes }
     requires floors { floors.now ≡ table_of subject.now.model.now subject.now.names.now.floors }
     ensures { let m = subject.now.model.now in (p : List Move) → IsReport m p clearing.now
-        → Writes K.held K.faults writer.old (clearing_text subject.now.index subject.now.names.now.floors m p) writer.new }
+        → Writes K.Sink writer.old (clearing_text subject.now.index subject.now.names.now.floors m p) writer.new }
 {
     put_number(writer, b"clearing", u64::from(subject.index));
     put_nodes(writer, subject.model, clearing);

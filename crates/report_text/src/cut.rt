@@ -19,7 +19,7 @@ use line_io::{Sink, Writer};
 fn put_item<K: Sink>(writer: &mut Writer<'_, K>, model: &Model, item: CutItem)
     requires valid { IsValid model.now }
     requires item { IsItemOf model.now item }
-    ensures { Writes K.held K.faults writer.old (item_line model.now item) writer.new }
+    ensures { Writes K.Sink writer.old (item_line model.now item) writer.new }
 {
     match item {
         CutItem::Entry { node, people } => put_entry(writer, model.node(node).name, people),
@@ -41,7 +41,7 @@ fn put_item<K: Sink>(writer: &mut Writer<'_, K>, model: &Model, item: CutItem)
 fn put_items<K: Sink>(writer: &mut Writer<'_, K>, model: &Model, items: &mut Crossing<'_>)
     requires valid { IsValid model.now }
     requires items { All (IsItemOf model.now) items.old }
-    ensures { Writes K.held K.faults writer.old (flat_map (item_line model.now) items.old) writer.new }
+    ensures { Writes K.Sink writer.old (flat_map (item_line model.now) items.old) writer.new }
 {
     while let Some(item) = items.next() {
         put_item(writer, model, item);
@@ -53,7 +53,7 @@ fn put_label_cut<K: Sink>(writer: &mut Writer<'_, K>, model: &Model, labels: &La
     requires valid { IsValid model.now }
     requires table { IsTableOf model.now labels.now }
     requires k_in { k ≤ model.now.horizon }
-    ensures { Writes K.held K.faults writer.old (cut_text model.now (label_cut model.now labels.now k) k) writer.new }
+    ensures { Writes K.Sink writer.old (cut_text model.now (label_cut model.now labels.now k) k) writer.new }
 {
     put_cut_line(writer, k, cut_value(model, labels, k));
     let mut items = crossing(model, labels, k);
@@ -66,7 +66,7 @@ fn put_coming<K: Sink>(writer: &mut Writer<'_, K>, model: &Model, node: u32, mom
     requires valid { IsValid model.now }
     requires node_in { node < length model.now.nodes }
     requires moment_in { moment ≤ model.now.horizon }
-    ensures { Writes K.held K.faults writer.old (entry_text model.now node moment) writer.new }
+    ensures { Writes K.Sink writer.old (entry_text model.now node moment) writer.new }
 {
     let people = model.entry(node, moment);
     if people > 0 {
@@ -80,7 +80,7 @@ fn put_node_coming<K: Sink>(writer: &mut Writer<'_, K>, model: &Model, node: u32
     requires valid { IsValid model.now }
     requires node_in { node < length model.now.nodes }
     requires k_in { k ≤ model.now.horizon }
-    ensures { Writes K.held K.faults writer.old (flat_map (entry_text model.now node) (moments_to k)) writer.new }
+    ensures { Writes K.Sink writer.old (flat_map (entry_text model.now node) (moments_to k)) writer.new }
 {
     for moment in 0..k + 1 {
         put_coming(writer, model, node, moment);
@@ -91,7 +91,7 @@ fn put_node_coming<K: Sink>(writer: &mut Writer<'_, K>, model: &Model, node: u32
 fn put_all_coming<K: Sink>(writer: &mut Writer<'_, K>, model: &Model, k: u16)
     requires valid { IsValid model.now }
     requires k_in { k ≤ model.now.horizon }
-    ensures { Writes K.held K.faults writer.old (flat_map (item_line model.now) (cut_items model.now no_pair k)) writer.new }
+    ensures { Writes K.Sink writer.old (flat_map (item_line model.now) (cut_items model.now no_pair k)) writer.new }
 {
     for node in 0..model.node_count() {
         put_node_coming(writer, model, node, k);
@@ -132,7 +132,7 @@ fn all_entered(model: &Model, k: u16) -> u64
 fn put_empty_cut<K: Sink>(writer: &mut Writer<'_, K>, model: &Model, k: u16)
     requires valid { IsValid model.now }
     requires k_in { k ≤ model.now.horizon }
-    ensures { Writes K.held K.faults writer.old (cut_text model.now no_pair k) writer.new }
+    ensures { Writes K.Sink writer.old (cut_text model.now no_pair k) writer.new }
 {
     put_cut_line(writer, k, all_entered(model, k));
     put_all_coming(writer, model, k);
@@ -150,7 +150,7 @@ pub fn put_cut<K: Sink>(
     requires valid { IsValid model.now }
     requires table { IsTableOf model.now labels.now }
     requires k_in { k ≤ model.now.horizon }
-    ensures { Writes K.held K.faults writer.old (cut_text model.now (stated_cut model.now labels.now cleared k) k) writer.new }
+    ensures { Writes K.Sink writer.old (cut_text model.now (stated_cut model.now labels.now cleared k) k) writer.new }
 {
     if k < cleared {
         put_label_cut(writer, model, labels, k);

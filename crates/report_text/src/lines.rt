@@ -12,7 +12,7 @@ use line_io::{Sink, TextLine, Writer};
 #[tactic(auto, unfolding(crate::specs::ReportText::number_line))]
 pub fn put_number<K: Sink>(writer: &mut Writer<'_, K>, word: &[u8], number: u64)
     requires { length word.now ≤ 100 }
-    ensures { Writes K.held K.faults writer.old (number_line word.now number) writer.new }
+    ensures { Writes K.Sink writer.old (number_line word.now number) writer.new }
 {
     let mut line = TextLine::new(word);
     line.number(number);
@@ -22,7 +22,7 @@ pub fn put_number<K: Sink>(writer: &mut Writer<'_, K>, word: &[u8], number: u64)
 /// Puts the line of a cut: its moment and its value.
 #[tactic(auto, unfolding(crate::specs::ReportText::cut_line))]
 pub fn put_cut_line<K: Sink>(writer: &mut Writer<'_, K>, moment: u16, value: u64)
-    ensures { Writes K.held K.faults writer.old (cut_line moment value) writer.new }
+    ensures { Writes K.Sink writer.old (cut_line moment value) writer.new }
 {
     let mut line = TextLine::new(b"cut");
     line.number(u64::from(moment));
@@ -33,7 +33,7 @@ pub fn put_cut_line<K: Sink>(writer: &mut Writer<'_, K>, moment: u16, value: u64
 #[tactic(auto, unfolding(crate::specs::ReportText::entry_line))]
 pub(crate) fn put_entry<K: Sink>(writer: &mut Writer<'_, K>, name: NodeName, people: u32)
     requires { IsName name }
-    ensures { Writes K.held K.faults writer.old (entry_line (name_text name) people) writer.new }
+    ensures { Writes K.Sink writer.old (entry_line (name_text name) people) writer.new }
 {
     let mut line = TextLine::new(b"entry");
     put_name(&mut line, name);
@@ -49,7 +49,7 @@ pub(crate) fn put_hold<K: Sink>(
     capacity: u32,
 )
     requires { IsName name }
-    ensures { Writes K.held K.faults writer.old (hold_line (name_text name) moment capacity) writer.new }
+    ensures { Writes K.Sink writer.old (hold_line (name_text name) moment capacity) writer.new }
 {
     let mut line = TextLine::new(b"hold");
     put_name(&mut line, name);
@@ -68,7 +68,7 @@ pub(crate) fn put_arc<K: Sink>(
 )
     requires from { IsName from }
     requires to { IsName to }
-    ensures { Writes K.held K.faults writer.old (arc_line moment (name_text from) (name_text to) rate) writer.new }
+    ensures { Writes K.Sink writer.old (arc_line moment (name_text from) (name_text to) rate) writer.new }
 {
     let mut line = TextLine::new(b"arc");
     line.number(u64::from(moment));
@@ -96,7 +96,7 @@ pub(crate) fn put_route_line<K: Sink>(
     moment: u16,
 )
     requires { IsName name }
-    ensures { Writes K.held K.faults writer.old (route_line people (name_text name) moment) writer.new }
+    ensures { Writes K.Sink writer.old (route_line people (name_text name) moment) writer.new }
 {
     let mut line = TextLine::new(b"route");
     line.number(u64::from(people));
@@ -113,7 +113,7 @@ pub(crate) fn put_card_line<K: Sink>(
     moment: u16,
 )
     requires { IsName name }
-    ensures { Writes K.held K.faults writer.old (card_line number (name_text name) moment) writer.new }
+    ensures { Writes K.Sink writer.old (card_line number (name_text name) moment) writer.new }
 {
     let mut line = TextLine::new(b"card");
     line.number(u64::from(number));
@@ -131,7 +131,7 @@ pub(crate) fn put_step<K: Sink>(
 )
     requires from { IsName from }
     requires to { IsName to }
-    ensures { Writes K.held K.faults writer.old (step_line moment (name_text from) (name_text to)) writer.new }
+    ensures { Writes K.Sink writer.old (step_line moment (name_text from) (name_text to)) writer.new }
 {
     let mut line = TextLine::new(b"step");
     line.number(u64::from(moment));
@@ -158,7 +158,7 @@ pub(crate) fn put_node_clear<K: Sink>(
     moment: Option<u16>,
 )
     requires { IsName name }
-    ensures { Writes K.held K.faults writer.old (node_clear_line (name_text name) moment) writer.new }
+    ensures { Writes K.Sink writer.old (node_clear_line (name_text name) moment) writer.new }
 {
     let mut line = TextLine::new(b"node");
     put_name(&mut line, name);
@@ -168,7 +168,7 @@ pub(crate) fn put_node_clear<K: Sink>(
 
 #[tactic(auto, unfolding(crate::specs::ReportText::floor_clear_line))]
 pub(crate) fn put_floor_clear<K: Sink>(writer: &mut Writer<'_, K>, floor: u16, moment: Option<u16>)
-    ensures { Writes K.held K.faults writer.old (floor_clear_line floor moment) writer.new }
+    ensures { Writes K.Sink writer.old (floor_clear_line floor moment) writer.new }
 {
     let mut line = TextLine::new(b"floor");
     line.number(u64::from(floor));
@@ -185,7 +185,7 @@ pub(crate) fn put_arc_periods<K: Sink>(
 )
     requires from { IsName from }
     requires to { IsName to }
-    ensures { Writes K.held K.faults writer.old (arc_periods_line (name_text from) (name_text to) periods) writer.new }
+    ensures { Writes K.Sink writer.old (arc_periods_line (name_text from) (name_text to) periods) writer.new }
 {
     let mut line = TextLine::new(b"arc");
     put_name(&mut line, from);
@@ -197,7 +197,7 @@ pub(crate) fn put_arc_periods<K: Sink>(
 #[tactic(auto, unfolding(crate::specs::ReportText::hold_periods_line))]
 pub(crate) fn put_hold_periods<K: Sink>(writer: &mut Writer<'_, K>, name: NodeName, periods: u32)
     requires { IsName name }
-    ensures { Writes K.held K.faults writer.old (hold_periods_line (name_text name) periods) writer.new }
+    ensures { Writes K.Sink writer.old (hold_periods_line (name_text name) periods) writer.new }
 {
     let mut line = TextLine::new(b"hold");
     put_name(&mut line, name);
@@ -208,7 +208,7 @@ pub(crate) fn put_hold_periods<K: Sink>(writer: &mut Writer<'_, K>, name: NodeNa
 /// Puts the work of an edit: the people who were taken back, and those who were sent anew.
 #[tactic(auto, unfolding(crate::specs::ReportText::work_text))]
 pub fn put_work<K: Sink>(writer: &mut Writer<'_, K>, cancelled: u64, pushes: u64)
-    ensures { Writes K.held K.faults writer.old (work_text cancelled pushes) writer.new }
+    ensures { Writes K.Sink writer.old (work_text cancelled pushes) writer.new }
 {
     let mut line = TextLine::new(b"work");
     line.number(cancelled);

@@ -18,7 +18,7 @@ use line_io::{Sink, Writer};
 fn put_card<K: Sink>(writer: &mut Writer<'_, K>, model: &Model, number: u32, card: &Card<'_>)
     requires valid { IsValid model.now }
     requires card { IsCardIn model.now card.now }
-    ensures { Writes K.held K.faults writer.old (card_lines model.now number card.now) writer.new }
+    ensures { Writes K.Sink writer.old (card_lines model.now number card.now) writer.new }
 {
     let name = model.node(card.start()).name;
     put_card_line(writer, number, name, card.entered());
@@ -37,7 +37,7 @@ pub fn put_cards<K: Sink, F: Standing>(
     requires stands { Stands model.now (F.stand standing.now) }
     requires site { IsSameSite model.now cards.old.model }
     ensures text { (text : List ℕ) × SaysCards index model.now (F.stand standing.now).plan text
-        × Writes K.held K.faults writer.old text writer.new }
+        × Writes K.Sink writer.old text writer.new }
     ensures model { cards.new.model ≡ model.now }
 {
     cards.begin(model, standing);

@@ -17,7 +17,7 @@ use route_decompose::{Route, RouteStep, Routes};
 pub(crate) fn put_steps<K: Sink>(writer: &mut Writer<'_, K>, model: &Model, steps: &[RouteStep])
     requires valid { IsValid model.now }
     requires steps { All (λ s. s.arc < length model.now.arcs) steps.now }
-    ensures { Writes K.held K.faults writer.old (flat_map (step_part model.now) steps.now) writer.new }
+    ensures { Writes K.Sink writer.old (flat_map (step_part model.now) steps.now) writer.new }
 {
     for step in steps {
         let row = model.arc(step.arc);
@@ -30,7 +30,7 @@ pub(crate) fn put_steps<K: Sink>(writer: &mut Writer<'_, K>, model: &Model, step
 fn put_route<K: Sink>(writer: &mut Writer<'_, K>, model: &Model, route: &Route<'_>)
     requires valid { IsValid model.now }
     requires route { IsRoute model.now route.now }
-    ensures { Writes K.held K.faults writer.old (route_lines model.now route.now) writer.new }
+    ensures { Writes K.Sink writer.old (route_lines model.now route.now) writer.new }
 {
     let name = model.node(route.start()).name;
     put_route_line(writer, route.people(), name, route.entered());
@@ -49,7 +49,7 @@ pub fn put_routes<K: Sink, F: Standing>(
     requires stands { Stands model.now (F.stand standing.now) }
     requires site { IsSameSite model.now routes.old.model }
     ensures text { (text : List ℕ) × SaysRoutes index model.now (F.stand standing.now).plan text
-        × Writes K.held K.faults writer.old text writer.new }
+        × Writes K.Sink writer.old text writer.new }
     ensures model { routes.new.model ≡ model.now }
 {
     routes.begin(model, standing);

@@ -14,7 +14,7 @@ use evac_law::{Model, Standing};
 use line_io::{Sink, Writer};
 
 fn put_text<K: Sink>(writer: &mut Writer<'_, K>, text: &[u8])
-    ensures { Writes K.held K.faults writer.old (title_line (Some text.now)) writer.new }
+    ensures { Writes K.Sink writer.old (title_line (Some text.now)) writer.new }
 {
     writer.put_all(b"title ");
     writer.put_all(text);
@@ -23,7 +23,7 @@ fn put_text<K: Sink>(writer: &mut Writer<'_, K>, text: &[u8])
 
 // Puts the title, where there is one.
 fn put_title<K: Sink>(writer: &mut Writer<'_, K>, names: &Names)
-    ensures { Writes K.held K.faults writer.old (title_line names.now.title) writer.new }
+    ensures { Writes K.Sink writer.old (title_line names.now.title) writer.new }
 {
     match names.title() {
         None => {}
@@ -34,7 +34,7 @@ fn put_title<K: Sink>(writer: &mut Writer<'_, K>, names: &Names)
 // Puts the people, the moment by which they are out, and its seconds.
 fn put_outcome<K: Sink>(writer: &mut Writer<'_, K>, model: &Model, cleared: u16)
     requires valid { IsValid model.now }
-    ensures { Writes K.held K.faults writer.old (outcome_lines model.now cleared) writer.new }
+    ensures { Writes K.Sink writer.old (outcome_lines model.now cleared) writer.new }
 {
     let people = u64::from(model.people());
     let moment = u64::from(cleared);
@@ -54,7 +54,7 @@ pub fn put_summary<K: Sink, F: Standing>(
     requires valid { IsValid subject.now.model.now }
     requires report { IsReport subject.now.model.now (F.stand standing.now).plan clearing.now }
     ensures { let s = F.stand standing.now in
-        Writes K.held K.faults writer.old (summary_text subject.now.index subject.now.names.now.title subject.now.model.now s.plan s.last clearing.now.time) writer.new }
+        Writes K.Sink writer.old (summary_text subject.now.index subject.now.names.now.title subject.now.model.now s.plan s.last clearing.now.time) writer.new }
 {
     let time = u64::from(clearing.uncongested());
     put_number(writer, b"summary", u64::from(subject.index));

@@ -33,7 +33,7 @@ use Rattle.residual_net.specs.Network.{Network, IsKept, IsStored, no_cell, flow_
 use Rattle.residual_net.specs.OfModel.{IsNetOf, model_limit, site_of}
 use Rattle.residual_net.specs.Start.{IsOpening, StartsAs, cell_at, emptied, is_kind, place_of, row_cells, row_of, rows_cells, start_cells}
 use Rattle.residual_net.proofs.Places.{sum_places-same, sum_places-none}
-use Rattle.residual_net.proofs.Held.{arrival_is, exit_is, from_is, same_in}
+use Rattle.residual_net.proofs.Held.{arrival_is, exit_is, from_is}
 
 -- ---- the network of a valid model
 
@@ -297,7 +297,7 @@ pub supplies_enter : (m : Model) (w : Network) → IsNetOf m w → supply_limits
 unfolding supply_limits sum_places
 supplies_enter m w of =
     let k = w.site.shape.horizon + 1 in
-    let same = same_in w.site.shape.nodes k (λ n t. limit_at w (Supply n t)) (entry m) (λ n t i j. of.limits (Supply n t) (i, omega (arith, j))) in
+    let same = sums.sum2-same_in w.site.shape.nodes k (λ n t. limit_at w (Supply n t)) (entry m) (λ n t i j. of.limits (Supply n t) (i, omega (arith, j))) in
     omega (
       arith,
       sums.sum2-nothing (arc_count w.site) k,

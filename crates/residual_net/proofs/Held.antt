@@ -11,7 +11,7 @@ use Rattle.evac_law.specs.declared.model.NodeRow.{NodeRow}
 use Rattle.evac_law.specs.Building.{IsValid, IsArc, is_exit_at, no_node, no_arc, tail, head, arrival, entry}
 use Rattle.evac_law.specs.Names.{is_exit}
 use Rattle.evac_law.specs.Plans.{came, coming, leaving, left}
-use Rattle.evac_law.proofs.SumLemmas.{sum2, sum2-le, sum2-same, sum2-nothing}
+use Rattle.evac_law.proofs.SumLemmas.{sum2, sum2-nothing, sum2-same, sum2-same_in}
 use Rattle.evac_law.proofs.WeakDuality.{came-zero, came-suc, left-zero, left-suc}
 use Rattle.time_expansion.specs.Expansion.{from_at, to_at, no_ends}
 use Rattle.residual_net.specs.declared.place.Place.TheVariants.{Arc, Hold, Supply}
@@ -34,9 +34,6 @@ arrival_is m a t l = ap (λ z. t + z) (get_or-map (λ (r : Rattle.evac_law.specs
 
 pub exit_is : (m : Model) (n : ℕ) → n < length m.nodes → exit_at (site_of m) n ≡ is_exit_at m n
 exit_is m n l = get_or-map (λ (r : Rattle.evac_law.specs.declared.model.NodeRow.NodeRow). is_exit r.name.kind) m.nodes n no_node false l
-
-pub same_in : (n k : ℕ) (f g : ℕ → ℕ → ℕ) → ((i j : ℕ) → i < n → j < k → f i j ≡ g i j) → sum2 n k f ≡ sum2 n k g
-same_in n k f g h = grind (arith, sum2-le)
 
 -- ---- conservation in the model's words
 
@@ -104,11 +101,11 @@ module _ (m : Model) (w : Network) (net : IsNet w) (of : IsNetOf m w) (valid : I
 
   into_arcs : (n t : ℕ) → is_exit_at m n ≡ false
       → sum2 (arc_count w.site) k (λ a s. cond (at (Pair n t) (head_of w.site (Arc a s))) (flow a s) 0) ≡ coming m plan n t
-  into_arcs n t e = grind (arith, same_in, head_is, arcs_same, arc_term, no_exit, coming_is)
+  into_arcs n t e = grind (arith, sum2-same_in, head_is, arcs_same, arc_term, no_exit, coming_is)
 
   out_arcs : (n t : ℕ) → sum2 (arc_count w.site) k (λ a s. cond (at (Pair n t) (tail_of w.site (Arc a s))) (flow a s) 0) ≡ leaving m plan n t
   out_arcs n t =
-      same_in (arc_count w.site) k _ _
+      sum2-same_in (arc_count w.site) k _ _
       (λ a s i j. ap (λ z. cond (at (Pair n t) z) (flow a s) 0) (tail_is a s (omega (arith, arcs_same, i))) ∙ tail_term (tail m a) n s t (flow a s))
       ∙ sym (leaving_is n t)
 

@@ -19,7 +19,7 @@ use Rattle.evac_law.specs.Names.{is_exit}
 use Rattle.evac_law.specs.Plans.{IsFeasible, moved, held, out_by}
 use Rattle.evac_law.specs.Parts.{IsPart}
 use Rattle.evac_law.specs.LabelTable.{LabelTable, label_at}
-use Rattle.evac_law.proofs.SumLemmas.{All-below, else_le, sum2-le, sum2-nothing, sum_by-same}
+use Rattle.evac_law.proofs.SumLemmas.{All-below, else_le, sum2-le, sum2-nothing, sum2-same_in, sum_by-same}
 use Rattle.evac_law.proofs.SumLemmas as sums
 use Rattle.evac_law.proofs.Entries.{entered_le, exit_entry, none_late}
 use Rattle.evac_law.proofs.EntrantTable.{all_of_table, entering-table_entrants, entrants_are_table}
@@ -36,7 +36,7 @@ use Rattle.residual_net.specs.Closed.{IsClosed, reached}
 use Rattle.residual_net.proofs.Sent.{restart, sent_model}
 use Rattle.residual_net.specs.NetLaws.{labelled}
 use Rattle.evac_law.proofs.MoveLemmas.{sum_moves, moved-moves_of, arcs-moves_of}
-use Rattle.residual_net.proofs.Held.{same_in, came_left, arcs_same, nodes_same, horizon_same, head_is, tail_is}
+use Rattle.residual_net.proofs.Held.{came_left, arcs_same, nodes_same, horizon_same, head_is, tail_is}
 use Rattle.residual_net.proofs.Quiet.{entering_full, leaving_none, none_past}
 
 -- ---- other starts
@@ -90,7 +90,7 @@ module _ (m : Model) (w : Network) (valid : IsValid m) (net : IsNet w) (of : IsN
   unfolding flow_into sum_places out_by
   arrived_is_out k =
       let moments = w.site.shape.horizon + 1 in
-      let arcs = same_in (arc_count w.site) moments (λ a s. cond (door_by k (head_of w.site (Arc a s))) (flow_at w (Arc a s)) 0)
+      let arcs = sum2-same_in (arc_count w.site) moments (λ a s. cond (door_by k (head_of w.site (Arc a s))) (flow_at w (Arc a s)) 0)
       (λ a s. cond (is_exit_at m (head m a) && leb (arrival m a s) k) (flow_at w (Arc a s)) 0)
       (λ a s i j. ap (λ z. cond (door_by k z) (flow_at w (Arc a s)) 0) (head_is m w net of valid a s (omega (arith, arcs_same m w net of valid, i)))
       ∙ term (is_exit_at m (head m a)) (head m a) (arrival m a s) (flow_at w (Arc a s))) in

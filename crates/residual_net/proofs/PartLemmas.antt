@@ -3,6 +3,7 @@ use Rattle.std.proofs.Common.{◌≡◌, ◌+◌, ap, sym, ◌∙◌, arith}
 use Rattle.evac_law.specs.declared.model.Model.{Model}
 use Rattle.evac_law.specs.Building.{IsValid, entry, people}
 use Rattle.evac_law.proofs.SumLemmas as sums
+use Rattle.evac_law.proofs.SumLemmas.{sum2-same_in}
 use Rattle.residual_net.specs.declared.place.Place.TheVariants.{Supply}
 use Rattle.residual_net.specs.Network.{Network, IsNet, IsWithinLimits, arrived_by, flow_at, flow_out}
 use Rattle.residual_net.specs.OfModel.{IsNetOf}
@@ -10,7 +11,7 @@ use Rattle.residual_net.proofs.Sent.{sent_model}
 use Rattle.residual_net.specs.Site.{arc_count, sum_places}
 use Rattle.residual_net.specs.NetLaws.{ArrivedGetOut}
 use Rattle.residual_net.proofs.Begin.{entries_are_people}
-use Rattle.residual_net.proofs.Held.{horizon_same, nodes_same, same_in}
+use Rattle.residual_net.proofs.Held.{horizon_same, nodes_same}
 use Rattle.residual_net.proofs.Law.{arrived_is_out, count_same, entry_sent, feasible, out_same, part, valid_sent}
 use Rattle.residual_net.proofs.SentLemmas.{arrived_is_sent}
 
@@ -27,7 +28,7 @@ module _ (m : Model) (w : Network) (valid : IsValid m) (net : IsNet w) (of : IsN
       let k = w.site.shape.horizon + 1 in
       let nodes = nodes_same m w net of valid in
       let horizon = horizon_same m w net of valid in
-      let same = same_in w.site.shape.nodes k (entry some) (λ n t. flow_at w (Supply n t))
+      let same = sum2-same_in w.site.shape.nodes k (entry some) (λ n t. flow_at w (Supply n t))
       (λ n t i j. entry_sent m w valid net of within n t (omega (arith, i, nodes)) (omega (arith, j, horizon))) in
       omega (
         arith,

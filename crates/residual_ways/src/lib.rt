@@ -22,5 +22,5 @@ pub use cells::{count_sent, is_all_sent, is_open, room, room_in, send, supplies_
 pub use residual::{Incoming, Residual};
 pub use sizes::Sizes;
 pub use step::{Stay, Step};
-pub use way::{Course, Way};
+pub use way::{Limits, Way};
 pub use ways::Ways;

@@ -17,13 +17,33 @@ pub enum Rank {
 
 /// Where an arc leads, by the shortest ways out.
 #[derive(Clone, Copy, PartialEq, Eq, PartialOrd, Ord)]
-pub enum Course {
+pub(crate) enum Course {
     /// It is the first on a shortest way out. A wait counts as straight too.
     Straight,
     /// It leads to a node nearer to the exits, but another way out is shorter.
     Detour,
     /// It leads to a node that isn't nearer to the exits.
     Away,
+}
+
+/// The distance labels below which steps over arcs that lead astray weigh 1.
+#[derive(Clone, Copy)]
+pub struct Limits {
+    /// That of detours.
+    pub detour: u16,
+    /// That of arcs that lead away.
+    pub away: u16,
+}
+
+impl Limits {
+    /// The distance label below which a step over an arc weighs 1.
+    pub(crate) fn of(self, course: Course) -> u16 {
+        match course {
+            Course::Straight => 0,
+            Course::Detour => self.detour,
+            Course::Away => self.away,
+        }
+    }
 }
 
 /// A residual arc into a node: over an arc of the building or a wait, forwards or backwards. At each moment it is a step.
@@ -50,8 +70,8 @@ pub struct Way {
     /// Whether it leads over an arc forwards that somebody may enter at some moment, by the limits of the net for which the ways were put
     /// in order.
     pub(crate) may_enter: bool,
-    /// Where its arc leads, forwards, by the same limits.
-    pub course: Course,
+    /// The distance label below which a step over it weighs 1, forwards.
+    pub weighs_below: u32,
 }
 
 impl Way {
@@ -71,7 +91,7 @@ impl Way {
             first_pair: sizes.first_pair(node),
             shift: -(travel as i32),
             may_enter: false,
-            course: Course::Straight,
+            weighs_below: 0,
         }
     }
 

@@ -1,12 +1,12 @@
 -- What taking people off one place does to the balance.
-use Rattle.std.proofs.Common.{◌≡◌, ℕ, zero, suc, ◌+◌, ◌-◌, ◌<◌, ◌≤◌, Bool, true, false, cond, ◌&&◌, eqb, leb, length, refl, ap, ap₂, sym, ◌∙◌, arith, subst}
+use Rattle.std.proofs.Common.{◌≡◌, ℕ, zero, suc, ◌+◌, ◌-◌, ◌<◌, ◌≤◌, true, false, cond, ◌&&◌, eqb, leb, length, refl, ap, ap₂, sym, ◌∙◌, arith, subst}
 use Rattle.std.specs.List.{sum_by}
 use Rattle.std.proofs.lemmas.Bool.{lt-ltb, true≢false}
 use Rattle.std.proofs.lemmas.Bool.Decides.{nat_tests}
 use Rattle.evac_law.specs.declared.model.Model.{Model}
 use Rattle.evac_law.specs.Building.{arc_at, arrival, head, is_exit_at, tail}
 use Rattle.evac_law.specs.Sums.{places}
-use Rattle.evac_law.proofs.SumLemmas.{All-below, cond_nothing, pick_le, sum_by-add, sum_by-le_all, sum_by-nothing, sum_by-same, sum_below-pick}
+use Rattle.evac_law.proofs.SumLemmas.{All-below, cond_nothing, cond_zero, pick_le, sum_below-pick, sum_by-add, sum_by-le_all, sum_by-nothing, sum_by-same}
 use Rattle.plan_layout.specs.Tables.{PeopleTable, people_at}
 use Rattle.route_decompose.specs.Places.{IsLess}
 use Rattle.route_decompose.specs.Stocks.{IsBalancedBut, Stock, before, left_coming, going, stayed}
@@ -95,15 +95,12 @@ going_none s n t h =
     (All-below _ (length m.arcs) (λ b l. nobody (tail m b) n (people_at s.left b t) (h b l))) in
     omega (arith, le, sum_by-nothing (places m.arcs))
 
-no_people : (b : Bool) (x : ℕ) → x ≡ 0 → cond b x 0 ≤ 0
-no_people b x e = grind arith
-
 pub coming_all_none : (s : Stock) (n t : ℕ) → ((a u : ℕ) → people_at s.left a u ≡ 0) → left_coming s n t ≡ 0
 unfolding left_coming
 coming_all_none s n t h =
     let m = s.model in
     let le = sum_by-le_all (λ b. cond (eqb (head m b) n && leb (arc_at m b).travel t) (people_at s.left b (t - (arc_at m b).travel)) 0) (λ _. 0) (places m.arcs)
-    (All-below _ (length m.arcs) (λ b l. no_people (eqb (head m b) n && leb (arc_at m b).travel t) _ (h b (t - (arc_at m b).travel)))) in
+    (All-below _ (length m.arcs) (λ b l. cond_zero (eqb (head m b) n && leb (arc_at m b).travel t) _ (h b (t - (arc_at m b).travel)))) in
     omega (arith, le, sum_by-nothing (places m.arcs))
 
 -- ---- one step of a route

@@ -99,7 +99,7 @@ pub fn put_clearing<K: Sink>(
     space: &mut ReportSpace,
 )
     requires space { IsSpace session.now.state.model names.now space.old }
-    ensures text { Writes K.held K.faults writer.old (clearing_of names.now index session.now.state) writer.new }
+    ensures text { Writes K.Sink writer.old (clearing_of names.now index session.now.state) writer.new }
     ensures space { IsSpace session.now.state.model names.now space.new }
 {
     space.report_plan(session);
@@ -120,7 +120,7 @@ pub fn put_bottlenecks<K: Sink>(
     space: &mut ReportSpace,
 )
     requires room { HasCounts session.now.state.model space.old.bottlenecks }
-    ensures text { Writes K.held K.faults writer.old (bottlenecks_of index session.now.state) writer.new }
+    ensures text { Writes K.Sink writer.old (bottlenecks_of index session.now.state) writer.new }
     ensures space { (names : NameTable) → IsSpace session.now.state.model names space.old → IsSpace session.now.state.model names space.new }
 {
     space.report_labels(session);
@@ -136,7 +136,7 @@ pub fn put_summary<K: Sink>(
     space: &mut ReportSpace,
 )
     requires space { IsSpace session.now.state.model names.now space.old }
-    ensures text { (text : List ℕ) × SaysSummary names.now index session.now.state text × Writes K.held K.faults writer.old text writer.new }
+    ensures text { (text : List ℕ) × SaysSummary names.now index session.now.state text × Writes K.Sink writer.old text writer.new }
     ensures space { IsSpace session.now.state.model names.now space.new }
 {
     space.report_plan(session);
@@ -158,7 +158,7 @@ pub fn put_reports<K: Sink>(
     space: &mut ReportSpace,
 )
     requires space { IsSpace session.now.state.model names.now space.old }
-    ensures text { (text : List ℕ) × SaysReports names.now index session.now.state text × Writes K.held K.faults writer.old text writer.new }
+    ensures text { (text : List ℕ) × SaysReports names.now index session.now.state text × Writes K.Sink writer.old text writer.new }
     ensures space { IsSpace session.now.state.model names.now space.new }
 {
     space.report_plan(session);

@@ -17,7 +17,7 @@ use route_decompose::Routes;
 
 /// Puts the answer block of a session. The index is 0 for the opening of a model and counts edits from there.
 pub fn put_block<K: Sink>(writer: &mut Writer<'_, K>, session: &Session, index: u32)
-    ensures { Writes K.held K.faults writer.old (block_text index session.now.state) writer.new }
+    ensures { Writes K.Sink writer.old (block_text index session.now.state) writer.new }
 {
     let model = session.model();
     put_answer(writer, model, index, session, session.labels());
@@ -31,7 +31,7 @@ pub fn put_routes<K: Sink>(
     routes: &mut Routes,
 )
     requires site { IsSameSite session.now.state.model routes.old.model }
-    ensures text { (text : List ℕ) × SaysRoutesOf index session.now.state text × Writes K.held K.faults writer.old text writer.new }
+    ensures text { (text : List ℕ) × SaysRoutesOf index session.now.state text × Writes K.Sink writer.old text writer.new }
     ensures model { routes.new.model ≡ session.now.state.model }
 {
     let model = session.model();
@@ -41,7 +41,7 @@ pub fn put_routes<K: Sink>(
 /// Puts the cut of a period.
 pub fn put_cut<K: Sink>(writer: &mut Writer<'_, K>, session: &Session, k: u16)
     requires k_in { k ≤ session.now.state.model.horizon }
-    ensures { Writes K.held K.faults writer.old (cut_of session.now.state k) writer.new }
+    ensures { Writes K.Sink writer.old (cut_of session.now.state k) writer.new }
 {
     let model = session.model();
     let cleared = session.cleared();
@@ -50,7 +50,7 @@ pub fn put_cut<K: Sink>(writer: &mut Writer<'_, K>, session: &Session, k: u16)
 
 /// Puts the work of the last accepted edit or undo, and before the first that of the beginning.
 pub fn put_work<K: Sink>(writer: &mut Writer<'_, K>, session: &Session)
-    ensures { Writes K.held K.faults writer.old (work_of session.now.state) writer.new }
+    ensures { Writes K.Sink writer.old (work_of session.now.state) writer.new }
 {
     let work = session.work();
     report_text::put_work(writer, work.cancelled, work.pushes);
@@ -66,8 +66,8 @@ pub fn put_barred<K: Sink>(
     most: u32,
 )
     ensures text { (edited : ModelValue) → HasSameNames session.now.state.model edited → people_of edited ≡ people
-        → Writes K.held K.faults writer.old (shortfall_text line edited (label_cut edited session.now.refused edited.horizon) most) writer.new }
-    ensures written { (text : List ℕ) × Writes K.held K.faults writer.old text writer.new }
+        → Writes K.Sink writer.old (shortfall_text line edited (label_cut edited session.now.refused edited.horizon) most) writer.new }
+    ensures written { (text : List ℕ) × Writes K.Sink writer.old text writer.new }
 {
     let model = session.model();
     put_short(writer, model, line, people, most, session.refused_cut());

@@ -1,12 +1,11 @@
 -- A plan that was carried out is answered by who is gone and by the block of what is left.
 use Rattle.std.proofs.Common.{◌≡◌, ℕ, ◌+◌, ◌<◌, ◌≤◌, ◌^◌, Bool, true, false, List, ◌++◌, refl, sym, ap, subst, arith}
-use Rattle.std.specs.declared.option.Option.{Option}
 use Rattle.evac_law.specs.declared.code.Code.{Code}
 use Rattle.evac_law.specs.declared.code.Code.TheVariants as codes
 use Rattle.evac_law.specs.declared.model.Model.{Model}
-use Rattle.line_io.specs.Causes.{Count}
 use Rattle.line_io.specs.Line.{input_limit}
 use Rattle.line_io.specs.Writer.{Writes}
+use Rattle.line_io.specs.declared.outside.Sink.{Ghosts}
 use Rattle.line_io.specs.declared.writer.Writer.{Writer}
 use Rattle.certificate_text.specs.Block.{number_field_limit}
 use Rattle.certificate_text.specs.BlockLaws.{BlockReadsBack}
@@ -32,12 +31,12 @@ few_numbers index line before short = omega (arith, before, short)
 free-moment : (line : ℕ) (s : Replanned) (p : ℕ) (barred : Bool) (r : Reply Replanned) → barred ≡ false → CarriesOut s p r → AdvancesTo line s p barred r
 free-moment line s p barred r free h = let P : Bool → Type 0 = λ b. AdvancesTo line s p b r in subst P (sym free) h
 
-pub advance_said : BlockReadsBack → {X : Type 0} {H : X → Option (List ℕ)} {F : X → Count} (line p last steps n k : ℕ) (t t' : ReplanTalk) (a b : Writer X)
+pub advance_said : BlockReadsBack → {X : Type 0} {G : Ghosts X} (line p last steps n k : ℕ) (t t' : ReplanTalk) (a b : Writer X)
     → t.desk.index < line → line ≤ input_limit → bars_moment (replanned t.desk t.replan) p ≡ false → GoesUpTo t p t' → steps ≡ t'.replan.session.state.work.pushes → k ≡ n + steps
     → IsLastGone t'.replan.gone t'.replan.session.state.model.horizon last
-    → Writes H F a (gone_text t'.replan.moment t'.replan.gone last ++ block_text t'.desk.index t'.replan.session.state) b
-    → PutsSome H F (AdvancesTo line (replanned t.desk t.replan) p (bars_moment (replanned t.desk t.replan) p)) (shown_replan t.desk t.replan a n) (shown_replan t'.desk t'.replan b k)
-advance_said back {X} {H} {F} line p last steps n k t t' a b before short free goes counted all last_gone put =
+    → Writes G a (gone_text t'.replan.moment t'.replan.gone last ++ block_text t'.desk.index t'.replan.session.state) b
+    → PutsSome G (AdvancesTo line (replanned t.desk t.replan) p (bars_moment (replanned t.desk t.replan) p)) (shown_replan t.desk t.replan a n) (shown_replan t'.desk t'.replan b k)
+advance_said back {X} {G} line p last steps n k t t' a b before short free goes counted all last_gone put =
     let s = replanned t.desk t.replan in
     let s' = replanned t'.desk t'.replan in
     let v = t.replan in
@@ -62,23 +61,23 @@ advance_said back {X} {H} {F} line p last steps n k t t' a b before short free g
       text = refl;
       counted = counted;
     } in
-    let said = subst (λ (i : ℕ). Writes H F a (gone_text i v'.gone last ++ block) b) goes.advanced.moment put in (
+    let said = subst (λ (i : ℕ). Writes G a (gone_text i v'.gone last ++ block) b) goes.advanced.moment put in (
       r,
       free-moment line s p (bars_moment s p) r free out,
       record { kept = goes.names_same; state = refl; put = said; steps = all },
     )
 
 -- a moment that is barred
-pub barred_said : {X : Type 0} {H : X → Option (List ℕ)} {F : X → Count} (line : ℕ) (code : Code) (p steps n k : ℕ) (t t' : ReplanTalk) (a b : Writer X)
+pub barred_said : {X : Type 0} {G : Ghosts X} (line : ℕ) (code : Code) (p steps n k : ℕ) (t t' : ReplanTalk) (a b : Writer X)
     → bars_moment (replanned t.desk t.replan) p ≡ true → t'.desk ≡ t.desk → t'.replan ≡ t.replan → steps ≡ 0 → k ≡ n + steps → code ≡ codes.BadMoment
-    → Writes H F a (refusal_line code line) b
-    → PutsSome H F (AdvancesTo line (replanned t.desk t.replan) p (bars_moment (replanned t.desk t.replan) p)) (shown_replan t.desk t.replan a n) (shown_replan t'.desk t'.replan b k)
-barred_said {X} {H} {F} line code p steps n k t t' a b barred desk replan none counted is put =
+    → Writes G a (refusal_line code line) b
+    → PutsSome G (AdvancesTo line (replanned t.desk t.replan) p (bars_moment (replanned t.desk t.replan) p)) (shown_replan t.desk t.replan a n) (shown_replan t'.desk t'.replan b k)
+barred_said {X} {G} line code p steps n k t t' a b barred desk replan none counted is put =
     let s = replanned t.desk t.replan in
     let Gets = AdvancesTo line s p (bars_moment s p) in
     let gets : Gets (refuses s codes.BadMoment line) = (let P : Bool → Type 0 = λ b. AdvancesTo line s p b (refuses s codes.BadMoment line) in subst P (sym barred) refl) in
-    let D : DeskView → Type 0 = λ x. PutsSome H F Gets (shown_replan t.desk t.replan a n) (shown_replan x t'.replan b k) in
-    let V : ReplanView → Type 0 = λ x. PutsSome H F Gets (shown_replan t.desk t.replan a n) (shown_replan t.desk x b k) in
-    let K : ℕ → Type 0 = λ i. PutsSome H F Gets (shown_replan t.desk t.replan a n) (shown_replan t.desk t.replan b i) in
+    let D : DeskView → Type 0 = λ x. PutsSome G Gets (shown_replan t.desk t.replan a n) (shown_replan x t'.replan b k) in
+    let V : ReplanView → Type 0 = λ x. PutsSome G Gets (shown_replan t.desk t.replan a n) (shown_replan t.desk x b k) in
+    let K : ℕ → Type 0 = λ i. PutsSome G Gets (shown_replan t.desk t.replan a n) (shown_replan t.desk t.replan b i) in
     let same : k ≡ n = omega (arith, counted, none) in
     subst D (sym desk) (subst V (sym replan) (subst K (sym same) (code_said Gets line code n t.desk t.replan codes.BadMoment a b is gets put)))

@@ -13,6 +13,7 @@ use Rattle.line_io.specs.declared.hearing.Heard.{Heard}
 use Rattle.line_io.specs.declared.hearing.Heard.TheVariants.{More, Last}
 use Rattle.line_io.specs.declared.lines.LineFault.TheVariants.{ReadFault, LineTooLong, InputTooLong}
 use Rattle.line_io.specs.declared.out.WriteFault.{WriteFault}
+use Rattle.line_io.specs.declared.outside.Sink.{Ghosts}
 use Rattle.line_io.specs.declared.writer.Writer.{Writer}
 use Rattle.line_io.proofs.TextLemmas.{puts-none, puts-then}
 use Rattle.line_io.proofs.WriterLemmas.{writes_is, writes_none, writes_then}
@@ -23,21 +24,21 @@ use Rattle.talk.specs.Talks.{RepliesTo, Reply, Talk, followed, says}
 
 -- ---- a reply that is put and flushed
 
-module _ {N S X : Type 0} (held : X → Option (List ℕ)) (faults : X → Count) where
-  pub reply_said : (x y : Speaking N S X) (r : Reply S) (w : Writer X) {s : X} {p : List ℕ} → x.writer.failed ≡ false → x.writer.sink.now ≡ s → x.writer.out.now ≡ p → PutsReply held faults x r y
-      → Writes held faults y.writer [] w → w.failed ≡ false → Says (shown x.kept x.state (held s) p (faults s) x.steps) r (shown y.kept y.state (held w.sink.now) w.out.now (faults w.sink.now) y.steps)
+module _ {N S X : Type 0} (G : Ghosts X) where
+  pub reply_said : (x y : Speaking N S X) (r : Reply S) (w : Writer X) {s : X} {p : List ℕ} → x.writer.failed ≡ false → x.writer.sink.now ≡ s → x.writer.out.now ≡ p → PutsReply G x r y
+      → Writes G y.writer [] w → w.failed ≡ false → Says (shown x.kept x.state (G.held s) p (G.faults s) x.steps) r (shown y.kept y.state (G.held w.sink.now) w.out.now (G.faults w.sink.now) y.steps)
   reply_said x y r w {s} {p} fresh e f puts flush fine =
       let all = writes_is (append-nil r.text) (writes_then puts.put flush) in
       rw (← e, ← f) (record { state = puts.state; put = all.whole fresh fine; faults = all.same fine; steps = puts.steps })
 
-  pub reply_unsaid : (x y : Speaking N S X) (r : Reply S) (w : Writer X) {s : X} {p : List ℕ} → x.writer.failed ≡ false → x.writer.sink.now ≡ s → x.writer.out.now ≡ p → PutsReply held faults x r y
-      → Writes held faults y.writer [] w → w.failed ≡ true → SaysFront (shown x.kept x.state (held s) p (faults s) x.steps) r (shown y.kept y.state (held w.sink.now) w.out.now (faults w.sink.now) y.steps)
+  pub reply_unsaid : (x y : Speaking N S X) (r : Reply S) (w : Writer X) {s : X} {p : List ℕ} → x.writer.failed ≡ false → x.writer.sink.now ≡ s → x.writer.out.now ≡ p → PutsReply G x r y
+      → Writes G y.writer [] w → w.failed ≡ true → SaysFront (shown x.kept x.state (G.held s) p (G.faults s) x.steps) r (shown y.kept y.state (G.held w.sink.now) w.out.now (G.faults w.sink.now) y.steps)
   reply_unsaid x y r w {s} {p} fresh e f puts flush failed =
       let all = writes_is (append-nil r.text) (writes_then puts.put flush) in
       rw (← e, ← f) (record { put = all.front fresh failed; rose = all.rose fresh failed; steps = puts.steps })
 
   -- nothing is put to a line that gets nothing
-  pub put_nothing : (Gets : Reply S → Type 0) (x : Speaking N S X) → Gets (says x.state []) → PutsSome held faults Gets x x
+  pub put_nothing : (Gets : Reply S → Type 0) (x : Speaking N S X) → Gets (says x.state []) → PutsSome G Gets x x
   put_nothing Gets x gets = (says x.state [], gets, record { kept = refl; state = refl; put = writes_none x.writer; steps = sym (add-zero x.steps) })
 
 -- what is heard where the sink failed, by an equal result

@@ -76,7 +76,7 @@ edit_stays line s v v' e all most steps same h =
     let S : SessionState → Type 0 = λ x. IsSpent x.model x.plan b.edited most steps in
     subst Q (sym A) (inr (record {
       most = most;
-      short = record { cut = label_cut b.edited v'.refused b.edited.horizon; shortfall = b.not_cleared.shortfall; barred = b.not_cleared.barred; greatest = b.not_cleared.greatest; block = refl };
+      short = record { cut = label_cut b.edited v'.refused b.edited.horizon; barred_by = b.not_cleared.barred_by; block = refl };
       same = refl;
       spent = subst S same b.spent;
     }))

@@ -1,8 +1,7 @@
 -- What a session says is said by a replan, with all that was carried out as before.
 use Rattle.std.proofs.Common.{◌≡◌, ℕ, List, refl, sym, ap, ◌∙◌, subst}
-use Rattle.std.specs.declared.option.Option.{Option}
-use Rattle.line_io.specs.Causes.{Count}
 use Rattle.line_io.specs.Writer.{Writes}
+use Rattle.line_io.specs.declared.outside.Sink.{Ghosts}
 use Rattle.line_io.specs.declared.writer.Writer.{Writer}
 use Rattle.certificate_text.specs.BlockText.{refusal_line}
 use Rattle.std.proofs.Math.Nat.{add-zero}
@@ -27,9 +26,9 @@ same_replanned x y m n g h e f k =
 abbrev pub Carries : Replanned → (Reply State → Type 0) → Reply Replanned → Type 0
 Carries s Gets r = (q : Reply State) × Gets q × (r ≡ carried_on s q)
 
-pub lifted : {X : Type 0} {H : X → Option (List ℕ)} {F : X → Count} (Gets : Reply State → Type 0) (d d' : DeskView) (v v' : ReplanView) (a b : Writer X) (n k : ℕ)
-    → v'.moment ≡ v.moment → v'.gone ≡ v.gone → PutsSome H F Gets (shown_of d v.session a n) (shown_of d' v'.session b k)
-    → PutsSome H F (Carries (replanned d v) Gets) (shown_replan d v a n) (shown_replan d' v' b k)
+pub lifted : {X : Type 0} {G : Ghosts X} (Gets : Reply State → Type 0) (d d' : DeskView) (v v' : ReplanView) (a b : Writer X) (n k : ℕ)
+    → v'.moment ≡ v.moment → v'.gone ≡ v.gone → PutsSome G Gets (shown_of d v.session a n) (shown_of d' v'.session b k)
+    → PutsSome G (Carries (replanned d v) Gets) (shown_replan d v a n) (shown_replan d' v' b k)
 lifted Gets d d' v v' a b n k moment gone h = (
   carried_on (replanned d v) h.0,
   (h.0, h.1, refl),
@@ -42,17 +41,17 @@ lifted Gets d d' v v' a b n k moment gone h = (
 )
 
 -- more replies
-pub widened : {N S X : Type 0} {H : X → Option (List ℕ)} {F : X → Count} (P Q : Reply S → Type 0) (x y : Speaking N S X) → ((r : Reply S) → P r → Q r) → PutsSome H F P x y → PutsSome H F Q x y
+pub widened : {N S X : Type 0} {G : Ghosts X} (P Q : Reply S → Type 0) (x y : Speaking N S X) → ((r : Reply S) → P r → Q r) → PutsSome G P x y → PutsSome G Q x y
 widened P Q x y f h = (h.0, f h.0 h.1, h.2)
 
 -- ---- refusals by a code
 
-pub code_said : {X : Type 0} {H : X → Option (List ℕ)} {F : X → Count} (Gets : Reply Replanned → Type 0) (line : ℕ) (code : Code) (n : ℕ) (d : DeskView) (v : ReplanView) (named : Code) (a b : Writer X)
-    → code ≡ named → Gets (refuses (replanned d v) named line) → Writes H F a (refusal_line code line) b
-    → PutsSome H F Gets (shown_replan d v a n) (shown_replan d v b n)
-code_said {X} {H} {F} Gets line code n d v named a b is gets put =
+pub code_said : {X : Type 0} {G : Ghosts X} (Gets : Reply Replanned → Type 0) (line : ℕ) (code : Code) (n : ℕ) (d : DeskView) (v : ReplanView) (named : Code) (a b : Writer X)
+    → code ≡ named → Gets (refuses (replanned d v) named line) → Writes G a (refusal_line code line) b
+    → PutsSome G Gets (shown_replan d v a n) (shown_replan d v b n)
+code_said {X} {G} Gets line code n d v named a b is gets put =
     let s = replanned d v in
-    let text = subst (λ (i : Code). Writes H F a (refusal_line i line) b) is put in (
+    let text = subst (λ (i : Code). Writes G a (refusal_line i line) b) is put in (
       refuses s named line,
       gets,
       record { kept = refl; state = refl; put = text; steps = sym (add-zero n) },

@@ -71,7 +71,7 @@ never_barred s a k r all most steps l solved i few j h enough =
     let valid = valid_at s.model a r solved.valid i few in
     let now = (edited_is s.model h.edited (edits.Rate a r) h.inverse h.accepted).0 in
     let clears = all_out_is_clearable (at_rate s.model a r) enough.0 k valid j enough.1 (enough.2 ∙ sym (people_at s.model a r)) in
-    h.not_cleared.barred (subst IsClearable (sym now) clears)
+    h.not_cleared.barred_by.not_clearable (subst IsClearable (sym now) clears)
 
 pub never_refused : (v v' : SessionView) (why : EditRefusal) (a k r steps : ℕ) → IsSolved v.state → a < length v.state.model.arcs → r ≤ rate_limit → k ≤ v.state.model.horizon
     → IsEnough v.state.model a k r → EditEnds v (edits.Rate a r) (Err why) v' steps → ⊥
@@ -120,12 +120,12 @@ barred_said s a k r all most steps l text h is =
         cut = label_cut m l s.model.horizon;
         moment = s.model.horizon;
         by = inr refl;
-        is_cut = shown.shortfall.cut;
+        is_cut = shown.barred_by.shortfall.cut;
         none_later = none_past m l s.model.horizon;
-        below_people = omega (arith, shown.shortfall.worth, shown.shortfall.below_people);
+        below_people = omega (arith, shown.barred_by.shortfall.worth, shown.barred_by.shortfall.below_people);
       };
       says = is ∙ ap (λ (x : List ℕ). cut_line s.model.horizon most ++ x) (lines_edited s.model (edits.Rate a r) l s.model.horizon)
-          ∙ ap (λ (v : ℕ). cut_line s.model.horizon v ++ in_lines m (label_cut m l s.model.horizon)) (sym shown.shortfall.worth);
+          ∙ ap (λ (v : ℕ). cut_line s.model.horizon v ++ in_lines m (label_cut m l s.model.horizon)) (sym shown.barred_by.shortfall.worth);
     }
 
 pub barred_said_by : (v v' : SessionView) (why : EditRefusal) (a k r all most steps : ℕ) (text : List ℕ) → why ≡ NotCleared all most → EditEnds v (edits.Rate a r) (Err why) v' steps

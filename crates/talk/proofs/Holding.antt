@@ -7,19 +7,20 @@ use Rattle.line_io.specs.Causes.{Count, Rose}
 use Rattle.line_io.specs.Line.{Line, text_lines}
 use Rattle.line_io.specs.Passes.{Follows, IsLeft, Passes}
 use Rattle.line_io.specs.Reader.{is_settled, lines_left}
+use Rattle.line_io.specs.Sides.{RoseIf}
 use Rattle.line_io.specs.View.{Reader}
 use Rattle.line_io.specs.Writer.{Puts, PutsFront}
 use Rattle.line_io.specs.declared.out.WriteFault.{WriteFault}
 use Rattle.line_io.proofs.PassLemmas.{passes-none}
-use Rattle.talk.specs.Held.{Around, EndsByQuit, HoldsTalk, IsReadOut, OfLines, RoseAt, SendsBy, around, status_after}
+use Rattle.talk.specs.Held.{Around, EndsByQuit, HoldsTalk, IsReadOut, OfLines, SendsBy, around, status_after}
 use Rattle.talk.specs.Talks.{Spoken, Talk, TalkAnswers, TalkFront, TalkGoesOn, TalkWants}
 
 -- ---- counts of faults
 
-rose_not : (status end : ℕ) (before after : Count) → (status ≡ end → ⊥) → after ≡ before → RoseAt status end before after
+rose_not : (status end : ℕ) (before after : Count) → (status ≡ end → ⊥) → after ≡ before → RoseIf (status ≡ end) before after
 rose_not status end before after other same = record { rose = λ e. absurd (other e); same = λ e. same }
 
-rose_so : (status : ℕ) (before after : Count) → Rose before after → RoseAt status status before after
+rose_so : (status : ℕ) (before after : Count) → Rose before after → RoseIf (status ≡ status) before after
 rose_so status before after rose = record { rose = λ e. rose; same = λ e. absurd (e refl) }
 
 -- ---- what goes over to the sink
@@ -72,15 +73,15 @@ some_lines texts (Some a) (Some b) Holds f holds = holds a b f
 
 -- what is the same at every status
 pub record Base (a b : Around) (did : Spoken) (heard : List (List ℕ)) : Type 0 where
-  pub passes : Passes a.reader b.reader a.left b.left heard
-  pub written : Appends a.held b.held did.text
+  pub passes : Passes a.reader b.reader a.source.bytes b.source.bytes heard
+  pub written : Appends a.sink.bytes b.sink.bytes did.text
   pub counted : b.steps ≡ a.steps + did.steps
 
 -- a talk was held, by what holds at its status
 held-at : {S : Type 0} (talk : Talk S) (status : ℕ) (a b : Around) (did : Spoken) (heard : List (List ℕ)) → Base a b did heard → did.status ≡ status → (status ≤ 5) × (status ≢ 2)
-    → RoseAt status 3 a.reads b.reads → RoseAt status 4 a.writes b.writes → (status ≤ 1 → OfLines (lines_left a.reader a.left) (λ lines. TalkAnswers talk a.reader.number lines did))
+    → RoseIf (status ≡ 3) a.source.faults b.source.faults → RoseIf (status ≡ 4) a.sink.faults b.sink.faults → (status ≤ 1 → OfLines (lines_left a.reader a.source.bytes) (λ lines. TalkAnswers talk a.reader.number lines did))
     → (status ≡ 0 → IsReadOut b.reader ⊎ EndsByQuit talk.Quits heard) → (status ≡ 3 → TalkGoesOn talk a.reader.number heard did × (is_settled b.reader ≡ false))
-    → (status ≡ 4 → OfLines (lines_left a.reader a.left) (λ lines. TalkFront talk a.reader.number lines did))
+    → (status ≡ 4 → OfLines (lines_left a.reader a.source.bytes) (λ lines. TalkFront talk a.reader.number lines did))
     → (status ≡ 5 → ((did.text ≡ []) × (heard ≡ [])) ⊎ TalkWants talk a.reader.number heard did) → HoldsTalk talk status a b
 held-at talk status a b did heard base over known reads writes whole read_on so_far front no_memory = record {
   did = did;
@@ -103,31 +104,31 @@ held-at talk status a b did heard base over known reads writes whole read_on so_
 never : {P A : Type 0} → (P → ⊥) → P → A
 never barred p = absurd (barred p)
 
-pub at_0 : {S : Type 0} (talk : Talk S) (a b : Around) (did : Spoken) (heard : List (List ℕ)) → Base a b did heard → did.status ≡ 0 → b.reads ≡ a.reads → b.writes ≡ a.writes
-    → OfLines (lines_left a.reader a.left) (λ lines. TalkAnswers talk a.reader.number lines did) → IsReadOut b.reader ⊎ EndsByQuit talk.Quits heard → HoldsTalk talk 0 a b
+pub at_0 : {S : Type 0} (talk : Talk S) (a b : Around) (did : Spoken) (heard : List (List ℕ)) → Base a b did heard → did.status ≡ 0 → b.source.faults ≡ a.source.faults → b.sink.faults ≡ a.sink.faults
+    → OfLines (lines_left a.reader a.source.bytes) (λ lines. TalkAnswers talk a.reader.number lines did) → IsReadOut b.reader ⊎ EndsByQuit talk.Quits heard → HoldsTalk talk 0 a b
 at_0 talk a b did heard base over reads writes whole read_on =
     held-at talk 0 a b did heard base over (omega arith, λ e. omega (arith, e)) (rose_not 0 3 _ _ (λ e. omega (arith, e)) reads) (rose_not 0 4 _ _ (λ e. omega (arith, e)) writes) (λ l. whole)
     (λ e. read_on) (never (λ e. omega (arith, e))) (never (λ e. omega (arith, e))) (never (λ e. omega (arith, e)))
 
-pub at_1 : {S : Type 0} (talk : Talk S) (a b : Around) (did : Spoken) (heard : List (List ℕ)) → Base a b did heard → did.status ≡ 1 → b.reads ≡ a.reads → b.writes ≡ a.writes
-    → OfLines (lines_left a.reader a.left) (λ lines. TalkAnswers talk a.reader.number lines did) → HoldsTalk talk 1 a b
+pub at_1 : {S : Type 0} (talk : Talk S) (a b : Around) (did : Spoken) (heard : List (List ℕ)) → Base a b did heard → did.status ≡ 1 → b.source.faults ≡ a.source.faults → b.sink.faults ≡ a.sink.faults
+    → OfLines (lines_left a.reader a.source.bytes) (λ lines. TalkAnswers talk a.reader.number lines did) → HoldsTalk talk 1 a b
 at_1 talk a b did heard base over reads writes whole =
     held-at talk 1 a b did heard base over (omega arith, λ e. omega (arith, e)) (rose_not 1 3 _ _ (λ e. omega (arith, e)) reads) (rose_not 1 4 _ _ (λ e. omega (arith, e)) writes) (λ l. whole)
     (never (λ e. omega (arith, e))) (never (λ e. omega (arith, e))) (never (λ e. omega (arith, e))) (never (λ e. omega (arith, e)))
 
-pub at_3 : {S : Type 0} (talk : Talk S) (a b : Around) (did : Spoken) (heard : List (List ℕ)) → Base a b did heard → did.status ≡ 3 → Rose a.reads b.reads → b.writes ≡ a.writes
+pub at_3 : {S : Type 0} (talk : Talk S) (a b : Around) (did : Spoken) (heard : List (List ℕ)) → Base a b did heard → did.status ≡ 3 → Rose a.source.faults b.source.faults → b.sink.faults ≡ a.sink.faults
     → TalkGoesOn talk a.reader.number heard did → is_settled b.reader ≡ false → HoldsTalk talk 3 a b
 at_3 talk a b did heard base over reads writes goes open_line =
     held-at talk 3 a b did heard base over (omega arith, λ e. omega (arith, e)) (rose_so 3 _ _ reads) (rose_not 3 4 _ _ (λ e. omega (arith, e)) writes) (never (λ l. omega (arith, l)))
     (never (λ e. omega (arith, e))) (λ e. (goes, open_line)) (never (λ e. omega (arith, e))) (never (λ e. omega (arith, e)))
 
-pub at_4 : {S : Type 0} (talk : Talk S) (a b : Around) (did : Spoken) (heard : List (List ℕ)) → Base a b did heard → did.status ≡ 4 → b.reads ≡ a.reads → Rose a.writes b.writes
-    → OfLines (lines_left a.reader a.left) (λ lines. TalkFront talk a.reader.number lines did) → HoldsTalk talk 4 a b
+pub at_4 : {S : Type 0} (talk : Talk S) (a b : Around) (did : Spoken) (heard : List (List ℕ)) → Base a b did heard → did.status ≡ 4 → b.source.faults ≡ a.source.faults → Rose a.sink.faults b.sink.faults
+    → OfLines (lines_left a.reader a.source.bytes) (λ lines. TalkFront talk a.reader.number lines did) → HoldsTalk talk 4 a b
 at_4 talk a b did heard base over reads writes front =
     held-at talk 4 a b did heard base over (omega arith, λ e. omega (arith, e)) (rose_not 4 3 _ _ (λ e. omega (arith, e)) reads) (rose_so 4 _ _ writes) (never (λ l. omega (arith, l)))
     (never (λ e. omega (arith, e))) (never (λ e. omega (arith, e))) (λ e. front) (never (λ e. omega (arith, e)))
 
-pub at_5 : {S : Type 0} (talk : Talk S) (a b : Around) (did : Spoken) (heard : List (List ℕ)) → Base a b did heard → did.status ≡ 5 → b.reads ≡ a.reads → b.writes ≡ a.writes
+pub at_5 : {S : Type 0} (talk : Talk S) (a b : Around) (did : Spoken) (heard : List (List ℕ)) → Base a b did heard → did.status ≡ 5 → b.source.faults ≡ a.source.faults → b.sink.faults ≡ a.sink.faults
     → ((did.text ≡ []) × (heard ≡ [])) ⊎ TalkWants talk a.reader.number heard did → HoldsTalk talk 5 a b
 at_5 talk a b did heard base over reads writes wants =
     held-at talk 5 a b did heard base over (omega arith, λ e. omega (arith, e)) (rose_not 5 3 _ _ (λ e. omega (arith, e)) reads) (rose_not 5 4 _ _ (λ e. omega (arith, e)) writes)

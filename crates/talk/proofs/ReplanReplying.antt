@@ -1,8 +1,7 @@
 -- No line gets more than one block, and a line that is replied to is answered.
 use Rattle.std.proofs.Common.{◌≡◌, ℕ, ◌+◌, ◌≤◌, Bool, true, false, ◌&&◌, nat_lt, List, Result, Ok, Err, sym, ap, ◌∙◌, subst, arith}
-use Rattle.std.specs.declared.option.Option.{Option}
 use Rattle.evac_law.specs.declared.model.Model.{Model}
-use Rattle.line_io.specs.Causes.{Count}
+use Rattle.line_io.specs.declared.outside.Sink.{Ghosts}
 use Rattle.model_text.specs.declared.command.Command.{Command}
 use Rattle.model_text.specs.declared.fault.TextFault.{TextFault}
 use Rattle.building_table.specs.Names.{NameTable}
@@ -40,9 +39,9 @@ row-index names line s (Ok (Session c)) r h = session-index names line s c (nat_
 pub asks_command : {r : Result Request TextFault} {q : Request} {c d : Command} → q ≡ Session c → c ≡ d → Ok q ≡ r → Ok (Session d) ≡ r
 asks_command is named e = let P : Command → Result Request TextFault = λ x. Ok (Session x) in sym (ap P named) ∙ (sym (ap Ok is) ∙ e)
 
-pub answers : {X : Type 0} {H : X → Option (List ℕ)} {F : X → Count} (x y : Speaking NameTable Replanned X) (names : NameTable) (m : Model) (before line : ℕ) (text : List ℕ) (q : Result Request TextFault)
-    → q ≡ request_of text → line ≡ before + 1 → ReplanReaches names m before x.kept x.state → PutsSome H F (RowOf x.kept line x.state q) x y
-    → (r : Reply Replanned) × ReplanReplies names line x.state text r × PutsReply H F x r y × ReplanReaches names m line y.kept y.state
+pub answers : {X : Type 0} {G : Ghosts X} (x y : Speaking NameTable Replanned X) (names : NameTable) (m : Model) (before line : ℕ) (text : List ℕ) (q : Result Request TextFault)
+    → q ≡ request_of text → line ≡ before + 1 → ReplanReaches names m before x.kept x.state → PutsSome G (RowOf x.kept line x.state q) x y
+    → (r : Reply Replanned) × ReplanReplies names line x.state text r × PutsReply G x r y × ReplanReaches names m line y.kept y.state
 answers x y names m before line text q is at reaches h =
     let e = ap (λ (s : Replanned). s.session.index) h.2.state in
     let P : Result Request TextFault → Type 0 = λ z. RowOf x.kept line x.state z h.0 in

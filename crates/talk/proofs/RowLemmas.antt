@@ -19,11 +19,10 @@ use Rattle.certificate_text.proofs.ExitLemmas.{filter_no, filter_yes}
 use Rattle.certificate_text.proofs.ShortLemmas.{lines-same}
 use Rattle.edit_session.specs.Sessions.{IsSolved, SessionState}
 use Rattle.exit_study.specs.Exits.{IsClearedAt, IsExitRow, without_exit}
-use Rattle.std.specs.declared.option.Option.{Option}
 use Rattle.exit_study.specs.declared.exits.ExitRow.{ExitRow}
 use Rattle.exit_study.specs.declared.exits.ExitRow.TheVariants.{Short}
-use Rattle.line_io.specs.Causes.{Count}
 use Rattle.line_io.specs.Writer.{Writes}
+use Rattle.line_io.specs.declared.outside.Sink.{Ghosts}
 use Rattle.line_io.specs.declared.writer.Writer.{Writer}
 use Rattle.line_io.proofs.WriterLemmas.{writes_is, writes_then}
 use Rattle.report_text.proofs.Parts.{parts-one}
@@ -60,8 +59,8 @@ cleared_already s x h e =
     subst (λ (m : Model). IsClearedAt m s.last) (sym (shut_already s.model x e)) (record { plan = s.plan; labels = s.labels; certified = h.certified })
 
 -- the row of a model is that of an equal one
-pub row_as : {X : Type 0} {H : X → Option (List ℕ)} {F : X → Count} (m n : Model) (node : ℕ) (l : LabelTable) (row : ExitRow) (a b : Writer X) → n ≡ m
-    → Writes H F a (outcome_text n node l row) b → Writes H F a (outcome_text m node l row) b
+pub row_as : {X : Type 0} {G : Ghosts X} (m n : Model) (node : ℕ) (l : LabelTable) (row : ExitRow) (a b : Writer X) → n ≡ m
+    → Writes G a (outcome_text n node l row) b → Writes G a (outcome_text m node l row) b
 row_as m n node l row a b e h = writes_is (ap (λ (z : Model). outcome_text z node l row) e) h
 
 -- ---- one more node
@@ -90,11 +89,11 @@ pub rows_same : (m : Model) (n : ℕ) (rows : List Row) → AreRows m (filter (i
 rows_same m n rows h e = subst (λ (l : List ℕ). AreRows m l rows) (sym (filter_no (is_exit_at m) n e)) h
 
 -- the row of one more exit was put after those before it
-pub rows_put : {X : Type 0} {H : X → Option (List ℕ)} {F : X → Count} (m of : Model) (n : ℕ) (head : List ℕ) (rows : List Row) (w a b : Writer X)
+pub rows_put : {X : Type 0} {G : Ghosts X} (m of : Model) (n : ℕ) (head : List ℕ) (rows : List Row) (w a b : Writer X)
     → AreRows m (filter (is_exit_at m) (below n)) rows → is_exit_at m n ≡ true → of ≡ m
-    → (row : Row) × (row.exit ≡ n) × IsExitRow of row.exit row.cut row.outcome × Writes H F a (row_text of row) b
-    → Writes H F w (head ++ flat_map (row_text m) rows) a
-    → (more : List Row) × AreRows m (filter (is_exit_at m) (below (n + 1))) more × Writes H F w (head ++ flat_map (row_text m) more) b
+    → (row : Row) × (row.exit ≡ n) × IsExitRow of row.exit row.cut row.outcome × Writes G a (row_text of row) b
+    → Writes G w (head ++ flat_map (row_text m) rows) a
+    → (more : List Row) × AreRows m (filter (is_exit_at m) (below (n + 1))) more × Writes G w (head ++ flat_map (row_text m) more) b
 rows_put m of n head rows w a b are exit is (row, place, right, puts) put =
     let here = subst (λ (z : Model). IsExitRow z row.exit row.cut row.outcome) is right in
     let texts = writes_is (ap (λ (z : Model). row_text z row) is) puts in

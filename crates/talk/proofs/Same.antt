@@ -48,7 +48,7 @@ apart : (s t : State) (m n : Model) (earlier : List Model) (line : ℕ) (r q : R
     → StaysBefore t n line q → ⊥
 apart s t m n earlier line r q e h g =
     let x = r.after.standing in
-    g.short.barred (subst IsClearable (h.goes_on.gone ∙ e) (certified_is_clearable x.model x.plan x.labels x.last h.goes_on.solved.valid h.goes_on.solved.certified))
+    g.short.barred_by.not_clearable (subst IsClearable (h.goes_on.gone ∙ e) (certified_is_clearable x.model x.plan x.labels x.last h.goes_on.solved.valid h.goes_on.solved.certified))
 
 with_former_same : (s t : State) → AreAlike s t → with_former s.standing ≡ with_former t.standing
 with_former_same s t same =

@@ -7,6 +7,7 @@ use Rattle.line_io.specs.Causes.{Count}
 use Rattle.line_io.specs.View.{Reader}
 use Rattle.line_io.specs.Writer.{Writes}
 use Rattle.line_io.specs.declared.out.WriteFault.{WriteFault}
+use Rattle.line_io.specs.declared.outside.Sink.{Ghosts}
 use Rattle.line_io.specs.declared.writer.Writer.{Writer}
 use Rattle.line_io.proofs.WriterLemmas.{writes_is, writes_then}
 use Rattle.certificate_text.specs.BlockText.{shortfall_text}
@@ -20,16 +21,16 @@ use Rattle.talk.specs.Talks.{Spoken, Talk}
 use Rattle.talk.proofs.Holding.{held_as, held_refused}
 
 -- a text that was put and flushed by a writer before a sink
-pub sent : {X : Type 0} {H : X → Option (List ℕ)} {F : X → Count} (result : Result (Unit {0}) WriteFault) (a b c : Writer X) (text : List ℕ) {s s' : X} {p p' : List ℕ} → a.failed ≡ false → a.sink.now ≡ s
-    → a.out.now ≡ p → c.sink.now ≡ s' → c.out.now ≡ p' → Writes H F a text b → Writes H F b [] c → OnOk result (c.failed ≡ false) → OnOk result (c.out.now ≡ []) → OnErr result (c.failed ≡ true)
-    → SendsBy result text (H s) p (F s) (H s') p' (F s')
-sent {X} {H} {F} result a b c text {s} {s'} {p} {p'} fresh e f i j put flush fine gone failed = rw (← e, ← f, ← i, ← j) (by_result result fine gone failed)
+pub sent : {X : Type 0} {G : Ghosts X} (result : Result (Unit {0}) WriteFault) (a b c : Writer X) (text : List ℕ) {s s' : X} {p p' : List ℕ} → a.failed ≡ false → a.sink.now ≡ s
+    → a.out.now ≡ p → c.sink.now ≡ s' → c.out.now ≡ p' → Writes G a text b → Writes G b [] c → OnOk result (c.failed ≡ false) → OnOk result (c.out.now ≡ []) → OnErr result (c.failed ≡ true)
+    → SendsBy result text (G.held s) p (G.faults s) (G.held s') p' (G.faults s')
+sent {X} {G} result a b c text {s} {s'} {p} {p'} fresh e f i j put flush fine gone failed = rw (← e, ← f, ← i, ← j) (by_result result fine gone failed)
   where
-    all : Writes H F a text c
+    all : Writes G a text c
     all = writes_is (append-nil text) (writes_then put flush)
 
     by_result : (r : Result (Unit {0}) WriteFault) → OnOk r (c.failed ≡ false) → OnOk r (c.out.now ≡ []) → OnErr r (c.failed ≡ true)
-        → SendsBy r text (H a.sink.now) a.out.now (F a.sink.now) (H c.sink.now) c.out.now (F c.sink.now)
+        → SendsBy r text (G.held a.sink.now) a.out.now (G.faults a.sink.now) (G.held c.sink.now) c.out.now (G.faults c.sink.now)
     by_result (Ok done) fine gone failed = record { put = record { ok = all.whole fresh fine; err = tt }; flushed = gone; cause = record { same = all.same fine; failed = tt } }
     by_result (Err fault) fine gone failed =
         record { put = record { ok = tt; err = all.front fresh failed }; flushed = tt; cause = record { same = tt; failed = all.rose fresh failed } }
@@ -41,7 +42,7 @@ short_opens : (m : Model) (s : Short) (line n : ℕ) → BeginEnds m (Err (NotCl
 short_opens m s line n h = record {
   most = s.most;
   refused = refl;
-  short = record { cut = label_cut m s.labels m.horizon; shortfall = h.2.shortfall; barred = h.2.barred; greatest = h.2.greatest; block = refl };
+  short = record { cut = label_cut m s.labels m.horizon; barred_by = h.2.barred_by; block = refl };
   spent = h.3;
 }
 

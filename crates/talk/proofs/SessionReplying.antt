@@ -1,11 +1,10 @@
 -- No line gets more than one block, and a line that is replied to is answered.
 use Rattle.std.proofs.Common.{◌≡◌, ℕ, ◌+◌, ◌≤◌, List, [], ◌∷◌, Result, Ok, Err, ap, subst, ◌∙◌, arith, inl, inr}
-use Rattle.std.specs.declared.option.Option.{Option}
 use Rattle.evac_law.specs.declared.edit.Edit.{Edit}
 use Rattle.evac_law.specs.declared.edit.EditFault.{EditFault}
 use Rattle.evac_law.specs.declared.model.Model.{Model}
 use Rattle.evac_law.specs.Edits.{applied}
-use Rattle.line_io.specs.Causes.{Count}
+use Rattle.line_io.specs.declared.outside.Sink.{Ghosts}
 use Rattle.model_text.specs.declared.command.Command.{Command}
 use Rattle.model_text.specs.declared.command.Command.TheVariants as commands
 use Rattle.model_text.specs.declared.command.Report.{Report}
@@ -60,9 +59,9 @@ reply-index names line s (Ok commands.Quit) r h = absurd h
 
 -- ---- a line that is replied to is answered
 
-pub answers : {X : Type 0} {H : X → Option (List ℕ)} {F : X → Count} (x y : Speaking NameTable State X) (names : NameTable) (m : Model) (before line : ℕ) (text : List ℕ) (c : Result Command TextFault)
-    → c ≡ command_of text → line ≡ before + 1 → SessionReaches names m before x.kept x.state → PutsSome H F (Replies x.kept line x.state c) x y
-    → (r : Reply State) × (session names m).Gets line x.state text r × PutsReply H F x r y × SessionReaches names m line y.kept y.state
+pub answers : {X : Type 0} {G : Ghosts X} (x y : Speaking NameTable State X) (names : NameTable) (m : Model) (before line : ℕ) (text : List ℕ) (c : Result Command TextFault)
+    → c ≡ command_of text → line ≡ before + 1 → SessionReaches names m before x.kept x.state → PutsSome G (Replies x.kept line x.state c) x y
+    → (r : Reply State) × (session names m).Gets line x.state text r × PutsReply G x r y × SessionReaches names m line y.kept y.state
 answers x y names m before line text c is at reaches h =
     let P : Result Command TextFault → Type 0 = λ z. Replies x.kept line x.state z h.0 in
     let Q : NameTable → Type 0 = λ z. Replies z line x.state (command_of text) h.0 in

@@ -1,15 +1,22 @@
 -- What replies about a session are made in, and what a session does at a line.
-use Rattle.std.specs.Prelude.{◌≡◌, ℕ, ◌≤◌}
+use Rattle.std.specs.Prelude.{◌≡◌, ℕ, ◌+◌, ◌<◌, ◌≤◌, Result}
+use Rattle.evac_law.specs.Edits.{applied}
+use Rattle.evac_law.specs.declared.edit.Edit.{Edit}
 use Rattle.evac_law.specs.declared.model.Model.{Model}
+use Rattle.line_io.specs.declared.outside.Sink.{Ghosts}
 use Rattle.line_io.specs.declared.writer.Writer.{Writer}
+use Rattle.model_text.specs.declared.command.Report.{Report}
 use Rattle.building_table.specs.Names.{NameTable, NamesFit}
-use Rattle.edit_session.specs.Sessions.{SessionView}
+use Rattle.edit_session.specs.Sessions.{EditEnds, SessionView, UndoEnds}
+use Rattle.edit_session.specs.declared.faults.EditRefusal.{EditRefusal}
+use Rattle.edit_session.specs.declared.faults.UndoRefusal.{UndoRefusal}
+use Rattle.edit_session.specs.declared.work.Work.{Work}
 use Rattle.plan_layout.specs.Layouts.{IsSameSite}
 use Rattle.route_decompose.specs.Routes.{RoutesView}
 use Rattle.session_text.specs.Laws.{IsOfBuilding}
 use Rattle.session_text.specs.Spaces.{IsSpace, SpaceView}
-use Rattle.talk.specs.Sessions.{State}
-use Rattle.talk.specs.Speaking.{Speaking, speaking}
+use Rattle.talk.specs.Sessions.{Edits, Reports, State, Undoes}
+use Rattle.talk.specs.Speaking.{PutsSome, Speaking, speaking}
 
 -- a desk as contracts see it: the names of a building, the index of the block written last, and what routes and reports are made in
 pub record DeskView : Type 0 where
@@ -43,6 +50,20 @@ desk_state d v = record { index = d.index; standing = v.state }
 -- what is shown of a desk and a session
 abbrev pub shown_of : {X : Type 0} → DeskView → SessionView → Writer X → ℕ → Speaking NameTable State X
 shown_of d v writer steps = speaking d.names (desk_state d v) writer steps
+
+-- a report on the plan that stands was put
+abbrev pub PutsReport : {K : Type 0} → Ghosts K → Report → SessionView → DeskView → Writer K → DeskView → Writer K → Type 0
+PutsReport g report v d w d' w' = (steps : ℕ) → PutsSome g (Reports d.names (desk_state d v) report) (shown_of d v w steps) (shown_of d' v w' steps)
+
+-- what an edit came to was put, whatever session it was made in
+abbrev pub PutsEdited : {K : Type 0} → Ghosts K → ℕ → Result Work EditRefusal → SessionView → DeskView → Writer K → DeskView → Writer K → Type 0
+PutsEdited g line edited v' d w d' w' = (v : SessionView) (e : Edit) (n k : ℕ) → EditEnds v e edited v' n → d.index < line
+    → PutsSome g (Edits line (desk_state d v) (applied v.state.model e)) (shown_of d v w k) (shown_of d' v' w' (k + n))
+
+-- the same of an undo
+abbrev pub PutsUndone : {K : Type 0} → Ghosts K → ℕ → Result Work UndoRefusal → SessionView → DeskView → Writer K → DeskView → Writer K → Type 0
+PutsUndone g line undone v' d w d' w' = (v : SessionView) (n k : ℕ) → UndoEnds v undone v' n → d.index < line
+    → PutsSome g (Undoes line (desk_state d v) v.state.former) (shown_of d v w k) (shown_of d' v' w' (k + n))
 
 -- a session on a building keeps its names, and no more blocks are written than lines are answered
 abbrev pub SessionReaches : NameTable → Model → ℕ → NameTable → State → Type 0

@@ -1,12 +1,11 @@
 -- A session over lines: what each line gets, by what it commands.
-use Rattle.std.specs.Prelude.{◌≡◌, ℕ, ◌+◌, ◌≤◌, nat_lt, if◌then◌else◌, List, [], ◌∷◌, Result, Ok, Err, ◌⊎◌}
+use Rattle.std.specs.Prelude.{◌≡◌, ℕ, ◌+◌, nat_lt, if◌then◌else◌, List, [], ◌∷◌, Result, Ok, Err, ◌⊎◌}
 use Rattle.evac_law.specs.declared.code.Code.TheVariants.{NoPeriod, NothingToUndo}
 use Rattle.evac_law.specs.declared.edit.Edit.{Edit}
 use Rattle.evac_law.specs.declared.edit.EditFault.{EditFault}
 use Rattle.evac_law.specs.declared.model.Model.{Model}
-use Rattle.evac_law.specs.declared.plan.Move.{Move}
 use Rattle.evac_law.specs.Edits.{applied, fault_code}
-use Rattle.evac_law.specs.Plans.{IsFeasible, out_by}
+use Rattle.evac_law.specs.Plans.{IsEarliest}
 use Rattle.model_text.specs.declared.command.Command.{Command}
 use Rattle.model_text.specs.declared.command.Command.TheVariants as commands
 use Rattle.model_text.specs.declared.command.Report.{Report}
@@ -36,8 +35,7 @@ pub record State : Type 0 where
 -- feasible plan has more people out by that period; and the block reads back
 pub record IsAnswerText (s : State) (text : List ℕ) : Type 0 where
   pub block : text ≡ block_text s.index s.standing
-  pub best : (other : List Move) (k : ℕ) → IsFeasible s.standing.model other k
-      → out_by s.standing.model other k ≤ out_by s.standing.model s.standing.plan k
+  pub best : IsEarliest s.standing.model s.standing.plan
   pub reads_back : ReadsBack s.index s.standing.model s.standing.plan s.standing.labels s.standing.last
 
 -- ---- the opening

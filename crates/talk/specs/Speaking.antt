@@ -6,6 +6,7 @@ use Rattle.line_io.specs.Causes.{Count, Rose}
 use Rattle.line_io.specs.Writer.{Puts, PutsFront, Writes}
 use Rattle.line_io.specs.declared.hearing.Heard.{Heard}
 use Rattle.line_io.specs.declared.hearing.Heard.TheVariants.{More, Last}
+use Rattle.line_io.specs.declared.outside.Sink.{Ghosts}
 use Rattle.line_io.specs.declared.writer.Writer.{Writer}
 use Rattle.edit_session.specs.Sessions.{BeginEnds}
 use Rattle.edit_session.specs.declared.faults.BeginFault.{BeginFault}
@@ -26,6 +27,10 @@ pub record Shown (N S : Type 0) : Type 0 where
 abbrev pub shown : {N S : Type 0} → N → S → Option (List ℕ) → List ℕ → Count → ℕ → Shown N S
 shown kept state held pending faults steps =
     record { kept = kept; state = state; held = held; pending = pending; faults = faults; steps = steps }
+
+-- the same of a sink with the bytes that are pending before it
+abbrev pub shown_on : {N S X : Type 0} → Ghosts X → N → S → X → List ℕ → ℕ → Shown N S
+shown_on g kept state sink pending steps = shown kept state (g.held sink) pending (g.faults sink) steps
 
 -- a reply was said, whole
 pub record Says {N S : Type 0} (s : Shown N S) (r : Reply S) (s' : Shown N S) : Type 0 where
@@ -62,10 +67,10 @@ abbrev pub KeepsSink : {X : Type 0} → Writer X → Writer X → Type 0
 KeepsSink w w' = (w'.out.ghost_name ≡ w.out.ghost_name) × (w'.sink.ghost_name ≡ w.sink.ghost_name)
 
 -- a reply was put
-pub record PutsReply {N S X : Type 0} (held : X → Option (List ℕ)) (faults : X → Count) (s : Speaking N S X) (r : Reply S) (s' : Speaking N S X) : Type 0 where
+pub record PutsReply {N S X : Type 0} (g : Ghosts X) (s : Speaking N S X) (r : Reply S) (s' : Speaking N S X) : Type 0 where
   pub kept : s'.kept ≡ s.kept
   pub state : s'.state ≡ r.after
-  pub put : Writes held faults s.writer r.text s'.writer
+  pub put : Writes g s.writer r.text s'.writer
   pub steps : s'.steps ≡ s.steps + r.steps
 
 -- nothing was put; some steps may have been taken
@@ -75,16 +80,16 @@ pub record PutsNothing {N S X : Type 0} (s s' : Speaking N S X) : Type 0 where
   pub steps : s.steps ≤ s'.steps
 
 -- one of these replies was put
-abbrev pub PutsSome : {N S X : Type 0} → (X → Option (List ℕ)) → (X → Count) → (Reply S → Type 0) → Speaking N S X → Speaking N S X → Type 0
-PutsSome held faults Gets s s' = (r : Reply _) × Gets r × PutsReply held faults s r s'
+abbrev pub PutsSome : {N S X : Type 0} → Ghosts X → (Reply S → Type 0) → Speaking N S X → Speaking N S X → Type 0
+PutsSome g Gets s s' = (r : Reply _) × Gets r × PutsReply g s r s'
 
 -- how a line of a talk is answered: a reply is put, and the talk can be where it is then after the line; or the line quits; or nothing is put, since
 -- the line wanted memory that wasn't there
-abbrev pub AnswersLine : {N S X E : Type 0} → (X → Option (List ℕ)) → (X → Count) → Talk S → (ℕ → N → S → Type 0) → Speaking N S X → ℕ → List ℕ → Result Heard E → Speaking N S X → Type 0
-AnswersLine held faults talk Reaches s line text (Ok More) s' =
-    (r : Reply _) × talk.Gets line s.state text r × PutsReply held faults s r s' × Reaches line s'.kept s'.state
-AnswersLine held faults talk Reaches s line text (Ok Last) s' = talk.Quits text × (s' ≡ s)
-AnswersLine held faults talk Reaches s line text (Err fault) s' = talk.Wants line s.state text × PutsNothing s s'
+abbrev pub AnswersLine : {N S X E : Type 0} → Ghosts X → Talk S → (ℕ → N → S → Type 0) → Speaking N S X → ℕ → List ℕ → Result Heard E → Speaking N S X → Type 0
+AnswersLine g talk Reaches s line text (Ok More) s' =
+    (r : Reply _) × talk.Gets line s.state text r × PutsReply g s r s' × Reaches line s'.kept s'.state
+AnswersLine g talk Reaches s line text (Ok Last) s' = talk.Quits text × (s' ≡ s)
+AnswersLine g talk Reaches s line text (Err fault) s' = talk.Wants line s.state text × PutsNothing s s'
 
 -- how it is heard: a reply is said, and nothing is left pending; or the line quits; or a front of a reply is said, since the sink failed; or
 -- nothing is said, since the line wanted memory that wasn't there

@@ -1,11 +1,13 @@
 -- What a study works with.
-use Rattle.std.specs.Prelude.{◌≡◌, ℕ, [], Result, Ok, Err}
+use Rattle.std.specs.Prelude.{◌≡◌, ℕ, nat_lt, [], Result, Ok, Err}
 use Rattle.evac_law.specs.declared.model.Model.{Model}
+use Rattle.line_io.specs.declared.outside.Sink.{Ghosts}
 use Rattle.line_io.specs.declared.writer.Writer.{Writer}
 use Rattle.building_table.specs.Names.{NameTable, NamesFit}
 use Rattle.edit_session.specs.declared.faults.BeginFault.{BeginFault}
 use Rattle.edit_session.specs.Sessions.{BeginEnds, SessionView}
-use Rattle.talk.specs.Speaking.{Speaking, speaking}
+use Rattle.talk.specs.Speaking.{PutsSome, Speaking, speaking}
+use Rattle.talk.specs.Studies.{LeastReply}
 
 -- a desk of a study as contracts see it: the names of a building, and a session on its model
 pub record StudyView : Type 0 where
@@ -32,6 +34,11 @@ kept_of d = (d.names, d.session.state.model)
 -- what is shown of a desk
 abbrev pub shown_study : {X : Type 0} → StudyView → Writer X → ℕ → Speaking Kept (Unit {0}) X
 shown_study d writer steps = speaking (kept_of d) tt writer steps
+
+-- the least rate of an arc for a moment was put, if there is that moment
+abbrev pub PutsLeast : {K : Type 0} → Ghosts K → ℕ → ℕ → ℕ → StudyView → Writer K → ℕ → StudyView → Writer K → ℕ → Type 0
+PutsLeast g line a k d w n d' w' n' =
+    let m = d.session.state.model in PutsSome g (LeastReply m line a k (nat_lt m.horizon k)) (shown_study d w n) (shown_study d' w' n')
 
 -- a study keeps its building
 abbrev pub StudyReaches : NameTable → Model → ℕ → Kept → Unit {0} → Type 0

@@ -9,6 +9,9 @@ use Rattle.evac_law.specs.LabelTable.{LabelTable}
 use Rattle.evac_law.specs.Limits.{rate_limit}
 use Rattle.evac_law.specs.Sums.{places}
 use Rattle.line_io.specs.Text.{line_text}
+use Rattle.line_io.specs.Writer.{Writes}
+use Rattle.line_io.specs.declared.outside.Sink.{Ghosts}
+use Rattle.line_io.specs.declared.writer.Writer.{Writer}
 use Rattle.certificate_text.specs.BlockText.{end_line, in_lines, move_lines, name_of_node}
 use Rattle.report_text.specs.ReportText.{cut_line, number_line}
 use Rattle.exit_study.specs.Exits.{IsExitRow, without_exit}
@@ -35,6 +38,13 @@ least_line from to k rate = line_text (codes "least" ∷ from ∷ to ∷ decimal
 unfoldable pub never_line : List ℕ → List ℕ → ℕ → List ℕ
 never_line from to k = line_text (codes "least" ∷ from ∷ to ∷ decimal k ∷ codes "never" ∷ [])
 
+-- the same of an arc of a model
+abbrev pub arc_least_line : Model → ℕ → ℕ → ℕ → List ℕ
+arc_least_line m a k rate = least_line (name_of_node m (tail m a)) (name_of_node m (head m a)) k rate
+
+abbrev pub arc_never_line : Model → ℕ → ℕ → List ℕ
+arc_never_line m a k = never_line (name_of_node m (tail m a)) (name_of_node m (head m a)) k
+
 -- ---- exits
 
 -- a row of a study: an exit, what the model comes to without it, and the labels of a cut that shows it
@@ -55,6 +65,10 @@ outcome_text m x l (Short people most) =
 
 abbrev pub row_text : Model → Row → List ℕ
 row_text m r = outcome_text m r.exit r.cut r.outcome
+
+-- the row of an exit was written, and it is right
+abbrev pub WritesRow : {K : Type 0} → Ghosts K → Model → ℕ → Writer K → Writer K → Type 0
+WritesRow g m exit w w' = (row : Row) × (row.exit ≡ exit) × IsExitRow m row.exit row.cut row.outcome × Writes g w (row_text m row) w'
 
 -- there is a row for each exit, in file order, and each is right
 pub record AreRows (m : Model) (xs : List ℕ) (rows : List Row) : Type 0 where
@@ -91,14 +105,14 @@ pub record SaysRate (m : Model) (a k r : ℕ) (text : List ℕ) : Type 0 where
   pub cut : List ℕ
   pub says_moves : SaysMoves (at_rate m a r) k moves
   pub says_cut : SaysCutBelow m a k r cut
-  pub says : text ≡ least_line (name_of_node m (tail m a)) (name_of_node m (head m a)) k r ++ moves ++ cut ++ end_line
+  pub says : text ≡ arc_least_line m a k r ++ moves ++ cut ++ end_line
 
 -- the text says that no rate of an arc is enough: the cut of the greatest one
 pub record SaysNever (m : Model) (a k : ℕ) (text : List ℕ) : Type 0 where
   pub none : IsNoRate m a k
   pub cut : List ℕ
   pub says_cut : SaysCut (at_rate m a rate_limit) k cut
-  pub says : text ≡ never_line (name_of_node m (tail m a)) (name_of_node m (head m a)) k ++ cut ++ end_line
+  pub says : text ≡ arc_never_line m a k ++ cut ++ end_line
 
 -- the text says the least rate of an arc, or that there is none
 abbrev pub SaysLeast : Model → ℕ → ℕ → Least → List ℕ → Type 0

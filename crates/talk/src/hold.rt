@@ -7,7 +7,7 @@ ghost use Rattle.line_io.specs.Line.{input_limit};
 ghost use Rattle.line_io.specs.Reader.{Drained};
 ghost use Rattle.building_table.specs.Names.{NameTable, NamesFit};
 ghost use Rattle.certificate_text.specs.BlockText.{refusal_line};
-ghost use Rattle.talk.specs.Held.{ConcludesTalk, HoldsTalk, KeepsEnds, RefusesBy, SendsBy, met_on};
+ghost use Rattle.talk.specs.Held.{ConcludesTo, HoldsOn, KeepsEnds, RefusesTo, SendsTo};
 ghost use Rattle.talk.specs.Speaking.{opened};
 ghost use Rattle.talk.specs.Statuses.{status_number};
 
@@ -30,8 +30,7 @@ fn send_opening<K: Sink, T: Speaker>(
     out: &mut Out,
     sink: &mut K,
 ) -> Result<(), WriteFault>
-    ensures { SendsBy result (T.opening speaker.now)
-        (K.held sink.old) out.old (K.faults sink.old) (K.held sink.new) out.new (K.faults sink.new) }
+    ensures { SendsTo K.Sink result (T.opening speaker.now) sink.old out.old sink.new out.new }
 {
     let mut writer = Writer::new(out, sink);
     speaker.open(&mut writer);
@@ -40,7 +39,7 @@ fn send_opening<K: Sink, T: Speaker>(
 
 // Refuses a line for good.
 fn refuse<K: Sink>(out: &mut Out, sink: &mut K, code: Code, line: u32) -> Status
-    ensures { RefusesBy (refusal_line code line) (status_number result) (K.held sink.old) out.old (K.faults sink.old) (K.held sink.new) out.new (K.faults sink.new) }
+    ensures { RefusesTo K.Sink (refusal_line code line) (status_number result) sink.old out.old sink.new out.new }
 {
     status_after(send_refusal(out, sink, code, line), Status::Refused)
 }
@@ -54,7 +53,7 @@ fn conclude<K: Sink>(
     number: u32,
 ) -> Status
     requires { number ≤ input_limit }
-    ensures { ConcludesTalk ending number (status_number result) (K.held sink.old) out.old (K.faults sink.old) (K.held sink.new) out.new (K.faults sink.new) }
+    ensures { ConcludesTo K.Sink ending number (status_number result) sink.old out.old sink.new out.new }
 {
     match ending {
         Ending::Finished | Ending::InputEnded => Status::Done,
@@ -75,8 +74,8 @@ fn hold_begun<T: Speaker + Drop, S: Source, K: Sink, L: Ledger>(
     requires fresh { channel.old.out.now ≡ [] }
     requires ready { T.ready speaker }
     ensures held { (names : NameTable) (m : Model) (n k : ℕ) → (T.talk names m).Opens (opened (T.opening speaker) (T.state speaker) n)
-        → T.Reaches names m channel.old.lines.now.number (T.kept speaker) (T.state speaker) → steps.old ≡ k + n → HoldsTalk (T.talk names m) (status_number result)
-        (met_on S.left S.faults K.held K.faults channel.old k) (met_on S.left S.faults K.held K.faults channel.new steps.new) }
+        → T.Reaches names m channel.old.lines.now.number (T.kept speaker) (T.state speaker) → steps.old ≡ k + n
+        → HoldsOn S.Source K.Sink (T.talk names m) (status_number result) channel.old k channel.new steps.new }
     ensures drained { Drained channel.old.lines.now (S.left channel.old.source.now) → Drained channel.new.lines.now (S.left channel.new.source.now) }
     ensures asks { Asks S.takes channel.old.lines.now channel.old.source.now channel.new.lines.now channel.new.source.now }
     ensures ends { KeepsEnds channel.old channel.new }
@@ -105,8 +104,7 @@ pub fn hold_talk<T: Speaker + Drop, S: Source, K: Sink, L: Ledger>(
     requires fresh { channel.old.out.now ≡ [] }
     requires valid { IsValid building.model }
     requires names { NamesFit building.names building.model }
-    ensures held { HoldsTalk (T.talk building.names building.model) (status_number result)
-        (met_on S.left S.faults K.held K.faults channel.old steps.old) (met_on S.left S.faults K.held K.faults channel.new steps.new) }
+    ensures held { HoldsOn S.Source K.Sink (T.talk building.names building.model) (status_number result) channel.old steps.old channel.new steps.new }
     ensures drained { Drained channel.old.lines.now (S.left channel.old.source.now) → Drained channel.new.lines.now (S.left channel.new.source.now) }
     ensures asks { Asks S.takes channel.old.lines.now channel.old.source.now channel.new.lines.now channel.new.source.now }
     ensures ends { KeepsEnds channel.old channel.new }

@@ -1,9 +1,10 @@
 //! Refusals, each brought to the sink.
 ghost use Rattle.std.specs.Prelude.{◌≡◌};
 ghost use Rattle.evac_law.specs.Building.{IsValid};
-ghost use Rattle.evac_law.specs.Certificates.{IsTableOf, label_cut};
-ghost use Rattle.certificate_text.specs.BlockText.{refusal_line, shortfall_text};
-ghost use Rattle.talk.specs.Held.{SendsBy};
+ghost use Rattle.evac_law.specs.Certificates.{IsTableOf};
+ghost use Rattle.certificate_text.specs.BlockText.{refusal_line};
+ghost use Rattle.talk.specs.Held.{SendsTo};
+ghost use Rattle.talk.specs.Short.{short_text};
 
 use certificate_text::{put_refusal, put_short};
 use edit_session::Short;
@@ -17,8 +18,7 @@ pub fn send_refusal<K: Sink>(
     code: Code,
     line: u32,
 ) -> Result<(), WriteFault>
-    ensures { SendsBy result (refusal_line code line)
-        (K.held sink.old) out.old (K.faults sink.old) (K.held sink.new) out.new (K.faults sink.new) }
+    ensures { SendsTo K.Sink result (refusal_line code line) sink.old out.old sink.new out.new }
 {
     let mut writer = Writer::new(out, sink);
     put_refusal(&mut writer, code, line);
@@ -34,8 +34,7 @@ pub fn send_short<K: Sink>(
 ) -> Result<(), WriteFault>
     requires valid { IsValid short.now.model }
     requires table { IsTableOf short.now.model short.now.labels }
-    ensures { let m = short.now.model in SendsBy result (shortfall_text line m (label_cut m short.now.labels m.horizon) short.now.most)
-        (K.held sink.old) out.old (K.faults sink.old) (K.held sink.new) out.new (K.faults sink.new) }
+    ensures { SendsTo K.Sink result (short_text line short.now) sink.old out.old sink.new out.new }
 {
     let model = &short.model;
     let people = model.people();

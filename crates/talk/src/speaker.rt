@@ -54,7 +54,7 @@ pub trait Speaker {
 
     /// Puts the text that opens a talk.
     fn open<K: Sink>(&self, writer: &mut Writer<'_, K>)
-        ensures { Writes K.held K.faults writer.old (opening self.now) writer.new };
+        ensures { Writes K.Sink writer.old (opening self.now) writer.new };
 
     /// Puts what a line gets, unless it ends the talk. Where a line wants memory that isn't there nothing is put.
     fn answer<K: Sink, L: Ledger>(
@@ -68,7 +68,7 @@ pub trait Speaker {
         requires line { line ≤ input_limit }
         requires short { length text.now ≤ line_limit }
         ensures answers { (names : NameTable) (m : Model) (before : ℕ) → line ≡ before + 1 → Reaches names m before (kept self.old) (state self.old)
-            → AnswersLine K.held K.faults (talk names m) (Reaches names m) (speaking (kept self.old) (state self.old) writer.old steps.old) line text.now result
+            → AnswersLine K.Sink (talk names m) (Reaches names m) (speaking (kept self.old) (state self.old) writer.old steps.old) line text.now result
             (speaking (kept self.new) (state self.new) writer.new steps.new) }
         ensures same { KeepsSink writer.old writer.new }
         ensures more { result ≡ Ok Heard.More → ready self.new };

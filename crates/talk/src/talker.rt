@@ -6,7 +6,7 @@ ghost use Rattle.line_io.specs.Hearing.{IsCaused, Listens};
 ghost use Rattle.line_io.specs.Reader.{Drained};
 ghost use Rattle.building_table.specs.Names.{NameTable};
 ghost use Rattle.talk.specs.Held.{KeepsEnds};
-ghost use Rattle.talk.specs.Speaking.{HearsLine, shown};
+ghost use Rattle.talk.specs.Speaking.{HearsLine, shown_on};
 
 use crate::channel::Channel;
 use crate::fault::AnswerFault;
@@ -28,7 +28,7 @@ impl<'a, 'b, T: Speaker, K: Sink, L: Ledger> Listener for Talker<'a, 'b, T, K, L
     ghost use Rattle.std.specs.Prelude.{◌≡◌, ℕ};
     ghost use Rattle.evac_law.specs.declared.model.Model.{Model};
     ghost use Rattle.building_table.specs.Names.{NameTable};
-    ghost use Rattle.talk.specs.Speaking.{HearsLine, shown};
+    ghost use Rattle.talk.specs.Speaking.{HearsLine, shown_on};
 
     type Fault = AnswerFault;
 
@@ -39,8 +39,8 @@ impl<'a, 'b, T: Speaker, K: Sink, L: Ledger> Listener for Talker<'a, 'b, T, K, L
     ghost ready = { λ s. T.ready s.speaker.now };
 
     ghost hears = { λ s line text result s'. (names : NameTable) (m : Model) → HearsLine (T.talk names m) (T.Reaches names m)
-        (shown (T.kept s.speaker.now) (T.state s.speaker.now) (K.held s.sink.now) s.out.now (K.faults s.sink.now) s.steps.now) line text result
-        (shown (T.kept s'.speaker.now) (T.state s'.speaker.now) (K.held s'.sink.now) s'.out.now (K.faults s'.sink.now) s'.steps.now) };
+        (shown_on K.Sink (T.kept s.speaker.now) (T.state s.speaker.now) s.sink.now s.out.now s.steps.now) line text result
+        (shown_on K.Sink (T.kept s'.speaker.now) (T.state s'.speaker.now) s'.sink.now s'.out.now s'.steps.now) };
 
     fn hear(&mut self, text: &[u8], line: u32) -> Result<Heard, AnswerFault> {
         let mut writer = Writer::new(self.out, self.sink);
@@ -63,8 +63,8 @@ pub fn converse<S: Source, K: Sink, L: Ledger, T: Speaker>(
 ) -> Ending<AnswerFault>
     requires { T.ready speaker.old }
     ensures hears { (names : NameTable) (m : Model) → (end : T) × Listens (HearsLine (T.talk names m) (T.Reaches names m)) result
-        (shown (T.kept speaker.old) (T.state speaker.old) (K.held channel.old.sink.now) channel.old.out.now (K.faults channel.old.sink.now) steps.old)
-        (shown (T.kept end) (T.state end) (K.held channel.new.sink.now) channel.new.out.now (K.faults channel.new.sink.now) steps.new)
+        (shown_on K.Sink (T.kept speaker.old) (T.state speaker.old) channel.old.sink.now channel.old.out.now steps.old)
+        (shown_on K.Sink (T.kept end) (T.state end) channel.new.sink.now channel.new.out.now steps.new)
         channel.old.lines.now channel.new.lines.now (S.left channel.old.source.now) (S.left channel.new.source.now) }
     ensures cause { IsCaused result (S.faults channel.old.source.now) (S.faults channel.new.source.now) }
     ensures drained { Drained channel.old.lines.now (S.left channel.old.source.now) → Drained channel.new.lines.now (S.left channel.new.source.now) }

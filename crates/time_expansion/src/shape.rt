@@ -77,6 +77,7 @@ impl Shape {
     }
 
     // The cell of a row at a moment. The rows are the arcs, and after them the nodes.
+    #[tactic(auto, using(crate::proofs::Cells::row_cell_below, crate::proofs::Cells::sizes))]
     fn row_cell(&self, row: u32, moment: u16) -> u32
         requires row_in { row < self.now.nodes + length self.now.ends }
         requires moment_in { moment ≤ self.now.horizon }

@@ -11,8 +11,8 @@ use Rattle.evac_law.specs.LabelTable.{LabelTable}
 use Rattle.evac_law.specs.Plans.{out_by}
 use Rattle.evac_law.specs.Sums.{moments_to}
 use Rattle.line_io.specs.Line.{Line, input_limit, lines_of}
-use Rattle.line_io.specs.Causes.{Count}
 use Rattle.line_io.specs.Writer.{Writes}
+use Rattle.line_io.specs.declared.outside.Sink.{Ghosts}
 use Rattle.line_io.specs.declared.writer.Writer.{Writer}
 use Rattle.line_io.proofs.WriterLemmas.{writes_then}
 use Rattle.certificate_text.specs.declared.block.Block.{Block}
@@ -28,14 +28,14 @@ use Rattle.edit_session.specs.Sessions.{IsSolved, SessionState}
 use Rattle.session_text.specs.StateTexts.{block_text}
 
 -- a text that a writer put into an empty buffer is over once that is flushed
-pub flushed : {X E : Type 0} {H : X → Option (List ℕ)} {F : X → Count} (r : Result (Unit {0}) E) (a b c : Writer X) (text : List ℕ) {s s' : X} {p : List ℕ} → a.failed ≡ false → a.sink.now ≡ s
-    → c.sink.now ≡ s' → a.out.now ≡ p → p ≡ [] → Writes H F a text b → Writes H F b [] c → OnOk r (c.failed ≡ false) → OnOk r (c.out.now ≡ []) → OnOk r (Appends (H s) (H s') text)
+pub flushed : {X E : Type 0} {G : Ghosts X} (r : Result (Unit {0}) E) (a b c : Writer X) (text : List ℕ) {s s' : X} {p : List ℕ} → a.failed ≡ false → a.sink.now ≡ s
+    → c.sink.now ≡ s' → a.out.now ≡ p → p ≡ [] → Writes G a text b → Writes G b [] c → OnOk r (c.failed ≡ false) → OnOk r (c.out.now ≡ []) → OnOk r (Appends (G.held s) (G.held s') text)
 flushed (Err e) a b c text fresh is to from empty put flush fine gone = tt
-flushed {X} {E} {H} {F} (Ok x) a b c text fresh is to from empty put flush fine gone =
+flushed {X} {E} {G} (Ok x) a b c text fresh is to from empty put flush fine gone =
     let both = (writes_then put flush).whole fresh fine in
     let whole : both.sent ≡ text =
     sym (append-nil both.sent) ∙ ap (λ (l : List ℕ). both.sent ++ l) (sym gone) ∙ sym both.order ∙ ap (λ (l : List ℕ). l ++ (text ++ [])) (from ∙ empty) ∙ append-nil text in
-    rw (← is, ← to) (subst (λ (l : List ℕ). Appends (H a.sink.now) (H c.sink.now) l) whole both.over)
+    rw (← is, ← to) (subst (λ (l : List ℕ). Appends (G.held a.sink.now) (G.held c.sink.now) l) whole both.over)
 
 -- the block of a certified plan is right
 outs-right : (m : Model) (p q : List Move) (c d : ℕ) (outs : List ℕ) → outs ≡ map (out_by m p) (moments_to c) → q ≡ p → d ≡ c → OutsRight m q d outs

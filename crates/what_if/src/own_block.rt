@@ -1,7 +1,8 @@
 //! The block of a plan, written into memory, read back and checked.
 ghost use Rattle.std.specs.Prelude.{◌≡◌, ◌<◌, ◌≤◌, length, Some, [], IfOk, OnOk};
-ghost use Rattle.std.specs.Io.KnownBytes.{Appends, WriteAppends};
+ghost use Rattle.std.specs.Io.KnownBytes.{WriteAppends};
 ghost use Rattle.line_io.specs.Causes.{HasCause, in_64_bits};
+ghost use Rattle.line_io.specs.Sides.{HoldsMore};
 ghost use Rattle.building_table.specs.Names.{NamesFit};
 ghost use Rattle.certificate_text.specs.Block.{IsBlockOf};
 ghost use Rattle.plan_checker.specs.Verdicts.{IsRight};
@@ -58,7 +59,7 @@ impl Sink for Text {
 // Brings the block of a session's plan to a sink.
 fn send_block<K: Sink>(out: &mut Out, sink: &mut K, session: &Session) -> Result<(), WriteFault>
     requires { out.old ≡ [] }
-    ensures { OnOk result (Appends (K.held sink.old) (K.held sink.new) (block_text 0 session.now.state)) }
+    ensures { OnOk result (HoldsMore K.Sink sink.old (block_text 0 session.now.state) sink.new) }
 {
     let mut writer = Writer::new(out, sink);
     put_block(&mut writer, session, 0);

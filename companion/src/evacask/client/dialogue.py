@@ -3,7 +3,7 @@ from __future__ import annotations
 
 from typing import Iterable, Iterator, List, Optional, Sequence, Tuple
 
-from evacask.client.blocks import ONE_LINE, Cut, Plan, cut_of, opening_of, plan_of, understood
+from evacask.client.blocks import HEAD, ONE_LINE, Cut, Plan, cut_of, opening_of, plan_of, understood
 from evacask.client.names import check_names
 from evacask.client.reports import Exit, Gone, Least, Report, exits_of, gone_of, least_of, report_of, work_of
 from evacask.client.talk import Line
@@ -12,6 +12,14 @@ from evacask.model.building import Model
 from evacask.model.codes import Place, refusal
 from evacask.model.forms import LINE_LIMIT, MOST_UNDOS, REPORTS, plain
 from evacask.model.lines import bytes_of, fields_of
+
+
+def line_of(command: str) -> bytes:
+    """The line that a command is sent as; `ValueError` for what gets no reply: blanks, a comment, several lines or too long a line."""
+    line = command[:-1] if command.endswith("\r") else command  # (a line may end with CR LF)
+    if not fields_of(line) or "\n" in line or line.startswith("#") or len(bytes_of(line)) > LINE_LIMIT:
+        raise ValueError(f"{command!r} is no command: it would get no reply")
+    return bytes_of(line) + b"\n"
 
 
 class Dialogue:
@@ -28,9 +36,7 @@ class Dialogue:
             sent = plain(self.model, command)
         except ValueError as fault:
             raise WordsError(f"{command}: {fault}") from None
-        if not fields_of(sent) or "\n" in sent or sent.startswith("#") or len(bytes_of(sent)) > LINE_LIMIT:
-            raise ValueError(f"{command!r} is no command: it would get no reply")
-        self.line.send(bytes_of(sent) + b"\n")
+        self.line.send(line_of(sent))
         return self.answered(self.line.reply(), command)
 
     def answered(self, reply: bytes, command: str) -> bytes:
@@ -83,24 +89,29 @@ class Session(Dialogue):
         All lines are sent ahead. It needs no answer to know how many edits to undo: after k edits and k undos the building is the opening's, as an
         undo too many is refused by 39 and changes nothing. The last reply of each group shows it.
         """
-        all_groups = [[plain(self.model, edit) for edit in group] for group in groups]
+        all_groups = [[line_of(plain(self.model, edit)) for edit in group] for group in groups]
         if any(len(it) > MOST_UNDOS for it in all_groups):
             raise ValueError(f"a session keeps {MOST_UNDOS} edits: plan the edited building in place of the edits")
-        lines = (edit for group in all_groups for edit in [*group, *["undo"] * len(group)])
-        self.line.send(b"".join(bytes_of(f"{it}\n") for it in lines))
+        self.line.send(b"".join(b"".join([*group, *[b"undo\n"] * len(group)]) for group in all_groups))
+        opening = head_of(self.opening.raw)
         for group in all_groups:
             replies = [self.line.reply() for _ in group]
-            self.check_back(replies, [self.line.reply() for _ in group])
+            self.check_back(replies, [self.line.reply() for _ in group], opening)
             yield replies
 
-    def check_back(self, replies: List[bytes], backs: List[bytes]) -> None:
+    def check_back(self, replies: List[bytes], backs: List[bytes], opening: Optional[Tuple[bytes, bytes]]) -> None:
         """The accepted edits are undone, the last undo gives the opening again, and each further one is refused by 39."""
         made = sum(it.startswith(b"answer ") for it in replies)
         blocks, others = backs[:made], backs[made:]
-        opening = self.opening.raw.split(b"\n", 3)[1:3]
-        is_back = not blocks or blocks[-1].split(b"\n", 3)[1:3] == opening
+        is_back = not blocks or head_of(blocks[-1]) == opening
         if not is_back or not all(it.startswith(b"answer ") for it in blocks) or not all(it.startswith(b"refused 39 ") for it in others):
             raise Broken("the program didn't come back to the building of the opening")
+
+
+def head_of(block: bytes) -> Optional[Tuple[bytes, bytes]]:
+    """The people and the clearing moment of a block, None if it is none."""
+    head = HEAD.match(block)
+    return (head[2], head[3]) if head else None
 
 
 class Study(Dialogue):

@@ -2,12 +2,13 @@
 from __future__ import annotations
 
 import contextlib
+import errno
 import os
 import subprocess
 import threading
 from typing import Callable, Iterator, List, Sequence, Set
 
-from evacask.errors import Broken, NoProgram
+from evacask.errors import Broken, NoMemory, NoProgram
 
 KILL = 9
 
@@ -33,6 +34,8 @@ class Processes:
             process = subprocess.Popen(list(command), stdin=subprocess.PIPE, stdout=subprocess.PIPE, start_new_session=True)
             self.running.add(process)
         except (OSError, ValueError) as fault:
+            if getattr(fault, "errno", None) == errno.ENOMEM:
+                raise NoMemory(f"there is too little memory to run {command[0]}") from None
             raise NoProgram(f"{command[0]} can't be run: {getattr(fault, 'strerror', None) or fault}") from None
         finally:
             self.starting.discard(threading.get_ident())

@@ -25,6 +25,7 @@ FIRST_WORDS = tuple(
     )
     for it in words.split()
 )
+LONGEST_WORD = max(len(it) for it in FIRST_WORDS)
 # Milliseconds between two looks at a program that says nothing, and the seconds in which one ends that has closed its output.
 PATIENCE, LAST_PATIENCE = 1000, 10.0
 Tell = Callable[[int], None]
@@ -121,6 +122,10 @@ class Pipe:
         self.stdin, self.stdout = process.stdin, process.stdout
         self.to_send, self.received = bytearray(), bytearray()
         self.is_last, self.seconds = False, 0
+        self.to_read, self.to_read_or_write = select.poll(), select.poll()
+        for poll in (self.to_read, self.to_read_or_write):
+            poll.register(self.stdout.fileno(), select.POLLIN)
+        self.to_read_or_write.register(self.stdin.fileno(), select.POLLOUT)
         os.set_blocking(self.stdin.fileno(), False)
 
     def send(self, lines: bytes) -> None:
@@ -143,10 +148,7 @@ class Pipe:
 
     def wait(self) -> bool:
         """Waits a second at most until there is something to read, and writes meanwhile; whether there is."""
-        poll = select.poll()
-        poll.register(self.stdout.fileno(), select.POLLIN)
-        if self.to_send:
-            poll.register(self.stdin.fileno(), select.POLLOUT)
+        poll = self.to_read_or_write if self.to_send else self.to_read
         ready = [number for number, _ in poll.poll(PATIENCE)]
         if not ready:
             self.seconds += 1
@@ -167,7 +169,7 @@ class Pipe:
         """Reads on; whether there was more. What doesn't begin as an answer, or has no end, comes from another program."""
         some = self.read()
         self.received += some
-        if not any(self.received.startswith(word[: len(self.received)]) for word in FIRST_WORDS):
+        if not begins_as_answer(self.received):
             raise Broken(f"the program printed {bytes(self.received[:40])!r}: {NOT_UNDERSTOOD}")
         if len(self.received) > MOST_BYTES:
             raise Broken("the program prints without end")
@@ -188,7 +190,8 @@ class Pipe:
             looked = len(self.received)
             if not self.more():
                 raise broken(self.status(), " in the middle of a talk")
-        reply = bytes(self.received[:length])
+        with memoryview(self.received) as received:
+            reply = bytes(received[:length])
         del self.received[:length]
         return reply
 
@@ -198,6 +201,11 @@ class Pipe:
             return self.process.wait(LAST_PATIENCE)
         except subprocess.TimeoutExpired:
             raise Broken(f"the program closed its output and went on: {NOT_UNDERSTOOD}") from None
+
+
+def begins_as_answer(text: bytearray) -> bool:
+    """Whether a text begins as an answer, or may once there is more of it."""
+    return text.startswith(FIRST_WORDS) or len(text) < LONGEST_WORD and any(it.startswith(bytes(text)) for it in FIRST_WORDS)
 
 
 def reply_length(text: bytearray, start: int) -> int:

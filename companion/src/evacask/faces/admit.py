@@ -33,7 +33,7 @@ def room_sheet(answer: RoomAdmission, model: Model) -> Sheet:
         said = [f"{room} may hold {some(answer.people, 'person', 'people')} at the start, with the others as they are, for all to be out {by}."]
         said.append(f"Now it is {answer.now}.")
         if answer.most is not None:
-            said.append(f"With one more at most {answer.most} of {answer.most + 1} are out by then.")
+            said.append(f"With one more at most {answer.most} of {answer.others + answer.people + 1} are out by then.")
         if answer.people > answer.capacity:
             said.append(f"Its capacity is {answer.capacity}: that is the limit, then.")
     return Sheet(answer, tuple(said), ROOM_COLUMNS, (row,))

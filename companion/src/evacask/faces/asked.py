@@ -49,7 +49,8 @@ def edits_of(groups: List[str]) -> List[str]:
 class Asked:
     """A building that a command is about: its name, the program to ask, and its model after the edits that were given.
 
-    Of a plan in metres `drawn` is the plan, and the model is its building in shares of a person, rounded to the later side.
+    Of a plan in metres `drawn` is the plan, and the model is its building in shares of a person, rounded to the later side. An edit changes the model and
+    not the drawing, so `drawn` is None if there are edits.
     """
 
     def __init__(self, given: Namespace, name: Optional[str] = None):
@@ -60,7 +61,7 @@ class Asked:
         self.drawn = drawn_building(self.name, text) if has_ways(text) else None
         self.model = named(self.name, self.client, in_periods(self.drawn) if self.drawn else text)
         if edits:
-            self.model = edited(self.model, edits)
+            self.model, self.drawn = edited(self.model, edits), None
 
 
 def program_of(given: Namespace) -> Program:

@@ -4,11 +4,11 @@ from __future__ import annotations
 from argparse import Namespace
 
 from evacask.faces.asked import Asked, put
+from evacask.faces.files import write_file
 from evacask.faces.given import EFFORT
 from evacask.faces.sheet import Column, Sheet
 from evacask.faces.wording import some
 from evacask.faces.words import BUILDING, SHARED, Command, argument
-from evacask.faces.writing import write_file
 from evacask.model.building import Model
 from evacask.model.ground import Ground
 from evacask.questions.assign import Assignment, assign

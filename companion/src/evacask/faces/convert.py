@@ -69,7 +69,7 @@ def after(answers: Tuple[Bracket, ...], narrow: Optional[int]) -> List[str]:
     """What the table rests on, and which period is worth a try."""
     lines = [
         "When all are out of the building as it is drawn, whichever way its numbers are rounded: by the laws of rounded travels, rounded rates",
-        "and shorter periods (proved). The rates and travels themselves are evacask's own arithmetic, by docs/FIGURES.md.",
+        "and shorter periods (proved). The rates and travels themselves are evacask's own arithmetic, by docs/users/modelling.md.",
     ]
     wide = [it for it in answers if it.width is None or it.width > NARROW]
     if wide:
@@ -108,7 +108,9 @@ def run(given: Namespace) -> int:
     period = given.period[0] if given.period else drawn.period
     shares = chosen(given, drawn, period)
     text = building_text(drawn, Scale(period, shares.number, given.rounding))
-    sys.stdout.write(f"{text}# evacask's own arithmetic, not proved: ways in metres became arcs by docs/FIGURES.md, {given.rounding.value}.\n")
+    sys.stdout.write(
+        f"{text}# evacask's own arithmetic, not proved: ways in metres became arcs by docs/users/modelling.md, {given.rounding.value}.\n"
+    )
     if given.shares == "auto" and sys.stderr is not None:
         sys.stderr.write(f"evacask: {shares.number} shares of a person; the rates lose {100 * shares.loss:.2f} % at most\n")
     return Status.ANSWERED

@@ -6,8 +6,8 @@ from argparse import Namespace
 
 from evacask.faces.asked import Asked
 from evacask.faces.ending import Status
+from evacask.faces.files import write_file
 from evacask.faces.words import BUILDING, EDIT, Command, argument
-from evacask.faces.writing import write_file
 from evacask.model.edits import upgraded
 from evacask.model.lines import bytes_of
 

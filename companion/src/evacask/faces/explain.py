@@ -32,7 +32,7 @@ def code_sheet(code: int, line: Optional[int]) -> Sheet:
     """What a code means."""
     rows = meanings(code)
     if not rows:
-        raise WordsError(f"there is no code {code}: docs/FORMATS.md has them all")
+        raise WordsError(f"there is no code {code}: docs/users/formats.md has them all")
     said = [f"refused {code}" + (f" {line}: line {line} of the input" if line is not None else "")]
     for row in rows:
         place = f"{row.heading}: " if len(rows) > 1 else ""
@@ -51,7 +51,7 @@ def explain_sheet(answer: Explained) -> Sheet:
 
 def refusal_lines(it: Refusal) -> List[str]:
     """A refusal with its line of the input."""
-    meaning = [*indented(it.meaning.what), *indented(it.meaning.remedy)] if it.meaning else ["    docs/FORMATS.md says what it means."]
+    meaning = [*indented(it.meaning.what), *indented(it.meaning.remedy)] if it.meaning else ["    docs/users/formats.md says what it means."]
     if it.verdict:
         return [it.verdict, *meaning]
     said = [f"refused {it.code} {it.line}"]

@@ -41,10 +41,21 @@ def lines(answer: Improvement, model: Model, budget: Optional[int], is_floating:
         return (f"No widening is enough: at most {answer.most} of {answer.people} can be out {by}, whatever is bought of these.",)
     if answer.cost is None or answer.cleared is None:
         return (f"Nothing was found until the work ran out. No purchase for less than {answer.at_least} has all out {by}: --effort 10 looks longer.",)
-    if not answer.cost:
-        return (f"All are out by moment {model.time(answer.cleared)} as it is: nothing is needed.",)
-    first = f"For {answer.cost} all are out by moment {model.time(answer.cleared)}. {exactness(answer, is_floating)}"
-    return (first,) if budget is None else (first, f"The budget is {budget}, and for an earlier moment it isn't enough, as far as was looked.")
+    if budget is not None and answer.cost > budget:
+        return (f"Nothing for the budget of {budget} was found: for all to be out {by}, which is the horizon, it takes at least {answer.at_least}.",)
+    out = f"all are out by moment {model.time(answer.cleared)}"
+    first = f"For {answer.cost} {out}. {exactness(answer, is_floating)}" if answer.cost else f"A{out[1:]} as it is: nothing is needed."
+    return (first,) if budget is None or answer.sooner is None else (first, sooner(answer.sooner, model, budget))
+
+
+def sooner(answer: Improvement, model: Model, budget: int) -> str:
+    """What is known of the moment before the earliest that a budget buys."""
+    by = f"by moment {model.time(answer.moment)}"
+    if answer.most is not None:
+        return f"No budget is enough for all to be out {by}: at most {answer.most} of {answer.people} can be."
+    if answer.at_least > budget:
+        return f"For all to be out {by} it takes at least {answer.at_least}, more than the budget of {budget}."
+    return f"Whether the budget of {budget} is enough for all to be out {by} isn't decided: the work ran out, and --effort 10 looks longer."
 
 
 def exactness(answer: Improvement, is_floating: bool) -> str:

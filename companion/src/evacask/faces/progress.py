@@ -22,8 +22,11 @@ class ProgressLine:
         """Shows a text, unless one was shown just now or nobody sees it."""
         with self.turn:
             now = time.monotonic()
-            if sys.stderr is not None and sys.stderr.isatty() and now - self.last > BETWEEN:
-                self.last, self.is_shown = now, True
+            if now - self.last <= BETWEEN:
+                return
+            self.last = now
+            if sys.stderr is not None and sys.stderr.isatty():
+                self.is_shown = True
                 sys.stderr.write(f"\r\033[Kevacask: {text}")
                 sys.stderr.flush()
 

@@ -37,7 +37,7 @@ def candidates(model: Model, mode: str, before: List[str]) -> List[str]:
 
 def help_lines(mode: str) -> List[str]:
     forms = ", ".join(f"{word} {more}".strip() for word, more in COMMANDS[mode].items())
-    return [f"{forms}: docs/FORMATS.md says what each does", *(f"{word} {what}" for word, what in OWN_WORDS.items())]
+    return [f"{forms}: docs/users/formats.md says what each does", *(f"{word} {what}" for word, what in OWN_WORDS.items())]
 
 
 def complete_names(model: Model, mode: str) -> None:

@@ -11,6 +11,7 @@ from evacask.faces.given import percents
 from evacask.faces.sheet import Column, Sheet
 from evacask.faces.words import BUILDING, SHARED, Command, argument
 from evacask.model.building import Model
+from evacask.model.shares import Count
 from evacask.questions import ranges as of_ranges
 from evacask.questions.given import ranges_of
 from evacask.questions.ranges import Range, Span, ranges
@@ -22,7 +23,9 @@ COLUMNS = (
     Column("what varies", "varied"),
     *(Column("", key, is_shown=False) for key in ("earliest_moment", "cleared_moment", "latest_moment", "earliest_most", "latest_most")),
 )
-CERTAIN = "Certain for every building within these ranges, by the laws of wider ways, longer walks, and fewer and more people (docs/LAWS.md)."
+CERTAIN = (
+    "Certain for every building within these ranges, by the laws of wider ways, longer walks, and fewer and more people (docs/maintainers/laws.md)."
+)
 
 
 def range_sheet(answer: Range, model: Model) -> Sheet:
@@ -42,7 +45,7 @@ def row(it: Span, answer: Range, model: Model, is_all: bool) -> Tuple[object, ..
     return (*cells, varied, it.earliest, answer.cleared, it.latest, it.earliest_most, it.latest_most)
 
 
-def cell(model: Model, moment: Optional[int], most: int) -> str:
+def cell(model: Model, moment: Optional[int], most: Count) -> str:
     return f"short {most}" if moment is None else model.span(moment)
 
 

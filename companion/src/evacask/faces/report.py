@@ -8,10 +8,10 @@ from typing import Dict, Optional
 
 from evacask.faces.asked import Asked, source
 from evacask.faces.ending import Status
+from evacask.faces.files import write_file
 from evacask.faces.page.page import AnyReport, Other, page
 from evacask.faces.progress import LINE, progress
 from evacask.faces.sheet import Sheet, as_json
-from evacask.faces.writing import write_file
 from evacask.faces.words import BUILDING, EDIT, Command, argument, number
 from evacask.questions.report import Report, report
 from evacask.questions.worth import MOST_BYTES, MOST_TRIALS

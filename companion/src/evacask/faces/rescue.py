@@ -5,10 +5,10 @@ from argparse import Namespace
 
 from evacask.faces.asked import Asked, put
 from evacask.faces.ending import Status
+from evacask.faces.files import write_file
 from evacask.faces.given import EARLIER, moment_within
 from evacask.faces.sheet import Column, Sheet
 from evacask.faces.words import BUILDING, SHARED, Command, argument, number
-from evacask.faces.writing import write_file
 from evacask.model.building import Model
 from evacask.model.ground import Ground
 from evacask.questions.rescue import Rescue, rescue

@@ -26,7 +26,7 @@ COMMAND = Command(
     run,
     "one question after the other, at a prompt",
     "A session, with a line for each block, earlier lines by the arrow keys, and names completed by the tab key.\n"
-    "It takes the commands of docs/FORMATS.md, and whole, help and quit. Lines may come from a pipe too.",
+    "It takes the commands of docs/users/formats.md, and whole, help and quit. Lines may come from a pipe too.",
     "examples/office.evac",
     (
         argument("building", metavar="BUILDING", help="a file with a building"),

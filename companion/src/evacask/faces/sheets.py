@@ -8,9 +8,8 @@ from argparse import Namespace
 from evacask.errors import OutputError, WordsError
 from evacask.faces.asked import program_of, named, read
 from evacask.faces.ending import Status
-from evacask.faces.files import read_bytes
+from evacask.faces.files import read_bytes, write_file
 from evacask.faces.words import Command, argument, number
-from evacask.faces.writing import write_file
 from evacask.model.lines import bytes_of
 from evacask.questions.sheets import Table, model_of_tables, tables_of
 
@@ -40,9 +39,9 @@ COMMAND = Command(
     "sheet",
     run,
     "a building from two tables of a spreadsheet, and back",
-    "Nodes have the columns name,capacity,start and perhaps floors, own name; ways have from,to,travel,rate and perhaps floors, both ways,\n"
-    "own name. floors 1-20 makes a row into twenty: WP1 is then on each of them, and SW1.-1 on the one below. A fault is told with table,\n"
-    "row and column.",
+    "Nodes have the columns name,capacity,start and perhaps floors, own name, floor text; ways have from,to,travel,rate and perhaps floors,\n"
+    "both ways, own name. floors 1-20 makes a row into twenty: WP1 is then on each of them, and SW1.-1 on the one below. A fault is told with\n"
+    "table, row and column.",
     "examples/tower_nodes.csv examples/tower_ways.csv --period 5 --horizon 400",
     (
         argument("nodes", metavar="NODES.csv", help="the table of nodes"),

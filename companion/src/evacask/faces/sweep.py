@@ -56,7 +56,7 @@ def jobs(text: str) -> int:
 def answered(asked: Asked, given: List[Given], workers: int) -> Iterator[Tuple[Given, Answer]]:
     """The scenarios with their answers, in order."""
     with progress("scenarios") as tell:
-        found = answers(asked.client, asked.model, (edits for _, _, edits in given), workers=workers)
+        found = answers(asked.client, asked.model, [edits for _, _, edits in given], workers)
         for count, pair in enumerate(zip(given, found), 1):
             tell(count, len(given))
             yield pair
@@ -66,7 +66,7 @@ def run(given: Namespace) -> int:
     """Writes the answers that aren't in the file yet. A refused edit makes the status 1 and costs its row alone."""
     asked = Asked(given)
     part, of = given.shard
-    scenarios = list(scenarios_of(read_bytes(given.scenarios), given.scenarios))[part - 1 :: of]
+    scenarios = list(scenarios_of(read_bytes(given.scenarios), given.scenarios, asked.model))[part - 1 :: of]
     mark = mark_of(asked.model)
     if given.face == "json":
         pairs = list(answered(asked, scenarios, given.jobs))

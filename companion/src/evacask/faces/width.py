@@ -39,7 +39,7 @@ def lines(answer: Width, model: Model, way: str, by: str) -> List[str]:
     said.append(f"With {answer.rate - in_people(1, model.shares)} at most {answer.most} of {answer.people} are out by then.")
     if answer.widths:
         need = f"{some(answer.rate, 'person needs', 'people need')} a clear width, in {model.period} s, of:"
-        said += [f"{OWN}, by docs/FIGURES.md. {need}", *("  " + line for line in aligned(passages(answer.widths), (False, False)))]
+        said += [f"{OWN}, by docs/users/modelling.md. {need}", *("  " + line for line in aligned(passages(answer.widths), (False, False)))]
     return said
 
 

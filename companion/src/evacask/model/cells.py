@@ -10,8 +10,9 @@ import re
 from dataclasses import dataclass
 from typing import Dict, Iterator, List, Mapping, Sequence, Tuple
 
-from evacask.model.lines import near
 from evacask.errors import TableError
+from evacask.model.lines import is_number, near
+from evacask.model.shares import Count, in_people, in_shares
 
 MOST_BYTES = 50_000_000
 
@@ -38,6 +39,20 @@ class Row:
         if not (plain.isascii() and plain.isdigit() and len(plain) <= 9 and low <= int(plain) <= high):
             raise self.fault(column, f"{shown(cell)} is no whole number from {low:,} to {high:,}")
         return int(plain)
+
+    def people(self, column: str, low: int, high: int, shares: int) -> Count:
+        """A cell as a number of people, which needn't be whole in a building in shares. `low` and `high` are in shares."""
+        if shares == 1:
+            return self.whole(column, low, high)
+        cell = self.text(column)
+        try:
+            count = in_shares(cell, shares)
+        except ValueError as fault:
+            raise self.fault(column, str(fault)) from None
+        if not (is_number(count) and low <= int(count) <= high):
+            least, most = (in_people(it, shares) for it in (low, high))
+            raise self.fault(column, f"{shown(cell)} is no number of people from {least:,} to {most:,}")
+        return in_people(int(count), shares)
 
 
 def shown(cell: str) -> str:

@@ -1,4 +1,4 @@
-"""The codes of refusals, by place, with what each means and what to do. The tables of docs/FORMATS.md are checked against them."""
+"""The codes of refusals, by place, with what each means and what to do. The tables of docs/users/formats.md are checked against them."""
 from __future__ import annotations
 
 import enum

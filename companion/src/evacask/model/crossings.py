@@ -1,7 +1,7 @@
-"""What a cut is worth in a building: the sum of what leads out of it, by the rules of docs/FORMATS.md, "Reading the cuts out of the labels".
+"""What a cut is worth in a building: the sum of what leads out of it, by the rules of docs/users/formats.md, "Reading the cuts out of the labels".
 
 It is worked out here from the nodes and moments that the program prints, so that a question can say what the same cut is worth with other rates and
-capacities, and so that each cut is read twice.
+capacities, and so that each cut is read twice. The building is in units: see `variant.in_units`.
 """
 from __future__ import annotations
 
@@ -10,6 +10,7 @@ from typing import Dict, Iterable, List, Mapping, Set, Tuple
 
 from evacask.errors import Span
 from evacask.model.building import Model, Way
+from evacask.model.shares import Count
 from evacask.model.variant import whole
 
 Place = Tuple[str, ...]
@@ -29,12 +30,12 @@ class Crossings:
 
     def worth(self, model: Model) -> int:
         """No more people than this are out by the moment in a building with these nodes, arcs, windows and people, whatever its rates and capacities."""
-        return self.entries + sum(count * size_of(model, place) for place, count in self.places.items())
+        return self.entries + sum(count * whole(size_of(model, place)) for place, count in self.places.items())
 
 
-def size_of(model: Model, place: Place) -> int:
+def size_of(model: Model, place: Place) -> Count:
     """The rate of an arc, or the capacity of a node."""
-    return whole(model.arcs[place[0], place[1]].rate if len(place) == 2 else model.nodes[place[0]].capacity)
+    return model.arcs[place[0], place[1]].rate if len(place) == 2 else model.nodes[place[0]].capacity or 0
 
 
 def crossings(model: Model, spans: Iterable[Span], moment: int) -> Crossings:

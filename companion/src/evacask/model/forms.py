@@ -56,7 +56,7 @@ def sent(model: Model, form: str, word: str) -> str:
 
 def own_to_name(model: Model, word: str) -> str:
     """The node's name that a word stands for, or the word itself."""
-    if not any(it.own_name == word for it in model.nodes.values()):
+    if word in model.nodes or not any(it.own_name == word for it in model.nodes.values()):
         return word
     try:
         return model.node(word).name

@@ -45,7 +45,7 @@ def bytes_of(text: str) -> bytes:
 
 def printable(text: str) -> str:
     """A text without letters that a terminal would obey."""
-    return "".join(it for it in text if it.isprintable())
+    return text if text.isprintable() else "".join(it for it in text if it.isprintable())
 
 
 def own_name_of(line: str) -> str:

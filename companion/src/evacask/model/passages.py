@@ -1,4 +1,4 @@
-"""The figures of docs/FIGURES.md for people on foot, by kind of way. Lengths are metres, times seconds, flows people a second and metre."""
+"""The figures of docs/users/modelling.md for people on foot, by kind of way. Lengths are metres, times seconds, flows people a second and metre."""
 from __future__ import annotations
 
 import math

@@ -70,6 +70,14 @@ def shares_in(people: Count, shares: int) -> int:
     return int(people * shares)
 
 
+def exact_shares(people: Count, shares: int) -> int:
+    """So many people as shares; `ValueError` if that is no whole number."""
+    count = Fraction(people) * shares
+    if count.denominator != 1:
+        raise ValueError(f"{float(people):g} people are {float(count):g} shares: give a multiple of 1/{shares} of a person")
+    return int(count)
+
+
 def typed(count: Count) -> str:
     """A number of people as an edit has it, exactly: 157/40 if it is no whole number."""
     return str(count) if isinstance(count, int) else f"{count.numerator}/{count.denominator}"

@@ -7,15 +7,16 @@ one more is too many.
 from __future__ import annotations
 
 from dataclasses import dataclass, replace
-from typing import Dict, List, Optional, Tuple
+from typing import Dict, List, Optional, Sequence, Tuple
 
 from evacask.client.asking import plan_or_short, solve
 from evacask.client.blocks import Plan
 from evacask.client.talk import Client
 from evacask.errors import NoAnswer, Shortfall, WordsError
-from evacask.model.building import Model
+from evacask.model.building import Model, Node
 from evacask.model.ground import Ground
-from evacask.model.variant import MOST_PEOPLE, in_whole_people, varied, whole, with_starts
+from evacask.model.shares import Count, in_people, shares_in
+from evacask.model.variant import MOST_PEOPLE, in_units, varied, whole, with_starts
 from evacask.questions.rescue import rescue
 
 
@@ -29,10 +30,10 @@ class RoomAdmission:
     room: str
     moment: int
     people: Optional[int]
-    now: int
-    capacity: int
-    others: int
-    most: Optional[int]
+    now: Count
+    capacity: Count
+    others: Count
+    most: Optional[Count]
     ground: Ground = Ground.PROVED
 
 
@@ -41,9 +42,9 @@ class Share:
     """How many of those who start in a room now, or of its capacity, one best sharing has in it."""
 
     room: str
-    people: int
-    now: int
-    capacity: int
+    people: Count
+    now: Count
+    capacity: Count
 
 
 @dataclass(frozen=True)
@@ -54,11 +55,11 @@ class Admission:
     """
 
     moment: int
-    now: int
+    now: Count
     thousandths: int
-    alike: int
-    shared: int
-    room: int
+    alike: Count
+    shared: Count
+    room: Count
     shares: Tuple[Share, ...]
     ground: Ground = Ground.PROVED
 
@@ -68,26 +69,26 @@ class Admission:
 
 def admit_room(client: Client, model: Model, room: str, moment: int) -> RoomAdmission:
     """The most people who may start in a room, with the others as they are, for all to be out by a moment (a period up to the horizon)."""
-    in_whole_people(model)
     node = model.node(room)
     if node.capacity is None or node.start is None:
         raise WordsError(f"{node.name} is an exit: nobody starts there")
     check_moment(model, moment)
-    others = whole(model.people - node.start)
-    answer = RoomAdmission(node.name, moment, None, whole(node.start), whole(node.capacity), others, None)
-    alone = plan_or_short(client, with_room(model, node.name, 0), moment)
+    others, units, shares = model.people - node.start, in_units(model), model.shares
+    left = MOST_PEOPLE - shares_in(others, shares)
+    answer = RoomAdmission(node.name, moment, None, node.start, node.capacity, others, None)
+    alone = plan_or_short(client, with_room(units, node.name, 0), moment)
     if isinstance(alone, Shortfall):
-        return replace(answer, most=whole(alone.most))
-    crowd = plan_or_short(client, with_room(model, node.name, MOST_PEOPLE - others), moment)
+        return replace(answer, most=in_people(whole(alone.most), shares))
+    crowd = plan_or_short(client, with_room(units, node.name, left), moment)
     if isinstance(crowd, Plan):
-        return replace(answer, people=MOST_PEOPLE - others)
-    people = whole(crowd.most) - others
-    solve(client, with_room(model, node.name, people), moment)  # (the plan that shows that so many are out)
-    return replace(answer, people=people, most=whole(crowd.most))
+        return replace(answer, people=left // shares)
+    people = (whole(crowd.most) - shares_in(others, shares)) // shares
+    solve(client, with_room(units, node.name, people * shares), moment)  # (the plan that shows that so many are out)
+    return replace(answer, people=people, most=in_people(whole(crowd.most), shares))
 
 
 def with_room(model: Model, room: str, start: int) -> Model:
-    """The building with so many people in a room that holds everybody, as its capacity would change with the question otherwise."""
+    """The building in units with so many people in a room that holds everybody, as its capacity would change with the question otherwise."""
     return varied(model, nodes={room: replace(model.nodes[room], start=start, capacity=MOST_PEOPLE)})
 
 
@@ -103,19 +104,52 @@ def admit(client: Client, model: Model, moment: int) -> Admission:
     check_moment(model, moment)
     thousandths = greatest_share(client, model, moment)
     rooms = [it for it in model.rooms if it.kind == "WP" or it.start]
-    full = with_starts(model, {it.name: whole(it.capacity) for it in rooms})
-    saved = rescue(client, full, moment)
-    people = {it.room: it.saved for it in saved.groups if not it.moment}
-    shares = tuple(Share(it.name, people.get(it.name, 0), whole(it.start), whole(it.capacity)) for it in rooms)
-    places = sum(it.capacity for it in shares)
-    return Admission(
-        moment, whole(model.people), thousandths, whole(scaled(model, thousandths).people), sum(it.people for it in shares), places, shares
-    )
+    people = shared_out(client, filled(model, rooms, moment), moment)
+    shares = tuple(Share(it.name, people.get(it.name, 0), it.start or 0, it.capacity or 0) for it in rooms)
+    shared, places = sum(it.people for it in shares), sum(it.capacity for it in shares)
+    return Admission(moment, model.people, thousandths, scaled(model, thousandths).people, shared, places, shares)
+
+
+def shared_out(client: Client, full: Model, moment: int) -> Dict[str, Count]:
+    """Of those who fill the rooms the most who can be out by a moment, besides all who come in later; by their rooms."""
+    saved = rescue(client, full, moment).groups
+    if any(it.staying for it in saved if it.moment):
+        return shared_one_by_one(client, full, moment)
+    return {it.room: it.saved for it in saved if not it.moment}
+
+
+def shared_one_by_one(client: Client, full: Model, moment: int) -> Dict[str, Count]:
+    """The same, if a best plan has some of those who come in later stay: one room after the other takes as many as can be out besides all others.
+
+    In whatever order, that is the most in all: whoever is saved in a best flow stays saved if more people are added elsewhere.
+    """
+    starts = {it.name: it.start for it in full.rooms if it.start}
+    now = with_starts(full, dict.fromkeys(starts, 0))
+    for room, start in starts.items():
+        more = with_starts(now, {room: start})
+        answer = plan_or_short(client, more, moment)
+        now = more if isinstance(answer, Plan) else with_starts(now, {room: answer.most - now.people})
+    return {room: now.nodes[room].start or 0 for room in starts}
+
+
+def filled(model: Model, rooms: Sequence[Node], moment: int) -> Model:
+    """The building with all in each room whom it holds and who can set out in time for the moment: of more people none is out by then either."""
+    leaving: Dict[str, Count] = {it.name: 0 for it in rooms}
+    for arc in model.arcs.values():
+        if arc.tail in leaving:
+            leaving[arc.tail] += arc.rate * max(0, moment - arc.travel + 1)
+    full = with_starts(model, {it.name: min(it.capacity or 0, leaving[it.name]) for it in rooms})
+    limit = in_people(MOST_PEOPLE, model.shares)
+    if full.people > limit:
+        raise NoAnswer(
+            f"{full.people:,} people fit into the rooms and can set out in time, and at most {limit:,} are planned: ask about one by --room"
+        )
+    return full
 
 
 def scaled(model: Model, thousandths: int) -> Model:
-    """The building with its starts at so many thousandths, rounded down in each room."""
-    return with_starts(model, {it.name: whole(it.start) * thousandths // 1000 for it in model.rooms if it.start})
+    """The building with its starts at so many thousandths, rounded down to whole people in each room."""
+    return with_starts(model, {it.name: it.start * thousandths // 1000 for it in model.rooms if it.start})
 
 
 def greatest_share(client: Client, model: Model, moment: int) -> int:
@@ -123,7 +157,7 @@ def greatest_share(client: Client, model: Model, moment: int) -> int:
 
     def fits(thousandths: int) -> bool:
         more = scaled(model, thousandths)
-        return more.people <= MOST_PEOPLE and isinstance(plan_or_short(client, more, moment), Plan)
+        return shares_in(more.people, model.shares) <= MOST_PEOPLE and isinstance(plan_or_short(client, more, moment), Plan)
 
     if not any(it.start for it in model.rooms):
         raise NoAnswer("nobody starts in this building, so there is no share of them")

@@ -5,7 +5,7 @@ moment. How much better a plan with one way for each room could be is bounded by
 """
 from __future__ import annotations
 
-from dataclasses import dataclass
+from dataclasses import dataclass, replace
 from typing import Dict, List, Mapping, Tuple
 
 from evacask.client.asking import check, session
@@ -15,7 +15,8 @@ from evacask.client.talk import Client
 from evacask.errors import Broken, NoAnswer, WordsError
 from evacask.model.building import Model
 from evacask.model.ground import Ground
-from evacask.model.variant import in_whole_people, whole
+from evacask.model.shares import Count, in_people
+from evacask.model.variant import in_units, whole
 from evacask.questions.assign_bound import lower_bound
 from evacask.questions.assign_search import Found, Search, nearest_ways
 from evacask.questions.assign_times import NEVER, Group, moves_of
@@ -31,7 +32,7 @@ class RoomWay:
     """The way of all people of a room, by its nodes, to `exit`. The last of them is out at the moment `last_out`."""
 
     room: str
-    people: int
+    people: Count
     exit: str
     last_out: int
     nodes: Tuple[str, ...]
@@ -65,21 +66,22 @@ def assign(client: Client, model: Model, effort: int = 1, nearest: bool = False)
     """
     if not 1 <= effort <= 1000:
         raise WordsError(f"the effort {effort} isn't from 1 to 1,000")
-    in_whole_people(model)
-    with session(client, model) as talk:
+    units = in_units(model)
+    with session(client, units) as talk:
         best, routes = talk.opening.cleared, routes_of(talk.report("routes"))
-    choices = choices_of(model, routes)
+    choices = choices_of(units, routes)
     lost = [room for room, paths in choices.items() if not paths]
     if lost:
         raise NoAnswer(f"no way leads out from {lost[0]}")
-    search = Search(model, choices, best, WORK * effort)
-    found = search.timed(nearest_ways(model, choices)) if nearest else search.run()
+    search = Search(units, choices, best, WORK * effort)
+    found = search.timed(nearest_ways(units, choices)) if nearest else search.run()
     if found.times.cleared > model.horizon:
         raise NoAnswer(no_plan(model, found))
-    moves = moves_of(model, found.ways, found.times)
-    block = certified(client, model, moves, found.times.cleared)
-    bound = best if nearest else lower_bound(client, model, best, found.times.cleared)
-    return Assignment(found.times.cleared, best, bound, rooms_of(model, found), tuple(moves), block, search.tries)
+    moves = moves_of(units, found.ways, found.times)
+    block = certified(client, units, moves, found.times.cleared)
+    bound = best if nearest else lower_bound(client, units, best, found.times.cleared)
+    in_moves = tuple(replace(it, people=in_people(whole(it.people), model.shares)) for it in moves)
+    return Assignment(found.times.cleared, best, bound, rooms_of(units, found, model.shares), in_moves, block, search.tries)
 
 
 def no_plan(model: Model, found: Found) -> str:
@@ -114,12 +116,12 @@ def block_of(model: Model, moves: List[Move], cleared: int) -> bytes:
     return "\n".join([*lines, "end", ""]).encode("ascii")
 
 
-def rooms_of(model: Model, found: Found) -> Tuple[RoomWay, ...]:
-    """The ways of the rooms, in the order of the model."""
+def rooms_of(model: Model, found: Found, shares: int) -> Tuple[RoomWay, ...]:
+    """The ways of the rooms, in the order of the model, whose units are so many shares of a person."""
     last, people = last_out(model, found.ways, found.times.departures)
     rooms = (it.name for it in model.rooms if it.name in found.ways)
     nodes = {room: (room, *(way[1] for way in path)) for room, path in found.ways.items()}
-    return tuple(RoomWay(room, people[room], nodes[room][-1], last[room], nodes[room]) for room in rooms)
+    return tuple(RoomWay(room, in_people(people[room], shares), nodes[room][-1], last[room], nodes[room]) for room in rooms)
 
 
 def last_out(model: Model, ways: Mapping[str, Path], departures: Mapping[Group, List[Tuple[int, int]]]) -> Tuple[Dict[str, int], Dict[str, int]]:

@@ -2,7 +2,7 @@
 
 What is drawn lies between the two roundings, and each clearing moment stands for a whole period. So all are out at the earliest C d s, by the side with
 rates up and travels down, and before (C + 1) d s, by the side with rates down and travels up. That holds by the laws of rounded travels, rounded rates
-and shorter periods (docs/LAWS.md): without windows, and if each node has room for all who ever come into it. Elsewhere nothing is claimed.
+and shorter periods (docs/maintainers/laws.md): without windows, and if each node has room for all who ever come into it. Elsewhere nothing is claimed.
 """
 from __future__ import annotations
 

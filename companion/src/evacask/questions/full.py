@@ -1,6 +1,6 @@
 """What is full in every best plan, and when: read off the labels of a block.
 
-By law (docs/LAWS.md, "What is full in every best plan") an arc is full at a moment t in every plan that is best by every period, if for some period k
+By law (docs/maintainers/laws.md, "What is full in every best plan") an arc is full at a moment t in every plan that is best by every period, if for some period k
 t + travel <= k and label(head, t + travel) <= k < label(tail, t). An exit has no label. A node is full so if it is an arc of travel 1 to itself.
 What the printed plan fills besides isn't named here: another best plan may leave it.
 """

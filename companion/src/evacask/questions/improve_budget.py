@@ -1,6 +1,7 @@
 """The earliest moment by which all can be out if the widenings may cost so much."""
 from __future__ import annotations
 
+from dataclasses import replace
 from typing import Optional, Sequence
 
 from evacask.client.asking import plan_or_short
@@ -25,7 +26,7 @@ def improve_within(
     now = plan_or_short(client, model)
     high = now.cleared if isinstance(now, Plan) else model.horizon
     low = max((it.moment for it in model.entrants), default=0) - 1
-    best = improve(client, model, high, given, work, solver)
+    best, sooner = improve(client, model, high, given, work, solver), None
     if best.cost is None or best.cost > budget:
         return best
     while high - low > 1:
@@ -34,5 +35,5 @@ def improve_within(
         if found.cost is not None and found.cost <= budget:
             best, high = found, min(middle, found.cleared or middle)
         else:
-            low = middle
-    return best
+            sooner, low = found, middle
+    return replace(best, sooner=sooner)

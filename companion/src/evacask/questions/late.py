@@ -9,20 +9,20 @@ from typing import Dict, Tuple
 
 from evacask.errors import WordsError
 from evacask.model.building import Arc, Model, Node, Way
-from evacask.model.variant import MOST_HORIZON, MOST_RATE, MOST_TRAVEL, people_of, varied
+from evacask.model.variant import MOST_HORIZON, MOST_RATE, MOST_TRAVEL, people_of, varied, whole
 
 MOST_NODES, MOST_ARCS, MOST_CELLS = 400, 1_600, 1_000_000
 
 
 def with_late_exit(model: Model, moment: int) -> Tuple[Model, str]:
-    """The building with an exit that is reached after `moment` at the earliest, from each room with people; and the exit's name.
+    """The building (in units) with an exit that is reached after `moment` at the earliest, from each room with people; and the exit's name.
 
     Who comes in after `moment` is left out. `WordsError` if the building would be larger than a building may be.
     """
     entrants = [it for it in model.entrants if it.moment <= moment]
     inside = people_of(varied(model, entrants=entrants))
     last = max((it.moment for it in entrants), default=0)
-    horizon = moment + 1 + last + max(inside.values(), default=0) // MOST_RATE
+    horizon = moment + 1 + last + whole(max(inside.values(), default=0)) // MOST_RATE
     name = free_name(model, "DS")
     nodes = {name: Node(name, None, None, 0)}
     head, travel, arcs = halls_before(model, name, moment + 1, nodes)

@@ -20,7 +20,8 @@ from evacask.client.talk import Client
 from evacask.errors import WordsError
 from evacask.model.building import Model
 from evacask.model.ground import Ground
-from evacask.model.variant import whole
+from evacask.model.shares import Count, in_people
+from evacask.model.variant import in_units, whole
 from evacask.questions.late import with_late_exit
 
 Place = Tuple[str, ...]
@@ -34,7 +35,7 @@ class Loss:
     """Without these places (arcs by two names, exits by one) at most `most` people are out by the horizon; all by `cleared`, None if not all can be."""
 
     places: Tuple[Place, ...]
-    most: int
+    most: Count
     cleared: Optional[int]
 
 
@@ -43,7 +44,7 @@ class Losses:
     """The worst losses of `count` places that cost more than each part of them. `tried` of `possible` were planned, the rest follows by law."""
 
     count: int
-    people: int
+    people: Count
     cleared: Optional[int]
     worst: Tuple[Loss, ...]
     tried: int
@@ -56,7 +57,7 @@ class Losses:
 
 @dataclass(frozen=True)
 class Cost:
-    """Who is out by the horizon, and when all are (None if not all can be), and how many go by each place in the plan."""
+    """How many shares of people are out by the horizon, and when all are (None if not all can be), and how many go by each place in the plan."""
 
     most: int
     cleared: Optional[int]
@@ -80,13 +81,14 @@ def losses(
     if not 1 <= count <= 3 or not 1 <= top <= 1000:
         raise WordsError(f"the worst {top} losses of {count} places: there may be 1 to 3 places and 1 to 1,000 losses")
     wanted = [*dict.fromkeys(model.arcs if places is None else (named(model, it) for it in places))]
-    extended, _ = with_late_exit(model, model.horizon)
+    units = in_units(model)
+    extended, _ = with_late_exit(units, model.horizon)
     with session(client, extended) as talk:
-        search = Search(model, talk, wanted, top, tell)
+        search = Search(units, talk, wanted, top, tell)
         search.run(count)
     opening = search.known[frozenset()]
-    worst = tuple(Loss(tuple(sorted(lost)), cost.most, cost.cleared) for lost, cost in search.worst(count))
-    return Losses(count, whole(model.people), opening.cleared, worst, search.tried, math.comb(len(wanted), count))
+    worst = tuple(Loss(tuple(sorted(lost)), in_people(cost.most, model.shares), cost.cleared) for lost, cost in search.worst(count))
+    return Losses(count, model.people, opening.cleared, worst, search.tried, math.comb(len(wanted), count))
 
 
 def named(model: Model, place: Place) -> Place:
@@ -135,7 +137,7 @@ class Search:
         used = self.known[lost].used
         for place in sorted(used, key=lambda it: (-used[it], it)):
             more = lost | {place}
-            if more in self.seen or depth == 1 and (more in self.known or self.is_harmless(lost, used[place])):
+            if more in self.seen or not self.is_open(lost, place, depth):
                 continue
             self.seen.add(more)
             self.lose(place, more)
@@ -144,6 +146,15 @@ class Search:
             elif self.is_last:
                 self.rank(more)
             self.talk.undo()
+
+    def is_open(self, lost: Lost, place: Place, depth: int) -> bool:
+        """Whether a further place, and `depth` - 1 others after it, may be a loss to plan: it isn't known, nor harmless."""
+        more = lost | {place}
+        if depth == 1:
+            return more not in self.known and not self.is_harmless(lost, self.known[lost].used[place])
+        if more not in self.known:
+            return True
+        return any(more | {it} not in self.seen and self.is_open(more, it, depth - 1) for it in self.known[more].used)
 
     def lose(self, place: Place, more: Lost) -> None:
         plan = self.talk.edit(f"{'shut' if len(place) == 2 else 'shutexit'} {' '.join(place)}")

@@ -16,9 +16,12 @@ from evacask.client.talk import Client
 from evacask.errors import WordsError
 from evacask.model.building import Arc, Model, Way
 from evacask.model.ground import Ground
-from evacask.model.variant import MOST_PEOPLE, MOST_RATE, MOST_TRAVEL, in_whole_people, people_of, varied, whole
+from evacask.model.shares import Count, exact_shares, in_people, shares_in
+from evacask.model.variant import MOST_PEOPLE, MOST_RATE, MOST_TRAVEL, people_of, varied
 
+# From the first number to the second, both included.
 Interval = Tuple[int, int]
+Counts = Tuple[Count, Count]
 KINDS = ("rate", "travel", "people")
 
 
@@ -26,9 +29,9 @@ KINDS = ("rate", "travel", "people")
 class Ranges:
     """The least and the greatest value of some rates, travels (periods) and starts; what isn't named is as it is in the building."""
 
-    rates: Mapping[Way, Interval] = field(default_factory=dict)
+    rates: Mapping[Way, Counts] = field(default_factory=dict)
     travels: Mapping[Way, Interval] = field(default_factory=dict)
-    people: Mapping[str, Interval] = field(default_factory=dict)
+    people: Mapping[str, Counts] = field(default_factory=dict)
 
     def only(self, kind: str) -> "Ranges":
         """One kind of these ranges."""
@@ -50,9 +53,9 @@ class Span:
 
     varied: Tuple[str, ...]
     earliest: Optional[int]
-    earliest_most: int
+    earliest_most: Count
     latest: Optional[int]
-    latest_most: int
+    latest_most: Count
 
 
 @dataclass(frozen=True)
@@ -63,7 +66,7 @@ class Range:
     """
 
     cleared: Optional[int]
-    most: int
+    most: Count
     spans: Tuple[Span, ...]
     doubt: Optional[str]
     coarse: int
@@ -78,16 +81,22 @@ class Range:
 
 
 def percents(model: Model, rate: Interval = (0, 0), travel: Interval = (0, 0), people: Interval = (0, 0)) -> Ranges:
-    """Ranges by percents below and above each number, rounded outwards to whole numbers."""
+    """Ranges by percents below and above each number, rounded outwards to whole numbers, and of people in shares to whole shares."""
     for low, high in (rate, travel, people):
         if not (0 <= low <= 100 and 0 <= high <= 1000):
             raise WordsError(f"{low} and {high} percent: below it is 0 to 100 of a hundred, and above 0 to 1,000")
     arcs = model.arcs.items()
     return Ranges(
-        {way: spread(whole(arc.rate), rate, 0, MOST_RATE) for way, arc in arcs} if any(rate) else {},
+        {way: counts_around(arc.rate, rate, MOST_RATE, model.shares) for way, arc in arcs} if any(rate) else {},
         {way: spread(arc.travel, travel, 1, MOST_TRAVEL) for way, arc in arcs} if any(travel) else {},
-        {it.name: spread(whole(it.start), people, 0, MOST_PEOPLE) for it in model.rooms if it.start} if any(people) else {},
+        {it.name: counts_around(it.start, people, MOST_PEOPLE, model.shares) for it in model.rooms if it.start} if any(people) else {},
     )
+
+
+def counts_around(people: Count, percent: Interval, most: int, shares: int) -> Counts:
+    """From so many percent fewer people to so many more, but `most` shares."""
+    low, high = spread(shares_in(people, shares), percent, 0, most)
+    return in_people(low, shares), in_people(high, shares)
 
 
 def spread(value: int, percent: Interval, least: int, most: int) -> Interval:
@@ -97,41 +106,45 @@ def spread(value: int, percent: Interval, least: int, most: int) -> Interval:
 
 def ranges(client: Client, model: Model, given: Ranges) -> Range:
     """When all are out at the best and at the worst of some ranges."""
-    in_whole_people(model)
     check_ranges(model, given)
     now = plan_or_short(client, model)
     parts = [given.only(kind) for kind in given.kinds]
     spans = [span_of(client, model, part) for part in (parts if len(parts) > 1 else [])]
     spans.append(span_of(client, model, given))
     coarse = sum(1 for way in given.travels if model.arcs[way].travel < 5)
-    cleared, most = (now.cleared, whole(now.people)) if isinstance(now, Plan) else (None, whole(now.most))
+    cleared, most = (now.cleared, now.people) if isinstance(now, Plan) else (None, now.most)
     doubt = doubt_of(model, given)
     return Range(cleared, most, tuple(spans), doubt, coarse, Ground.OWN if doubt else Ground.PROVED)
 
 
 def check_ranges(model: Model, given: Ranges) -> None:
     """`WordsError` if a range has no value, leaves out the building's own, or goes beyond what the language allows."""
-    for way, interval in given.rates.items():
-        check_range(f"rate of {' '.join(way)}", whole(model.arc(*way).rate), interval, (0, MOST_RATE))
-    for way, interval in given.travels.items():
-        check_range(f"travel of {' '.join(way)}", model.arc(*way).travel, interval, (1, MOST_TRAVEL))
-    for name, interval in given.people.items():
+    for way, rates in given.rates.items():
+        check_range(f"rate of {' '.join(way)}", model.arc(*way).rate, rates, (0, MOST_RATE), model.shares)
+    for way, travels in given.travels.items():
+        check_range(f"travel of {' '.join(way)}", model.arc(*way).travel, travels, (1, MOST_TRAVEL))
+    for name, people in given.people.items():
         node = model.node(name)
         if node.start is None:
             raise WordsError(f"{node.name} is an exit: nobody starts there")
-        check_range(f"start of {name}", whole(node.start), interval, (0, MOST_PEOPLE))
+        check_range(f"start of {name}", node.start, people, (0, MOST_PEOPLE), model.shares)
 
 
-def check_range(what: str, now: int, interval: Interval, limits: Interval) -> None:
-    low, high = interval
-    if not limits[0] <= low <= now <= high <= limits[1]:
-        raise WordsError(f"the {what} is {now}, and the interval from {low} to {high} has to hold it, from {limits[0]} to {limits[1]:,}")
+def check_range(what: str, now: Count, interval: Counts, limits: Interval, shares: int = 1) -> None:
+    """Whether an interval holds a number and stays within limits, which are in shares of a person."""
+    try:
+        low, high = (exact_shares(it, shares) for it in interval)
+    except ValueError as fault:
+        raise WordsError(f"the {what}: {fault}") from None
+    if not limits[0] <= low <= shares_in(now, shares) <= high <= limits[1]:
+        least, most = (in_people(it, shares) for it in limits)
+        raise WordsError(f"the {what} is {now}, and the interval from {interval[0]} to {interval[1]} has to hold it, from {least} to {most:,}")
 
 
 def span_of(client: Client, model: Model, given: Ranges) -> Span:
     best, worst = plan_or_short(client, corner(model, given, True)), plan_or_short(client, corner(model, given, False))
-    early = (best.cleared, whole(best.people)) if isinstance(best, Plan) else (None, whole(best.most))
-    late = (worst.cleared, whole(worst.people)) if isinstance(worst, Plan) else (None, whole(worst.most))
+    early = (best.cleared, best.people) if isinstance(best, Plan) else (None, best.most)
+    late = (worst.cleared, worst.people) if isinstance(worst, Plan) else (None, worst.most)
     return Span(tuple(given.kinds), *early, *late)
 
 
@@ -139,12 +152,12 @@ def corner(model: Model, given: Ranges, is_best: bool) -> Model:
     """The building in which all are out first, or last. A room holds all who may start in it at most, in both corners."""
     arcs: Dict[Way, Arc] = {}
     for way, arc in model.arcs.items():
-        rate, travel = given.rates.get(way, (whole(arc.rate),) * 2), given.travels.get(way, (arc.travel,) * 2)
+        rate, travel = given.rates.get(way, (arc.rate, arc.rate)), given.travels.get(way, (arc.travel, arc.travel))
         arcs[way] = replace(arc, rate=rate[is_best], travel=travel[not is_best])
     nodes = {}
     for name, people in given.people.items():
         node = model.nodes[name]
-        nodes[name] = replace(node, start=people[not is_best], capacity=max(whole(node.capacity), people[1]))
+        nodes[name] = replace(node, start=people[not is_best], capacity=max(node.capacity or 0, people[1]))
     return varied(model, nodes=nodes, arcs=arcs)
 
 
@@ -152,13 +165,13 @@ def doubt_of(model: Model, given: Ranges) -> Optional[str]:
     """What keeps the corners from being certain, None if nothing does."""
     if any(low < high for low, high in given.travels.values()):
         if model.windows:
-            return "longer walks can help here, as an arc has a window (docs/LAWS.md, longer walks)"
+            return "longer walks can help here, as an arc has a window (docs/maintainers/laws.md, longer walks)"
         worst = corner(model, given, False)
-        tight = [name for name, people in people_of(worst).items() if people > whole(worst.nodes[name].capacity)]
+        tight = [name for name, people in people_of(worst).items() if people > (worst.nodes[name].capacity or 0)]
         if tight:
-            return f"longer walks can help here, as {tight[0]} doesn't hold all who come into it (docs/LAWS.md, longer walks)"
+            return f"longer walks can help here, as {tight[0]} doesn't hold all who come into it (docs/maintainers/laws.md, longer walks)"
     if not model.is_steady:
-        small = [name for name, people in given.people.items() if people[1] > whole(model.nodes[name].capacity)]
+        small = [name for name, people in given.people.items() if people[1] > (model.nodes[name].capacity or 0)]
         if small:
             return f"{small[0]} doesn't hold the most who may start there, and with windows or late-comers a larger room can help"
     return None

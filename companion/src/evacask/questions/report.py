@@ -128,7 +128,7 @@ def report(
 
 
 def short_report(client: Client, model: Model, short: Shortfall) -> ShortReport:
-    """The data of a page about a shortfall. What a cut is worth is added up by docs/FORMATS.md, "Reading the cuts out of the labels"."""
+    """The data of a page about a shortfall. What a cut is worth is added up by docs/users/formats.md, "Reading the cuts out of the labels"."""
     found = []
     for names, periods in crossings(model, short.cut, model.horizon).places.items():
         size = model.arcs[names[0], names[1]].rate if len(names) == 2 else model.nodes[names[0]].capacity or 0

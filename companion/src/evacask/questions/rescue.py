@@ -15,7 +15,8 @@ from evacask.client.talk import Client
 from evacask.errors import Broken, Shortfall
 from evacask.model.building import Model
 from evacask.model.ground import Ground
-from evacask.model.variant import in_whole_people, varied, whole, with_starts
+from evacask.model.shares import Count, in_people
+from evacask.model.variant import counted_in, in_units, varied, whole, with_starts
 from evacask.questions.late import with_late_exit
 
 
@@ -25,11 +26,11 @@ class Stay:
 
     room: str
     moment: int
-    people: int
-    saved: int
+    people: Count
+    saved: Count
 
     @property
-    def staying(self) -> int:
+    def staying(self) -> Count:
         return self.people - self.saved
 
 
@@ -38,8 +39,8 @@ class Rescue:
     """`most` of `people` can be out by `moment` (a period), and no more. `groups` says who in one best plan, `plan`."""
 
     moment: int
-    most: int
-    people: int
+    most: Count
+    people: Count
     groups: Tuple[Stay, ...]
     plan: Plan
     ground: Ground = Ground.PROVED
@@ -50,20 +51,20 @@ class Rescue:
 
 def rescue(client: Client, model: Model, moment: Optional[int] = None) -> Rescue:
     """The most people who can be out by a moment (the horizon, if none is given), and a plan for them."""
-    in_whole_people(model)
+    units = in_units(model)
     by = model.horizon if moment is None else min(moment, model.horizon)
-    most: Optional[int] = None
+    most: Optional[Count] = None
     if all(it.moment <= by for it in model.entrants):
         try:
             plan = solve(client, model, by)
-            return Rescue(by, whole(model.people), whole(model.people), groups_of(model, starts_of(model)), plan)
+            return Rescue(by, model.people, model.people, groups_of(units, starts_of(units), model.shares), plan)
         except Shortfall as short:
-            most = whole(short.most)
-    saved = saved_by(client, model, by)
-    only = with_only(model, saved)
+            most = short.most
+    saved = saved_by(client, units, by)
+    only = counted_in(with_only(units, saved), model.shares)
     if most is not None and only.people != most:
         raise Broken(f"{only.people} people are out by a late exit, and the program's cut says {most}")
-    return Rescue(by, whole(only.people), whole(model.people), groups_of(model, saved), solve(client, only, by))
+    return Rescue(by, only.people, model.people, groups_of(units, saved, model.shares), solve(client, only, by))
 
 
 Group = Tuple[str, int]
@@ -94,5 +95,7 @@ def with_only(model: Model, people: Dict[Group, int]) -> Model:
     return varied(fewer, entrants=entrants)
 
 
-def groups_of(model: Model, saved: Dict[Group, int]) -> Tuple[Stay, ...]:
-    return tuple(Stay(room, moment, people, saved[room, moment]) for (room, moment), people in starts_of(model).items() if people)
+def groups_of(units: Model, saved: Dict[Group, int], shares: int) -> Tuple[Stay, ...]:
+    """Who stays of each group, in people, where `units` and `saved` count shares."""
+    groups = ((*group, in_people(people, shares), in_people(saved[group], shares)) for group, people in starts_of(units).items() if people)
+    return tuple(Stay(*it) for it in groups)

@@ -12,21 +12,22 @@ from evacask.client.talk import Client
 from evacask.errors import NoAnswer, Refused, WordsError
 from evacask.model.building import Model, Way
 from evacask.model.cells import Row, rows_of, shown
-from evacask.model.lines import NAME_MARK, near
-from evacask.model.variant import MOST_PEOPLE, MOST_RATE, MOST_TRAVEL, in_whole_people
+from evacask.model.lines import NAME_MARK, bytes_of, near
+from evacask.model.variant import MOST_PEOPLE, MOST_RATE, MOST_TRAVEL
 
-NODES, NODES_MORE = ("name", "capacity", "start"), ("floors", "own name")
+NODES, NODES_MORE = ("name", "capacity", "start"), ("floors", "own name", "floor text")
 WAYS, WAYS_MORE = ("from", "to", "travel", "rate"), ("floors", "both ways", "own name")
-MOST_NODES, MOST_WAYS, MOST_FLOOR = 400, 1_600, 999
+MOST_NODES, MOST_WAYS, MOST_FLOOR, MOST_TEXT = 400, 1_600, 999, 150
 NAME = re.compile(r"(WP|HA|SW|LO|DS)([1-9][0-9]{0,3})(?:\.([+-]?)([0-9]{1,3}))?")
 NO_FLOOR = -1
 
 
 @dataclass
 class Draft:
-    """The lines of the building so far, the row of each, and which row has which node and which way."""
+    """The lines of the building so far, the row of each, the texts of floors, and which row has which node and which way."""
 
     lines: List[Tuple[str, Row]] = field(default_factory=list)
+    floors: Dict[int, str] = field(default_factory=dict)
     nodes: Dict[str, Row] = field(default_factory=dict)
     ways: Dict[Way, Row] = field(default_factory=dict)
 
@@ -41,15 +42,15 @@ class Table:
 
 def model_of_tables(client: Client, nodes: Table, ways: Table, period: int, horizon: int, title: str = "") -> Model:
     """The building of a table of nodes and a table of ways. `period` in seconds, `horizon` in periods. `TableError` names what is wrong in a row."""
-    if not title.isprintable() or len(title.encode("utf-8", "surrogateescape")) > 150:
-        raise WordsError("a title is one line of at most 150 bytes")
+    if not title.isprintable() or len(bytes_of(title)) > MOST_TEXT:
+        raise WordsError(f"a title is one line of at most {MOST_TEXT} bytes")
     draft = Draft()
     for row in rows_of(nodes.data, nodes.name, NODES, NODES_MORE):
         add_nodes(draft, row)
     for row in rows_of(ways.data, ways.name, WAYS, WAYS_MORE):
         add_ways(draft, row, nodes.name)
-    floors = sorted({int(name.partition(".")[2]) for name in draft.nodes})
-    head = ["evacplan 1", *([f"title {title}"] if title else []), f"period {period}", f"horizon {horizon}", *(f"floor {it} {it}" for it in floors)]
+    floors = [f"floor {it} {text or it}" for it, text in sorted(draft.floors.items())]
+    head = ["evacplan 1", *([f"title {title}"] if title else []), f"period {period}", f"horizon {horizon}", *floors]
     try:
         return accepted(client, "\n".join([*head, *(line for line, _ in draft.lines), "end", ""]))
     except Refused as fault:
@@ -68,6 +69,7 @@ def add_nodes(draft: Draft, row: Row) -> None:
         if len(draft.nodes) == MOST_NODES:
             raise row.fault("name", f"{name} would be node {MOST_NODES + 1}, and a building has at most {MOST_NODES}")
         draft.nodes[name] = row
+        add_floor(draft, row, int(name.partition(".")[2]))
         add_own_name(draft, row)
         draft.lines.append((f"node {name}{numbers_of_node(row, name)}", row))
 
@@ -85,12 +87,26 @@ def numbers_of_node(row: Row, name: str) -> str:
     return f" {capacity} {start}"
 
 
+def add_floor(draft: Draft, row: Row, floor: int) -> None:
+    """The floor of a node, with its text if one of its rows has one."""
+    text, before = text_at(row, "floor text"), draft.floors.get(floor, "")
+    if text and before and text != before:
+        raise row.fault("floor text", f"floor {floor} is called {shown(before)} in a row above")
+    draft.floors[floor] = text or before
+
+
 def add_own_name(draft: Draft, row: Row) -> None:
-    own = unguarded(row.text("own name"))
-    if len(own.encode("utf-8", "surrogateescape")) > 150:
-        raise row.fault("own name", f"{shown(own)} has more than 150 bytes")
+    own = text_at(row, "own name")
     if own:
         draft.lines.append((f"{NAME_MARK} {own}", row))
+
+
+def text_at(row: Row, column: str) -> str:
+    """The text of a cell, as a line of the building has it."""
+    text = unguarded(row.text(column))
+    if len(bytes_of(text)) > MOST_TEXT:
+        raise row.fault(column, f"{shown(text)} has more than {MOST_TEXT} bytes")
+    return text
 
 
 def add_ways(draft: Draft, row: Row, nodes: str) -> None:
@@ -160,14 +176,18 @@ def unguarded(cell: str) -> str:
 
 
 def tables_of(model: Model) -> Tuple[str, str]:
-    """The two tables of a building, in CSV. `NoAnswer` if it has windows or late-comers, which have no place in them."""
-    in_whole_people(model)
+    """The two tables of a building, in CSV. `NoAnswer` if it has windows or late-comers, or counts in shares, which have no place in them."""
+    if model.shares != 1:
+        raise NoAnswer(
+            f"the building counts {model.shares} shares of each person, and the two tables have whole people: write it in whole people first"
+        )
     lost = [f"{len(it)} {what}" for it, what in ((model.windows, "windows"), (model.entrants, "entrants")) if it]
     if lost:
         raise NoAnswer(f"{' and '.join(lost)} have no place in the two tables")
-    nodes = [[it.name, it.capacity, it.start, it.own_name] for it in model.nodes.values()]
+    texts = {floor: text for floor, text in model.floors.items() if text != str(floor)}
+    nodes = [[it.name, it.capacity, it.start, it.own_name, texts.pop(it.floor, "")] for it in model.nodes.values()]
     ways = [[it.tail, it.head, it.travel, it.rate, it.own_name] for it in model.arcs.values()]
-    return written([*NODES, "own name"], nodes), written([*WAYS, "own name"], ways)
+    return written([*NODES, "own name", "floor text"], nodes), written([*WAYS, "own name"], ways)
 
 
 def written(heads: Sequence[str], rows: Iterable[Sequence[Any]]) -> str:

@@ -6,20 +6,20 @@ of machines, and the answers are the same.
 from __future__ import annotations
 
 import functools
-import itertools
+from bisect import bisect_left
 from collections import deque
 from concurrent.futures import Executor, Future, ThreadPoolExecutor, wait
 from dataclasses import dataclass
-from typing import Callable, Deque, Dict, Iterable, Iterator, List, Optional, Sequence, Tuple
+from typing import Callable, Deque, Dict, Iterator, List, Optional, Sequence, Tuple
 
 from evacask.client.asking import plan_or_short, session
 from evacask.client.blocks import Plan, plan_of
 from evacask.client.curve import curve_of
 from evacask.client.talk import Client
-from evacask.errors import Refused, Shortfall, WordsError
+from evacask.errors import NoMemory, Refused, Shortfall, WordsError
 from evacask.model.building import Model, model_of
 from evacask.model.edits import edited
-from evacask.model.forms import EDITS, LINE_LIMIT, MOST_UNDOS
+from evacask.model.forms import EDITS, LINE_LIMIT, MOST_UNDOS, plain
 from evacask.model.ground import Ground
 from evacask.model.lines import bytes_of, fields_of
 from evacask.model.shares import Count
@@ -28,8 +28,8 @@ Scenario = Sequence[str]
 Edits = Tuple[str, ...]
 # Seconds.
 LOOK_UP = 0.5
-# Scenarios that one worker answers in one session, and such batches that wait for a worker.
-BATCH, WAITING = 128, 32
+# Scenarios that one session answers at most, and such batches that wait for a worker.
+MOST_BATCH, WAITING = 128, 32
 
 
 @dataclass(frozen=True)
@@ -58,39 +58,53 @@ def sweep(
     tell: Callable[[int, int], None] = lambda done, of: None,
     executor: Optional[Executor] = None,
 ) -> List[Answer]:
-    """The answer to each scenario, in their order. `executor` may be any of concurrent.futures; without one `workers` threads ask."""
+    """The answer to each scenario, in their order: see `answers`. `tell` is told how many are there."""
     found = []
-    batch = max(1, min(BATCH, -(-len(scenarios) // (3 * max(1, workers)))))
-    for answer in answers(client, model, scenarios, executor, workers, batch):
+    for answer in answers(client, model, scenarios, workers, executor):
         found.append(answer)
         tell(len(found), len(scenarios))
     return found
 
 
-def answers(
-    client: Client, model: Model, scenarios: Iterable[Scenario], executor: Optional[Executor] = None, workers: int = 4, batch: int = BATCH
-) -> Iterator[Answer]:
-    """The answers in the order of the scenarios, which are taken as they are needed: memory stays that of some batches."""
-    if workers < 1 or batch < 1:
-        raise WordsError(f"{workers} workers and batches of {batch}: both are at least 1")
+def answers(client: Client, model: Model, scenarios: Sequence[Scenario], workers: int = 4, executor: Optional[Executor] = None) -> Iterator[Answer]:
+    """The answers in the order of the scenarios, asked by so many workers at once.
+
+    They are threads, or those of an `executor`, which may be any of `concurrent.futures`.
+    """
+    if workers < 1:
+        raise WordsError(f"{workers} workers: there is at least 1")
     if executor is None:
         with ThreadPoolExecutor(workers) as pool:
-            yield from answers(client, model, scenarios, pool, workers, batch)
+            yield from answers(client, model, scenarios, workers, pool)
         return
-    given = iter(scenarios)
+    batch = batch_of(len(scenarios), workers)
     waiting: "Deque[Future[List[Answer]]]" = deque()
     try:
-        while True:
-            some = [checked(it) for it in itertools.islice(given, batch)]
-            if some:
-                waiting.append(executor.submit(part, client, model.text, some))
-            if not waiting:
-                return
-            if not some or len(waiting) > WAITING:
+        for start in range(0, len(scenarios), batch):
+            some = [checked(it, model) for it in scenarios[start : start + batch]]
+            waiting.append(begun(executor, client, model.text, some))
+            if len(waiting) > workers + WAITING:
                 yield from result_of(waiting.popleft())
+        while waiting:
+            yield from result_of(waiting.popleft())
     finally:
         for it in waiting:
             it.cancel()
+
+
+def begun(executor: Executor, client: Client, text: str, scenarios: List[Edits]) -> "Future[List[Answer]]":
+    """A batch that is at work or waits for a thread; `NoMemory` where there is none for another thread."""
+    try:
+        return executor.submit(part, client, text, scenarios)
+    except RuntimeError as fault:
+        if "start new thread" not in str(fault):
+            raise
+        raise NoMemory("there is too little memory for another thread") from None
+
+
+def batch_of(scenarios: int, workers: int) -> int:
+    """How many scenarios one session answers: few enough that no worker waits long for the last one, as each session plans the building first."""
+    return max(1, min(MOST_BATCH, -(-scenarios // (3 * workers))))
 
 
 def result_of(batch: "Future[List[Answer]]") -> List[Answer]:
@@ -100,22 +114,29 @@ def result_of(batch: "Future[List[Answer]]") -> List[Answer]:
     return batch.result()
 
 
-def checked(scenario: Scenario) -> Edits:
+def checked(scenario: Scenario, model: Model) -> Edits:
     """The edits of a scenario; `WordsError` for what is no edit, as it would put a session out of step."""
     for edit in scenario:
-        fault = fault_of(edit)
+        fault = fault_of(edit, model)
         if fault:
             raise WordsError(fault)
     return tuple(scenario)
 
 
-def fault_of(edit: str) -> str:
-    """Why a text is no edit; nothing if it may be one."""
+def fault_of(edit: str, model: Model) -> str:
+    """Why a text is no edit of a building; nothing if it may be one. (Whether its names are there, the program says.)"""
     if not edit.isprintable():
         return f"an edit has a line end or another control character in it: {edit!r}"
     if next(iter(fields_of(edit)), "") not in EDITS:
         return f"{edit[:40] or 'nothing'} is no edit: an edit begins with {', '.join(EDITS)}"
-    return f"an edit has more than {LINE_LIMIT} bytes: {edit[:40]}.." if len(bytes_of(edit)) > LINE_LIMIT else ""
+    if len(bytes_of(edit)) > LINE_LIMIT:
+        return f"an edit has more than {LINE_LIMIT} bytes: {edit[:40]}.."
+    try:
+        if model.shares != 1:
+            plain(model, edit)
+    except ValueError as fault:
+        return f"{edit}: {fault}"
+    return ""
 
 
 def part(client: Client, text: str, scenarios: List[Edits]) -> List[Answer]:
@@ -161,6 +182,6 @@ def answer_of(reply: bytes, model: Model) -> Answer:
     except Shortfall as short:
         return Answer(people=short.people, most=short.most)
     curve = curve_of(reply)
-    half = next(k for k, out in enumerate(curve) if 2 * out >= curve[-1])
-    most_of = next(k for k, out in enumerate(curve) if 20 * out >= 19 * curve[-1])
+    # (the first moments by which 50 and 95 of 100 are out, by whole numbers)
+    half, most_of = (bisect_left(curve, -(-share * curve[-1] // 100)) for share in (50, 95))
     return Answer(plan.people, plan.cleared, half, most_of, plan.people)

@@ -27,7 +27,7 @@ class Leaves:
 
 @dataclass(frozen=True)
 class Widths:
-    """The least clear widths in metres, rounded up to the centimetre, that let a rate through. This is own arithmetic, by docs/FIGURES.md."""
+    """The least clear widths in metres, rounded up to the centimetre, that let a rate through. This is own arithmetic, by docs/users/modelling.md."""
 
     door: float
     level: float

@@ -6,8 +6,8 @@ ghost use Rattle.line_io.specs.Writer.{Writes};
 ghost use Rattle.replan.specs.Replans.{is_of_people};
 ghost use Rattle.session_text.specs.StateTexts.{block_text};
 ghost use Rattle.talk.specs.SessionDesks.{IsDesk};
-ghost use Rattle.talk.specs.ReplanDesks.{AnswersSome, EditsUnless, replanned, shown_replan};
-ghost use Rattle.talk.specs.ReplanTalks.{AdvancesTo, IsLastGone, SessionRow, bars_moment, gone_text};
+ghost use Rattle.talk.specs.ReplanDesks.{AnswersSome, EditsUnless, IsLastOut, replanned, shown_replan};
+ghost use Rattle.talk.specs.ReplanTalks.{AdvancesTo, SessionRow, bars_moment, gone_text};
 ghost use Rattle.talk.specs.Speaking.{KeepsSink, PutsSome};
 
 use crate::Speaker;
@@ -56,8 +56,8 @@ impl ReplanTalk {
 
 // Who is out by what was carried out, and the block of what is left.
 fn put_advanced<K: Sink>(writer: &mut Writer<'_, K>, talk: &ReplanTalk)
-    ensures { let v = talk.now.replan in (last : ℕ) × IsLastGone v.gone v.session.state.model.horizon last
-        × Writes K.held K.faults writer.old (gone_text v.moment v.gone last ++ block_text talk.now.desk.index v.session.state) writer.new }
+    ensures { let v = talk.now.replan in (last : ℕ) × IsLastOut v last
+        × Writes K.Sink writer.old (gone_text v.moment v.gone last ++ block_text talk.now.desk.index v.session.state) writer.new }
 {
     put_gone(writer, &talk.replan);
     talk.desk.put_block(writer, talk.replan.session());
@@ -74,7 +74,7 @@ fn reply_moment<K: Sink, L: Ledger>(
     requires desk { IsDesk talk.old.desk talk.old.replan.session }
     requires line { line ≤ input_limit }
     ensures says { talk.old.desk.index < line → let s = replanned talk.old.desk talk.old.replan in
-        AnswersSome K.held K.faults (AdvancesTo line s moment (bars_moment s moment)) (IsFalse (bars_moment s moment)) result
+        AnswersSome K.Sink (AdvancesTo line s moment (bars_moment s moment)) (IsFalse (bars_moment s moment)) result
         (shown_replan talk.old.desk talk.old.replan writer.old steps.old)
         (shown_replan talk.new.desk talk.new.replan writer.new steps.new) }
     ensures same { KeepsSink writer.old writer.new }
@@ -105,7 +105,7 @@ fn reply_edit<K: Sink, L: Ledger>(
     requires edit { IsEditOf talk.old.replan.session.state.model edit }
     requires line { line ≤ input_limit }
     ensures says { talk.old.desk.index < line → let s = replanned talk.old.desk talk.old.replan in
-        PutsSome K.held K.faults (EditsUnless line s edit (nat_lt 0 s.moment && is_of_people edit))
+        PutsSome K.Sink (EditsUnless line s edit (nat_lt 0 s.moment && is_of_people edit))
         (shown_replan talk.old.desk talk.old.replan writer.old steps.old)
         (shown_replan talk.new.desk talk.new.replan writer.new steps.new) }
     ensures same { KeepsSink writer.old writer.new }
@@ -134,7 +134,7 @@ fn reply_named<K: Sink, L: Ledger>(
 )
     requires desk { IsDesk talk.old.desk talk.old.replan.session }
     requires line { line ≤ input_limit }
-    ensures says { talk.old.desk.index < line → PutsSome K.held K.faults (SessionRow talk.old.desk.names line (replanned talk.old.desk talk.old.replan) (Command.Edit named))
+    ensures says { talk.old.desk.index < line → PutsSome K.Sink (SessionRow talk.old.desk.names line (replanned talk.old.desk talk.old.replan) (Command.Edit named))
         (shown_replan talk.old.desk talk.old.replan writer.old steps.old)
         (shown_replan talk.new.desk talk.new.replan writer.new steps.new) }
     ensures same { KeepsSink writer.old writer.new }
@@ -155,7 +155,7 @@ fn reply_undo<K: Sink, L: Ledger>(
 )
     requires desk { IsDesk talk.old.desk talk.old.replan.session }
     requires line { line ≤ input_limit }
-    ensures says { talk.old.desk.index < line → PutsSome K.held K.faults (SessionRow talk.old.desk.names line (replanned talk.old.desk talk.old.replan) Command.Undo)
+    ensures says { talk.old.desk.index < line → PutsSome K.Sink (SessionRow talk.old.desk.names line (replanned talk.old.desk talk.old.replan) Command.Undo)
         (shown_replan talk.old.desk talk.old.replan writer.old steps.old)
         (shown_replan talk.new.desk talk.new.replan writer.new steps.new) }
     ensures same { KeepsSink writer.old writer.new }

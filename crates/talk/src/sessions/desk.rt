@@ -101,7 +101,7 @@ impl Desk {
 
     /// Puts the block of a session's plan.
     pub fn put_block<K: Sink>(&self, writer: &mut Writer<'_, K>, session: &Session)
-        ensures { Writes K.held K.faults writer.old (block_text self.now.index session.now.state) writer.new }
+        ensures { Writes K.Sink writer.old (block_text self.now.index session.now.state) writer.new }
     {
         put_block(writer, session, self.index);
     }
@@ -109,7 +109,7 @@ impl Desk {
     /// Puts routes that make up the plan.
     pub(crate) fn put_routes<K: Sink>(&mut self, writer: &mut Writer<'_, K>, session: &Session)
         requires { IsDesk self.old session.now }
-        ensures text { (text : List ℕ) × SaysRoutesOf self.old.index session.now.state text × Writes K.held K.faults writer.old text writer.new }
+        ensures text { (text : List ℕ) × SaysRoutesOf self.old.index session.now.state text × Writes K.Sink writer.old text writer.new }
         ensures same { IsSameDesk self.old self.new }
         ensures desk { IsDesk self.new session.now }
     {
@@ -119,7 +119,7 @@ impl Desk {
     /// Puts when each node and each floor is empty.
     pub(crate) fn put_clearing<K: Sink>(&mut self, writer: &mut Writer<'_, K>, session: &Session)
         requires { IsDesk self.old session.now }
-        ensures text { Writes K.held K.faults writer.old (clearing_of self.old.names self.old.index session.now.state) writer.new }
+        ensures text { Writes K.Sink writer.old (clearing_of self.old.names self.old.index session.now.state) writer.new }
         ensures same { IsSameDesk self.old self.new }
         ensures desk { IsDesk self.new session.now }
     {
@@ -129,7 +129,7 @@ impl Desk {
     /// Puts what holds people up, and in how many periods.
     pub(crate) fn put_bottlenecks<K: Sink>(&mut self, writer: &mut Writer<'_, K>, session: &Session)
         requires { IsDesk self.old session.now }
-        ensures text { Writes K.held K.faults writer.old (bottlenecks_of self.old.index session.now.state) writer.new }
+        ensures text { Writes K.Sink writer.old (bottlenecks_of self.old.index session.now.state) writer.new }
         ensures same { IsSameDesk self.old self.new }
         ensures desk { IsDesk self.new session.now }
     {
@@ -139,7 +139,7 @@ impl Desk {
     /// Puts the summary of the plan.
     pub(crate) fn put_summary<K: Sink>(&mut self, writer: &mut Writer<'_, K>, session: &Session)
         requires { IsDesk self.old session.now }
-        ensures text { (text : List ℕ) × SaysSummary self.old.names self.old.index session.now.state text × Writes K.held K.faults writer.old text writer.new }
+        ensures text { (text : List ℕ) × SaysSummary self.old.names self.old.index session.now.state text × Writes K.Sink writer.old text writer.new }
         ensures same { IsSameDesk self.old self.new }
         ensures desk { IsDesk self.new session.now }
     {

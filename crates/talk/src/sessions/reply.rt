@@ -5,8 +5,8 @@ ghost use Rattle.evac_law.specs.declared.edit.Edit.{Edit as EditValue};
 ghost use Rattle.line_io.specs.Line.{input_limit};
 ghost use Rattle.line_io.specs.Writer.{Writes};
 ghost use Rattle.edit_session.specs.Sessions.{EditEnds, SessionView, UndoEnds};
-ghost use Rattle.talk.specs.SessionDesks.{DeskView, IsDesk, desk_state, shown_of};
-ghost use Rattle.talk.specs.Sessions.{Edits, Reports, State, Undoes, cut_reply};
+ghost use Rattle.talk.specs.SessionDesks.{DeskView, IsDesk, PutsEdited, PutsReport, PutsUndone, desk_state, shown_of};
+ghost use Rattle.talk.specs.Sessions.{Edits, State, cut_reply};
 ghost use Rattle.talk.specs.Speaking.{KeepsSink, PutsSome};
 
 use crate::sessions::desk::Desk;
@@ -19,7 +19,7 @@ use session_text::{put_barred, put_cut};
 
 /// Puts the cut of a period, where there is the period.
 pub fn reply_cut<K: Sink>(writer: &mut Writer<'_, K>, session: &Session, period: u32, line: u32)
-    ensures says { (s : State) → s.standing ≡ session.now.state → Writes K.held K.faults writer.old (cut_reply line s period).text writer.new }
+    ensures says { (s : State) → s.standing ≡ session.now.state → Writes K.Sink writer.old (cut_reply line s period).text writer.new }
     ensures same { KeepsSink writer.old writer.new }
 {
     if period > u32::from(session.model().horizon) {
@@ -37,9 +37,7 @@ pub fn reply_report<K: Sink>(
     report: Report,
 )
     requires { IsDesk desk.old session.now }
-    ensures says { (steps : ℕ) → PutsSome K.held K.faults (Reports desk.old.names (desk_state desk.old session.now) report)
-        (shown_of desk.old session.now writer.old steps)
-        (shown_of desk.new session.now writer.new steps) }
+    ensures says { PutsReport K.Sink report session.now desk.old writer.old desk.new writer.new }
     ensures same { KeepsSink writer.old writer.new }
     ensures desk { IsDesk desk.new session.now }
 {
@@ -59,7 +57,7 @@ fn reply_refused<K: Sink>(
     line: u32,
 )
     ensures says { (d : DeskView) (v : SessionView) (e : EditValue) (n k : ℕ) → EditEnds v e (Err refusal) session.now n
-        → PutsSome K.held K.faults (Edits line (desk_state d v) (applied v.state.model e))
+        → PutsSome K.Sink (Edits line (desk_state d v) (applied v.state.model e))
         (shown_of d v writer.old k)
         (shown_of d session.now writer.new (k + n)) }
     ensures same { KeepsSink writer.old writer.new }
@@ -81,10 +79,7 @@ pub fn reply_edited<K: Sink>(
     line: u32,
 )
     requires { line ≤ input_limit }
-    ensures says { (v : SessionView) (e : EditValue) (n k : ℕ) → EditEnds v e edited session.now n → desk.old.index < line
-        → PutsSome K.held K.faults (Edits line (desk_state desk.old v) (applied v.state.model e))
-        (shown_of desk.old v writer.old k)
-        (shown_of desk.new session.now writer.new (k + n)) }
+    ensures says { PutsEdited K.Sink line edited session.now desk.old writer.old desk.new writer.new }
     ensures same { KeepsSink writer.old writer.new }
     ensures desk { (v : SessionView) (e : EditValue) (n : ℕ) → EditEnds v e edited session.now n → IsDesk desk.old v → IsDesk desk.new session.now }
 {
@@ -106,10 +101,7 @@ pub fn reply_undone<K: Sink>(
     line: u32,
 )
     requires { line ≤ input_limit }
-    ensures says { (v : SessionView) (n k : ℕ) → UndoEnds v undone session.now n → desk.old.index < line
-        → PutsSome K.held K.faults (Undoes line (desk_state desk.old v) v.state.former)
-        (shown_of desk.old v writer.old k)
-        (shown_of desk.new session.now writer.new (k + n)) }
+    ensures says { PutsUndone K.Sink line undone session.now desk.old writer.old desk.new writer.new }
     ensures same { KeepsSink writer.old writer.new }
     ensures desk { (v : SessionView) (n : ℕ) → UndoEnds v undone session.now n → IsDesk desk.old v → IsDesk desk.new session.now }
 {

@@ -37,7 +37,7 @@ fn reply_edit<K: Sink, L: Ledger>(
     requires desk { IsDesk talk.old.desk talk.old.session }
     requires line { line ≤ input_limit }
     ensures says { talk.old.desk.index < line
-        → PutsSome K.held K.faults (AsksEdit line (desk_state talk.old.desk talk.old.session) (edit_named talk.old.desk.names named))
+        → PutsSome K.Sink (AsksEdit line (desk_state talk.old.desk talk.old.session) (edit_named talk.old.desk.names named))
         (shown_of talk.old.desk talk.old.session writer.old steps.old)
         (shown_of talk.new.desk talk.new.session writer.new steps.new) }
     ensures same { KeepsSink writer.old writer.new }
@@ -62,7 +62,7 @@ fn reply_undo<K: Sink, L: Ledger>(
     requires desk { IsDesk talk.old.desk talk.old.session }
     requires line { line ≤ input_limit }
     ensures says { talk.old.desk.index < line
-        → PutsSome K.held K.faults (Undoes line (desk_state talk.old.desk talk.old.session) talk.old.session.state.former)
+        → PutsSome K.Sink (Undoes line (desk_state talk.old.desk talk.old.session) talk.old.session.state.former)
         (shown_of talk.old.desk talk.old.session writer.old steps.old)
         (shown_of talk.new.desk talk.new.session writer.new steps.new) }
     ensures same { KeepsSink writer.old writer.new }

@@ -73,7 +73,7 @@ impl StudyDesk {
         writer: &mut Writer<'_, K>,
         steps: &mut Steps<L>,
     )
-        ensures text { (text : List ℕ) × SaysExits self.old.session.state.model text × Writes K.held K.faults writer.old text writer.new }
+        ensures text { (text : List ℕ) × SaysExits self.old.session.state.model text × Writes K.Sink writer.old text writer.new }
         ensures kept { kept_of self.new ≡ kept_of self.old }
         ensures counted { (n : ℕ) × (steps.new ≡ steps.old + n) }
     {
@@ -91,7 +91,7 @@ impl StudyDesk {
     )
         requires arc { arc < length self.old.session.state.model.arcs }
         requires by { by ≤ self.old.session.state.model.horizon }
-        ensures text { (least : Least) × ((text : List ℕ) × SaysLeast self.old.session.state.model arc by least text × Writes K.held K.faults writer.old text writer.new) }
+        ensures text { (least : Least) × ((text : List ℕ) × SaysLeast self.old.session.state.model arc by least text × Writes K.Sink writer.old text writer.new) }
         ensures kept { kept_of self.new ≡ kept_of self.old }
         ensures counted { (n : ℕ) × (steps.new ≡ steps.old + n) }
     {

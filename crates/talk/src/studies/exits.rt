@@ -3,7 +3,7 @@ ghost use Rattle.std.specs.Prelude.{◌≡◌, ◌+◌, ◌<◌, ◌≤◌, ℕ,
 ghost use Rattle.evac_law.specs.Building.{IsValid, is_exit_at};
 ghost use Rattle.line_io.specs.Writer.{Writes};
 ghost use Rattle.exit_study.specs.Exits.{IsExitRow};
-ghost use Rattle.talk.specs.StudyTexts.{Row, SaysExits, exits_of, outcome_text, row_text};
+ghost use Rattle.talk.specs.StudyTexts.{SaysExits, WritesRow, exits_of, outcome_text};
 
 use crate::studies::lines::{put_exit, put_exit_short};
 use certificate_text::{put_end, put_ins};
@@ -33,7 +33,7 @@ fn row_of<L: Ledger>(session: &mut Session, node: u32, steps: &mut Steps<L>) -> 
 // Puts a row, whose cut is the refused one.
 fn put_row<K: Sink>(writer: &mut Writer<'_, K>, session: &Session, node: u32, row: ExitRow)
     requires { node < length session.now.state.model.nodes }
-    ensures { Writes K.held K.faults writer.old (outcome_text session.now.state.model node session.now.refused row) writer.new }
+    ensures { Writes K.Sink writer.old (outcome_text session.now.state.model node session.now.refused row) writer.new }
 {
     let model = session.model();
     let name = model.node(node).name;
@@ -55,8 +55,7 @@ fn put_studied<K: Sink, L: Ledger>(
 )
     requires node_in { node < length session.old.state.model.nodes }
     requires exit { IsTrue (is_exit_at session.old.state.model node) }
-    ensures text { let m = session.old.state.model in (row : Row) × (row.exit ≡ node) × IsExitRow m row.exit row.cut row.outcome
-        × Writes K.held K.faults writer.old (row_text m row) writer.new }
+    ensures text { WritesRow K.Sink session.old.state.model node writer.old writer.new }
     ensures unchanged { session.new.state ≡ session.old.state }
     ensures counted { (n : ℕ) × (steps.new ≡ steps.old + n) }
 {
@@ -85,7 +84,7 @@ pub(crate) fn put_exits<K: Sink, L: Ledger>(
     writer: &mut Writer<'_, K>,
     steps: &mut Steps<L>,
 )
-    ensures text { (text : List ℕ) × SaysExits session.old.state.model text × Writes K.held K.faults writer.old text writer.new }
+    ensures text { (text : List ℕ) × SaysExits session.old.state.model text × Writes K.Sink writer.old text writer.new }
     ensures unchanged { session.new.state ≡ session.old.state }
     ensures counted { (n : ℕ) × (steps.new ≡ steps.old + n) }
 {

@@ -36,7 +36,7 @@ fn put_moves_at<K: Sink, L: Ledger>(
     requires trial { IsRateTrial session.old.state.model trial }
     requires room { length session.old.state.former < kept_limit }
     requires enough { IsEnough session.old.state.model trial.arc trial.by trial.rate }
-    ensures text { (text : List ℕ) × SaysMoves (at_rate session.old.state.model trial.arc trial.rate) trial.by text × Writes K.held K.faults writer.old text writer.new }
+    ensures text { (text : List ℕ) × SaysMoves (at_rate session.old.state.model trial.arc trial.rate) trial.by text × Writes K.Sink writer.old text writer.new }
     ensures stays { StaysSolved session.old.state session.new.state }
     ensures counted { (n : ℕ) × (steps.new ≡ steps.old + n) }
 {
@@ -55,7 +55,7 @@ fn put_moves_at<K: Sink, L: Ledger>(
 fn put_cut<K: Sink>(writer: &mut Writer<'_, K>, model: &Model, labels: &Labels, k: u16, value: u64)
     requires valid { IsValid model.now }
     requires table { IsTableOf model.now labels.now }
-    ensures { Writes K.held K.faults writer.old (cut_line k value ++ in_lines model.now (label_cut model.now labels.now k)) writer.new }
+    ensures { Writes K.Sink writer.old (cut_line k value ++ in_lines model.now (label_cut model.now labels.now k)) writer.new }
 {
     put_cut_line(writer, k, value);
     put_ins(writer, model, labels, k);
@@ -72,7 +72,7 @@ fn put_cut_at<K: Sink, L: Ledger>(
     requires trial { IsRateTrial session.old.state.model trial }
     requires room { length session.old.state.former < kept_limit }
     requires slow { ¬ IsEnough session.old.state.model trial.arc trial.by trial.rate }
-    ensures text { (text : List ℕ) × SaysCut (at_rate session.old.state.model trial.arc trial.rate) trial.by text × Writes K.held K.faults writer.old text writer.new }
+    ensures text { (text : List ℕ) × SaysCut (at_rate session.old.state.model trial.arc trial.rate) trial.by text × Writes K.Sink writer.old text writer.new }
     ensures stays { StaysSolved session.old.state session.new.state }
     ensures counted { (n : ℕ) × (steps.new ≡ steps.old + n) }
 {
@@ -105,7 +105,7 @@ fn put_cut_below<K: Sink, L: Ledger>(
     requires trial { IsRateTrial session.old.state.model trial }
     requires room { length session.old.state.former < kept_limit }
     requires least { IsLeastRate session.old.state.model trial.arc trial.by trial.rate }
-    ensures text { (text : List ℕ) × SaysCutBelow session.old.state.model trial.arc trial.by trial.rate text × Writes K.held K.faults writer.old text writer.new }
+    ensures text { (text : List ℕ) × SaysCutBelow session.old.state.model trial.arc trial.by trial.rate text × Writes K.Sink writer.old text writer.new }
     ensures stays { StaysSolved session.old.state session.new.state }
     ensures counted { (n : ℕ) × (steps.new ≡ steps.old + n) }
 {
@@ -125,7 +125,7 @@ fn put_rate<K: Sink, L: Ledger>(
     requires trial { IsRateTrial session.old.state.model trial }
     requires room { length session.old.state.former < kept_limit }
     requires least { IsLeastRate session.old.state.model trial.arc trial.by trial.rate }
-    ensures text { (text : List ℕ) × SaysRate session.old.state.model trial.arc trial.by trial.rate text × Writes K.held K.faults writer.old text writer.new }
+    ensures text { (text : List ℕ) × SaysRate session.old.state.model trial.arc trial.by trial.rate text × Writes K.Sink writer.old text writer.new }
     ensures stays { StaysSolved session.old.state session.new.state }
     ensures counted { (n : ℕ) × (steps.new ≡ steps.old + n) }
 {
@@ -148,7 +148,7 @@ fn put_no_rate<K: Sink, L: Ledger>(
     requires by { by ≤ session.old.state.model.horizon }
     requires room { length session.old.state.former < kept_limit }
     requires none { IsNoRate session.old.state.model arc by }
-    ensures text { (text : List ℕ) × SaysNever session.old.state.model arc by text × Writes K.held K.faults writer.old text writer.new }
+    ensures text { (text : List ℕ) × SaysNever session.old.state.model arc by text × Writes K.Sink writer.old text writer.new }
     ensures stays { StaysSolved session.old.state session.new.state }
     ensures counted { (n : ℕ) × (steps.new ≡ steps.old + n) }
 {
@@ -169,7 +169,7 @@ pub(crate) fn put_least_rate<K: Sink, L: Ledger>(
     requires arc { arc < length session.old.state.model.arcs }
     requires by { by ≤ session.old.state.model.horizon }
     requires room { length session.old.state.former < kept_limit }
-    ensures text { (least : LeastValue) × ((text : List ℕ) × SaysLeast session.old.state.model arc by least text × Writes K.held K.faults writer.old text writer.new) }
+    ensures text { (least : LeastValue) × ((text : List ℕ) × SaysLeast session.old.state.model arc by least text × Writes K.Sink writer.old text writer.new) }
     ensures stays { StaysSolved session.old.state session.new.state }
     ensures counted { (n : ℕ) × (steps.new ≡ steps.old + n) }
 {

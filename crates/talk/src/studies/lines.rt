@@ -5,7 +5,7 @@ ghost use Rattle.evac_law.specs.Names.{IsName, name_text};
 ghost use Rattle.line_io.specs.Text.{fields};
 ghost use Rattle.line_io.specs.Writer.{Writes};
 ghost use Rattle.certificate_text.specs.BlockText.{name_of_node};
-ghost use Rattle.talk.specs.StudyTexts.{exit_line, exit_short_line, least_line, never_line};
+ghost use Rattle.talk.specs.StudyTexts.{arc_least_line, arc_never_line, exit_line, exit_short_line};
 ghost use Rattle.talk.specs.Trials.{IsRateTrial};
 
 use crate::studies::trial::Trial;
@@ -16,7 +16,7 @@ use line_io::{Sink, TextLine, Writer};
 /// Puts when everybody is out without an exit.
 pub(crate) fn put_exit<K: Sink>(writer: &mut Writer<'_, K>, name: NodeName, moment: u16)
     requires { IsName name }
-    ensures { Writes K.held K.faults writer.old (exit_line (name_text name) moment) writer.new }
+    ensures { Writes K.Sink writer.old (exit_line (name_text name) moment) writer.new }
 {
     let mut line = TextLine::new(b"exit");
     put_name(&mut line, name);
@@ -27,7 +27,7 @@ pub(crate) fn put_exit<K: Sink>(writer: &mut Writer<'_, K>, name: NodeName, mome
 /// Puts how many get out at most without an exit.
 pub(crate) fn put_exit_short<K: Sink>(writer: &mut Writer<'_, K>, name: NodeName, most: u32)
     requires { IsName name }
-    ensures { Writes K.held K.faults writer.old (exit_short_line (name_text name) most) writer.new }
+    ensures { Writes K.Sink writer.old (exit_short_line (name_text name) most) writer.new }
 {
     let mut line = TextLine::new(b"exit");
     put_name(&mut line, name);
@@ -57,8 +57,7 @@ fn arc_line(model: &Model, arc: u32, by: u16) -> TextLine
 pub(crate) fn put_least<K: Sink>(writer: &mut Writer<'_, K>, model: &Model, trial: Trial)
     requires valid { IsValid model.now }
     requires trial { IsRateTrial model.now trial }
-    ensures { let m = model.now in
-        Writes K.held K.faults writer.old (least_line (name_of_node m (tail m trial.arc)) (name_of_node m (head m trial.arc)) trial.by trial.rate) writer.new }
+    ensures { Writes K.Sink writer.old (arc_least_line model.now trial.arc trial.by trial.rate) writer.new }
 {
     let mut line = arc_line(model, trial.arc, trial.by);
     line.number(u64::from(trial.rate));
@@ -69,8 +68,7 @@ pub(crate) fn put_least<K: Sink>(writer: &mut Writer<'_, K>, model: &Model, tria
 pub(crate) fn put_never<K: Sink>(writer: &mut Writer<'_, K>, model: &Model, arc: u32, by: u16)
     requires valid { IsValid model.now }
     requires arc { arc < length model.now.arcs }
-    ensures { let m = model.now in
-        Writes K.held K.faults writer.old (never_line (name_of_node m (tail m arc)) (name_of_node m (head m arc)) by) writer.new }
+    ensures { Writes K.Sink writer.old (arc_never_line model.now arc by) writer.new }
 {
     let mut line = arc_line(model, arc, by);
     line.field(b"never");

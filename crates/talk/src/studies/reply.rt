@@ -1,8 +1,7 @@
 //! The reply to a line that asks for a least rate.
-ghost use Rattle.std.specs.Prelude.{◌<◌, length, nat_lt};
-ghost use Rattle.talk.specs.StudyDesks.{shown_study};
-ghost use Rattle.talk.specs.Studies.{LeastReply};
-ghost use Rattle.talk.specs.Speaking.{KeepsSink, PutsSome};
+ghost use Rattle.std.specs.Prelude.{◌<◌, length};
+ghost use Rattle.talk.specs.StudyDesks.{PutsLeast};
+ghost use Rattle.talk.specs.Speaking.{KeepsSink};
 
 use crate::studies::desk::StudyDesk;
 use crate::studies::trial::Question;
@@ -20,8 +19,7 @@ pub(crate) fn reply_arc<K: Sink, L: Ledger>(
     line: u32,
 )
     requires { question.arc < length desk.old.session.state.model.arcs }
-    ensures says { let m = desk.old.session.state.model in PutsSome K.held K.faults (LeastReply m line question.arc question.by (nat_lt m.horizon question.by))
-        (shown_study desk.old writer.old steps.old) (shown_study desk.new writer.new steps.new) }
+    ensures says { PutsLeast K.Sink line question.arc question.by desk.old writer.old steps.old desk.new writer.new steps.new }
     ensures same { KeepsSink writer.old writer.new }
 {
     let Question { arc, by } = question;

@@ -5,7 +5,7 @@ from dataclasses import dataclass
 from typing import List, Sequence, Tuple
 
 from evacask.faces.page.markup import Markup, empty, joined, tag
-from evacask.faces.page.picture import fitted, picture
+from evacask.faces.page.picture import fitted, picture, ticks
 from evacask.model.shares import Count
 
 COLOURS = ("#1f5a99", "#a34400", "#1b6e3c", "#7a2d8c", "#8a1538", "#4b5320", "#00606b", "#5c4033")
@@ -84,11 +84,11 @@ def areas(scale: Scale, exits: Sequence[Curve]) -> List[Markup]:
 def grid(scale: Scale) -> List[Markup]:
     """Lines and numbers of both axes."""
     found = []
-    for people in sorted({0, int(scale.most) // 2, int(scale.most)}):
+    for people in ticks(scale.most, 5):
         y = f"{scale.y(people):.1f}"
         found.append(empty("line", x1=LEFT, x2=f"{scale.x(scale.last):.1f}", y1=y, y2=y, stroke="#c4c4c4"))
         found.append(tag("text", f"{people:,}", x=LEFT - 6, y=f"{scale.y(people) + 4:.1f}", text_anchor="end"))
-    for seconds in sorted({scale.last * part // 4 for part in range(5)}):
+    for seconds in ticks(scale.last, 8):
         found.append(tag("text", f"{seconds:,} s", x=f"{scale.x(seconds):.1f}", y=HEIGHT - 14, text_anchor="middle"))
     return found
 

@@ -3,6 +3,7 @@ from __future__ import annotations
 
 import math
 from dataclasses import dataclass, field
+from functools import cached_property
 from typing import Dict, List, Mapping, Set, Tuple
 
 from evacask.faces.page.layout import LEFT, WIDTH, Figure, StoreyRow, figures_of
@@ -24,13 +25,17 @@ HALO: Dict[str, Content] = {"stroke": "#fff", "stroke_width": 3, "paint_order": 
 
 @dataclass
 class Boxes:
-    """The boxes that are taken in a picture, so that no text stands over another."""
+    """The boxes that are taken in a picture of some size, so that no text stands over another or beyond its edges."""
 
+    width: float
+    height: float
     taken: List[Tuple[float, float, float, float]] = field(default_factory=list)
 
     def take(self, x: float, y: float, width: float, height: float) -> bool:
         """Takes a box by its middle, if it is free."""
         box = (x - width / 2, y - height / 2, x + width / 2, y + height / 2)
+        if box[0] < 0 or box[1] < 0 or box[2] > self.width or box[3] > self.height:
+            return False
         if any(box[0] < it[2] and it[0] < box[2] and box[1] < it[3] and it[1] < box[3] for it in self.taken):
             return False
         self.taken.append(box)
@@ -45,12 +50,17 @@ class Drawing:
     through: Mapping[Way, Count]
     full: Set[Way]
 
+    @cached_property
+    def most(self) -> float:
+        """How many go the way that most go, or 1."""
+        return max(1.0, float(max(self.through.values(), default=1)))
+
     def pictures(self) -> List[Markup]:
         """The building in one picture or several."""
         return [self.picture(at, it) for at, it in enumerate(figures_of(self.model))]
 
     def picture(self, number: int, shown: Figure) -> Markup:
-        boxes, drawn = Boxes(), []
+        boxes, drawn = Boxes(WIDTH, shown.height), []
         for x, y in shown.places.values():
             boxes.take(x, y, BOX_WIDTH + 6, BOX_HEIGHT + 4)
         drawn += [self.storey(floor, y) for floor, y in shown.storeys.items()]
@@ -81,7 +91,7 @@ class Drawing:
         """A way as a curve with an arrow, or as a stub if one of its ends isn't in the picture."""
         people, line = self.through[arc.way], self.line(arc, places)
         colour = FULL if arc.way in self.full else USED if people else UNUSED
-        width = 1 + 6 * float(people) / max(1.0, float(max(self.through.values(), default=1)))
+        width = 1 + 6 * float(people) / self.most
         (x1, y1), (mx, my), (x2, y2) = line
         what = f"{arc.tail} to {arc.head}: {people:,} people{', full in every best plan at some moments' if arc.way in self.full else ''}"
         return tag(
@@ -108,23 +118,31 @@ class Drawing:
         return (x1, y1), middle, at_box((x2, y2), middle)
 
     def count(self, arc: Arc, places: Mapping[str, Point], boxes: Boxes) -> Markup:
-        """How many go a way, beside its middle, if there is room."""
+        """How many go a way, at its middle or beside a stub, if there is room."""
         first, middle, last = self.line(arc, places)
         x = 0.25 * first[0] + 0.5 * middle[0] + 0.25 * last[0]
         y = 0.25 * first[1] + 0.5 * middle[1] + 0.25 * last[1]
         text = f"{self.through[arc.way]:,}"
-        if not boxes.take(x + 4, y - 1, 7 * len(text) + 4, 14):
+        x += 4 if arc.tail in places and arc.head in places else 12 + 3.5 * len(text)
+        if not boxes.take(x, y - 1, 7 * len(text) + 4, 14):
             return Markup("")
-        return tag("text", text, x=f"{x + 4:.0f}", y=f"{y + 4:.0f}", text_anchor="middle", **HALO)
+        return tag("text", text, x=f"{x:.0f}", y=f"{y + 4:.0f}", text_anchor="middle", **HALO)
 
     def node(self, name: str, place: Point) -> Markup:
         """A node as a box: its name, and its people and capacity."""
         node, (x, y) = self.model.nodes[name], place
         corner = {"x": f"{x - BOX_WIDTH / 2:.0f}", "y": f"{y - BOX_HEIGHT / 2:.0f}"}
         box = empty("rect", **corner, width=BOX_WIDTH, height=BOX_HEIGHT, rx=4, fill=EXIT if node.is_exit else "#fff", stroke="#1a1a1a")
-        first = tag("text", name, x=f"{x:.0f}", y=f"{y - 2:.0f}", text_anchor="middle", class_=kind_of(node, 8 if len(name) > 8 else 12))
+        first = tag("text", name, x=f"{x:.0f}", y=f"{y - 2:.0f}", text_anchor="middle", class_=kind_of(node, 9 if len(name) > 8 else 12))
         people = "exit" if node.is_exit else f"{node.start:,}/{node.capacity:,}"
-        second = tag("text", people, x=f"{x:.0f}", y=f"{y + 11:.0f}", text_anchor="middle", class_=kind_of(node, 7 if len(people) > 9 else 10))
+        second = tag(
+            "text",
+            people,
+            x=f"{x:.0f}",
+            y=f"{y + 11:.0f}",
+            text_anchor="middle",
+            class_=kind_of(node, 10 if len(people) < 10 else 8 if len(people) < 13 else 7),
+        )
         return tag("g", tag("title", f"{name} {node.own_name}".strip()), box, first, second)
 
 

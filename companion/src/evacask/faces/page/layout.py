@@ -14,6 +14,8 @@ MOST_IN_LINE, MOST_STOREYS, SWEEPS = 9, 5, 8
 MANY_ROWS = 8
 WIDTH, LEFT, RIGHT = 800, 110, 20
 ROOMS_HEIGHT, HALLS_HEIGHT, FOLD_HEIGHT = 66, 92, 34
+# What a figure has below the middle of its last line: half of a box, and the bows of ways between nodes of that line.
+BELOW = 48
 
 
 @dataclass(frozen=True)
@@ -148,4 +150,5 @@ def figure(model: Model, rows: Sequence[StoreyRow], at: Mapping[str, float]) -> 
         if row.folded:
             folds.append((y - 20, row))
             y += FOLD_HEIGHT
-    return Figure(places, storeys, tuple(folds), y - 10)
+    last = max([*(it[1] + BELOW for it in places.values()), *(it[0] + 14 for it in folds)])
+    return Figure(places, storeys, tuple(folds), last)

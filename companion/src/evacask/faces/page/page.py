@@ -19,6 +19,10 @@ CAUTION = (
     "This is the best case and no prediction: no plan that keeps the capacities, rates and travel times of the model is sooner. "
     "People don't follow plans. Add the time before they set out, and the margin that your code asks for."
 )
+UNPROVED = (
+    "The program that made this page isn't proved on this machine. What is marked as proved here is what evacplan's contract says; "
+    "./build proves that the program keeps it."
+)
 AnyReport = Union[Report, ShortReport]
 # Another building beside the one of the page: its name, and its report.
 Other = Tuple[str, AnyReport]
@@ -43,7 +47,7 @@ def page(report: AnyReport, title: str, against: Sequence[Other] = ()) -> str:
 def long_body(report: Report, against: Sequence[Other]) -> List[Markup]:
     """The sections of a building from which everybody gets out."""
     others = [Curve(name, it.plan.arrivals, it.model.period) for name, it in against if isinstance(it, Report)]
-    parts = [sections.answer(report), caution(), beside(report, against), sections.why(report)]
+    parts = [sections.answer(report), caution(report), beside(report, against), sections.why(report)]
     if report.plan.people:
         parts += [sections.curve(report, others), sections.building(report), sections.full(report), sections.storeys(report)]
         parts += [sections.rooms(report), sections.worth(report)]
@@ -52,12 +56,13 @@ def long_body(report: Report, against: Sequence[Other]) -> List[Markup]:
 
 def short_body(report: ShortReport, against: Sequence[Other]) -> List[Markup]:
     """The sections of a building from which not everybody can be out by the horizon."""
-    parts = [short.answer(report), caution(), beside(report, against), short.why(report), short.held(report.model, report.short)]
+    parts = [short.answer(report), caution(report), beside(report, against), short.why(report), short.held(report.model, report.short)]
     return [*parts, *closing(report)]
 
 
-def caution() -> Markup:
-    return tag("p", CAUTION, class_="caution")
+def caution(report: AnyReport) -> Markup:
+    """What the answer isn't, and of an unproved program what the mark `proved` doesn't say."""
+    return joined(tag("p", it, class_="caution") for it in (CAUTION, *(() if report.source.is_proved else (UNPROVED,))))
 
 
 def beside(report: AnyReport, against: Sequence[Other]) -> Markup:

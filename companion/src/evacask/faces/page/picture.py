@@ -2,14 +2,22 @@
 from __future__ import annotations
 
 import unicodedata
+from typing import List
 
 from evacask.faces.page.markup import Markup, plain, tag
+from evacask.model.shares import Count
 
 
 def picture(name: str, width: float, height: float, title: str, content: Markup) -> Markup:
     """An SVG picture with a title for those who don't see it."""
     head = tag("title", title, id=f"{name}-title")
     return tag("svg", head, content, viewBox=f"0 0 {width:.0f} {height:.0f}", role="img", aria_labelledby=f"{name}-title")
+
+
+def ticks(last: Count, most: int) -> List[int]:
+    """Round numbers from 0 on, up to the last one, so many steps of 1, 2 or 5 times a power of ten at most."""
+    step = next(it * 10**power for power in range(10) for it in (1, 2, 5) if it * 10**power * most >= last)
+    return list(range(0, int(last) + 1, step))
 
 
 def fitted(text: str, width: int) -> str:

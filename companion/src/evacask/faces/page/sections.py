@@ -39,29 +39,31 @@ def answer(report: Report) -> Markup:
     """When all are out, and the figures beside it."""
     model, plan = report.model, report.plan
     first = f"All {plan.people:,} people can be out {when(model, plan.cleared)}." if plan.people else "Nobody is inside."
-    grid = tag(
-        "dl", *(tag("div", tag("dt", it), tag("dd", what, Markup(" "), mark(ground))) for it, what, ground in figures(report)), class_="figures"
-    )
+    parts = [tag("div", tag("dt", it), tag("dd", what, Markup(" "), mark(ground))) for it, what, ground in figures(report)]
+    grid = tag("dl", *parts, class_="figures") if parts else None
     later = "" if model.has_later_end else " People come in where not everybody has room, so no later end of a period is claimed."
     sooner = said(f"No plan has them all out sooner.{later}", ground=Ground.PROVED) if plan.people else None
-    return joined((tag("p", first, class_="answer"), sooner, grid, bracket(report), by_hand(report)))
+    return joined((tag("p", first, class_="answer"), sooner, grid, bracket(report), by_hand(report), verdict(report)))
 
 
 def figures(report: Report) -> List[Tuple[str, str, Ground]]:
-    """The figures beside the answer, what each is, and what it rests on."""
+    """The figures beside the answer, what each is, and what it rests on: four, or none if nobody is inside."""
     model, plan = report.model, report.plan
-    verdict = "yes" if report.verdict.is_right else f"no {report.verdict.code}"
-    checked = (verdict, "says evacplan check of the plan on this page", Ground.PROVED)
     if not plan.people:
-        return [checked]
+        return []
     late = ", and for those who come in later" if model.entrants else ""
     return [
         (when(model, report.uncongested), "the longest walk of those inside at first, with nobody in the way", Ground.PROVED),
         (f"{(plan.cleared - report.uncongested) * model.period:,} s", f"more than that walk, for congestion and closures{late}", Ground.CUTS),
         (when(model, report.moment_of(50)), "half of the people are out", Ground.PROVED),
         (when(model, report.moment_of(95)), "95 % of the people are out", Ground.PROVED),
-        checked,
     ]
+
+
+def verdict(report: Report) -> Markup:
+    """What the program's own check says of the plan that the page shows."""
+    said_of_it = "yes" if report.verdict.is_right else f"no {report.verdict.code}"
+    return said(f"The command evacplan check says {said_of_it} of the plan on this page.", ground=Ground.PROVED)
 
 
 def bracket(report: Report) -> Optional[Markup]:

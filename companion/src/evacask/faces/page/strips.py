@@ -4,12 +4,14 @@ from __future__ import annotations
 from typing import List, Sequence, Tuple
 
 from evacask.faces.page.markup import Markup, empty, joined, tag
-from evacask.faces.page.picture import fitted, picture
+from evacask.faces.page.picture import fitted, picture, ticks
 from evacask.model.shares import Count
 from evacask.questions.report import Storey
 
 WIDTH, ROW, LEFT, RIGHT = 760, 18, 130, 40
 MOST_BINS, MOST_STOREYS = 120, 40
+# The red, green and blue of a part in which most stay; with fewer it is nearer to white.
+DARKEST = (11, 79, 138)
 
 
 def strips_picture(storeys: Sequence[Storey], period: int) -> Markup:
@@ -22,8 +24,8 @@ def strips_picture(storeys: Sequence[Storey], period: int) -> Markup:
         drawn += [cell(at, place, float(people) / float(most)) for place, people in bins(it.stay) if people]
     y = ROW * len(storeys) + 16
     drawn += [
-        tag("text", f"{moment * period:,} s", x=f"{x_of(moment / max(1, last)):.0f}", y=y, text_anchor="middle")
-        for moment in sorted({last * it // 4 for it in range(5)})
+        tag("text", f"{seconds:,} s", x=f"{x_of(seconds / period / (last + 1)):.0f}", y=y, text_anchor="middle")
+        for seconds in ticks(last * period, 8)
     ]
     title = "People who stay on each storey over time; darker is more. The table below has the greatest numbers."
     return picture("strips", WIDTH, y + 8, title, joined(drawn))
@@ -44,6 +46,5 @@ def bins(stay: Sequence[Count]) -> List[Tuple[Tuple[float, float], Count]]:
 def cell(row: int, place: Tuple[float, float], share: float) -> Markup:
     """A part of a strip."""
     x, end = x_of(place[0]), x_of(place[1])
-    return empty(
-        "rect", x=f"{x:.1f}", y=row * ROW + 1, width=f"{end - x + 0.3:.1f}", height=ROW - 2, fill="#0b4f8a", fill_opacity=f"{0.12 + 0.88 * share:.2f}"
-    )
+    colour = "#" + "".join(f"{round(255 - (255 - it) * (0.12 + 0.88 * share)):02x}" for it in DARKEST)
+    return empty("rect", x=f"{x:.1f}", y=row * ROW + 1, width=f"{end - x + 0.3:.1f}", height=ROW - 2, fill=colour)

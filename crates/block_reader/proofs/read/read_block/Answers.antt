@@ -22,7 +22,9 @@ returns g c =
       bytes = reads-lines m _ _ _ _ _ by;
       drained = c.listen-ending.ensures.drained;
       asks = c.listen-ending.ensures.asks;
-      failed = λ is. caused-rose _ _ _ (conclude.caused is) c.listen-ending.ensures.cause;
+      cause = record {
+        rose = λ is. caused-rose _ _ _ (conclude.caused is) c.listen-ending.ensures.cause;
+        same = λ other. caused-same _ _ _ (λ is. other (conclude.quiet is)) c.listen-ending.ensures.cause;
+      };
       unfinished = λ is. rests-open _ _ (conclude.caused is) listens.rests;
-      quiet = λ other. caused-same _ _ _ (λ is. other (conclude.quiet is)) c.listen-ending.ensures.cause;
     }

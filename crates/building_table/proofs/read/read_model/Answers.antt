@@ -19,9 +19,11 @@ returns g c =
       bytes = reads-lines _ _ _ _ _ by;
       drained = c.listen-ending.ensures.drained;
       asks = c.listen-ending.ensures.asks;
-      failed = λ is. caused-rose _ _ _ (caused is) c.listen-ending.ensures.cause;
+      cause = record {
+        rose = λ is. caused-rose _ _ _ (caused is) c.listen-ending.ensures.cause;
+        same = λ other. caused-same _ _ _ (λ is. other (c.conclude.ensures.quiet is)) c.listen-ending.ensures.cause;
+      };
       unfinished = λ is. rests-open _ _ (caused is) listens.rests;
-      quiet = λ other. caused-same _ _ _ (λ is. other (c.conclude.ensures.quiet is)) c.listen-ending.ensures.cause;
     }
 
 pub returns-in_default-clause-asks : goal.returns-in_default-clause-asks

@@ -6,4 +6,4 @@ use Rattle.certificate_text.specs.BlockText.{node_labels}
 use Rattle.certificate_text.proofs.answer.put_labels.Given as goal
 
 abbrev pub invariant-loop-node : goal.invariant-loop-node
-invariant-loop-node g l = Writes g.K.Sink.held g.K.Sink.faults l.initial.writer (flat_map (node_labels l.model l.labels l.cleared) (below l.node)) l.writer
+invariant-loop-node g l = Writes g.K.Sink l.initial.writer (flat_map (node_labels l.model l.labels l.cleared) (below l.node)) l.writer

@@ -6,4 +6,4 @@ use Rattle.certificate_text.specs.BlockText.{move_part}
 use Rattle.certificate_text.proofs.answer.put_moment.Given as goal
 
 abbrev pub invariant-loop-arc : goal.invariant-loop-arc
-invariant-loop-arc g l = Writes g.K.Sink.held g.K.Sink.faults l.initial.writer (flat_map (move_part l.model (g.F.Standing.stand l.standing).plan l.moment) (below l.arc)) l.writer
+invariant-loop-arc g l = Writes g.K.Sink l.initial.writer (flat_map (move_part l.model (g.F.Standing.stand l.standing).plan l.moment) (below l.arc)) l.writer

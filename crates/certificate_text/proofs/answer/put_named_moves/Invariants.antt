@@ -6,4 +6,4 @@ use Rattle.certificate_text.specs.BlockText.{moment_moves}
 use Rattle.certificate_text.proofs.answer.put_named_moves.Given as goal
 
 abbrev pub invariant-loop-moment : goal.invariant-loop-moment
-invariant-loop-moment g l = Writes g.K.Sink.held g.K.Sink.faults l.initial.writer (flat_map (moment_moves l.model (g.F.Standing.stand l.standing).plan) (below l.moment)) l.writer
+invariant-loop-moment g l = Writes g.K.Sink l.initial.writer (flat_map (moment_moves l.model (g.F.Standing.stand l.standing).plan) (below l.moment)) l.writer

@@ -13,5 +13,5 @@ invariant-loop-period g l =
     let plan = (g.F.Standing.stand l.standing).plan in record {
       people : l.people ≡ sum_by (arriving l.model plan) (below l.period);
       few : l.people ≤ l.period * 2 ^ 48;
-      text : Writes g.K.Sink.held g.K.Sink.faults l.initial.writer (flat_map (λ k. out_line k (out_by l.model plan k)) (below l.period)) l.writer;
+      text : Writes g.K.Sink l.initial.writer (flat_map (λ k. out_line k (out_by l.model plan k)) (below l.period)) l.writer;
     }

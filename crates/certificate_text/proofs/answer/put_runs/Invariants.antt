@@ -6,4 +6,4 @@ use Rattle.certificate_text.specs.NameTexts.{run_line}
 use Rattle.certificate_text.proofs.answer.put_runs.Given as goal
 
 abbrev pub invariant-loop-moment : goal.invariant-loop-moment
-invariant-loop-moment g l = Writes g.K.Sink.held g.K.Sink.faults l.initial.writer (flat_map (run_line l.name l.labels l.cleared l.node) (below l.moment)) l.writer
+invariant-loop-moment g l = Writes g.K.Sink l.initial.writer (flat_map (run_line l.name l.labels l.cleared l.node) (below l.moment)) l.writer

@@ -7,4 +7,4 @@ use Rattle.certificate_text.specs.BlockText.{node_in}
 use Rattle.certificate_text.proofs.short.put_ins.Given as goal
 
 abbrev pub invariant-loop-node : goal.invariant-loop-node
-invariant-loop-node g l = Writes g.K.Sink.held g.K.Sink.faults l.initial.writer (flat_map (node_in l.model (label_cut l.model l.labels l.k)) (below l.node)) l.writer
+invariant-loop-node g l = Writes g.K.Sink l.initial.writer (flat_map (node_in l.model (label_cut l.model l.labels l.k)) (below l.node)) l.writer

@@ -7,4 +7,4 @@ use Rattle.certificate_text.specs.BlockText.{in_part}
 use Rattle.certificate_text.proofs.short.put_runs.Given as goal
 
 abbrev pub invariant-loop-moment : goal.invariant-loop-moment
-invariant-loop-moment g l = Writes g.K.Sink.held g.K.Sink.faults l.initial.writer (flat_map (in_part l.model (label_cut l.model l.labels l.k) l.node) (below l.moment)) l.writer
+invariant-loop-moment g l = Writes g.K.Sink l.initial.writer (flat_map (in_part l.model (label_cut l.model l.labels l.k) l.node) (below l.moment)) l.writer

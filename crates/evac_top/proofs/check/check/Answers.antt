@@ -17,12 +17,12 @@ returns-in-Ok-read_claim-clause-run g c = λ steps.
     let m = c.in-Ok-read_claim.claim.building.model in
     let b = c.in-Ok-read_claim.claim.block in
     read-told Check check-reads ClaimIs (IsChecked m b) c.in-Ok-read_claim.claim (checked-few m b) (said-checked c.in-Ok-read_claim.claim) (status_number c.judge_claim.result) 0 steps steps _ _ _ _
-    c.in-Ok-read_claim.ensures.takes c.in-Ok-read_claim.ensures.quiet (sym (add-zero steps)) c.judge_claim.ensures c.in-Ok-read_claim.ensures.input
+    c.in-Ok-read_claim.ensures.takes c.in-Ok-read_claim.ensures.cause (sym (add-zero steps)) c.judge_claim.ensures c.in-Ok-read_claim.ensures.input
 
 pub returns-clause-run : goal.returns-clause-run
 returns-clause-run g c = λ steps.
     let read = c.in-Err.ensures in
-    fault-told Check check-reads ClaimIs c.in-Err.fault (check-fault c.in-Err.fault) (status_number c.stop.result) steps _ _ _ _ read.takes read.failed read.quiet
+    fault-told Check check-reads ClaimIs c.in-Err.fault (check-fault c.in-Err.fault) (status_number c.stop.result) steps _ _ _ _ read.takes read.cause
     c.stop.ensures read.input
 
 pub returns-in_default-clause-asked : goal.returns-in_default-clause-asked

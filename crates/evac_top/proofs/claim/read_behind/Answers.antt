@@ -1,8 +1,8 @@
-use Rattle.std.proofs.Common.{Err, ap, ◌∙◌}
+use Rattle.std.proofs.Common.{◌∙◌}
 use Rattle.line_io.proofs.CallLemmas.{asks-then}
-use Rattle.evac_top.proofs.BlockOpenLemmas.{quiet-as-block, quiet-behind, rose-as-block, rose-behind, takes-block, takes-block-fault, takes-block-tail}
+use Rattle.evac_top.proofs.BlockOpenLemmas.{block-not-failed, rises-after-block, rises-as-block, takes-block, takes-block-fault, takes-block-tail}
 use Rattle.evac_top.proofs.ClaimLemmas.{told-block-fault, told-claim, told-tail}
-use Rattle.evac_top.proofs.TakeLemmas.{not-failed, read-fault}
+use Rattle.evac_top.proofs.TakeLemmas.{not-failed}
 use Rattle.evac_top.proofs.claim.read_behind.Goals as goal
 
 pub returns-in-Err-clause-input : goal.returns-in-Err-clause-input
@@ -15,8 +15,8 @@ returns-in-Err-clause-takes g c = λ first left fresh reads drained.
     takes-block-fault c.block_fault.result first c.args.lines.now c.read_block.new.lines left _ _ c.args.building c.in-Err.fault c.block_fault.ensures fresh reads
     block.bytes block.unfinished
 
-pub returns-in-Err-clause-failed : goal.returns-in-Err-clause-failed
-returns-in-Err-clause-failed g c = rose-as-block c.block_fault.result c.in-Err.fault _ _ c.block_fault.ensures c.in-Err.ensures.failed
+pub returns-in-Err-clause-cause : goal.returns-in-Err-clause-cause
+returns-in-Err-clause-cause g c = rises-as-block c.block_fault.result c.in-Err.fault c.block_fault.ensures c.in-Err.ensures.cause
 
 pub returns-in-Ok-read_tail-clause-input : goal.returns-in-Ok-read_tail-clause-input
 returns-in-Ok-read_tail-clause-input g c = λ first left fresh reading.
@@ -39,21 +39,14 @@ returns-in-Err-read_tail-clause-takes g c = λ first left fresh reads drained.
     takes-block-tail c.in-Err-read_tail.fault first c.args.lines.now c.read_block.new.lines c.read_tail.new.lines left _ _ _ c.args.building c.in-Ok.block fresh
     reads c.in-Ok.ensures.bytes tail.passes tail.unfinished
 
-pub returns-in-Err-clause-quiet : goal.returns-in-Err-clause-quiet
-returns-in-Err-clause-quiet g c = quiet-as-block c.block_fault.result c.in-Err.fault _ _ c.block_fault.ensures c.in-Err.ensures.quiet
+pub returns-in-Ok-read_tail-clause-cause : goal.returns-in-Ok-read_tail-clause-cause
+returns-in-Ok-read_tail-clause-cause g c = record {
+  rose = λ e. absurd (not-failed _ e);
+  same = λ not. c.in-Ok-read_tail.ensures.cause.same (not-failed tt) ∙ c.in-Ok.ensures.cause.same (block-not-failed c.in-Ok.block);
+}
 
-pub returns-in-Ok-read_tail-clause-failed : goal.returns-in-Ok-read_tail-clause-failed
-returns-in-Ok-read_tail-clause-failed g c = λ e. absurd (not-failed _ e)
-
-pub returns-in-Ok-read_tail-clause-quiet : goal.returns-in-Ok-read_tail-clause-quiet
-returns-in-Ok-read_tail-clause-quiet g c = λ not. c.in-Ok-read_tail.ensures.quiet (not-failed tt) ∙ quiet-behind c.in-Ok.block _ _ c.in-Ok.ensures.quiet
-
-pub returns-in-Err-read_tail-clause-failed : goal.returns-in-Err-read_tail-clause-failed
-returns-in-Err-read_tail-clause-failed g c = rose-behind c.in-Ok.block c.in-Err-read_tail.fault _ _ _ c.in-Ok.ensures.quiet c.in-Err-read_tail.ensures.failed
-
-pub returns-in-Err-read_tail-clause-quiet : goal.returns-in-Err-read_tail-clause-quiet
-returns-in-Err-read_tail-clause-quiet g c = λ not.
-    c.in-Err-read_tail.ensures.quiet (λ e. not (ap Err (read-fault c.in-Err-read_tail.fault e))) ∙ quiet-behind c.in-Ok.block _ _ c.in-Ok.ensures.quiet
+pub returns-in-Err-read_tail-clause-cause : goal.returns-in-Err-read_tail-clause-cause
+returns-in-Err-read_tail-clause-cause g c = rises-after-block c.in-Ok.block c.in-Err-read_tail.fault c.in-Ok.ensures.cause c.in-Err-read_tail.ensures.cause
 
 pub returns-in-Err-clause-room : goal.returns-in-Err-clause-room
 returns-in-Err-clause-room g c = c.in-Err.ensures.bytes.passes.room

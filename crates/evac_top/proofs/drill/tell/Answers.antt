@@ -24,5 +24,5 @@ pub returns-in-Err : goal.returns-in-Err
 returns-in-Err g c = λ steps ends.
     let m = drill_model c.args.number in
     told-short (IsDrilled c.args.number) m 0 steps (status_number c.stop_short.result) _ _
-    (λ x h. absurd (h.barred (drill-clearable c.args.number c.requires.storeys)))
+    (λ x h. absurd (h.barred_by.not_clearable (drill-clearable c.args.number c.requires.storeys)))
     (c.stop_short.ensures m steps (fault-as m steps c.args.begun c.in-Err.fault c.in-Err.is ends))

@@ -1,9 +1,10 @@
 use Rattle.std.proofs.Common.{◌≡◌, ℕ, List, ap, rules, subst}
 use Rattle.std.specs.declared.option.Option.{Option}
 use Rattle.line_io.specs.Calls.{Asks, Taking}
-use Rattle.line_io.specs.Causes.{Count}
 use Rattle.line_io.specs.Reader.{Drained, HasRoom}
 use Rattle.line_io.specs.View.{Reader}
+use Rattle.line_io.specs.declared.outside.Sink.{Ghosts as SinkGhosts}
+use Rattle.line_io.specs.declared.outside.Source.{Ghosts as SourceGhosts}
 use Rattle.line_io.proofs.CallLemmas.{asked-none}
 use Rattle.evac_top.proofs.TakeLemmas.{asked-fresh, asked-then, fresh-drained}
 use Rattle.evac_top.proofs.TalkLemmas.{not-read, talk-held, talk-reads}
@@ -17,10 +18,10 @@ use Rattle.evac_top.proofs.holding.hold.Goals as goal
 -- what was held on a channel, by equal values at its ends
 module _ {S K : Type 0} (a b : Channel S K) {r : Reader} {s s' : S} {k k' : K} (lines : a.lines.now ≡ r) (source : a.source.now ≡ s) (sink : a.sink.now ≡ k)
     (source' : b.source.now ≡ s') (sink' : b.sink.now ≡ k') where
-  held-by : {T : Type 0} (talk : Talk T) (status : ℕ) (left : S → Option (List ℕ)) (reads : S → Count) (held : K → Option (List ℕ)) (writes : K → Count) (n j : ℕ)
-      → HoldsTalk talk status (met_on left reads held writes a n) (met_on left reads held writes b j)
-      → HoldsTalk talk status (around r (left s) (reads s) (held k) (writes k) n) (around b.lines.now (left s') (reads s') (held k') (writes k') j)
-  held-by talk status left reads held writes n j h = rw (← lines, ← source, ← sink, ← source', ← sink') h
+  held-by : {T : Type 0} (talk : Talk T) (status : ℕ) (e : SourceGhosts S) (f : SinkGhosts K) (n j : ℕ)
+      → HoldsTalk talk status (met_on e f a n) (met_on e f b j)
+      → HoldsTalk talk status (around r (e.left s) (e.faults s) (f.held k) (f.faults k) n) (around b.lines.now (e.left s') (e.faults s') (f.held k') (f.faults k') j)
+  held-by talk status e f n j h = rw (← lines, ← source, ← sink, ← source', ← sink') h
 
 -- and what was asked of the source
 module _ {S K : Type 0} (a b : Channel S K) {r : Reader} {s s' : S} (lines : a.lines.now ≡ r) (source : a.source.now ≡ s) (source' : b.source.now ≡ s') where
@@ -51,9 +52,9 @@ returns-in-Ok-read_model-clause-run g c =
       fresh = fresh;
       read = read.bytes;
       reading = read.reading;
-      quiet = read.quiet;
+      cause = read.cause;
       held = held-by a z (ap (λ x. x.now) new.lines) (ap (λ x. x.now) new.source) (ap (λ x. x.now) new.sink) (let n = h.ends.source in search rules) (let n = h.ends.sink in search rules)
-          (g.T.Speaker.talk b.names b.model) (status_number c.hold_talk.result) s.left s.faults k.held k.faults _ _ h.held;
+          (g.T.Speaker.talk b.names b.model) (status_number c.hold_talk.result) s k _ _ h.held;
       drained = drained-by a z (ap (λ x. x.now) new.lines) (ap (λ x. x.now) new.source) (let n = h.ends.source in search rules) s.left h.drained (read.drained (fresh-drained _ _ fresh));
     })
 
@@ -61,7 +62,7 @@ pub returns-clause-run : goal.returns-clause-run
 returns-clause-run g c =
     let read = c.in-Err.ensures in
     λ mode m. not-read mode g.T.Speaker.talk m c.in-Err.fault (status_number c.stop.result) c.in-Ok.lines c.read_model.new.lines c.args.steps.now _ _ _ _ c.in-Ok.ensures.fresh read.bytes
-    read.reading read.unfinished read.failed read.quiet c.stop.ensures
+    read.reading read.unfinished read.cause c.stop.ensures
 
 pub returns-in_default-clause-asked : goal.returns-in_default-clause-asked
 returns-in_default-clause-asked g c = asked-none g.S.Source.takes _ _

@@ -1,7 +1,6 @@
-use Rattle.std.proofs.Common.{Err, ap}
 use Rattle.evac_top.proofs.InputLemmas.{told-building, told-fault}
 use Rattle.evac_top.proofs.OpenLemmas.{takes-tail, takes-tail-fault}
-use Rattle.evac_top.proofs.TakeLemmas.{not-failed, read-fault}
+use Rattle.evac_top.proofs.TakeLemmas.{not-failed, rises-on}
 use Rattle.evac_top.proofs.read.read_end.Goals as goal
 
 pub returns-in-Ok-clause-input : goal.returns-in-Ok-clause-input
@@ -20,17 +19,11 @@ pub returns-in-Err-clause-takes : goal.returns-in-Err-clause-takes
 returns-in-Err-clause-takes g c = λ first left fresh reads drained.
     takes-tail-fault c.in-Err.fault first c.args.lines.now c.read_tail.new.lines left _ _ c.args.building fresh reads c.in-Err.ensures.passes c.in-Err.ensures.unfinished
 
-pub returns-in-Ok-clause-failed : goal.returns-in-Ok-clause-failed
-returns-in-Ok-clause-failed g c = λ e. absurd (not-failed _ e)
+pub returns-in-Ok-clause-cause : goal.returns-in-Ok-clause-cause
+returns-in-Ok-clause-cause g c = record { rose = λ e. absurd (not-failed _ e); same = λ not. c.in-Ok.ensures.cause.same (not-failed tt) }
 
-pub returns-in-Ok-clause-quiet : goal.returns-in-Ok-clause-quiet
-returns-in-Ok-clause-quiet g c = λ not. c.in-Ok.ensures.quiet (not-failed tt)
-
-pub returns-in-Err-clause-failed : goal.returns-in-Err-clause-failed
-returns-in-Err-clause-failed g c = λ e. c.in-Err.ensures.failed (ap Err (read-fault c.in-Err.fault e))
-
-pub returns-in-Err-clause-quiet : goal.returns-in-Err-clause-quiet
-returns-in-Err-clause-quiet g c = λ not. c.in-Err.ensures.quiet (λ e. not (ap Err (read-fault c.in-Err.fault e)))
+pub returns-in-Err-clause-cause : goal.returns-in-Err-clause-cause
+returns-in-Err-clause-cause g c = rises-on c.in-Err.fault c.in-Err.ensures.cause
 
 pub returns-in-Ok-clause-room : goal.returns-in-Ok-clause-room
 returns-in-Ok-clause-room g c = c.in-Ok.ensures.passes.passes.room

@@ -1,6 +1,6 @@
 use Rattle.evac_top.specs.Inputs.{IsOpenInput}
 use Rattle.evac_top.proofs.OpenLemmas.{missing-input, takes-model}
-use Rattle.evac_top.proofs.TakeLemmas.{asked-fresh, asked-then, quiet-then, rose-then}
+use Rattle.evac_top.proofs.TakeLemmas.{asked-fresh, asked-then, rises-on, rises-then}
 use Rattle.evac_top.proofs.read.read_input.Goals as goal
 
 pub returns-in-Ok-clause-input : goal.returns-in-Ok-clause-input
@@ -9,11 +9,11 @@ returns-in-Ok-clause-input g c = c.read_end.ensures.input c.args.lines.now _ c.r
 pub returns-in-Ok-clause-takes : goal.returns-in-Ok-clause-takes
 returns-in-Ok-clause-takes g c = c.read_end.ensures.takes c.args.lines.now _ c.requires c.in-Ok.ensures.bytes c.in-Ok.ensures.drained
 
-pub returns-in-Ok-clause-failed : goal.returns-in-Ok-clause-failed
-returns-in-Ok-clause-failed g c = rose-then c.in-Ok.building c.read_end.result _ _ _ c.in-Ok.ensures.quiet c.read_end.ensures.failed
+pub returns-in-Ok-clause-cause : goal.returns-in-Ok-clause-cause
+returns-in-Ok-clause-cause g c = rises-then c.in-Ok.building c.read_end.result c.in-Ok.ensures.cause c.read_end.ensures.cause
 
-pub returns-in-Ok-clause-quiet : goal.returns-in-Ok-clause-quiet
-returns-in-Ok-clause-quiet g c = quiet-then c.in-Ok.building c.read_end.result _ _ _ c.in-Ok.ensures.quiet c.read_end.ensures.quiet
+pub returns-in-Err-clause-cause : goal.returns-in-Err-clause-cause
+returns-in-Err-clause-cause g c = rises-on c.in-Err.fault c.in-Err.ensures.cause
 
 pub returns-in-Err-clause-takes : goal.returns-in-Err-clause-takes
 returns-in-Err-clause-takes g c =

@@ -21,14 +21,14 @@ returns-in-Ok-read_input-clause-run g c =
     let m = input.building.model in
     let begun = c.begin-begun.ensures in
     read-told (Solve flags) (solve-reads flags) InputIs (IsPlannedOrShort flags input.building.names m input.last) input (solved-few flags input.building.names m input.last) (said-building flags input)
-    (status_number c.tell-status.result) begun.0 c.args.steps.now c.begin-begun.new.steps _ _ _ _ c.in-Ok-read_input.ensures.takes c.in-Ok-read_input.ensures.quiet begun.1 (c.tell-status.ensures m begun.0 begun.2) c.in-Ok-read_input.ensures.input
+    (status_number c.tell-status.result) begun.0 c.args.steps.now c.begin-begun.new.steps _ _ _ _ c.in-Ok-read_input.ensures.takes c.in-Ok-read_input.ensures.cause begun.1 (c.tell-status.ensures m begun.0 begun.2) c.in-Ok-read_input.ensures.input
 
 pub returns-clause-run : goal.returns-clause-run
 returns-clause-run g c =
     let flags = c.args.flags in
     let read = c.in-Err.ensures in
     fault-told (Solve flags) (solve-reads flags) InputIs c.in-Err.fault (solve-fault flags c.in-Err.fault) (status_number c.stop.result) c.args.steps.now _ _ _ _ read.takes
-    read.failed read.quiet c.stop.ensures read.input
+    read.cause c.stop.ensures read.input
 
 pub returns-in_default-clause-asked : goal.returns-in_default-clause-asked
 returns-in_default-clause-asked g c = asked-none g.S.Source.takes _ _

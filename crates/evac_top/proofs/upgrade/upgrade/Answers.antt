@@ -16,12 +16,12 @@ pub returns-in-Ok-read_input-clause-run : goal.returns-in-Ok-read_input-clause-r
 returns-in-Ok-read_input-clause-run g c = λ steps.
     let building = c.in-Ok-read_input.input.building in
     read-told Upgrade upgrade-reads InputIs (IsUpgraded building) c.in-Ok-read_input.input (upgraded-few building) (said-upgraded c.in-Ok-read_input.input) (status_number c.answer.result) 0 steps steps
-    _ _ _ _ c.in-Ok-read_input.ensures.takes c.in-Ok-read_input.ensures.quiet (sym (add-zero steps)) c.answer.ensures c.in-Ok-read_input.ensures.input
+    _ _ _ _ c.in-Ok-read_input.ensures.takes c.in-Ok-read_input.ensures.cause (sym (add-zero steps)) c.answer.ensures c.in-Ok-read_input.ensures.input
 
 pub returns-clause-run : goal.returns-clause-run
 returns-clause-run g c = λ steps.
     let read = c.in-Err.ensures in
-    fault-told Upgrade upgrade-reads InputIs c.in-Err.fault (upgrade-fault c.in-Err.fault) (status_number c.stop.result) steps _ _ _ _ read.takes read.failed read.quiet
+    fault-told Upgrade upgrade-reads InputIs c.in-Err.fault (upgrade-fault c.in-Err.fault) (status_number c.stop.result) steps _ _ _ _ read.takes read.cause
     c.stop.ensures read.input
 
 pub returns-in_default-clause-asked : goal.returns-in_default-clause-asked

@@ -27,7 +27,7 @@ loop-listener-preserved g c =
           (hears-so g.L.Listener.hears _ _ _ _ _ _ _ _ c.number.ensures.number c.text.ensures.text (ap Ok c.in-Ok-More.field-0-is) c.in-Ok-More.ensures.hears);
       kept = c.in-Ok-More.ensures.kept ∙ c.loop-listener.invariant.kept;
       ready = c.in-Ok-More.ensures.more (ap Ok c.in-Ok-More.field-0-is);
-      faults = e.quiet (λ f. cc) ∙ c.loop-listener.invariant.faults;
+      faults = e.cause.same (λ f. cc) ∙ c.loop-listener.invariant.faults;
       drained = λ d. e.drained (c.loop-listener.invariant.drained d);
       asks = asks-then c.loop-listener.invariant.asks e.asks;
     }

@@ -6,4 +6,4 @@ use Rattle.model_writer.specs.ModelText.{entrant_text}
 use Rattle.model_writer.proofs.model.put_entrants.Given as goal
 
 abbrev pub invariant-loop-entrant : goal.invariant-loop-entrant
-invariant-loop-entrant g l = Writes g.K.Sink.held g.K.Sink.faults l.initial.writer (flat_map (entrant_text l.model) (take l.entrant-index l.model.entrants)) l.writer
+invariant-loop-entrant g l = Writes g.K.Sink l.initial.writer (flat_map (entrant_text l.model) (take l.entrant-index l.model.entrants)) l.writer

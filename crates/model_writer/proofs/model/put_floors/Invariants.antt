@@ -6,4 +6,4 @@ use Rattle.model_writer.specs.ModelText.{floor_text}
 use Rattle.model_writer.proofs.model.put_floors.Given as goal
 
 abbrev pub invariant-loop-place : goal.invariant-loop-place
-invariant-loop-place g l = Writes g.K.Sink.held g.K.Sink.faults l.initial.writer (flat_map (floor_text l.names.floors l.names.texts) (below l.place)) l.writer
+invariant-loop-place g l = Writes g.K.Sink l.initial.writer (flat_map (floor_text l.names.floors l.names.texts) (below l.place)) l.writer

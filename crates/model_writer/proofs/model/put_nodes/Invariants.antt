@@ -6,4 +6,4 @@ use Rattle.model_writer.specs.ModelText.{node_text}
 use Rattle.model_writer.proofs.model.put_nodes.Given as goal
 
 abbrev pub invariant-loop-row : goal.invariant-loop-row
-invariant-loop-row g l = Writes g.K.Sink.held g.K.Sink.faults l.initial.writer (flat_map node_text (take l.row-index l.nodes)) l.writer
+invariant-loop-row g l = Writes g.K.Sink l.initial.writer (flat_map node_text (take l.row-index l.nodes)) l.writer

@@ -7,4 +7,4 @@ use Rattle.report_text.specs.ReportText.{arc_periods_part}
 use Rattle.report_text.proofs.bottlenecks.put_arcs.Given as goal
 
 abbrev pub invariant-loop-arc : goal.invariant-loop-arc
-invariant-loop-arc g l = Writes g.K.Sink.held g.K.Sink.faults l.initial.writer (flat_map (arc_periods_part l.model (slice_index l.bottlenecks.arcs)) (below l.arc)) l.writer
+invariant-loop-arc g l = Writes g.K.Sink l.initial.writer (flat_map (arc_periods_part l.model (slice_index l.bottlenecks.arcs)) (below l.arc)) l.writer

@@ -8,4 +8,4 @@ use Rattle.report_text.specs.ReportText.{floor_clear_part}
 use Rattle.report_text.proofs.clearing.put_floors.Given as goal
 
 abbrev pub invariant-loop-floor : goal.invariant-loop-floor
-invariant-loop-floor g l = Writes g.K.Sink.held g.K.Sink.faults l.initial.writer (flat_map (floor_clear_part (λ f. latest (clearing_moment l.clearing) (listed l.index f))) (take l.floor-index l.floors)) l.writer
+invariant-loop-floor g l = Writes g.K.Sink l.initial.writer (flat_map (floor_clear_part (λ f. latest (clearing_moment l.clearing) (listed l.index f))) (take l.floor-index l.floors)) l.writer

@@ -7,4 +7,4 @@ use Rattle.report_text.specs.ReportText.{node_clear_part}
 use Rattle.report_text.proofs.clearing.put_nodes.Given as goal
 
 abbrev pub invariant-loop-node : goal.invariant-loop-node
-invariant-loop-node g l = Writes g.K.Sink.held g.K.Sink.faults l.initial.writer (flat_map (node_clear_part l.model (clearing_moment l.clearing)) (below l.node)) l.writer
+invariant-loop-node g l = Writes g.K.Sink l.initial.writer (flat_map (node_clear_part l.model (clearing_moment l.clearing)) (below l.node)) l.writer

@@ -6,4 +6,4 @@ use Rattle.report_text.specs.Parts.{entry_text}
 use Rattle.report_text.proofs.cut.put_all_coming.Given as goal
 
 abbrev pub invariant-loop-node : goal.invariant-loop-node
-invariant-loop-node g l = Writes g.K.Sink.held g.K.Sink.faults l.initial.writer (flat_map (λ n. flat_map (entry_text l.model n) (moments_to l.k)) (below l.node)) l.writer
+invariant-loop-node g l = Writes g.K.Sink l.initial.writer (flat_map (λ n. flat_map (entry_text l.model n) (moments_to l.k)) (below l.node)) l.writer

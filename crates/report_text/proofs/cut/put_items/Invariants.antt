@@ -10,7 +10,7 @@ use Rattle.report_text.proofs.cut.put_items.Given as goal
 abbrev pub invariant-loop-item : goal.invariant-loop-item
 invariant-loop-item g l =
     (done : List CutItem) × (done ++ l.items ≡ l.initial.items) × All (IsItemOf l.model) l.items
-    × Writes g.K.Sink.held g.K.Sink.faults l.initial.writer (flat_map (item_line l.model) done) l.writer
+    × Writes g.K.Sink l.initial.writer (flat_map (item_line l.model) done) l.writer
 
 abbrev pub decreases-loop-item : goal.decreases-loop-item
 decreases-loop-item g l = length l.items

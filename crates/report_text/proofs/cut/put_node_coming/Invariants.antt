@@ -6,4 +6,4 @@ use Rattle.report_text.specs.Parts.{entry_text}
 use Rattle.report_text.proofs.cut.put_node_coming.Given as goal
 
 abbrev pub invariant-loop-moment : goal.invariant-loop-moment
-invariant-loop-moment g l = Writes g.K.Sink.held g.K.Sink.faults l.initial.writer (flat_map (entry_text l.model l.node) (below l.moment)) l.writer
+invariant-loop-moment g l = Writes g.K.Sink l.initial.writer (flat_map (entry_text l.model l.node) (below l.moment)) l.writer

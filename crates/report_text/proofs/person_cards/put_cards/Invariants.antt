@@ -11,7 +11,7 @@ abbrev pub invariant-loop-number : goal.invariant-loop-number
 invariant-loop-number g l =
     let m = l.model in
     (given : List CardView) × AreGiven m (g.F.Standing.stand l.standing).plan given l.cards
-    × Writes g.K.Sink.held g.K.Sink.faults l.fn.writer (number_line (codes "cards") l.index ++ cards_from m 1 given) l.writer
+    × Writes g.K.Sink l.fn.writer (number_line (codes "cards") l.index ++ cards_from m 1 given) l.writer
     × (l.number ≡ l.cards.given)
 
 abbrev pub decreases-loop-number : goal.decreases-loop-number

@@ -12,7 +12,7 @@ abbrev pub invariant-loop-writer : goal.invariant-loop-writer
 invariant-loop-writer g l =
     let m = l.model in
     (given : List RouteView) × IsGiven m (g.F.Standing.stand l.standing).plan given l.routes
-    × Writes g.K.Sink.held g.K.Sink.faults l.fn.writer (number_line (codes "routes") l.index ++ flat_map (route_lines m) given) l.writer
+    × Writes g.K.Sink l.fn.writer (number_line (codes "routes") l.index ++ flat_map (route_lines m) given) l.writer
 
 abbrev pub decreases-loop-writer : goal.decreases-loop-writer
 decreases-loop-writer g l = all_waiting l.model l.routes

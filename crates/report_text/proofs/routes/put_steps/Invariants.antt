@@ -6,4 +6,4 @@ use Rattle.report_text.specs.ReportText.{step_part}
 use Rattle.report_text.proofs.routes.put_steps.Given as goal
 
 abbrev pub invariant-loop-step : goal.invariant-loop-step
-invariant-loop-step g l = Writes g.K.Sink.held g.K.Sink.faults l.initial.writer (flat_map (step_part l.model) (take l.step-index l.steps)) l.writer
+invariant-loop-step g l = Writes g.K.Sink l.initial.writer (flat_map (step_part l.model) (take l.step-index l.steps)) l.writer

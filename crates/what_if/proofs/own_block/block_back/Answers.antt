@@ -34,4 +34,4 @@ want_of_memory-requires c =
     let after = lines_left c.read_block.new.lines (Some c.read_block.new.source) in
     let left = all-left c.in_ok-lines.lines c.in_ok-source.source c.args.text.now c.in_ok-lines.ensures c.in_ok-source.ensures in
     let back = own-back s c.model.result.now before after c.args.text.now (Err c.in-Err.fault) c.model.ensures.solved c.model.ensures.model left c.requires.text c.in-Err.ensures.back in
-    only-memory 0 s.model s.plan s.labels s.last c.in-Err.fault after back (λ e. never-rose (c.in-Err.ensures.failed (ap Err e)))
+    only-memory 0 s.model s.plan s.labels s.last c.in-Err.fault after back (λ e. never-rose (c.in-Err.ensures.cause.rose (ap Err e)))

@@ -22,4 +22,4 @@ returns-in-Err-Named-clause-building c =
     (of-text c.in_ok-lines.lines c.in_ok-source.source text (Err fault) n after c.in_ok-lines.ensures c.in_ok-source.ensures c.in-Err-Named.ensures.reading)
 
 pub unreachable-requires : goal.unreachable-requires
-unreachable-requires c = never-rose (c.in-Err-ReadFault.ensures.failed (ap Err c.in-Err-ReadFault.field-0-is))
+unreachable-requires c = never-rose (c.in-Err-ReadFault.ensures.cause.rose (ap Err c.in-Err-ReadFault.field-0-is))

@@ -112,8 +112,7 @@ returns-in-Short-clause-mended g c =
       net = c.restore.ensures ∙ same_saved s c.settle_all.new.net (done.net.limits.site ∙ taken.site) (done.net.limits.saved ∙ taken.saved) ∙ ap saved_of c.save.ensures;
       shown = record {
         table = record { nodes = labels.nodes; horizon = labels.horizon };
-        shortfall = answer.1;
-        greatest = answer.2;
+        barred_by = answer.1;
       };
     }
 

@@ -88,7 +88,7 @@ returns-in-Short g c =
           nodes = done.labels.labels.nodes ∙ ap (λ (l : LabelTable). l.nodes) fresh.labels;
           horizon = done.labels.labels.horizon ∙ ap (λ (l : LabelTable). l.horizon) fresh.labels;
         },
-        not_cleared_by c.settle_all.new.labels c.requires answer.1 answer.2,
+        not_cleared_by c.settle_all.new.labels answer.1,
         spent_opening m planned.net u pushes most answer.0 bound,
       ),
     )

@@ -6,4 +6,4 @@ use Rattle.talk.specs.ReplanTalks.{gone_line}
 use Rattle.talk.proofs.replans.gone.put_gone_lines.Given as goal
 
 abbrev pub invariant-loop-moment : goal.invariant-loop-moment
-invariant-loop-moment g l = Writes g.K.Sink.held g.K.Sink.faults l.initial.writer (flat_map (gone_line l.replan.gone) (below l.moment)) l.writer
+invariant-loop-moment g l = Writes g.K.Sink l.initial.writer (flat_map (gone_line l.replan.gone) (below l.moment)) l.writer

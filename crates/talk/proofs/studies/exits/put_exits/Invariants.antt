@@ -12,5 +12,5 @@ abbrev pub invariant-loop-node : goal.invariant-loop-node
 invariant-loop-node g l =
     let m = l.fn.session.state.model in
     (rows : List Row) × AreRows m (filter (is_exit_at m) (below l.node)) rows
-    × Writes g.K.Sink.held g.K.Sink.faults l.fn.writer (number_line (codes "exits") (length (exits_of m)) ++ flat_map (row_text m) rows) l.writer
+    × Writes g.K.Sink l.fn.writer (number_line (codes "exits") (length (exits_of m)) ++ flat_map (row_text m) rows) l.writer
     × (l.session.state ≡ l.fn.session.state) × (l.fn.steps ≤ l.steps)

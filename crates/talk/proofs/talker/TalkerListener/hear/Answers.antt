@@ -15,7 +15,7 @@ returns-in_ok-flush-in-Ok-More-clause-hears g c =
     let x = speaking (t.kept s.speaker.now) (t.state s.speaker.now) c.new-writer.result s.steps.now in
     let y = speaking (t.kept a.self) (t.state a.self) a.writer a.steps in
     λ names m before at reaches. let h = rw c.in-Ok-More.field-0-is at (c.in-Ok-More.ensures.answers names m before at reaches) in
-    (h.0, h.1, reply_said k.held k.faults x y h.0 c.flush.new.self c.new-writer.ensures.failed (search rules) (search rules) h.2 f.text f.ok, h.3, f.sent)
+    (h.0, h.1, reply_said k x y h.0 c.flush.new.self c.new-writer.ensures.failed (search rules) (search rules) h.2 f.text f.ok, h.3, f.sent)
 
 pub returns-in_err-flush-in-Ok-More-clause-hears : goal.returns-in_err-flush-in-Ok-More-clause-hears
 returns-in_err-flush-in-Ok-More-clause-hears g c =
@@ -30,4 +30,4 @@ returns-in_err-flush-in-Ok-More-clause-hears g c =
     let is : c.from_residual.result ≡ Err (Write c.in_err-flush-in-Ok-More.field-0.0) = rw (made.1, made.2) refl in
     λ names m before at reaches. let h = rw c.in-Ok-More.field-0-is at (c.in-Ok-More.ensures.answers names m before at reaches) in
     hears_fault (t.talk names m) (t.Reaches names m) c.from_residual.result _ _ c.args.line c.args.text.now c.in_err-flush-in-Ok-More.field-0.0 is
-    (h.0, h.1, reply_unsaid k.held k.faults x y h.0 c.flush.new.self c.new-writer.ensures.failed (search rules) (search rules) h.2 f.text f.err)
+    (h.0, h.1, reply_unsaid k x y h.0 c.flush.new.self c.new-writer.ensures.failed (search rules) (search rules) h.2 f.text f.err)

@@ -24,7 +24,7 @@ returns-in-Ok-Session-Blank-clause-answers g c =
     let s = replanned t.desk t.replan in
     let x = shown_replan t.desk t.replan c.args.writer.now c.args.steps.now in
     λ names m before at reaches. answers x x names m before c.args.line c.args.text.now (Ok (Session Blank)) (asks_command h.field-0-is h.field-0-0-is h.ensures) at reaches
-    (put_nothing g.K.Sink.held g.K.Sink.faults (λ r. SessionRow t.desk.names c.args.line s Blank r) x
+    (put_nothing g.K.Sink (λ r. SessionRow t.desk.names c.args.line s Blank r) x
     (session_row t.desk.names c.args.line s Blank refl (says s []) (says (desk_state t.desk t.replan.session) [], refl, refl)))
 
 pub returns-in-Ok-Session-Edit-clause-answers : goal.returns-in-Ok-Session-Edit-clause-answers

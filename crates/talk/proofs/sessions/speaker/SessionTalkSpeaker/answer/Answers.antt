@@ -14,7 +14,7 @@ returns-in-Ok-Blank-clause-answers g c =
     let t = c.args.self.now in
     let x = shown_of t.desk t.session c.args.writer.now c.args.steps.now in
     λ names m before at reaches. answers x x names m before c.args.line c.args.text.now (Ok Blank) (sym (ap Ok h.field-0-is) ∙ h.ensures.exact) at reaches
-    (put_nothing g.K.Sink.held g.K.Sink.faults (λ r. Replies t.desk.names c.args.line (desk_state t.desk t.session) (Ok Blank) r) x refl)
+    (put_nothing g.K.Sink (λ r. Replies t.desk.names c.args.line (desk_state t.desk t.session) (Ok Blank) r) x refl)
 
 pub returns-in-Ok-Edit-clause-answers : goal.returns-in-Ok-Edit-clause-answers
 returns-in-Ok-Edit-clause-answers g c =

@@ -12,7 +12,7 @@ returns-in-Ok-Blank-clause-answers g c =
     let d = c.args.self.now in
     let x = shown_study d c.args.writer.now c.args.steps.now in
     λ names m before at reaches. answers x x names m before c.args.line c.args.text.now (Ok Blank) (sym (ap Ok h.field-0-is) ∙ h.ensures) reaches
-    (put_nothing g.K.Sink.held g.K.Sink.faults (λ r. StudyReplies d.names d.session.state.model c.args.line (Ok Blank) r) x refl)
+    (put_nothing g.K.Sink (λ r. StudyReplies d.names d.session.state.model c.args.line (Ok Blank) r) x refl)
 
 pub returns-in-Ok-Exits-clause-answers : goal.returns-in-Ok-Exits-clause-answers
 returns-in-Ok-Exits-clause-answers g c =
