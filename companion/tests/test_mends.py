@@ -11,15 +11,13 @@ import signal
 import subprocess
 import sys
 import tempfile
-import threading
 import time
 import unittest
-from typing import Callable, List, Tuple
+from typing import Callable, Tuple
 
 import evacask
 from companion.tests.asking import OFFICE, PATIENCE, TOP, ask, program, solved
 from evacask.client import sources
-from evacask.faces.commands import main
 
 # The seconds after which a reply that comes at once otherwise isn't waited for any longer.
 SOON = 10
@@ -218,6 +216,20 @@ def runs(process: int) -> bool:
         return False
 
 
+# Runs a command in a thread, and ends with its status.
+IN_A_THREAD = """
+import sys, threading
+import companion.tests
+from evacask.faces.commands import main
+
+found = []
+thread = threading.Thread(target=lambda: found.append(main(sys.argv[1:])))
+thread.start()
+thread.join()
+sys.exit(found[0] if found else 70)
+"""
+
+
 class Talk(unittest.TestCase):
     def test_a_line_of_carriage_returns(self) -> None:
         command = [sys.executable, "-B", str(TOP / "evacask"), "talk", str(OFFICE)]
@@ -235,21 +247,19 @@ class Talk(unittest.TestCase):
                 self.assertIn(b"standard input can't be read", ran.stderr)
 
     def test_a_thread_at_a_terminal(self) -> None:
-        child, terminal = pty.fork()
-        if child == 0:
-            found: List[int] = []
-            thread = threading.Thread(target=lambda: found.append(main(["why", str(OFFICE)])))
-            thread.start()
-            thread.join()
-            os._exit(found[0] if found else 70)
+        screen, terminal = pty.openpty()
+        command = [sys.executable, "-B", "-c", IN_A_THREAD, "why", str(OFFICE)]
+        # (the terminal is there when Python begins: a stream keeps whether it can be sought in)
+        asked = subprocess.Popen(command, cwd=TOP, stdin=terminal, stdout=terminal, stderr=terminal, start_new_session=True)
+        os.close(terminal)
         shown = b""
-        with open(terminal, "rb", buffering=0) as screen, contextlib.suppress(OSError):  # (the end of a terminal's output is an error)
+        with open(screen, "rb", buffering=0) as showing, contextlib.suppress(OSError):  # (the end of a terminal's output is an error)
             while True:
-                part = screen.read(4096)
+                part = showing.read(4096)
                 if not part:
                     break
                 shown += part
-        self.assertEqual(os.waitstatus_to_exitcode(os.waitpid(child, 0)[1]), 0, shown.decode())
+        self.assertEqual(asked.wait(SOON), 0, shown.decode())
 
     def test_messages_need_no_document(self) -> None:
         with tempfile.TemporaryDirectory() as folder:
