@@ -1,6 +1,7 @@
 """random_exactness.py SEED COUNT: random buildings in shorter periods and in shares, against the ends that were printed for the coarse ones.
 
-EVACPLAN names the program. Each building is drawn in metres or in periods; what it comes to more finely must lie between the ends of the coarse answer.
+EVACPLAN names the program. Each building is drawn in metres or in periods; what it comes to more finely must lie between the ends of the coarse answer,
+and no answer gets worse if each share is cut into more.
 """
 import pathlib
 import random
@@ -13,8 +14,12 @@ from evacask.client.asking import accepted, plan_or_short
 from evacask.client.blocks import Plan
 from evacask.client.program import found_program
 from evacask.client.talk import Client
-from evacask.model.drawn_building import best_shares, drawn_building, fits, shares_for
+from evacask.model.building import Model
+from evacask.model.drawn import Rounding
+from evacask.model.drawn_building import Scale, best_shares, building_text, drawn_building, fits, shares_for
 from evacask.questions.bracket import Bracket, bracket
+from evacask.questions.sensitivity import sensitivity
+from evacask.questions.width import width
 
 STAIRS = ("191/254", "178/279", "165/305", "165/330")
 
@@ -39,14 +44,14 @@ def plan(chance: random.Random) -> str:
     rooms, lines = chance.randint(1, 4), ["evacplan 1", "period 5", "horizon 240", "floor 1 Ground"]
     lines += [f"node WP{it}.1 200 {chance.randint(1, 40)}" for it in range(1, rooms + 1)]
     lines += ["node HA1.1 500 0", "node SW1.1 500 0", "node DS1.1", "node DS2.1"]
-    width = chance.randint
+    drawn = chance.randint
     for it in range(1, rooms + 1):
-        lines.append(f"way WP{it}.1 HA1.1 free {width(10, 30)} door 0.{width(75, 99)}")
-    lines.append(f"way HA1.1 SW1.1 level {width(12, 60)} 1.{width(10, 99)}")
-    stair = f"stair {width(6, 15)}.{width(1, 9)} 1.{width(10, 80)} {chance.choice(STAIRS)}"
+        lines.append(f"way WP{it}.1 HA1.1 free {drawn(10, 30)} door 0.{drawn(75, 99)}")
+    lines.append(f"way HA1.1 SW1.1 level {drawn(12, 60)} 1.{drawn(10, 99)}")
+    stair = f"stair {drawn(6, 15)}.{drawn(1, 9)} 1.{drawn(10, 80)} {chance.choice(STAIRS)}"
     lines.append(f"way SW1.1 DS1.1 {stair} level 9 3.00 {chance.choice(('door 0.90', 'leaves 1', 'door 1.20', 'comes 0.7'))}")
     if chance.random() < 0.5:
-        lines.append(f"way HA1.1 DS2.1 level {width(20, 80)} 2.00 door 0.{width(75, 99)}")
+        lines.append(f"way HA1.1 DS2.1 level {drawn(20, 80)} 2.00 door 0.{drawn(75, 99)}")
     return "\n".join([*lines, "end", ""])
 
 
@@ -76,6 +81,29 @@ def brackets_meet(client: Client, seed: str) -> str:
     return "inside" if earliest < latest else f"not before {earliest} and before {latest}"
 
 
+def more_shares_are_no_worse(client: Client, seed: str) -> str:
+    """What comes of a plan if each share is cut into more: with no way, and without each, all are out as soon, and the least rate is no greater."""
+    chance = random.Random(f"{seed} in shares")
+    drawn = drawn_building("random.plan", plan(random.Random(seed)))
+    few = chance.randint(5, 20)
+    coarse, fine = (accepted(client, building_text(drawn, Scale(5, it, Rounding.LATER))) for it in (few, few * chance.randint(2, 5)))
+    plans = [plan_or_short(client, it) for it in (coarse, fine)]
+    if not isinstance(plans[0], Plan):
+        return "short"
+    if not isinstance(plans[1], Plan) or plans[1].cleared > plans[0].cleared:
+        return f"{plans[1]} is worse than {plans[0]}"
+    for before, after in zip(lost(client, coarse), lost(client, fine)):
+        if before is not None and (after is None or after > before):
+            return f"without a way all are out by {after}, and by {before} in fewer shares"
+    rates = [width(client, it, "SW1.1", "DS1.1", plans[0].interval[1]).rate for it in (coarse, fine)]
+    return "inside" if rates[0] is None or rates[1] is not None and rates[1] <= rates[0] else f"it needs {rates[1]}, and {rates[0]} in fewer shares"
+
+
+def lost(client: Client, model: Model) -> List[Optional[int]]:
+    """By when all are out without each way, in the order of their names; None if not all can be."""
+    return [it.without.cleared for it in sorted(sensitivity(client, model, workers=1).ways, key=lambda it: it.names)]
+
+
 def loses_little(seed: str) -> str:
     """Whether `auto` keeps half a percent, or no number of shares that keeps the limits does."""
     drawn = drawn_building("random.plan", plan(random.Random(seed)))
@@ -89,7 +117,13 @@ def tried(seed: int, count: int) -> Counter:  # type: ignore[type-arg]
     client, found = found_program(), Counter()  # type: ignore[var-annotated]
     for number in range(count):
         name = f"{seed}-{number}"
-        for kind, said in (("finer", finer_is_inside(client, name)), ("bracket", brackets_meet(client, name)), ("auto", loses_little(name))):
+        trials = {
+            "finer": finer_is_inside(client, name),
+            "bracket": brackets_meet(client, name),
+            "shares": more_shares_are_no_worse(client, name),
+            "auto": loses_little(name),
+        }
+        for kind, said in trials.items():
             found[kind, said if said in ("inside", "short") else f"{name}: {said}"] += 1
     return found
 

@@ -158,6 +158,21 @@ class Wide(unittest.TestCase):
             self.assertIn(f"by moment {moment} ", ask("width", SCHOOL, "LO1.1", "DS1.1", seconds).lines[0])
         self.assertEqual((ask("width", SCHOOL, "LO1.1", "DS1.1", 4).status, ask("width", SCHOOL, "LO1.1", "DS1.1", 605).status), (1, 0))
 
+    def test_the_tower_s_stairs_for_a_quarter_of_an_hour(self) -> None:
+        # In fortieths of a person stairs of 1.24 m are wide enough, and those of 1.20 m aren't. In whole people both have the rate 4.
+        tower = (TOP / "examples/tower.plan").read_text()
+        ends = {}
+        for width in ("1.20", "1.24"):
+            drawn = tower.replace(" 1.30 178/279", f" {width} 178/279")
+            for shares in (1, 40):
+                text = ask("convert", "-", "--shares", shares, text=drawn).out
+                ends[width, shares] = 5 * (int(found(re.search(r"^cleared (\d+)", solved(text.encode(), "solve"), re.M))) + 1)
+        self.assertEqual(ends, {("1.20", 1): 1055, ("1.24", 1): 1055, ("1.20", 40): 940, ("1.24", 40): 900})
+        in_shares = ask("convert", "-", "--shares", 40, text=tower).out
+        said = ask("width", "-", "SW2.1", "DS2.0", 875, text=in_shares)
+        self.assertIn("needs a rate of 4.7 for everybody to be out by moment 174 (870 to 875 s); it has 5.0 now.", said.lines[0])
+        self.assertIn("stair 178/279       1.24 m", said.out)
+
     def test_never_and_not_at_all(self) -> None:
         self.assertIn("No rate of LO1.1 DS1.1 is enough: with 10,000 at most 180 of 240", ask("wide", OFFICE, "LO1.1", "DS1.1", 105).out)
         self.assertIn("HA1.3 SW1.3 isn't needed at all", ask("wide", OFFICE, "HA1.3", "SW1.3", 400).out)
