@@ -36,6 +36,16 @@ class Plans(unittest.TestCase):
         crowded = drawn_building("room.plan", PLAN.replace("50 20", "9000 9000"))
         self.assertLessEqual(best_shares(crowded, 5).number * 9000, 100_000)
 
+    def test_more_shares_than_the_language_allows(self) -> None:
+        entrants = PLAN.replace("end\n", "entrant WP1.1 3 1500\nentrant WP1.1 4 1000\nend\n")
+        self.assertIn("entrant WP1.1 4 39000\n", converted(Scale(5, 39), entrants))
+        for plan, shares, line in ((PLAN.replace("50 20", "9000 9000"), 12, 5), (entrants, 40, 9)):
+            with self.assertRaisesRegex(PlanFault, "shares of a person, and the most is 100000") as fault:
+                converted(Scale(5, shares), plan)
+            self.assertEqual(fault.exception.line, line)
+        # Too many whole people are the plan's own, and the program says so.
+        self.assertIn("node WP1.1 50 100001\n", converted(Scale(5), PLAN.replace("50 20", "50 100001")))
+
     def test_a_way_that_takes_less_than_a_period(self) -> None:
         self.assertIsNone(too_short(drawn_building("room.plan", PLAN), 9))
         self.assertIsNotNone(too_short(drawn_building("room.plan", PLAN), 10))

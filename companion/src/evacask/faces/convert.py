@@ -112,7 +112,7 @@ def run(given: Namespace) -> int:
         f"{text}# evacask's own arithmetic, not proved: ways in metres became arcs by docs/users/modelling.md, {given.rounding.value}.\n"
     )
     if given.shares == "auto" and sys.stderr is not None:
-        sys.stderr.write(f"evacask: {shares.number} shares of a person; the rates lose {100 * shares.loss:.2f} % at most\n")
+        sys.stderr.write(f"evacask: {shares.number} share{'s' * (shares.number > 1)} of a person; the rates lose {100 * shares.loss:.2f} % at most\n")
     return Status.ANSWERED
 
 

@@ -27,12 +27,16 @@ class DrawnBuilding:
     @property
     def people(self) -> int:
         """All people of its nodes and entrants, as far as they are numbers."""
-        numbers = [it for it in map(fields_of, self.lines) if it and it[-1].isdigit()]
-        return sum(int(it[-1]) for it in numbers if (it[0], len(it)) in (("node", 4), ("entrant", 4)))
+        return sum(people_in(fields_of(line)) for line in self.lines)
 
     @property
     def has_windows(self) -> bool:
         return any(fields_of(line)[:1] == ["window"] for line in self.lines)
+
+
+def people_in(fields: Sequence[str]) -> int:
+    """The people of a node's or an entrant's line; 0 of another line, or if they aren't a number."""
+    return int(fields[3]) if len(fields) == 4 and fields[0] in ("node", "entrant") and is_number(fields[3]) else 0
 
 
 @dataclass(frozen=True)
@@ -74,16 +78,26 @@ def period_of(name: str, lines: Sequence[str]) -> int:
 
 def building_text(drawn: DrawnBuilding, scale: Scale) -> str:
     """The building: each way is an arc, and each other line is kept but for what the period and the shares change."""
-    ways, made = {it.line: it for it in drawn.ways}, []
+    ways, made, people = {it.line: it for it in drawn.ways}, [], 0
     for number, line in enumerate(drawn.lines, 1):
         fields = fields_of(line)
+        people += people_in(fields)
         try:
+            check_people(people, scale.shares)
             made.append(arc_line(ways[number], scale) if number in ways else other_line(drawn, fields, line, scale))
         except Wrong as wrong:
             raise PlanFault(drawn.name, number, str(wrong)) from None
         if fields[:1] == ["end"] and scale.shares > 1:
             made.insert(-1, f"{MARK} {scale.shares}")
     return "".join(f"{line}\n" for line in made)
+
+
+def check_people(people: int, shares: int) -> None:
+    """Refuses more shares than the language allows. Too many whole people are the plan's own fault, and the program names it."""
+    if shares > 1 and people * shares > MOST_PEOPLE:
+        raise Wrong(
+            f"up to here there are {people} people, which are {people * shares} in {shares} shares of a person, and the most is {MOST_PEOPLE}"
+        )
 
 
 def arc_line(way: DrawnWay, scale: Scale) -> str:
