@@ -26,6 +26,7 @@ import re
 import subprocess
 import sys
 import tempfile
+from concurrent.futures import ThreadPoolExecutor
 from dataclasses import dataclass, field
 
 sys.dont_write_bytecode = True
@@ -91,7 +92,7 @@ def entries(text):
 
 
 class Runner:
-    """Runs commands in a folder that has the repository and the program. What a command printed once is kept."""
+    """Runs commands in a folder that has the repository and the program. Each line is run once and by itself: what it printed is kept."""
 
     def __init__(self, program, folder):
         self.folder, self.kept = folder, {}
@@ -115,7 +116,7 @@ def wrong_entry(entry, text, runner):
         yield f"evidence.txt:{entry.line}: {entry.document} doesn't say: {entry.sentence}"
     if entry.why:
         return
-    printed = runner.printed("\n".join(entry.commands))
+    printed = " ".join(map(runner.printed, entry.commands))
     yield from (f"evidence.txt:{entry.line}: not printed: {it}" for it in entry.shown if " ".join(it.split()) not in printed)
     there = {it.replace(",", "") for it in re.findall(r"\d[\d,]*(?:\.\d+)?", " ".join(entry.commands + entry.shown))}
     yield from (f"evidence.txt:{entry.line}: nothing shows the {it} of: {entry.sentence}" for it in sorted(numbers(entry.sentence) - there))
@@ -170,8 +171,15 @@ def main():
     texts = {it.document: (TOP / it.document).read_text() for it in listed}
     if given.counts:
         print("\n".join(counts(listed, texts)))
-    with tempfile.TemporaryDirectory(prefix="evacplan-evidence-") as folder:
-        found = list(differences(listed, texts, Runner(program, pathlib.Path(folder))))
+
+    def found_in(document):
+        """What a document's check finds, in a folder of its own."""
+        with tempfile.TemporaryDirectory(prefix="evacplan-evidence-") as folder:
+            runner = Runner(program, pathlib.Path(folder))
+            return list(differences([it for it in listed if it.document == document], {document: texts[document]}, runner))
+
+    with ThreadPoolExecutor(os.cpu_count()) as pool:
+        found = [it for part in pool.map(found_in, texts) for it in part]
     print("\n".join(found) or "what the documents say is what the program and the sources say")
     return 1 if found else 0
 
