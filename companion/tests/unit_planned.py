@@ -13,7 +13,7 @@ from evacask.model.drawn_building import drawn_building
 from evacask.model.edits import edited
 from evacask.questions.bracket import brackets, narrow_period
 from evacask.questions.by_hand import by_hand
-from evacask.questions.sensitivity import Names
+from evacask.questions.spared import Names
 from evacask.questions.why import why_of
 
 ROOM = "evacplan 1\nperiod 5\nhorizon 20\nfloor 1 G\nnode WP1.1 10 8\nnode DS1.1\nnode DS2.1\narc WP1.1 DS1.1 1 1\narc WP1.1 DS2.1 3 5\nend\n"

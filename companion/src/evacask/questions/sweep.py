@@ -57,32 +57,36 @@ def sweep(
     workers: int = 4,
     tell: Callable[[int, int], None] = lambda done, of: None,
     executor: Optional[Executor] = None,
+    steps: int = MOST_UNDOS,
 ) -> List[Answer]:
     """The answer to each scenario, in their order: see `answers`. `tell` is told how many are there."""
     found = []
-    for answer in answers(client, model, scenarios, workers, executor):
+    for answer in answers(client, model, scenarios, workers, executor, steps):
         found.append(answer)
         tell(len(found), len(scenarios))
     return found
 
 
-def answers(client: Client, model: Model, scenarios: Sequence[Scenario], workers: int = 4, executor: Optional[Executor] = None) -> Iterator[Answer]:
+def answers(
+    client: Client, model: Model, scenarios: Sequence[Scenario], workers: int = 4, executor: Optional[Executor] = None, steps: int = MOST_UNDOS
+) -> Iterator[Answer]:
     """The answers in the order of the scenarios, asked by so many workers at once.
 
-    They are threads, or those of an `executor`, which may be any of `concurrent.futures`.
+    They are threads, or those of an `executor`, which may be any of `concurrent.futures`. A session plans after each edit of a scenario, so one of more
+    than `steps` edits is planned from its last building.
     """
     if workers < 1:
         raise WordsError(f"{workers} workers: there is at least 1")
     if executor is None:
         with ThreadPoolExecutor(workers) as pool:
-            yield from answers(client, model, scenarios, workers, pool)
+            yield from answers(client, model, scenarios, workers, pool, steps)
         return
     batch = batch_of(len(scenarios), workers)
     waiting: "Deque[Future[List[Answer]]]" = deque()
     try:
         for start in range(0, len(scenarios), batch):
             some = [checked(it, model) for it in scenarios[start : start + batch]]
-            waiting.append(begun(executor, client, model.text, some))
+            waiting.append(begun(executor, client, model.text, some, steps))
             if len(waiting) > workers + WAITING:
                 yield from result_of(waiting.popleft())
         while waiting:
@@ -92,10 +96,10 @@ def answers(client: Client, model: Model, scenarios: Sequence[Scenario], workers
             it.cancel()
 
 
-def begun(executor: Executor, client: Client, text: str, scenarios: List[Edits]) -> "Future[List[Answer]]":
+def begun(executor: Executor, client: Client, text: str, scenarios: List[Edits], steps: int) -> "Future[List[Answer]]":
     """A batch that is at work or waits for a thread; `NoMemory` where there is none for another thread."""
     try:
-        return executor.submit(part, client, text, scenarios)
+        return executor.submit(part, client, text, scenarios, steps)
     except RuntimeError as fault:
         if "start new thread" not in str(fault):
             raise
@@ -139,10 +143,10 @@ def fault_of(edit: str, model: Model) -> str:
     return ""
 
 
-def part(client: Client, text: str, scenarios: List[Edits]) -> List[Answer]:
-    """The answers to some scenarios of the building with a text: those that can be in one session, and the others one by one."""
+def part(client: Client, text: str, scenarios: List[Edits], steps: int) -> List[Answer]:
+    """The answers to some scenarios of the building with a text: those of at most so many steps in one session, and the others one by one."""
     model = modelled(text)
-    found = in_session(client, model, {at: it for at, it in enumerate(scenarios) if 0 < len(it) <= MOST_UNDOS})
+    found = in_session(client, model, {at: it for at, it in enumerate(scenarios) if 0 < len(it) <= steps})
     return [found[at] if at in found else alone(client, model, edits) for at, edits in enumerate(scenarios)]
 
 

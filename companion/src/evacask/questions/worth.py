@@ -6,18 +6,17 @@ from typing import Callable, Collection, Dict, List, Optional, Sequence, Set, Tu
 
 from evacask.client.blocks import Outcome, Plan
 from evacask.client.talk import Client
-from evacask.errors import Broken
 from evacask.model.building import Model, Way
 from evacask.model.draft import MOST_RATE
 from evacask.model.ground import Ground
 from evacask.model.records import Record, Records
 from evacask.model.shares import Count, in_people
-from evacask.questions.sensitivity import Names, WayOutcome, most_sent, questions
-from evacask.questions.sweep import Answer, sweep
+from evacask.questions.sensitivity import Trial, WayOutcome, most_sent, outcome, questions
+from evacask.questions.spared import Names
+from evacask.questions.sweep import sweep
 
 # So many buildings are planned at most, and so many that their plans have this many bytes together.
 MOST_TRIALS, MOST_BYTES = 200, 8_000_000
-Key = Tuple[Names, str]
 
 
 @dataclass(frozen=True)
@@ -68,7 +67,7 @@ def users_of(model: Model, through: Dict[Way, Count]) -> Dict[Names, Count]:
     return users
 
 
-def within(asked: Collection[Key], names: Sequence[Names], most: int) -> List[Names]:
+def within(asked: Collection[Trial], names: Sequence[Names], most: int) -> List[Names]:
     """The first of some ways whose trials are so many at most."""
     found, count = [], 0
     for it in names:
@@ -77,10 +76,3 @@ def within(asked: Collection[Key], names: Sequence[Names], most: int) -> List[Na
             break
         found.append(it)
     return found
-
-
-def outcome(answer: Answer) -> Outcome:
-    """The outcome of a trial, which the program doesn't refuse."""
-    if answer.most is None:
-        raise Broken(f"the program refused an edit of its own building with {answer.refused}")
-    return Outcome(answer.cleared, answer.most)
