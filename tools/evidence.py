@@ -26,6 +26,7 @@ import re
 import subprocess
 import sys
 import tempfile
+from concurrent.futures import ThreadPoolExecutor
 from dataclasses import dataclass, field
 
 sys.dont_write_bytecode = True
@@ -170,8 +171,15 @@ def main():
     texts = {it.document: (TOP / it.document).read_text() for it in listed}
     if given.counts:
         print("\n".join(counts(listed, texts)))
-    with tempfile.TemporaryDirectory(prefix="evacplan-evidence-") as folder:
-        found = list(differences(listed, texts, Runner(program, pathlib.Path(folder))))
+
+    def found_in(document):
+        """What a document's check finds, in a folder of its own."""
+        with tempfile.TemporaryDirectory(prefix="evacplan-evidence-") as folder:
+            runner = Runner(program, pathlib.Path(folder))
+            return list(differences([it for it in listed if it.document == document], {document: texts[document]}, runner))
+
+    with ThreadPoolExecutor(os.cpu_count()) as pool:
+        found = [it for part in pool.map(found_in, texts) for it in part]
     print("\n".join(found) or "what the documents say is what the program and the sources say")
     return 1 if found else 0
 

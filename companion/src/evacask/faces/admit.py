@@ -63,8 +63,8 @@ def run(given: Namespace) -> int:
 COMMAND = Command(
     "admit",
     run,
-    "how many people a room or the building may hold, for all to be out in time",
-    "With --room the others stay as they are. Without it all rooms are asked about: the same share of each, and as is best.",
+    "how many people may a room or the building hold for everybody to be out in time?",
+    "With --room, the other rooms stay as they are. Without it, the answer is about all rooms: with the same factor for each, and as is best.",
     "examples/school.evac 120 --room WP1.2",
-    (BUILDING, SECONDS, EARLIER, argument("--room", metavar="NAME", default=None, help="one room, by its name or its own name"), *SHARED),
+    (BUILDING, SECONDS, EARLIER, argument("--room", metavar="NAME", default=None, help="ask about one room, by its name or its own name"), *SHARED),
 )

@@ -55,17 +55,17 @@ COMMAND = Command(
     "assign",
     run,
     "one way for each room, for wardens and signs",
-    "The plan is looked for among the ways of the best plan and the shortest ways, and is certified by the program's check.",
+    "The search uses the ways of the best plan and the shortest ways. The program's check certifies the plan.",
     "examples/office.evac",
     (
         BUILDING,
         argument(
             "--nearest",
             action="store_true",
-            help="send each room its shortest way (of equally short ones that of the best plan), and look for nothing better",
+            help="send each room by its shortest way (a tie goes to the best plan's), and search no further",
         ),
         EFFORT,
-        argument("--plan", metavar="FILE", default=None, help="write the plan into this file, as a block for evacplan check"),
+        argument("--plan", metavar="FILE", default=None, help="write the plan to this file, as a block for evacplan check"),
         *SHARED,
     ),
 )

@@ -82,16 +82,15 @@ def run(given: Namespace) -> int:
 COMMAND = Command(
     "compare",
     run,
-    "what if? a building, edits of it, and other buildings side by side",
-    "An edit is a line of a session, as 'shut A B' or 'rate A B 9'. Each --edit is a line of the table.\nSeveral edits in one have ; between them.",
+    "what if: a building, its edits and other buildings side by side",
+    "An edit is a line of a session, such as 'shut A B' or 'rate A B 9'. Each --edit adds a line to the table.\n"
+    "Several edits in one --edit are separated by a semicolon.",
     "examples/office.evac --edit 'shutexit DS2.1; rate SW1.2 LO1.1 8'",
     (
         BUILDING,
         argument("others", metavar="OTHER", nargs="*", help="another building"),
         argument("--edit", action="append", default=[], metavar="EDITS", help="the building after these edits"),
-        argument(
-            "--unforeseen", type=number, metavar="SECONDS", default=None, help="the edits happen after so many seconds, and nobody knew of them"
-        ),
+        argument("--unforeseen", type=number, metavar="SECONDS", default=None, help="the edits happen after this time, and nobody knew of them"),
         *FACES,
     ),
 )

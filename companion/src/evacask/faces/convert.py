@@ -17,25 +17,25 @@ from evacask.model.lines import is_number
 from evacask.model.shares import MOST
 from evacask.questions.bracket import NARROW, Bracket, brackets, narrow_period
 
-WHAT = f"""The plan is a building in which lines `way FROM TO PART ..` are in place of arcs. The parts of a way, in their order:
+WHAT = f"""The plan is a building with lines `way FROM TO PART ..` instead of arcs. The parts of a way, in order:
 
-    free 11                  metres that one walks alone, as in a room to its door
-    crowd 7 1.63             metres in a crowd of so many people on a square metre
+    free 11                  metres walked without a crowd, such as in a room to its door
+    crowd 7 1.63             metres in a crowd, and its people per square metre
     level 18 2.40            a corridor: its length, and its width from wall to wall
     stair 5.96 1.50 178/279  a stair: its length along the slope, its width between the walls, and its riser/tread
-    escalator 10.7 0.5 1     an escalator that runs: its length, its metres a second, and the people a second who get on
+    escalator 10.7 0.5 1     a running escalator: its length, its metres a second, and the people a second who get on
     door 0.90                a door that is held open: its clear width
-    doors 4 1.30             doors alike, side by side: how many, and the clear width of each
+    doors 4 1.30             equal doors side by side: how many, and the clear width of each
     leaves 1                 a door that isn't held open: its leaves, for 50 people a minute each
-    people 1.56              held to so many people a second, and walked at the speed of that flow
-    comes 0.78               no more than so many a second come: walked at the speed of that flow, with the rate of the width
+    people 1.56              limited to so many people a second, and walked at the speed of that flow
+    comes 0.78               no more than so many a second arrive: walked at the speed of that flow, with the rate of the width
 
-Lengths and widths are metres. The rate of a way is that of its narrowest part, and each part is walked at the speed for so many people.
-Rates are rounded down and travels up, which errs towards a later clearing time if no arc has a window and nobody comes later;
+Lengths and widths are in metres. The rate of a way is that of its narrowest part, and each part is walked at the speed for so many people.
+Rates are rounded down and travel times up, which errs towards a later clearing time if there are no windows and no late-comers;
 add one period.
 
 A rate is a whole number of people a period. With --shares the building counts each person as several shares, so a rate may be a fraction:
-all commands of evacask read and print people as before. `--shares auto` takes the least number up to {MOST} that loses at most
+all commands of evacask still read and print people. `--shares auto` takes the least number up to {MOST} that loses at most
 0.5 % of each rate."""
 
 
@@ -127,17 +127,24 @@ def run_both(given: Namespace, drawn: DrawnBuilding) -> int:
 COMMAND = Command(
     "convert",
     run,
-    "metres to a building: lengths and widths become travels and rates",
+    "turn metres into a building: lengths and widths become travel times and rates",
     WHAT,
     "examples/school.plan",
     (
-        argument("plan", metavar="PLAN", help="a building with lines `way`, or - for standard input"),
-        argument("--period", type=period_word, action="append", default=[], metavar="N", help="a period of N seconds, and not that of the plan"),
+        argument("plan", metavar="PLAN", help="a building with `way` lines, or - for standard input"),
+        argument("--period", type=period_word, action="append", default=[], metavar="N", help="a period of N seconds instead of the plan's"),
         argument("--shares", type=shares_word, default=None, metavar="N", help=f"count each person as N shares, 1 to {MOST}, or auto"),
         [
-            argument("--down", dest="rounding", action="store_const", const=Rounding.LATER, default=Rounding.LATER, help="rates down, travels up"),
-            argument("--up", dest="rounding", action="store_const", const=Rounding.EARLIER, help="rates up, travels down"),
-            argument("--both", action="store_true", help="between which seconds all are out, for each --period, in a table"),
+            argument(
+                "--down",
+                dest="rounding",
+                action="store_const",
+                const=Rounding.LATER,
+                default=Rounding.LATER,
+                help="rates down, travel times up (the default)",
+            ),
+            argument("--up", dest="rounding", action="store_const", const=Rounding.EARLIER, help="rates up, travel times down"),
+            argument("--both", action="store_true", help="print a table: between which seconds everybody is out, for each --period"),
         ],
         *FACES,
     ),

@@ -26,12 +26,12 @@ COMMAND = Command(
     "edit",
     run,
     "write the building after some edits, with its comments and names",
-    "Without an edit the building is written as it is. What is shut has rate 0 in it.",
+    "Without an edit the building is written unchanged. What is shut is written with rate 0.",
     "examples/office.evac --edit 'shutexit DS2.1; rate SW1.2 LO1.1 8'",
     (
         BUILDING,
         EDIT,
-        argument("-o", "--output", metavar="FILE", default=None, help="write into this file, whole or not at all"),
+        argument("-o", "--output", metavar="FILE", default=None, help="write to this file, completely or not at all"),
         argument("--version", dest="version_of_text", choices=("2",), default=None, help="write it in version 2 of the language"),
     ),
 )

@@ -43,14 +43,14 @@ class Status(enum.IntEnum):
 STATUSES = """statuses:
   0    answered
   1    the building, the plan or a line is refused, or not everybody gets out
-  2    the words of the command are wrong
+  2    the arguments of the command are wrong
   3    a file or standard input can't be read
   4    the output can't be written
   5    there was too little memory
   10   there is something to review
-  70   there is no program, it broke off or isn't proved, or Python is too old
-  141  whoever read the output has gone
-A signal that ends evacask ends the program that it asks too: 130 after Ctrl-C, 143 after SIGTERM, 129 after SIGHUP."""
+  70   there is no program, or it failed or isn't proved, or Python is too old
+  141  the reader of the output has gone away
+A signal that ends evacask also ends the program that it asks. The status is then 130 after Ctrl-C, 143 after SIGTERM, 129 after SIGHUP."""
 
 # The status of each kind of error that has one of its own; all others are 1.
 STATUS_OF = (

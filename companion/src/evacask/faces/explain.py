@@ -86,12 +86,12 @@ def run(given: Namespace) -> int:
 COMMAND = Command(
     "explain",
     run,
-    "why is it refused? the line, what is wrong, and what to do",
-    "A building is run, and each refusal explained. Where commands or a block come after the building, name the mode.",
+    "why is it refused: which line, what is wrong, and what can I do about it?",
+    "Runs the building and explains each refusal. If commands or a block follow the building, name the mode.",
     "13 33",
     (
         argument("what", metavar="BUILDING|CODE", help="a file with a building, or - for standard input; or a code, as in `refused 13 33`"),
-        argument("more", metavar="MODE|LINE", nargs="?", help="the mode that refuses (solve); or after a code the number of the line"),
+        argument("more", metavar="MODE|LINE", nargs="?", help="the mode that refuses (default: solve); or after a code the number of the line"),
         *FACES,
     ),
 )

@@ -10,7 +10,7 @@ from evacask.faces.words import argument, number
 from evacask.model.building import Model
 from evacask.model.seconds import End, last_moment_within
 
-SECONDS = argument("seconds", type=number, metavar="SECONDS", help="all are to be out within so many seconds")
+SECONDS = argument("seconds", type=number, metavar="SECONDS", help="everybody must be out within this time")
 MOST_EFFORT = 1000
 
 
@@ -42,7 +42,7 @@ def effort(text: str) -> int:
 
 
 EFFORT = argument(
-    "--effort", type=effort, default=1, metavar="N", help="look N times as long (the work is counted, so the answer is the same each time)"
+    "--effort", type=effort, default=1, metavar="N", help="search N times as long (work is counted, not time, so the answer is always the same)"
 )
 
 

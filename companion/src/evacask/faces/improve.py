@@ -84,16 +84,16 @@ COMMAND = Command(
     "improve",
     run,
     "what to widen, and by how much, for the least cost",
-    "Without --costs each unit of an arc's rate costs 1, and each unit of a node's capacity where a capacity can matter.\n"
+    "Without --costs, each unit of an arc's rate costs 1, and so does each unit of a node's capacity if capacities can matter.\n"
     "The table of --costs has the columns from,to,step,cost,most: `step` more rate for `cost`, up to `most` times. A node has no `to`.",
     "examples/office.evac 100",
     (
         BUILDING,
-        argument("seconds", type=number, nargs="?", metavar="SECONDS", help="all are to be out within so many seconds"),
+        argument("seconds", type=number, nargs="?", metavar="SECONDS", help="everybody must be out within this time"),
         EARLIER,
         argument("--costs", metavar="FILE", default=None, help="a table of what can be bought"),
-        argument("--budget", type=number, metavar="COST", default=None, help="the earliest moment for at most this cost, in place of SECONDS"),
-        argument("--highs", action="store_true", help="let HiGHS choose, an extra that is installed by itself: for hard choices"),
+        argument("--budget", type=number, metavar="COST", default=None, help="find the earliest moment for at most this cost, instead of SECONDS"),
+        argument("--highs", action="store_true", help="let the solver HiGHS choose, which is installed separately: for hard choices"),
         EFFORT,
         *SHARED,
     ),

@@ -44,15 +44,15 @@ def run(given: Namespace) -> int:
 COMMAND = Command(
     "losses",
     run,
-    "the worst two or three ways to lose at once",
-    "A loss is listed if it costs more than each part of it. A row without a time keeps people inside: `out` says how many are out by the\n"
+    "which two or three ways are worst to lose at once?",
+    "A loss is listed if it costs more than any part of it. In a row without a time not everybody gets out: `out` is how many are out by the\n"
     "horizon.",
     "examples/metro.evac -k 2",
     (
         BUILDING,
-        argument("-k", type=number, default=2, metavar="N", help="how many are lost at once: 1, 2 (without a word) or 3"),
-        argument("--exits", action="store_true", help="lose exits, and not single ways"),
-        argument("--top", type=number, default=5, metavar="N", help="how many losses to list; without it 5"),
+        argument("-k", type=number, default=2, metavar="N", help="how many are lost at once: 1, 2 (the default) or 3"),
+        argument("--exits", action="store_true", help="lose exits instead of single ways"),
+        argument("--top", type=number, default=5, metavar="N", help="how many losses to list (default: 5)"),
         *SHARED,
     ),
 )

@@ -73,14 +73,14 @@ def run(given: Namespace) -> int:
 COMMAND = Command(
     "observed",
     run,
-    "a drill that was counted, beside the best: where time was lost",
-    "The table has a column `seconds`, and one for each exit with those who had come out up to then in all. Status 10 if more were out than\n"
-    "by any plan.",
+    "where did a drill lose time: its counts beside the best plan",
+    "The table has a column `seconds`, and one for each exit with the total number of people who had come out by then. The status is 10 if more\n"
+    "people were out than any plan allows.",
     "examples/school.evac examples/school_drill.csv",
     (
         BUILDING,
         argument("counts", metavar="COUNTS.csv", help="the table of counts"),
-        argument("--start", type=number, default=0, metavar="SECONDS", help="the seconds before people set out, which are taken off"),
+        argument("--start", type=number, default=0, metavar="SECONDS", help="the seconds before people set out, which are subtracted"),
         *SHARED,
     ),
 )

@@ -62,15 +62,15 @@ def run(given: Namespace) -> int:
 COMMAND = Command(
     "range",
     run,
-    "how sure it is: the earliest and the latest, if inputs are intervals",
-    "Each number is rounded outwards to a whole one. The table of --table has the columns from,to and some of rate low,rate high,\n"
+    "how certain is it: the earliest and the latest time, if inputs are intervals",
+    "Each interval is rounded outwards to whole numbers. The table of --table has the columns from,to and some of rate low,rate high,\n"
     "travel low,travel high,start low,start high. A row without `to` is about a node.",
     "examples/school.evac --rate 20 --people 10",
     (
         BUILDING,
-        argument("--rate", type=percents, default=(0, 0), metavar="PERCENT", help="rates may be so much less or more: 20, or 10:15"),
-        argument("--travel", type=percents, default=(0, 0), metavar="PERCENT", help="travels may be so much shorter or longer"),
-        argument("--people", type=percents, default=(0, 0), metavar="PERCENT", help="so many fewer or more people may start in each room"),
+        argument("--rate", type=percents, default=(0, 0), metavar="PERCENT", help="rates may be this much lower or higher: 20, or 10:15"),
+        argument("--travel", type=percents, default=(0, 0), metavar="PERCENT", help="travel times may be this much shorter or longer"),
+        argument("--people", type=percents, default=(0, 0), metavar="PERCENT", help="this many fewer or more people may start in each room"),
         argument("--table", metavar="FILE", default=None, help="a table of intervals"),
         *SHARED,
     ),

@@ -16,7 +16,7 @@ from evacask.faces.words import BUILDING, EDIT, Command, argument, number
 from evacask.questions.report import Report, report
 from evacask.questions.worth import MOST_BYTES, MOST_TRIALS
 
-TRIALS = f"plan at most N buildings to say what ways are worth ({MOST_TRIALS}, or fewer if their plans are longer than {MOST_BYTES // 1_000_000} MB)"
+TRIALS = f"plan at most N buildings to find what ways are worth ({MOST_TRIALS}, or fewer if their plans are longer than {MOST_BYTES // 1_000_000} MB)"
 
 
 def run(given: Namespace) -> int:
@@ -58,15 +58,15 @@ def write(text: str, output: Optional[str]) -> None:
 COMMAND = Command(
     "report",
     run,
-    "a page to hand in: the answer, what decides, pictures and the input",
-    "One HTML file that loads nothing and runs no script. Each statement is marked by what it rests on: proved, by the cuts, printed plan,\n"
-    "evacask.",
+    "make a page to hand in: the answer, what limits it, pictures and the input",
+    "The page is one HTML file that loads nothing and runs no script. Each statement is marked with what it rests on: proved, by the cuts,\n"
+    "printed plan, or evacask.",
     "examples/office.evac",
     (
         BUILDING,
         EDIT,
-        argument("--title", default=None, help="the title of the page, and not that of the building"),
-        argument("--against", action="append", default=[], metavar="OTHER", help="another building beside it"),
+        argument("--title", default=None, help="the title of the page, instead of the building's"),
+        argument("--against", action="append", default=[], metavar="OTHER", help="another building to set beside it"),
         argument("--trials", type=number, default=None, metavar="N", help=TRIALS),
         argument("-o", "--output", default=None, metavar="FILE", help="write the page to a file"),
         argument("--json", action="store_true", help="print the data of the page as JSON"),

@@ -50,14 +50,14 @@ def run(given: Namespace) -> int:
 COMMAND = Command(
     "rescue",
     run,
-    "who can be saved, if not all can",
-    "The number is the most of all plans. Who they are differs between best plans; the printed one is for as many as can be.",
+    "who can be saved, if not everybody can?",
+    "No plan saves more people. Which people they are depends on the plan that is printed.",
     "examples/school.evac --seconds 115",
     (
         BUILDING,
-        argument("--seconds", type=number, metavar="SECONDS", default=None, help="within so many seconds; without it by the horizon"),
+        argument("--seconds", type=number, metavar="SECONDS", default=None, help="within this time (default: by the horizon)"),
         EARLIER,
-        argument("--plan", metavar="FILE", default=None, help="write the plan for those who are saved into this file"),
+        argument("--plan", metavar="FILE", default=None, help="write the plan for those who are saved to this file"),
         *SHARED,
     ),
 )

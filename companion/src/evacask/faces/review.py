@@ -29,8 +29,8 @@ def run(given: Namespace) -> int:
 COMMAND = Command(
     "review",
     run,
-    "is it the building that I meant? what is often a mistake",
-    "A doubt is evacask's own and is no fault: whoever made the building knows better. Without one nothing is printed.",
+    "is this the building that I meant: what is likely to be a mistake?",
+    "A doubt is a warning by evacask and not a fault: you know the building better. If there is none, nothing is printed.",
     "examples/office.evac",
     (BUILDING, *SHARED),
 )

@@ -132,9 +132,9 @@ def run(given: Namespace) -> int:
 COMMAND = Command(
     "sensitivity",
     run,
-    "what does it cost to lose a way, and what does a wider one bring?",
-    "Of each arc and exit: when all are out without it, as it is, and with any rate (10,000; of an exit: of all arcs into it).\n"
-    "What the cuts answer isn't asked; sessions side by side try the rest. What costs most comes first.",
+    "what does losing a way cost, and what does widening it gain?",
+    "For each arc and exit: when everybody is out without it, as it is, and with any rate (10,000; for an exit, on all arcs into it).\n"
+    "What the cuts already answer isn't tried. The ways that cost most come first.",
     "examples/office.evac",
-    (BUILDING, argument("--rate", type=rate, metavar="N", help="try this rate, and not any rate"), *SHARED),
+    (BUILDING, argument("--rate", type=rate, metavar="N", help="try this rate instead of 10,000"), *SHARED),
 )

@@ -24,9 +24,9 @@ def run(given: Namespace) -> int:
 COMMAND = Command(
     "session",
     run,
-    "one question after the other, at a prompt",
-    "A session, with a line for each block, earlier lines by the arrow keys, and names completed by the tab key.\n"
-    "It takes the commands of docs/users/formats.md, and whole, help and quit. Lines may come from a pipe too.",
+    "one question after another, at a prompt",
+    "Each answer is one line. The arrow keys bring back earlier lines, and the tab key completes names.\n"
+    "The prompt takes the commands in docs/users/formats.md, and whole, help and quit. Lines may also come from a pipe.",
     "examples/office.evac",
     (
         argument("building", metavar="BUILDING", help="a file with a building"),

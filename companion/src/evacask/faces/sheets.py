@@ -38,19 +38,19 @@ def run(given: Namespace) -> int:
 COMMAND = Command(
     "sheet",
     run,
-    "a building from two tables of a spreadsheet, and back",
-    "Nodes have the columns name,capacity,start and perhaps floors, own name, floor text; ways have from,to,travel,rate and perhaps floors,\n"
-    "both ways, own name. floors 1-20 makes a row into twenty: WP1 is then on each of them, and SW1.-1 on the one below. A fault is told with\n"
-    "table, row and column.",
+    "make a building from two tables of a spreadsheet, or tables from a building",
+    "Nodes have the columns name,capacity,start and optionally floors, own name, floor text; ways have from,to,travel,rate and optionally\n"
+    "floors, both ways, own name. The floors 1-20 turn a row into twenty: WP1 is then on each of them, and SW1.-1 on the one below. An error\n"
+    "message names the table, the row and the column.",
     "examples/tower_nodes.csv examples/tower_ways.csv --period 5 --horizon 400",
     (
         argument("nodes", metavar="NODES.csv", help="the table of nodes"),
         argument("ways", metavar="WAYS.csv", help="the table of ways"),
-        argument("--period", type=number, default=5, metavar="SECONDS", help="the seconds of a period; without it 5"),
-        argument("--horizon", type=number, default=240, metavar="PERIODS", help="how far the plan looks ahead; without it 240 periods"),
+        argument("--period", type=number, default=5, metavar="SECONDS", help="the seconds of a period (default: 5)"),
+        argument("--horizon", type=number, default=240, metavar="PERIODS", help="how many periods the plan looks ahead (default: 240)"),
         argument("--title", default="", metavar="TEXT", help="the building's title"),
-        argument("-o", "--output", metavar="FILE", default=None, help="write the building into this file"),
-        argument("--back", metavar="BUILDING", default=None, help="write the two tables of this building"),
-        argument("--force", action="store_true", help="write over tables that are there"),
+        argument("-o", "--output", metavar="FILE", default=None, help="write the building to this file"),
+        argument("--back", metavar="BUILDING", default=None, help="write this building's two tables"),
+        argument("--force", action="store_true", help="overwrite tables that exist"),
     ),
 )

@@ -137,7 +137,7 @@ def run(given: Namespace) -> int:
 COMMAND = Command(
     "summary",
     run,
-    "how soon can all be out, what does congestion cost, and what decides?",
+    "how soon can everybody be out, what does congestion cost, and what limits the time?",
     "",
     "examples/office.evac",
     (BUILDING, *SHARED),

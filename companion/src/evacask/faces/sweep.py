@@ -104,16 +104,15 @@ COMMAND = Command(
     "sweep",
     run,
     "many scenarios at once: a table of edits to a table of answers",
-    "The table has the columns name,edits, with ; between edits. A row of the answers depends on its scenario alone, so parts of them by\n"
-    "--shard can be worked out on several machines and joined: sort -t, -k1,1n -u PART.. > ALL. With -o a sweep that was broken off goes on\n"
-    "from its last row.",
+    "The table has the columns name,edits, with ; between edits. A row of the answers depends only on its scenario, so several machines can\n"
+    "each compute a --shard. Join the parts by sort -t, -k1,1n -u PART.. > ALL. With -o, an interrupted sweep continues after its last row.",
     "examples/office.evac examples/office_scenarios.csv",
     (
         BUILDING,
         argument("scenarios", metavar="SCENARIOS.csv", help="the table of scenarios"),
-        argument("--jobs", type=jobs, default=4, metavar="N", help="how many programs are asked at once; without it 4"),
-        argument("--shard", type=shard, default=(1, 1), metavar="I/N", help="answer every N-th scenario alone, from the I-th on"),
-        argument("-o", "--output", metavar="FILE", default=None, help="write into this file, after the answers that are in it"),
+        argument("--jobs", type=jobs, default=4, metavar="N", help="how many programs to ask at once (default: 4)"),
+        argument("--shard", type=shard, default=(1, 1), metavar="I/N", help="answer only every N-th scenario, starting with the I-th"),
+        argument("-o", "--output", metavar="FILE", default=None, help="append to this file, after the answers that are in it"),
         EDIT,
         *FACES,
     ),

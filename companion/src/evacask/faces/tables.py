@@ -28,17 +28,17 @@ def run(given: Namespace) -> int:
 COMMAND = Command(
     "tables",
     run,
-    "who is where when, and who goes which way? for a spreadsheet",
+    "tables for a spreadsheet: who is where and when, and who goes which way?",
     "exits    at each moment: how many are out, and by which exit\n"
     "nodes    at each moment: how many are in each node and stay there\n"
     "arcs     at each moment: how many enter each arc\n"
-    "routes   of each room: how many go which way, and when the first and the last set out\n"
-    "totals   of each arc: how many enter it in all, and when\n"
-    "fullest  of each node: the most who stay in it, and when first\n"
+    "routes   for each room: how many go which way, and when the first and the last set out\n"
+    "totals   for each arc: how many enter it in total, and when\n"
+    "fullest  for each node: the most people who stay in it at once, and when that happens first\n"
     "full     the moments at which every best plan fills an arc or a node (by the cuts)\n"
     "all      exits, nodes and arcs at each moment in one long table, without rows of 0\n"
-    "walks    of each node: the quickest way out with nobody in the way\n"
-    "All but full and walks are of the printed plan: but for `out`, other best plans may differ. Seconds are those from which on a moment is.",
+    "walks    for each node: the quickest way out if nobody else is there\n"
+    "All but full and walks describe the printed plan: except for `out`, other best plans may differ. Seconds are the earlier end of a moment.",
     "exits examples/office.evac",
     (argument("kind", metavar="KIND", choices=KINDS, help=", ".join(KINDS)), BUILDING, EDIT, *faces("csv")),
 )

@@ -61,8 +61,8 @@ def run(given: Namespace) -> int:
 COMMAND = Command(
     "why",
     run,
-    "why not sooner? the ways that are full, and when",
-    "The cut of a period, added up by way and moments: whoever is out by then counts in one of its lines.",
+    "why not sooner: which ways are full, and when?",
+    "The cut of a period, added up by way and moments. Everybody who is out by then is counted in one of its lines.",
     "examples/office.evac",
-    (BUILDING, argument("period", type=number, nargs="?", metavar="K", help="the period; without it the one before all are out"), *SHARED),
+    (BUILDING, argument("period", type=number, nargs="?", metavar="K", help="the period (default: the one before everybody is out)"), *SHARED),
 )

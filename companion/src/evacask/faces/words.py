@@ -77,8 +77,8 @@ def rate(text: str) -> int:
 
 
 BUILDING = argument("building", metavar="BUILDING", help="a file with a building, or - for standard input")
-EDIT = argument("--edit", action="append", default=[], metavar="EDITS", help="ask about the building after these edits, with ; between them")
-PROGRAM = "the program to ask, in place of the built one or of what EVACPLAN names"
+EDIT = argument("--edit", action="append", default=[], metavar="EDITS", help="ask about the building after these edits, separated by ;")
+PROGRAM = "the program to ask, instead of the built one or the one that EVACPLAN names"
 
 
 def faces(default: str) -> Tuple[Union[Argument, List[Argument]], ...]:
@@ -89,10 +89,12 @@ def faces(default: str) -> Tuple[Union[Argument, List[Argument]], ...]:
         "json": "print the answer as JSON",
     }
     one = [
-        argument(f"--{name}", dest="face", action="store_const", const=name, default=default, help=what + ", as without a word" * (name == default))
+        argument(f"--{name}", dest="face", action="store_const", const=name, default=default, help=what + " (the default)" * (name == default))
         for name, what in helps.items()
     ]
-    return one, argument("--columns", choices=("all",), default=None, help="show the columns that are left out else, and what they rest on: all")
+    return one, argument(
+        "--columns", choices=("all",), default=None, help="all: show also the columns that are otherwise left out, with their grounds"
+    )
 
 
 FACES = faces("text")
@@ -102,12 +104,12 @@ SHARED = (EDIT, *FACES)
 
 def parser_of(commands: Sequence[Command]) -> Words:
     """The parser of all commands."""
-    what = "Asks the proved program evacplan about a building, and says what it answers in an engineer's words."
-    epilog = f"{example_of(commands[0])}evacask COMMAND --help says what a command takes.\n\n{STATUSES}"
+    what = "Asks the proved program evacplan a question about a building, and explains the answer in an engineer's terms."
+    epilog = f"{example_of(commands[0])}evacask COMMAND --help describes a command and its arguments.\n\n{STATUSES}"
     top = Words(prog="evacask", description=what, epilog=epilog, formatter_class=Layout)
     top.known = [it.name for it in commands]
     add_program(top, None, False)
-    top.add_argument("--version", action="store_true", help="print the version, and what is known of the program")
+    top.add_argument("--version", action="store_true", help="print the versions of evacask and of the program, and whether the program is proved")
     places = top.add_subparsers(title="commands", metavar="COMMAND", dest="command", parser_class=Words)
     for command in commands:
         question = f"{command.question[0].upper()}{command.question[1:]}"
@@ -127,7 +129,7 @@ def parser_of(commands: Sequence[Command]) -> Words:
 
 def add_program(place: argparse.ArgumentParser, path: Optional[str], proved: Any) -> None:
     place.add_argument("--program", metavar="PATH", default=path, help=PROGRAM)
-    place.add_argument("--proved", action="store_true", default=proved, help="ask a program only if it is proved on this machine")
+    place.add_argument("--proved", action="store_true", default=proved, help="ask the program only if it is proved on this machine")
 
 
 def example_of(command: Command) -> str:
