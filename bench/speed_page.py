@@ -9,7 +9,7 @@ import two_way_halls
 TOP = pathlib.Path(__file__).resolve().parent.parent
 KEPT = TOP / "bench/measured.json"
 PAGE = TOP / "docs/maintainers/speed.md"
-NOT_YET = "Not measured yet: `bench/run --parts {}` does it."
+NOT_YET = "Not measured yet. `bench/run --parts {}` measures it."
 SLOW = 1.2  # an edit that takes more of a fresh plan is listed
 WORDS = ("Building", "Family", "What it is", "Measured", "Of", "Dearest", "On", "Solver by hand", "Date", "Program")
 # What some buildings are, of which neither a title nor a docstring says enough.
@@ -55,7 +55,7 @@ def spread(numbers):
 
 def solve(rows):
     """How `solve` compares with the solver by hand, building by building."""
-    head = ["Building", "What it is", "Nodes", "Arcs", "People", "Cleared", "Million instructions", "To the one that writes paths", "To the other"]
+    head = ["Building", "What it is", "Nodes", "Arcs", "People", "Cleared", "Million instructions", "Ratio to the solver that writes paths", "Ratio to the other"]
     return table(
         head,
         [
@@ -67,7 +67,7 @@ def solve(rows):
 
 def times(rows):
     """The same by the clock."""
-    head = ["Building", "Milliseconds", "To the one that writes paths", "To the other"]
+    head = ["Building", "Milliseconds", "Ratio to the solver that writes paths", "Ratio to the other"]
     return table(head, [[it["building"], f"{it['own']:.1f}", *ratios(it)] for it in rows])
 
 
@@ -82,13 +82,13 @@ def summary(parts):
         ]
     rows.append(("families at 4n, by instructions", found.get("growth", [])))
     read = [(what, [it["ratios"] for it in some if it["ratios"]]) for what, some in rows]
-    head = ["Of", "Buildings", "To the one that writes paths: median", "most", "To the other: median", "most"]
+    head = ["Of", "Buildings", "Ratio to the solver that writes paths: median", "most", "Ratio to the other: median", "most"]
     return table(head, [[what, len(some), *(cell for column in zip(*some) for cell in spread(column))] for what, some in read if some])
 
 
 def growth(rows):
     """Instructions for each cell at four sizes that double."""
-    head = ["Family", "What it is", "Instructions a cell at n", "2n", "4n", "8n", "To the one that writes paths, at 4n", "To the other"]
+    head = ["Family", "What it is", "Instructions a cell at n", "2n", "4n", "8n", "Ratio to the solver that writes paths, at 4n", "Ratio to the other"]
     return table(head, [[it["family"], it["what"], *(f"{count:.0f}" for count in it["each"]), *ratios(it)] for it in rows])
 
 
@@ -102,8 +102,8 @@ def editing(rows):
     slow = sum(it > SLOW for it in every)
     tenth = every[len(every) * 9 // 10] if every else 0
     half = statistics.median(every) if every else 0
-    said = f"Of {len(every)} edits and undos half take at most {half:.2f} of a fresh plan, and nine of ten at most {tenth:.2f}."
-    return f"{table(head, made)}\n\n{said} More than {SLOW} are {slow}."
+    said = f"Half of the {len(every)} edits and undos take at most {half:.2f} of a fresh plan, and nine tenths take at most {tenth:.2f}."
+    return f"{table(head, made)}\n\n{said} Only {slow} take more than {SLOW}."
 
 
 def studying(rows):

@@ -92,7 +92,7 @@ def entries(text):
 
 
 class Runner:
-    """Runs commands in a folder that has the repository and the program. Each line is run once and by itself: what it printed is kept."""
+    """Runs commands in a folder that has the repository and the program. What a command printed once is kept."""
 
     def __init__(self, program, folder):
         self.folder, self.kept = folder, {}
@@ -117,7 +117,7 @@ def wrong_entry(entry, text, runner):
         yield f"evidence.txt:{entry.line}: {entry.document} doesn't say: {entry.sentence}"
     if entry.why:
         return
-    printed = " ".join(map(runner.printed, entry.commands))
+    printed = runner.printed("\n".join(entry.commands))
     yield from (f"evidence.txt:{entry.line}: not printed: {it}" for it in entry.shown if " ".join(it.split()) not in printed)
     there = {it.replace(",", "") for it in re.findall(r"\d[\d,]*(?:\.\d+)?", " ".join(entry.commands + entry.shown))}
     yield from (f"evidence.txt:{entry.line}: nothing shows the {it} of: {entry.sentence}" for it in sorted(numbers(entry.sentence) - there))

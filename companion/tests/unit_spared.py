@@ -51,11 +51,11 @@ class Groups(unittest.TestCase):
 
     def test_groups_without_a_costly_way(self) -> None:
         ways = [(f"WP{it}.1", "DS1.1") for it in range(20)]
-        self.assertEqual((self.spared(ways, set()), self.asked), (set(ways), [12, 8]))
+        self.assertEqual((self.spared(ways, set()), self.asked), (set(ways), [4] * 5))
 
-    def test_a_group_that_costs_time_is_halved_until_one_is_left(self) -> None:
-        ways = [(f"WP{it}.1", "DS1.1") for it in range(12)]
-        self.assertEqual((self.spared(ways, {ways[0]}), self.asked), (set(ways[1:]), [12, 6, 6, 3, 3, 2]))
+    def test_a_group_that_costs_time_is_halved_down_to_two(self) -> None:
+        ways = [(f"WP{it}.1", "DS1.1") for it in range(6)]
+        self.assertEqual((self.spared(ways, {ways[0]}), self.asked), (set(ways[2:]), [4, 2, 2, 2]))
 
     def test_nothing_to_lose(self) -> None:
         self.assertEqual((self.spared([], set()), self.asked), (set(), []))

@@ -17,7 +17,7 @@ from evacask.questions.sweep import Scenario
 # An arc by two names, or an exit, with all arcs into it, by one.
 Names = Tuple[str, ...]
 # Ways that are shut at once at first.
-GROUP = 12
+GROUP = 4
 
 
 def people_through(plan: Plan) -> "Counter[Way]":
