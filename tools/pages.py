@@ -32,8 +32,8 @@ SEE = {
     "evacask": r"\fBevacplan\fR(1), \fBevac\fR(5)",
     "evac": r"\fBevacplan\fR(1), \fBevacask\fR(1)",
 }
-BEST_CASE = """It is a calculation of the best case, and no prediction: no plan that keeps the capacities, rates and travel times of the model clears the building
-sooner. People don't follow plans, so reckon with a real evacuation that takes longer."""
+BEST_CASE = """The result is the best case, not a prediction: no plan that keeps to the capacities, rates and travel times of the model clears the building
+sooner. People don't follow plans, so expect a real evacuation to take longer."""
 
 
 def plain(text: str) -> str:
@@ -67,7 +67,7 @@ def program_page() -> str:
     example = ".nf\nevacplan solve < office.evac\n.fi"
     parts = {
         "SYNOPSIS": r"\fBevacplan\fR \fIWORDS\fR < \fIBUILDING\fR",
-        "DESCRIPTION": f"{plain('Reads a building from standard input and writes a plan that has as many people out by every moment as any plan has, with cuts that show it.')}\n.PP\n{plain(BEST_CASE)}",
+        "DESCRIPTION": f"{plain('Reads a building from standard input and writes a plan that gets as many people out by every moment as any plan can, with cuts that show it.')}\n.PP\n{plain(BEST_CASE)}",
         "WORDS": words,
         "EXIT STATUS": statuses,
         "EXAMPLE": example,
@@ -82,11 +82,11 @@ def language_page() -> str:
     example = (TOP / "examples/one_room.evac").read_text("utf-8").replace("-", r"\-")
     parts = {
         "DESCRIPTION": plain(
-            "A building is a text of lines, each a statement of words with blanks between them. A line that begins with # is a comment."
+            "A building is a text in which each line is a statement: words separated by blanks. A line that begins with # is a comment."
         ),
         "STATEMENTS": statements,
         "EXAMPLE": f".nf\n{example}.fi",
-        "CODES": f"{marked('A faulty building is answered by `refused CODE LINE`.')}\n{refusals}",
+        "CODES": f"{marked('The answer to a building with a fault is `refused CODE LINE`.')}\n{refusals}",
     }
     return page("evac", 5, "the language of buildings", parts)
 

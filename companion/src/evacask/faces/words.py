@@ -93,7 +93,7 @@ def faces(default: str) -> Tuple[Union[Argument, List[Argument]], ...]:
         for name, what in helps.items()
     ]
     return one, argument(
-        "--columns", choices=("all",), default=None, help="all: show also the columns that are otherwise left out, with their grounds"
+        "--columns", choices=("all",), default=None, help="all: also show the columns that are otherwise left out, with their grounds"
     )
 
 

@@ -16,8 +16,8 @@ from evacask.questions.report import Report, ShortReport
 STYLE = pathlib.Path(__file__).with_name("style.css")
 POLICY = "default-src 'none'; style-src 'unsafe-inline'"
 CAUTION = (
-    "This is the best case and no prediction: no plan that keeps the capacities, rates and travel times of the model is sooner. "
-    "People don't follow plans. Add the time before they set out, and the margin that your code asks for."
+    "This is the best case, not a prediction: no plan that keeps to the capacities, rates and travel times of the model is faster. "
+    "People don't follow plans. Add the time before they set out, and the margin that your code requires."
 )
 UNPROVED = (
     "The program that made this page isn't proved on this machine. What is marked as proved here is what evacplan's contract says; "
