@@ -96,7 +96,8 @@ class Runner:
 
     def __init__(self, program, folder):
         self.folder, self.kept = folder, {}
-        self.settings = {**os.environ, "EVACPLAN": str(program)}
+        self.settings = {**os.environ, "EVACPLAN": str(program), "PYTHONPYCACHEPREFIX": str(folder / ".compiled")}
+        self.settings.pop("PYTHONDONTWRITEBYTECODE", None)
         for it in TOP.iterdir():
             if it.name != "evacplan":
                 (folder / it.name).symlink_to(it)

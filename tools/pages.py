@@ -147,7 +147,7 @@ def commands_table() -> str:
     """The table of commands on the page about evacask."""
     places = subcommands(parser_of(COMMANDS))
     rows = "".join(f"| `{it.name}` | {it.question[0].upper() + it.question[1:]} | {own_words(places[it.name])} |\n" for it in COMMANDS)
-    return f"| Command | Question | Its own words |\n|---|---|---|\n{rows}"
+    return f"| Command | Question | Its own arguments |\n|---|---|---|\n{rows}"
 
 
 def reference_page() -> str:
