@@ -212,7 +212,7 @@ def school_rates():
             ("main door, two leaves held open", "1.80 - 0.30", frac("1.50"), level),
         ],
     )
-    held = f"| corridor, held to two classrooms' doors | | 2 × 0.78 × 5 = {float(two * 5):.2f} | {rate_of(two, 5)} |"
+    held = f"| corridor, limited to two classrooms' doors | | 2 × 0.78 × 5 = {float(two * 5):.2f} | {rate_of(two, 5)} |"
     leaf = f"| door at stair 2, one leaf that isn't held open | | 50 / 60 × 5 = {float(LEAF * 5):.2f} | {rate_of(LEAF, 5)} |"
     return [*found[:3], held, *found[3:], leaf]
 
@@ -228,8 +228,8 @@ def metro_rates():
         ],
     )
     half = FREE_FLOW * frac("3.54") * 5
-    along = f"| platform, each way one half of it | (8.00 - 2 × 0.46) / 2 = 3.54 m | 0.64 × 3.54 × 5 = {float(half):.2f} | {math.floor(half)} |"
-    running = f"| escalator that runs | | 1 × 5 = 5 | {rate_of(ESCALATOR_FLOW, 5)} |"
+    along = f"| platform, half for each direction | (8.00 - 2 × 0.46) / 2 = 3.54 m | 0.64 × 3.54 × 5 = {float(half):.2f} | {math.floor(half)} |"
+    running = f"| running escalator | | 1 × 5 = 5 | {rate_of(ESCALATOR_FLOW, 5)} |"
     gates = f"| six gates | | 6 × 50 / 60 × 5 = {float(GATES * 5):.2f} | {rate_of(GATES, 5)} |"
     return [*found[:3], along, running, *found[3:5], gates, found[5]]
 
@@ -304,7 +304,7 @@ def corridor_hand():
 def corridor_by_hand():
     room, *others = corridor().passages().values()
     groups = math.ceil(60 / room.rate)
-    rows = [["a walk through the room, to its door", f"{room.seconds:.1f} s", f"{room.travel}"]]
+    rows = [["walk through the room to its door", f"{room.seconds:.1f} s", f"{room.travel}"]]
     in_groups = f"60 / {room.rate} = {groups}, of which the first is at moment 0: {groups - 1}"
     rows.append(["60 people pass the door", f"60 / 0.78 = {float(60 / ROOM_DOOR):.1f} s", in_groups])
     rows += [[it.name, f"{it.seconds:.1f} s", f"{it.travel}"] for it in others]
@@ -343,16 +343,16 @@ def school_by_hand():
     by_last = f"{early} + {lobby.rate} × {last - above} + {foot.rate} × {last - come} = {out(last)}"
     seconds = f"{room.seconds:.1f} + {along.seconds:.1f} = {room.seconds + along.seconds:.1f} s"
     rows = [
-        ["the first of the ground floor come to the main door", seconds, f"{room.travel} + {along.travel} = {come}"],
-        ["the first of the upper floor come to it", f"{stair.seconds:.2f} s later", f"{come} + {stair.travel} = {above}"],
+        ["the first of the ground floor reach the main door", seconds, f"{room.travel} + {along.travel} = {come}"],
+        ["the first of the upper floor reach it", f"{stair.seconds:.2f} s later", f"{come} + {stair.travel} = {above}"],
         [
-            "so many come in between, by two classrooms' doors",
+            "people in between, through two classrooms' doors",
             f"{two:.2f} × {stair.seconds:.2f} = {two * stair.seconds:.1f}",
             f"2 × {room.rate} × {stair.travel} = {early}",
         ],
-        ["from then on the main door lets through", f"{float(lobby.door):.2f} a second", f"{lobby.rate} a period"],
-        ["and the door at stair 2, from when the first come to it", f"{float(foot.door):.2f} a second", f"{foot.rate} a period"],
-        ["from the two places to outside", f"{lobby.seconds:.1f} s, {foot.seconds:.1f} s", f"{lobby.travel}, {foot.travel}"],
+        ["then the main door lets through", f"{float(lobby.door):.2f} a second", f"{lobby.rate} a period"],
+        ["the door at stair 2, once the first reach it, lets through", f"{float(foot.door):.2f} a second", f"{foot.rate} a period"],
+        ["from both places to outside", f"{lobby.seconds:.1f} s, {foot.seconds:.1f} s", f"{lobby.travel}, {foot.travel}"],
         [f"out by period {last}", "", by_last],
         ["all 200 are out", f"{school_hand():.0f} s", moment(periods)],
         answer_row(school().lines(), periods, f"out {last} {out(last)}"),
@@ -363,7 +363,7 @@ def school_by_hand():
 def metro_ways():
     """The passages that a reckoning of the metro looks at: the three ways up, that to the gates, and the shorter one to the street."""
     by_name = metro().passages()
-    names = ("stair, with its landing", "escalator that runs", "escalator out of service", "mezzanine, to the gates", "passage to exit A")
+    names = ("stair, with its landing", "running escalator", "escalator out of service", "mezzanine, to the gates", "passage to exit A")
     return [by_name[it] for it in names]
 
 
@@ -436,17 +436,17 @@ def tower_by_hand():
     by_last = f"{early} + {stair.rate} × {last - short - above + 1} + {stair.rate} × {last - long - above + 1} = {out(last)}"
     first = [float(f"{it.seconds:.1f}") for it in (office, hall)]
     rows = [
-        ["the first come to the landing of storey 1", f"{first[0]} + {first[1]} = {sum(first):.1f} s", f"{office.travel} + {hall.travel} = {come}"],
-        ["those of storey 2 come to it", f"{stair.seconds:.1f} s later", f"{come} + {stair.travel} = {above}"],
+        ["the first reach the landing of storey 1", f"{first[0]} + {first[1]} = {sum(first):.1f} s", f"{office.travel} + {hall.travel} = {come}"],
+        ["those of storey 2 reach it", f"{stair.seconds:.1f} s later", f"{come} + {stair.travel} = {above}"],
         [
-            "so many come in between, from two offices",
+            "people in between, from two offices",
             f"{two:.2f} × {stair.seconds:.2f} = {two * stair.seconds:.1f}",
             f"2 × {office.rate} × {stair.travel} = {early}",
         ],
-        ["from then on both stairs let through", f"2 × {flow:.2f} = {2 * flow:.2f} a second", f"2 × {stair.rate} = {2 * stair.rate} a period"],
-        ["from the landing to outside, by stair 2", f"{stair.seconds:.1f} s", f"{short}"],
+        ["then both stairs let through", f"2 × {flow:.2f} = {2 * flow:.2f} a second", f"2 × {stair.rate} = {2 * stair.rate} a period"],
+        ["from the landing to outside by stair 2", f"{stair.seconds:.1f} s", f"{short}"],
         [
-            "by stair 1, with the lobby",
+            "by stair 1, including the lobby",
             f"{stair.seconds:.1f} + {lobby.seconds:.1f} = {stair.seconds + lobby.seconds:.1f} s",
             f"{stair.travel} + {lobby.travel} = {long}",
         ],

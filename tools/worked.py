@@ -113,7 +113,7 @@ def corridor():
     places = [
         Place("WP1.2", 75, 60),
         Place("HA1.2", 7, area="4", what="corridor after the room's door"),
-        Place("SW1.2", 11, area="6", what="corridor before the stair, its head"),
+        Place("SW1.2", 11, area="6", what="head of the stair, in the corridor"),
         Place("LO1.1", 38, area="20", what="lobby"),
         Place("DS1.1"),
     ]
@@ -155,7 +155,7 @@ def school(is_held=True):
     return Example("school.evac", "School of two storeys", 120, places, arcs)
 
 
-# The speed on an escalator that runs, and the people a second whom it takes: a planner's own choice.
+# The speed on a running escalator, and the people a second whom it takes: a planner's own choice.
 ESCALATOR_PACE, ESCALATOR_FLOW = 0.50, Fraction(1)
 # The flow for each metre on the level up to which everybody walks freely, as the table of the greatest flows has it.
 FREE_FLOW = frac("0.64")
@@ -171,7 +171,7 @@ def metro():
     train = Passage("train, to its doors", frac("4.00"), frac("7"), trains, door=door_of("4.00"), pace=in_train, density=f"{170 / 104:.2f}")
     half = dict(width=frac("3.54"), comes=FREE_FLOW * frac("3.54"), widths="(8.00 - 0.92) / 2", is_held=True)
     along = Passage("platform, to the next part", length=frac("40"), **half)
-    running = Passage("escalator that runs", frac("1"), frac("10.7"), ESCALATOR_FLOW, door=ESCALATOR_FLOW, pace=ESCALATOR_PACE)
+    running = Passage("running escalator", frac("1"), frac("10.7"), ESCALATOR_FLOW, door=ESCALATOR_FLOW, pace=ESCALATOR_PACE)
     stair = Passage("stair, with its landing", frac("1.50"), 30 * RISER, trains, STAIR, "1.80 - 0.30", "30 × 0.331", landing=frac("1.5"))
     still = Passage("escalator out of service", frac("0.70"), frac("10.7"), trains, "stair 191/254", "1.00 - 0.30")
     gates = Passage("mezzanine, to the gates", frac("5.60"), frac("11"), up, widths="6.00 - 0.40", door=GATES)

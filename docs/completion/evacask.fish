@@ -22,7 +22,7 @@ complete -c evacask -n __fish_use_subcommand -f -a edit -d 'write the building a
 complete -c evacask -n __fish_use_subcommand -f -a assign -d 'one way for each room, for wardens and signs'
 complete -c evacask -n __fish_use_subcommand -f -a improve -d 'what to widen, and by how much, for the least cost'
 complete -c evacask -n __fish_use_subcommand -f -a range -d 'how certain is it: the earliest and the latest time, if inputs are intervals'
-complete -c evacask -n __fish_use_subcommand -f -a sweep -d 'many scenarios at once: a table of edits to a table of answers'
+complete -c evacask -n __fish_use_subcommand -f -a sweep -d 'many scenarios at once: from a table of edits to a table of answers'
 complete -c evacask -n __fish_use_subcommand -f -a losses -d 'which two or three ways are worst to lose at once?'
 complete -c evacask -n __fish_use_subcommand -f -a admit -d 'how many people may a room or the building hold for everybody to be out in time?'
 complete -c evacask -n __fish_use_subcommand -f -a rescue -d 'who can be saved, if not everybody can?'

@@ -17,7 +17,7 @@ from evacask.model.building import Model
 from evacask.model.shares import in_people
 from evacask.questions.sensitivity import Sensitivity, WayOutcome, sensitivity
 
-# Sessions side by side.
+# Plans that are made at once.
 WORKERS = max(1, min(8, os.cpu_count() or 1))
 DATA = (
     "from,to,names,without,without_s,without_before_s,without_out,as_it_is,as_it_is_s,as_it_is_before_s,"

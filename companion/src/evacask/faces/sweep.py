@@ -103,7 +103,7 @@ def written_out(asked: Asked, scenarios: List[Given], workers: int, mark: str) -
 COMMAND = Command(
     "sweep",
     run,
-    "many scenarios at once: a table of edits to a table of answers",
+    "many scenarios at once: from a table of edits to a table of answers",
     "The table has the columns name,edits, with ; between edits. A row of the answers depends only on its scenario, so several machines can\n"
     "each compute a --shard. Join the parts by sort -t, -k1,1n -u PART.. > ALL. With -o, an interrupted sweep continues after its last row.",
     "examples/office.evac examples/office_scenarios.csv",
