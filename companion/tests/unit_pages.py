@@ -126,6 +126,10 @@ class Tables(unittest.TestCase):
         self.assertEqual(tables(PLANNER, caught, "walks").rows[1][3:6], ("none", "", ""))
         with self.assertRaises(Broken):
             tables(Table({"session": BLOCK.replace("move 1 WP1.1 DS1.1", "move 1 DS1.1 WP1.1")}), model_of(HALL), "exits")
+        # (three people)
+        for people in (2, 4):
+            with self.subTest(people), self.assertRaises(Broken):
+                tables(Table({"routes": f"routes 0\nroute {people} WP1.1\nstep 0 WP1.1 DS1.1\nend\n"}), model_of(HALL), "routes")
 
 
 class Occupancies(unittest.TestCase):
