@@ -80,7 +80,7 @@ class Place:
         with open(self.here / "given") as stdin, open(self.here / "out", "w") as out, open(self.here / "err", "w") as err:
 
             def prepare() -> None:
-                signal.signal(signal.SIGINT, signal.SIG_DFL)
+                take_interrupts()
                 if given is None:
                     os.close(0)
                 if limit:
@@ -112,7 +112,9 @@ class Place:
         termios.tcsetattr(terminal, termios.TCSANOW, modes)
         with open(self.here / "out", "w") as out:
             command = [str(self.repo / words[0]), *words[1:]]
-            process = subprocess.Popen(command, stdin=terminal, stdout=out, stderr=terminal, env={**self.env, **env}, text=True)
+            process = subprocess.Popen(
+                command, stdin=terminal, stdout=out, stderr=terminal, env={**self.env, **env}, preexec_fn=take_interrupts, text=True
+            )
         os.close(terminal)
         os.write(other, typed.encode())
         if sends:
@@ -152,6 +154,11 @@ class Place:
             if not await_true(lambda: not pathlib.Path(f"/proc/{number}").exists(), 5):
                 left.append(f"process {number}")
         return left
+
+
+def take_interrupts() -> None:
+    """Lets a new process be interrupted, which one can't be that a shell began in the background."""
+    signal.signal(signal.SIGINT, signal.SIG_DFL)
 
 
 def await_true(test: Callable[[], bool], seconds: float = 30) -> bool:
