@@ -138,7 +138,7 @@ def own_words(parser: argparse.ArgumentParser) -> str:
         if {it.dest, *it.option_strings} & {"help", "program", "proved", "--text", "--csv", "--json", "columns", "edit"}:
             continue
         value = it.metavar or (f"{{{','.join(map(str, it.choices))}}}" if it.choices else it.dest.upper())
-        words = it.option_strings[-1:] + [str(value)] * (it.nargs != 0)
+        words = [*it.option_strings[-1:], *([str(value)] if it.nargs != 0 else [])]
         found.append(f"`{' '.join(words)}`".replace("|", r"\|"))
     return ", ".join(found)
 
