@@ -15,7 +15,7 @@ sys.dont_write_bytecode = True
 sys.path.insert(0, str(pathlib.Path(__file__).resolve().parent.parent / "bench"))
 import small_buildings
 import tried
-from small_buildings import Building, clears, most_out, run
+from small_buildings import Building, most_out, run
 
 TWO_DOORS = "node WP1.1 1 1; arc WP1.1 DS1.1 1 1; arc WP1.1 DS2.1 1 1"
 THREE_AT_A_DOOR = "node WP1.1 3 3; arc WP1.1 DS1.1 1 1"
