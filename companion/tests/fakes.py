@@ -16,6 +16,8 @@ AFTERWARDS = {
     "lines twice": "sed -u p",
     "numbers are 9": "sed -u 's/[0-9][0-9]*/9/g'",
     "numbers of moves are 9": "sed -u '/^move/s/[0-9][0-9]*/9/g'",
+    "people of moves are 9": "sed -u 's/^\\(move .*\\) [0-9]*$/\\1 9/'",
+    "people of routes are 9": "sed -u 's/^route [0-9]*/route 9/'",
     "names are others": "sed -u 's/WP1/WP7/g'",
     "numbers are negative": "sed -u 's/ \\([0-9]\\)/ -\\1/g'",
     "numbers are huge": "sed -u 's/ \\([0-9]\\)/ 99999999999999999999\\1/g'",

@@ -1,4 +1,4 @@
-"""Each command asks each program that isn't evacplan: no traceback, a status that help lists, one line at most, and no process left."""
+"""Each command asks each program that isn't evacplan, and talks with it: no traceback, a status that help lists, one line at most, and no process left."""
 import os
 import pathlib
 import shlex
@@ -22,6 +22,26 @@ FILES = {
     "nodes.csv": "name,capacity,start\nWP1.1,10,8\nDS1.1,,\n",
     "ways.csv": "from,to,travel,rate\nWP1.1,DS1.1,1,2\n",
 }
+# What is asked beside the examples of the commands: words, and lines of standard input, for other replies that are read.
+OFFICE_TEXT = (TOP / "examples/office.evac").read_text(encoding="utf-8")
+MORE = (
+    ("session examples/office.evac", "rate SW2.2 DS2.1 3\ncut 5\nsummary\nclearing\nbottlenecks\nroutes\nwork\nshut WP1.1 LO1.1\nundo\nshut\n"),
+    ("session --study examples/office.evac", "exits\nleast SW2.2 DS2.1 24\nleast SW2.2 DS2.1 1\n"),
+    ("session --replan examples/office.evac", "advance 4\nrate SW2.2 DS2.1 3\nadvance 2\n"),
+    ("explain -", OFFICE_TEXT),
+    ("explain - session", OFFICE_TEXT + "cut 5\nshut\nshutexit DS1.1\n"),
+    ("explain - study", OFFICE_TEXT + "exits\nshut\n"),
+    ("explain - replan", OFFICE_TEXT + "advance 4\nadvance 2\n"),
+    ("explain - check", OFFICE_TEXT),
+    ("summary -", OFFICE_TEXT.replace("horizon 120", "horizon 20")),
+    ("tables routes examples/office.evac", ""),
+    ("tables all examples/office.evac", ""),
+    ("tables full examples/office.evac", ""),
+    ("why examples/office.evac 20", ""),
+    ("convert examples/school.plan --both", ""),
+    ("report - --json", OFFICE_TEXT.replace("horizon 120", "horizon 20")),
+)
+ASKED = (*((f"{it.name} {it.example}", "") for it in COMMANDS), *MORE)
 
 
 def words_of(example: str) -> List[str]:
@@ -50,7 +70,7 @@ class Fakes(unittest.TestCase):
         self.addCleanup(os.environ.pop, self.mark)
 
     def answers(self, name: str) -> "List[Tuple[str, Ended]]":
-        """What each command says of its example, if it asks a fake. What it writes goes into an empty folder."""
+        """What is said to each that is asked, by a fake. What is written goes into an empty folder."""
         with tempfile.TemporaryDirectory() as folder:
             fake = pathlib.Path(folder, "program")
             fake.write_text(script(program(), name), encoding="utf-8")
@@ -59,7 +79,7 @@ class Fakes(unittest.TestCase):
             for file, text in FILES.items():
                 pathlib.Path(file).write_text(text, encoding="utf-8")
             try:
-                return [(it.name, ask("--program", fake, it.name, *words_of(it.example))) for it in COMMANDS]
+                return [(words, ask("--program", fake, *words_of(words), text=lines)) for words, lines in ASKED]
             finally:
                 os.chdir(TOP)
 
@@ -69,7 +89,7 @@ class Fakes(unittest.TestCase):
                 with self.subTest(fake=name, command=command):
                     self.assertIn(said.status, STATUSES)
                     self.assertRegex(said.err, r"\A(evacask: [^\n]+\n)?\Z")
-                    self.assertTrue(said.out or said.err or command == "review" or said.status == Status.ANSWERED)
+                    self.assertTrue(said.out or said.err or command.startswith("review") or said.status == Status.ANSWERED)
                     self.assertFalse(said.err and said.status in (Status.ANSWERED, Status.REVIEW))
                     self.assertEqual(PROCESSES.running, set())
         self.assertEqual([it for it in running(self.mark) if "unittest" not in it], [])

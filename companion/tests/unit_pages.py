@@ -1,6 +1,7 @@
 """Tables of a plan and the data of a page: by hand for one room and two ways, and by what has to add up for random buildings."""
 import random
 import unittest
+from dataclasses import replace
 from typing import Any, Dict, Iterator, List, Tuple
 
 from companion.tests.buildings import random_building
@@ -125,6 +126,10 @@ class Tables(unittest.TestCase):
         self.assertEqual(tables(PLANNER, caught, "walks").rows[1][3:6], ("none", "", ""))
         with self.assertRaises(Broken):
             tables(Table({"session": BLOCK.replace("move 1 WP1.1 DS1.1", "move 1 DS1.1 WP1.1")}), model_of(HALL), "exits")
+        # (three people)
+        for people in (2, 4):
+            with self.subTest(people), self.assertRaises(Broken):
+                tables(Table({"routes": f"routes 0\nroute {people} WP1.1\nstep 0 WP1.1 DS1.1\nend\n"}), model_of(HALL), "routes")
 
 
 class Occupancies(unittest.TestCase):
@@ -133,6 +138,16 @@ class Occupancies(unittest.TestCase):
         where = occupancy(model, solve(PLANNER, model))
         self.assertEqual((where.stay("WP1.1"), where.stay("DS1.1"), where.through()), ([1, 0, 0], [0, 2, 3], {("WP1.1", "DS1.1"): 3}))
         self.assertEqual(list(where.by_moment(["WP1.1", "DS1.1"])), [[1, 0], [0, 2], [0, 3]])
+
+    def test_moves_that_do_not_add_up(self) -> None:
+        model = model_of(HALL)
+        plan = solve(PLANNER, model)
+        # The one who is left walks out at the end, and stands for two, for nobody, or comes too early.
+        last = plan.raw.splitlines()[-2]
+        self.assertTrue(last.startswith(b"move 1 ") and last.endswith(b" 1"), last)
+        for other in (last[:-1] + b"2", last[:-1] + b"0", last.replace(b"move 1", b"move 0")):
+            with self.subTest(other), self.assertRaises(Broken):
+                occupancy(model, replace(plan, raw=plan.raw.replace(last, other)))
 
     def test_nobody_is_lost_or_too_many(self) -> None:
         for model, plan in cleared_models(12):

@@ -5,6 +5,7 @@ from dataclasses import dataclass, field
 from typing import Dict, Iterator, List, Sequence
 
 from evacask.client.blocks import Plan
+from evacask.errors import Broken
 from evacask.model.building import Model, Way
 from evacask.model.shares import Count
 
@@ -40,7 +41,7 @@ class Occupancy:
 
 
 def occupancy(model: Model, plan: Plan) -> Occupancy:
-    """The occupancy of a building by a plan of it."""
+    """The occupancy of a building by a plan of it; `Broken` if not so many are out at each moment as the plan says."""
     found = Occupancy(model, plan.cleared, {way: {} for way in model.arcs}, {name: {} for name in model.nodes})
     for node in model.rooms:
         found.add(node.name, 0, node.start or 0)
@@ -51,4 +52,7 @@ def occupancy(model: Model, plan: Plan) -> Occupancy:
         found.entered[way][move.moment] = move.people
         found.add(move.tail, move.moment, -move.people)
         found.add(move.head, move.moment + model.arcs[way].travel, move.people)
+    out = [found.stay(it.name) for it in model.exits]
+    if tuple(sum(count[moment] for count in out) for moment in range(plan.cleared + 1)) != plan.arrivals:
+        raise Broken("the program printed moves that don't add up to its arrivals, as evacplan never does")
     return found

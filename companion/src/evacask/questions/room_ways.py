@@ -7,6 +7,7 @@ from typing import Dict, List, Tuple
 from evacask.client.blocks import strictly
 from evacask.client.reports import Report
 from evacask.client.routes import Route, routes_of
+from evacask.errors import Broken
 from evacask.model.building import Model
 from evacask.model.shares import Count
 
@@ -22,10 +23,15 @@ class RoomWay:
 
 
 def ways_of(model: Model, report: Report) -> Tuple[RoomWay, ...]:
-    """The routes of a report, those along the same nodes together: by room in the order of the building, the way of most people first."""
+    """The routes of a report, those along the same nodes together: by room in the order of the building, the way of most people first.
+
+    `Broken` if they aren't the routes of all people.
+    """
     found: Dict[Tuple[str, ...], List[Route]] = {}
     for route in routes_of(report):
         found.setdefault(route.nodes, []).append(route)
+    if sum(it.people for some in found.values() for it in some) != model.people:
+        raise Broken("the program printed routes that aren't those of all people, as evacplan never does")
     place = {name: at for at, name in enumerate(model.nodes)}
     ways = strictly(lambda: [way_of(nodes, some) for nodes, some in found.items()], "a route")
     return tuple(strictly(lambda: sorted(ways, key=lambda it: (place[it.nodes[0]], -it.people, it.nodes)), "a route"))
