@@ -222,7 +222,7 @@ def worth(held: Held, plan: Planned) -> None:
         held.count += sum(map(numbers_in, row[1:]))
     left = untried(held, plan)
     if left:
-        rest = "Of the other ways neither a loss nor a greater rate changes when all are out, as far as they were tried."
+        rest = "Neither losing nor widening one of the other ways changes when everybody is out, as far as they were tried."
         held.must_say(f"{left:,} ways that fewer people use weren't tried: evacask sensitivity tries all. {rest}")
     more = [it for it in held.page.sections["What each way is worth"].paragraphs if re.match(r"[\d,]+ more ways aren't listed", it)]
     held.told += more if len(held.page.rows("What each way is worth")) == 40 else []

@@ -50,7 +50,7 @@ QUESTIONS = (
     Question("What to widen, for the least cost?", "improve BUILDING SOONER", "No cheaper purchase is enough"),
     Question("How sure is it?", "range BUILDING --rate 20", "Certain for every building within these ranges"),
     Question("And for all these scenarios?", "sweep BUILDING SCENARIOS", "narrow,rate TAIL HEAD 1"),
-    Question("Which two ways must not be lost together?", "losses BUILDING", "losses planned"),
+    Question("Which two ways must not be lost together?", "losses BUILDING", "losses were planned"),
     Question("How many may this room hold?", "admit BUILDING CLEARED --room ROOM", "ROOM may hold"),
     Question("How many may the building hold?", "admit BUILDING CLEARED", "Shared out as is best"),
     Question("Who can be saved, if not all can?", "rescue BUILDING --seconds SOONER", "and no more", (1,)),

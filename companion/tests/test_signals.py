@@ -20,7 +20,7 @@ AT_WORK = {
     "it takes no signals": "trap '' INT TERM HUP QUIT; while :; do :; done",
     "it talks without end": "printf 'answer 0\\n'; while :; do echo out 0 0; sleep 0.01; done",
 }
-ENDING = ("INT", "TERM", "HUP", "QUIT", "XCPU", "ALRM", "USR1", "USR2")
+ENDING = ("INT", "TERM", "HUP", "QUIT", "XCPU", "ALRM", "USR1", "USR2", "VTALRM", "PROF")
 SWEEP = """
 import sys
 from evacask import found_program

@@ -6,7 +6,7 @@ import unittest
 from companion.tests.package import EVACASK, OFFICE, PATIENCE, TOWER
 from evacask.faces.ending import Status
 
-WHY, NO_FILE = ("why", str(OFFICE)), ("why", "/nowhere/none.evac")
+WHY, TALK, NO_FILE = ("why", str(OFFICE)), ("session", str(OFFICE)), ("why", "/nowhere/none.evac")
 OK, WORDS, INPUT, OUTPUT, PIPE = (int(it) for it in (Status.ANSWERED, Status.WORDS, Status.INPUT, Status.OUTPUT, Status.CLOSED_PIPE))
 # The words, the streams as a shell writes them, the status, and the lines on standard error.
 TABLE = (
@@ -17,6 +17,10 @@ TABLE = (
     (("--version",), ">/dev/full", OUTPUT, 1),
     (("edit", str(TOWER)), ">/dev/full", OUTPUT, 1),
     (("why", str(OFFICE), "--json"), ">/dev/full", OUTPUT, 1),
+    (TALK, ">/dev/full", OUTPUT, 1),
+    (("sensitivity", str(OFFICE), "--csv"), ">/dev/full", OUTPUT, 1),
+    (("report", str(OFFICE)), ">/dev/full", OUTPUT, 1),
+    (TALK, ">&-", OUTPUT, 1),
     (WHY, ">&-", OUTPUT, 1),
     (("--help",), ">&-", OUTPUT, 1),
     (NO_FILE, ">&-", OUTPUT, 1),
@@ -37,6 +41,11 @@ TABLE = (
     (("why", "-"), "<&-", INPUT, 1),
     (("why", "-"), "0>FILE", INPUT, 1),
     (("why", "-"), f"<{OFFICE}", OK, 0),
+    (("explain", "-"), "0>FILE", INPUT, 1),
+    (("convert", "-"), "0>FILE", INPUT, 1),
+    (("compare", str(OFFICE), "-"), "0>FILE", INPUT, 1),
+    (TALK, "<&-", INPUT, 1),
+    (TALK, "0>FILE", INPUT, 1),
     (("why", "/"), "", INPUT, 1),
     (("why", "FILE/x"), "", INPUT, 1),
     (("why", "a\nb"), "", INPUT, 1),

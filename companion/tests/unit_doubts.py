@@ -53,7 +53,7 @@ DOUBTS: Tuple[Tuple[str, str, int, int, int, str], ...] = (
         2,
         1,
         10,
-        "no arc leads back from HA2.1 to HA1.1: nobody can go that way, then",
+        "no arc leads back from HA2.1 to HA1.1, so nobody can go that way",
     ),
     ("node DS1.1\narc", "node DS1.1\nnode LO1.3 5 1\narc LO1.3 DS1.1 1 1\narc", 2, 1, 9, "this arc joins floors 3 and 1: is a name wrong?"),
     (

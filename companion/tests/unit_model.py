@@ -204,6 +204,9 @@ class Edits(unittest.TestCase):
             ("foo Kitchen", "foo Kitchen"),
             ("", ""),
             ("least Kitchen HA1.0 9", "least WP1.0 HA1.0 9"),
+            ('shut "Door of the kitchen"', "shut WP1.0 HA1.0"),
+            ('window "Door of the kitchen" 4 6', "window WP1.0 HA1.0 4 6"),
+            ('shut "Door"', "shut Door"),
             ("advance 3", "advance 3"),
         ):
             with self.subTest(typed):

@@ -105,9 +105,11 @@ class Unforeseen(unittest.TestCase):
             self.assertEqual((answer.as_it_is, answer.foreseen, answer.unforeseen), (Outcome(3, 8), Outcome(4, 8), Outcome(4, 8)))
 
     def test_who_is_trapped(self) -> None:
-        answer = unforeseen(Advanced({"shutexit DS2.1": LEFT, "shutexit DS1.1": SHORT}), MODEL, ["shutexit DS2.1", "shutexit DS1.1"], 1)
-        # Known from the beginning, one goes the short way at 0 and five the long way.
-        self.assertEqual((answer.unforeseen, answer.trapped, answer.foreseen), (Outcome(None, 6), 2, Outcome(None, 6)))
+        edits = ["shutexit DS2.1", "shutexit DS1.1"]
+        for given in (edits, edits[::-1]):
+            answer = unforeseen(Advanced({"shutexit DS2.1": LEFT, "shutexit DS1.1": SHORT}), MODEL, given, 1)
+            # Known from the beginning, one goes the short way at 0 and five the long way.
+            self.assertEqual((answer.unforeseen, answer.trapped, answer.foreseen), (Outcome(None, 6), 2, Outcome(None, 6)))
 
     def test_the_last_who_are_gone_may_be_out_last(self) -> None:
         soon = "answer 2\npeople 2\ncleared 2\nout 0 0\nout 1 0\nout 2 2\nend\n"
@@ -123,7 +125,7 @@ class Unforeseen(unittest.TestCase):
         for edits, moment in zip(cases, (1, 0, 21)):
             with self.subTest(edits=edits, moment=moment), self.assertRaises(WordsError):
                 unforeseen(PLANNER, MODEL, edits, moment)
-        with self.assertRaisesRegex(NoAnswer, "after shutexit DS1.1 not everybody can be out"):
+        with self.assertRaisesRegex(NoAnswer, "not everybody can be out before the last of these edits is made"):
             unforeseen(Advanced({"shutexit DS1.1": SHORT}), MODEL, ["shutexit DS1.1", "rate WP1.1 DS2.1 9"], 1)
         with self.assertRaises(Refused):
             unforeseen(Advanced({"enter WP1.1 1": "refused 42 13\n"}), MODEL, ["enter WP1.1 1"], 1)

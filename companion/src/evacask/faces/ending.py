@@ -71,6 +71,8 @@ ENDING = (
     signal.SIGALRM,
     signal.SIGUSR1,
     signal.SIGUSR2,
+    signal.SIGVTALRM,
+    signal.SIGPROF,
 )
 # The seconds to wait, after a signal, for a thread that is just starting a program.
 PATIENCE = 2.0

@@ -27,9 +27,8 @@ def losses_sheet(answer: Losses, model: Model) -> Sheet:
         span = "" if it.cleared is None else model.span(it.cleared)
         rows.append((span, f"{it.most} of {answer.people}", ", ".join(" ".join(place) for place in it.places), names, it.cleared))
     what = "place" if answer.count == 1 else f"{answer.count} places"
-    after = (
-        f"{answer.tried} losses planned; of the {answer.possible:,} of {what} all others cost less than these, or no more than a part of them alone."
-    )
+    rest = f"Of the {answer.possible:,} of {what}, each that isn't listed costs less than these, or no more than a part of it alone."
+    after = f"{answer.tried} losses were planned. {rest}"
     return Sheet(answer, (), COLUMNS, tuple(rows), (after,))
 
 

@@ -15,7 +15,7 @@ COLUMNS = (Column("line", "line", is_shown=False), Column("doubt", "doubt", is_s
 
 def review_sheet(answer: Review, model: Model) -> Sheet:
     """A line for each doubt; nothing if there is none."""
-    head = ("evacask's own doubts, not proved; a doubt is no fault:",) if answer.doubts else ()
+    head = ("Warnings by evacask, which aren't proved:",) if answer.doubts else ()
     lines = tuple(f"line {it.line}: {it.what}" for it in answer.doubts)
     return Sheet(answer, head + lines, COLUMNS, tuple((it.line, it.what) for it in answer.doubts))
 

@@ -41,9 +41,11 @@ def words_of(line: str) -> List[str]:
 
 
 def plain(model: Model, line: str) -> str:
-    """A command as the program is sent it: with the names of nodes in place of own names, and people in shares."""
+    """A command as the program is sent it: with the names of nodes in place of own names of nodes and arcs, and people in shares."""
     word, *rest = words_of(line) or [""]
     wanted = COMMANDS["replan"].get(word, COMMANDS["study"].get(word, "")).split()
+    if word in OF_ARCS and len(rest) == len(wanted) - 1:
+        rest = [*ways_named(model, rest[0]), *rest[1:]]
     return " ".join([word, *(sent(model, form, it) for it, form in zip(rest, wanted)), *rest[len(wanted) :]])
 
 
@@ -52,6 +54,12 @@ def sent(model: Model, form: str, word: str) -> str:
     if form in ("A", "B", "D"):
         return own_to_name(model, word)
     return in_shares(word, model.shares) if form == "n" else word
+
+
+def ways_named(model: Model, word: str) -> List[str]:
+    """The two names of the arc that has this own name, or the word itself if there isn't just one."""
+    ways = [it.way for it in model.arcs.values() if it.own_name == word]
+    return list(ways[0]) if len(ways) == 1 else [word]
 
 
 def own_to_name(model: Model, word: str) -> str:

@@ -102,7 +102,7 @@ def arc_doubts(model: Model) -> Iterator[Doubt]:
     for arc in model.arcs.values():
         yield from number_doubts(model, arc)
         if arc.tail[:2] == arc.head[:2] == "HA" and (arc.head, arc.tail) not in model.arcs:
-            yield Doubt(arc.line, f"no arc leads back from {arc.head} to {arc.tail}: nobody can go that way, then")
+            yield Doubt(arc.line, f"no arc leads back from {arc.head} to {arc.tail}, so nobody can go that way")
         tail, head = model.nodes[arc.tail].floor, model.nodes[arc.head].floor
         if abs(tail - head) > 1:
             yield Doubt(arc.line, f"this arc joins floors {tail} and {head}: is a name wrong?")

@@ -50,10 +50,18 @@ def unforeseen(client: Client, model: Model, edits: Sequence[str], moment: int) 
     """What some edits cost that nobody knows of before a moment. `Refused` for an edit that can't be made then, as one that moves people."""
     if not edits or not 1 <= moment <= model.horizon:
         raise WordsError(f"an edit is made at a moment from 1 to the horizon, {model.horizon}: the moment is {moment}, with {len(edits)} edits")
-    with replan(client, model) as talk:
-        opening = talk.plan
-        gone = talk.advance(moment)
-        left = made(talk, edits)
+    for order in orders(edits):
+        with replan(client, model) as talk:
+            opening = talk.plan
+            gone = talk.advance(moment)
+            left = made(talk, order)
+        if left is not None:
+            break
+    else:
+        raise NoAnswer(
+            "not everybody can be out before the last of these edits is made, and a replan ends there: "
+            "name those that open or widen ways first, or ask about fewer"
+        )
     out = gone.out[-1]
     outcome = Outcome(last_out(gone, left), out + left.people) if isinstance(left, Plan) else Outcome(None, out + left.most)
     return Unforeseen(
@@ -61,15 +69,20 @@ def unforeseen(client: Client, model: Model, edits: Sequence[str], moment: int) 
     )
 
 
-def made(talk: Replan, edits: Sequence[str]) -> "Plan | Shortfall":
-    """The plan of those who are left after the edits, or why not all of them can be out."""
+def orders(edits: Sequence[str]) -> List[Sequence[str]]:
+    """The edits as they are given. If all of them shut ways, their order doesn't matter, so each may be the last."""
+    if not all(fields_of(it)[:1] in (["shut"], ["shutexit"]) for it in edits):
+        return [edits]
+    return [[*edits[at:], *edits[:at]] for at in range(len(edits))]
+
+
+def made(talk: Replan, edits: Sequence[str]) -> "Plan | Shortfall | None":
+    """The plan of those who are left after the edits, or why not all of them can be out; None if that is so before the last edit."""
     for number, edit in enumerate(edits, 1):
         try:
             plan = talk.edit(edit)
         except Shortfall as short:
-            if number < len(edits):
-                raise NoAnswer(f"after {edit} not everybody can be out, and a replan goes no further: name what opens or widens ways first") from None
-            return short
+            return short if number == len(edits) else None
     return plan
 
 

@@ -194,7 +194,7 @@ def worth(report: Report) -> Markup:
     model, same = report.model, Outcome(report.plan.cleared, report.plan.people)
     changed = [it for it in report.worth.ways if (it.without, it.wide) != (same, same)]
     rows: List[Row] = [(named(model, it.names), *(cell(model, one) for one in (it.without, same, it.wide))) for it in changed]
-    text = "Of the other ways neither a loss nor a greater rate changes when all are out."
+    text = "Neither losing nor widening one of the other ways changes when everybody is out."
     if report.worth.untried:
         text = f"{report.worth.untried:,} ways that fewer people use weren't tried: evacask sensitivity tries all. {text[:-1]}, as far as they were tried."
     heads = ("way or exit", "all out without it, in seconds", "as it is", "at any rate")
