@@ -71,7 +71,7 @@ ANSWERS = (
     ("range ROOM --rate 50", 0, ["5 to 10 s  10 to 15 s  15 to 20 s  rate", "Certain for every building within these ranges"]),
     ("range ROOM --table intervals.csv", 0, ["5 to 10 s  10 to 15 s  15 to 20 s  rate"]),
     ("range ROOM --people 34", 0, ["5 to 10 s  10 to 15 s  15 to 20 s  people"]),
-    ("losses ROOM -k 1", 0, ["0 of 3  WP1.1 DS1.1", "of the 1 of place all others"]),
+    ("losses ROOM -k 1", 0, ["0 of 3  WP1.1 DS1.1", "Of the 1 place, each that isn't listed"]),
     ("losses EXITS -k 1 --exits", 0, ["40 to 45 s  8 of 8  DS2.1", "20 to 25 s  8 of 8  DS1.1"]),
     ("losses EXITS -k 2 --exits", 0, ["0 of 8  DS1.1, DS2.1"]),
     ("admit ROOM 15 --room WP1.1", 0, ["WP1.1 may hold 4 people at the start", "Now it is 3.", "With one more at most 4 of 5 are out by then."]),

@@ -6,6 +6,7 @@ from argparse import Namespace
 from evacask.faces.asked import Asked, put
 from evacask.faces.progress import progress
 from evacask.faces.sheet import Column, Sheet
+from evacask.faces.wording import some
 from evacask.faces.words import BUILDING, SHARED, Command, argument, number
 from evacask.model.building import Model
 from evacask.questions.losses import Losses, losses
@@ -26,8 +27,8 @@ def losses_sheet(answer: Losses, model: Model) -> Sheet:
         names = "; ".join(filter(None, (model.named(*place) for place in it.places)))
         span = "" if it.cleared is None else model.span(it.cleared)
         rows.append((span, f"{it.most} of {answer.people}", ", ".join(" ".join(place) for place in it.places), names, it.cleared))
-    what = "place" if answer.count == 1 else f"{answer.count} places"
-    rest = f"Of the {answer.possible:,} of {what}, each that isn't listed costs less than these, or no more than a part of it alone."
+    what = some(answer.possible, *(("place", "places") if answer.count == 1 else (f"set of {answer.count} places", f"sets of {answer.count} places")))
+    rest = f"Of the {what}, each that isn't listed costs less than these, or no more than a part of it alone."
     after = f"{answer.tried} losses were planned. {rest}"
     return Sheet(answer, (), COLUMNS, tuple(rows), (after,))
 
